@@ -1,7 +1,8 @@
 ghost use Rattle.std.specs.Prelude.{◌≡◌, length, Some};
 ghost use Rattle.gate_tx.specs.Ids.{id_text, read_id};
 
-use gate_bytes::Exact;
+use gate_bytes::{Copied, Exact, Memory};
+use std::alloc::Global;
 use std::fmt;
 use std::marker::Model;
 
@@ -50,6 +51,12 @@ impl Exact for Txid {
     ghost use Rattle.std.proofs.lemmas.Slice.Eq.{bytes_eq-Decides};
 
     ghost exact = { λ a b. bytes_eq-Decides a b };
+}
+
+impl Copied for Txid {
+    fn copy(&self, _alloc: Global) -> Result<Txid, Memory> {
+        Ok(*self)
+    }
 }
 
 impl fmt::Display for Txid {
@@ -109,6 +116,12 @@ impl Exact for Wtxid {
     ghost use Rattle.std.proofs.lemmas.Slice.Eq.{bytes_eq-Decides};
 
     ghost exact = { λ a b. bytes_eq-Decides a b };
+}
+
+impl Copied for Wtxid {
+    fn copy(&self, _alloc: Global) -> Result<Wtxid, Memory> {
+        Ok(*self)
+    }
 }
 
 impl fmt::Display for Wtxid {
