@@ -1,2 +1,6 @@
 pub mod Headers
 pub mod Median
+pub mod History
+pub mod Times
+pub mod Coins
+pub mod Opening
