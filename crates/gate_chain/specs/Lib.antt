@@ -4,3 +4,4 @@ pub mod History
 pub mod Times
 pub mod Coins
 pub mod Opening
+pub mod Keeping

@@ -1,8 +1,8 @@
 -- What is wrong with the coins and times of an opening: the first fault in the written order.
 use Rattle.std.specs.Prelude.{◌≡◌, ◌≢◌, ℕ, ◌+◌, ◌-◌, ◌==◌, nat_lt, nat_le, not, Bool, false, ℤ, pos, negsuc, List, [], ◌∷◌, ◌++◌, length, Option, Some, None, Result, IfErr, OnOk, codes, if◌then◌else◌}
-use Rattle.std.specs.List.{list_any}
 use Rattle.std.specs.Option.{option_or}
-use Rattle.gate_tx.specs.Coins.{point_eq, is_unspendable}
+use Rattle.gate_tx.specs.Coins.{is_unspendable}
+use Rattle.gate_chain.specs.Coins.{has_outpoint}
 use Rattle.gate_chain.specs.declared.fault.OpenFault.{OpenFault}
 use Rattle.gate_chain.specs.declared.fault.OpenFault.TheVariants.{Memory, NoTimes, TimesLimit, CoinValue, CoinUnspendable, CoinAboveTip, CoinTwice}
 use Rattle.gate_chain.specs.declared.opening.OpeningCoin.{OpeningCoin}
@@ -18,7 +18,7 @@ coin_fault tip earlier c =
     if not (is_money c.coin.value) then Some (CoinValue (length earlier))
     else if is_unspendable c.coin.script then Some (CoinUnspendable (length earlier))
     else if nat_lt tip c.coin.height then Some (CoinAboveTip (length earlier))
-    else if list_any (λ e. point_eq c.outpoint e.outpoint) earlier then Some (CoinTwice (length earlier))
+    else if has_outpoint c.outpoint earlier then Some (CoinTwice (length earlier))
     else None
 
 -- the first fault of coins that stand behind others

@@ -5,10 +5,13 @@
 #![tactic(auto)]
 
 mod block;
+mod chain;
 mod fault;
+mod keeping;
 mod median;
 mod opening;
 
 pub use block::{Block, Header};
+pub use chain::Chain;
 pub use fault::OpenFault;
 pub use opening::OpeningCoin;
