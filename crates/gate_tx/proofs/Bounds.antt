@@ -149,6 +149,6 @@ pub is_full_size : (t : Tx) (m n : ℕ) → length (text t) ≤ longest → m �
 unfolding full_size_of
 is_full_size t m n le p q = omega (arith, length-text t)
 
-pub is_weight : (t : Tx) (m n : ℕ) → length (text t) ≤ longest → m ≡ capped (stripped_lists t.inputs t.outputs) → n ≡ capped (witness_lists t.inputs) → 4 * m + n ≡ weight_of t
+pub is_weight : (t : Tx) (m n : ℕ) → length (text t) ≤ longest → m ≡ capped (stripped_lists t.inputs t.outputs) → n ≡ capped (witness_lists t.inputs) → 3 * m + (m + n) ≡ weight_of t
 unfolding weight_of
 is_weight t m n le p q = omega (arith, length-text t, length-stripped t)
