@@ -24,15 +24,15 @@ abbrev pub is_null_data : Template → Bool
 is_null_data NullData = true
 is_null_data template = false
 
--- an output that carries data and no value
+-- an output that carries data
 unfoldable pub carries_data : TxOut → Bool
 carries_data output = is_null_data (template_of output.script)
 
--- the size of an output with the input that spends it: less where its script is a witness program
+-- the size in bytes of an output and of the input that spends it, which is smaller where the script is a witness program
 abbrev pub size_with_spend : TxOut → ℕ
 size_with_spend o = length (output o) + (if is_some (witness_program_of o.script) then 67 else 148)
 
--- the value below which an output costs more to spend than a third of it, at 1,000 satoshi per 1,000 bytes
+-- the least value with which an output is relayed: the fee of it and of the input that spends it, at 3,000 satoshi per 1,000 bytes
 unfoldable pub dust_threshold_of : TxOut → ℕ
 dust_threshold_of o = if is_unspendable o.script then 0 else required_fee 3000 (size_with_spend o)
 

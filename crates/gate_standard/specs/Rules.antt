@@ -58,7 +58,7 @@ coinbase_rules inputs =
     ∷ (Coinbase, is_coinbase inputs)
     ∷ []
 
--- what holds of each transaction that a block may have, and that no coinbase is relayed
+-- the rules of every transaction, also of one in a block, and that a coinbase is not relayed (A2 to A11)
 unfoldable pub transaction_rules : Tx → List Rule
 transaction_rules tx =
     (VinEmpty, length tx.inputs == 0)
@@ -81,11 +81,16 @@ rules_of_output output =
 abbrev pub is_version : ℤ → Bool
 is_version version = int_eq version (pos 1) || int_eq version (pos 2)
 
--- what is relayed by default: a matter of policy, which a block may break
+-- of the outputs together, and of the size
+abbrev pub rules_of_whole : Tx → List Rule
+rules_of_whole tx =
+    (MultiOpReturn, nat_lt 1 (count_by carries_data tx.outputs))
+    ∷ (TxSizeSmall, nat_lt (stripped_size_of tx) 82)
+    ∷ []
+
+-- the rules of policy on a transaction, which one in a block may break (A12 to A19)
 unfoldable pub standard_rules : Tx → List Rule
 standard_rules tx =
     (Version, not (is_version tx.version))
     ∷ (TxSize, nat_lt 400_000 (weight_of tx))
-    ∷ (flat_map rules_of_input tx.inputs ++ (flat_map rules_of_output tx.outputs ++ ((MultiOpReturn, nat_lt 1 (count_by carries_data tx.outputs))
-    ∷ (TxSizeSmall, nat_lt (stripped_size_of tx) 82)
-    ∷ [])))
+    ∷ (flat_map rules_of_input tx.inputs ++ (flat_map rules_of_output tx.outputs ++ rules_of_whole tx))

@@ -48,11 +48,14 @@ fn check_values(outputs: &[TxOut]) -> Option<Denial>
     None
 }
 
-/// A tree and no hash table: whoever sends a transaction chooses its outpoints, and no choice of
-/// them can make a tree slow.
+/// Whether two inputs spend one outpoint. A tree of outpoints and no hash table: whoever sends a
+/// transaction chooses them, and no choice can make a tree slow.
 fn spends_twice(alloc: Global, inputs: &[TxIn]) -> Result<bool, Memory>
     ensures { IfOk result (λ found. found ≡ spends_twice inputs.now) }
 {
+    if let [] | [_] = inputs {
+        return Ok(false);
+    }
     let mut spent = BTreeSet::new(alloc);
     for input in inputs {
         if !spent.insert(input.prevout)? {
