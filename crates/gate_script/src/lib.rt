@@ -21,3 +21,6 @@ pub use reading::Ops;
 pub use counting::sigops;
 pub use templates::Template;
 pub use witness::witness_program;
+
+#[cfg(test)]
+mod tests;
