@@ -9,6 +9,7 @@ use crate::fault::OpenFault;
 use crate::keeping::{Coins, keep};
 use crate::median::{MEDIAN_SPAN, median};
 use crate::opening::OpeningCoin;
+use gate_bytes::{Copied, Memory};
 use gate_tx::{Coin, OutPoint, Txid};
 use std::alloc::Global;
 use std::marker::Model;
@@ -97,5 +98,14 @@ impl Chain {
         }
         let first = height.saturating_sub(MEDIAN_SPAN - 1);
         Some(median(&self.times[first..height + 1]))
+    }
+}
+
+impl Copied for Chain {
+    fn copy(&self, alloc: Global) -> Result<Chain, Memory> {
+        Ok(Chain {
+            coins: self.coins.copy(alloc)?,
+            times: Vec::from_slice(alloc, self.times.as_slice())?,
+        })
     }
 }
