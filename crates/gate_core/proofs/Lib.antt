@@ -1,0 +1,2 @@
+mod Dotted
+mod Peers
