@@ -1,2 +1,4 @@
 pub mod Addresses
 pub mod Sessions
+pub mod Refusals
+pub mod Texts

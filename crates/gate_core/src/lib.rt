@@ -1,9 +1,18 @@
-//! Events, replies, sessions, settings and the one step.
+//! The gate as one value: events, replies, sessions, settings and the one step.
+//!
+//! A `State` stands for its chain, pool, floor, sessions and settings. The main clause is that of `State::step`, which
+//! gives the reply and the state of the written step, and keeps the pool good.
 #![tactic(auto)]
 
 mod address;
+mod event;
 mod laws;
+mod refusal;
+mod reply;
 mod session;
 
 pub use address::Address;
+pub use event::Event;
 pub use laws::addresses_are_dotted;
+pub use refusal::{Refusal, Then};
+pub use reply::Reply;
