@@ -1,7 +1,11 @@
 -- Sessions as they lie in a map.
-use Rattle.std.proofs.Common.{◌≡◌, ℕ, Bool, true, false, nat_eq, List, [], ◌∷◌, ◌++◌, map, Some, None, option_map, if◌then◌else◌, refl, ap}
+use Rattle.std.proofs.Common.{◌≡◌, ℕ, Bool, true, false, nat_eq, not, is_some, List, [], ◌∷◌, ◌++◌, map, Option, Some, None, option_map, if◌then◌else◌, refl, sym, ap, ◌∙◌}
+use Rattle.std.specs.Option.{option_map_or}
 use Rattle.std.specs.Map.{lookup, set_value}
 use Rattle.indexmap.specs.IndexMap.{insert_entry}
+use Rattle.gate_core.specs.declared.refusal.Refusal.{Refusal}
+use Rattle.gate_core.specs.declared.refusal.Refusal.TheVariants.{PeerUnknown, PeerClosed}
+use Rattle.gate_core.specs.Access.{first_refusal, is_known, session_rules}
 use Rattle.gate_core.specs.Sessions.{Session, session, session_of, closed}
 
 abbrev pub shown : ℕ × Bool → Session
@@ -14,6 +18,25 @@ session_of-shown (e ∷ es) peer =
       | true ↦ refl
       | false ↦ session_of-shown es peer
     ]
+
+mapped : (o : Option Session) → is_some (option_map (λ (s : Session). s.is_open) o) ≡ is_some o
+mapped None = refl
+mapped (Some s) = refl
+
+pub is_known-shown : (es : List (ℕ × Bool)) (peer : ℕ) → is_some (lookup (nat_eq peer) es) ≡ is_known (map shown es) peer
+is_known-shown es peer = sym (ap is_some (session_of-shown es peer)) ∙ mapped (session_of (map shown es) peer)
+
+-- the refusal where a peer's session is open, closed or none
+abbrev pub refusal_by : Option Bool → Option Refusal
+refusal_by None = Some PeerUnknown
+refusal_by (Some is_open) = if not is_open then Some PeerClosed else None
+
+by_session : (o : Option Session) → refusal_by (option_map (λ (s : Session). s.is_open) o) ≡ (if not (is_some o) then Some PeerUnknown else if option_map_or (λ (s : Session). not s.is_open) o false then Some PeerClosed else None)
+by_session None = refl
+by_session (Some s) = refl
+
+pub rules-shown : (es : List (ℕ × Bool)) (peer : ℕ) (found : Option Bool) → found ≡ lookup (nat_eq peer) es → refusal_by found ≡ first_refusal (session_rules (map shown es) peer)
+rules-shown es peer found is = ap refusal_by (is ∙ sym (session_of-shown es peer)) ∙ by_session (session_of (map shown es) peer)
 
 -- a peer without a session comes last
 pub entered-shown : (es : List (ℕ × Bool)) (peer : ℕ) → session_of (map shown es) peer ≡ None → map shown (insert_entry nat_eq es peer true) ≡ map shown es ++ session peer true ∷ []

@@ -1,4 +1,6 @@
 //! What a caller asks.
+ghost use Rattle.std.specs.Prelude.{◌≡◌};
+
 use crate::address::Address;
 use gate_admit::Prepared;
 use gate_bytes::{Copied, Memory};
@@ -19,6 +21,22 @@ pub enum Event {
     },
     /// A peer asks for the txids in the pool.
     Mempool { peer: u64 },
+}
+
+impl Event {
+    ghost use Rattle.gate_core.specs.Steps.{peer_of};
+
+    /// The number of the peer that makes it.
+    pub fn peer(&self) -> u64
+        ensures { result ≡ peer_of self.now }
+    {
+        match self {
+            Event::Enter { peer, .. } => *peer,
+            Event::Leave { peer } => *peer,
+            Event::Tx { peer, .. } => *peer,
+            Event::Mempool { peer } => *peer,
+        }
+    }
 }
 
 impl Copied for Event {

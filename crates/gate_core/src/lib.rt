@@ -7,12 +7,16 @@
 mod address;
 mod event;
 mod laws;
+mod opening;
 mod refusal;
 mod reply;
 mod session;
+mod state;
 
 pub use address::Address;
 pub use event::Event;
 pub use laws::addresses_are_dotted;
+pub use opening::Opening;
 pub use refusal::{Refusal, Then};
 pub use reply::Reply;
+pub use state::{State, StepFault};

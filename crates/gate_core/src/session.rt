@@ -1,8 +1,9 @@
 //! The sessions of peers, each found by its peer's number.
 ghost use Rattle.std.specs.Prelude.{◌≡◌, ◌∷◌, ◌++◌, [], None, true, OnOk, OnErr};
-ghost use Rattle.std.specs.Option.{option_map};
 ghost use Rattle.gate_core.specs.Sessions.{session, session_of, closed};
+ghost use Rattle.gate_core.specs.Access.{first_refusal, is_known, session_rules};
 
+use crate::refusal::Refusal;
 use gate_bytes::Memory;
 use indexmap::IndexMap;
 use std::alloc::Global;
@@ -33,11 +34,22 @@ impl Sessions {
         }
     }
 
-    /// Whether a peer's session is open, where it has one.
-    pub(crate) fn is_open(&self, peer: u64) -> Option<bool>
-        ensures { result ≡ option_map (λ s. s.is_open) (session_of self.now peer) }
+    /// Whether a peer ever entered.
+    pub(crate) fn is_known(&self, peer: u64) -> bool
+        ensures { result ≡ is_known self.now peer }
     {
-        self.peers.get(&peer).copied()
+        self.peers.contains_key(&peer)
+    }
+
+    /// The first rule that fails of those that ask for an open session.
+    pub(crate) fn refusal(&self, peer: u64) -> Option<Refusal>
+        ensures { result ≡ first_refusal (session_rules self.now peer) }
+    {
+        match self.peers.get(&peer) {
+            None => Some(Refusal::PeerUnknown),
+            Some(false) => Some(Refusal::PeerClosed),
+            Some(true) => None,
+        }
     }
 
     /// Opens a peer's session.
