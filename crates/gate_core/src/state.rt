@@ -1,6 +1,6 @@
 //! The state, and the one step that changes it.
-ghost use Rattle.std.specs.Prelude.{◌≡◌, ◌≢◌, IfOk, IfErr, OnOk, OnErr, None, Some};
-ghost use Rattle.gate_chain.specs.Opening.{open_fault};
+ghost use Rattle.std.specs.Prelude.{◌≡◌, IfOk, OnErr, None};
+ghost use Rattle.gate_chain.specs.Opening.{open_fault, IsRefusedFor};
 ghost use Rattle.gate_core.specs.World.{opened_world};
 ghost use Rattle.gate_core.specs.Access.{first_refusal, listing_rules, peer_rules, submission_rules};
 ghost use Rattle.gate_core.specs.Steps.{refused, served, submitted, step_of};
@@ -55,9 +55,8 @@ impl State {
     /// The state of an opening, with an empty pool. A fault names the first coin in the list that fails.
     pub fn open(alloc: Global, opening: Opening) -> Result<State, OpenFault>
         ensures ok { IfOk result (λ state. state ≡ opened_world opening) }
-        ensures accepted { OnOk result (open_fault opening.coins opening.times ≡ None) }
         ensures good { IfOk result IsGoodWorld }
-        ensures err { IfErr result (λ fault. fault ≢ OpenFault.Memory → open_fault opening.coins opening.times ≡ Some fault) }
+        ensures fault { IsRefusedFor (open_fault opening.coins opening.times) result }
     {
         let Opening {
             budget,
