@@ -30,4 +30,4 @@ IsApartFrom w event = AreApart (transactions_in w ++ transactions_of event)
 
 -- what a step from a good state gives
 abbrev pub StepGives : World → Event → Reply → World → Type 0
-StepGives old event reply new = IsGoodWorld old → IsApartFrom old event → (reply, new) ≡ step_of old event
+StepGives old event reply new = IsGoodWorld old → IsApartFrom old event → ((reply, new) ≡ step_of old event) × IsGoodWorld new

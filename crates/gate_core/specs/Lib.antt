@@ -6,3 +6,4 @@ pub mod World
 pub mod Access
 pub mod Steps
 pub mod Good
+pub mod Runs
