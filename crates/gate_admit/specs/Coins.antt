@@ -6,7 +6,6 @@ use Rattle.std.specs.List.{list_any, flat_map}
 use Rattle.gate_tx.specs.declared.Coin.{Coin}
 use Rattle.gate_tx.specs.declared.OutPoint.{OutPoint}
 use Rattle.gate_tx.specs.declared.TxIn.{TxIn}
-use Rattle.gate_tx.specs.Tx.{Tx}
 use Rattle.gate_chain.specs.History.{History}
 use Rattle.gate_chain.specs.Coins.{coin_of}
 use Rattle.gate_admit.specs.Pool.{Admitted}

@@ -1,5 +1,5 @@
 -- What holds of a pool over its chain at every moment, and of transactions whose ids tell them apart.
-use Rattle.std.specs.Prelude.{◌≡◌, ◌≢◌, Bool, false, List, ℕ, IsSome}
+use Rattle.std.specs.Prelude.{◌≡◌, ◌≢◌, false, List, IsSome}
 use Rattle.std.specs.List.{All, AllPairs, Contains}
 use Rattle.gate_tx.specs.declared.OutPoint.{OutPoint}
 use Rattle.gate_tx.specs.Tx.{Tx}

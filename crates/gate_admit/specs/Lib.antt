@@ -4,3 +4,5 @@ pub mod Coins
 pub mod Rules
 pub mod Submission
 pub mod Good
+pub mod Laws
+pub mod Equality

@@ -5,7 +5,7 @@ ghost use Rattle.gate_tx.specs.Ids.{txid_of, wtxid_of};
 ghost use Rattle.gate_admit.specs.Rules.{first_denial};
 
 use crate::identified::Identified;
-use gate_bytes::{Copied, Memory};
+use gate_bytes::{Copied, Exact, Memory};
 use gate_standard::{Denial, check_transaction};
 use gate_tx::{Transaction, TxFault, Txid, Wtxid, read_tx};
 use std::alloc::Global;
@@ -107,4 +107,39 @@ impl Copied for Prepared {
             denial: self.denial,
         })
     }
+}
+
+impl PartialEq for Prepared {
+    ghost use Rattle.std.proofs.Common.{refl};
+    ghost use Rattle.std.specs.Option.{option_eq};
+    ghost use Rattle.gate_tx.specs.Equality.{transaction_decides, tx_in_decides, tx_out_decides};
+    ghost use Rattle.gate_admit.specs.Equality.{option_decides, deciding};
+
+    ghost eq = { λ a b. option_eq ⟦<Transaction as PartialEq>⟧.eq a b };
+
+    ghost laws = { deciding (option_decides (λ a b. transaction_decides tx_in_decides tx_out_decides a b (⟦<Transaction as PartialEq>⟧.eq a b) refl)) };
+
+    fn eq(&self, other: &Prepared) -> bool {
+        match (&self.identified, &other.identified) {
+            (Some(one), Some(another)) => one.transaction() == another.transaction(),
+            (None, None) => true,
+            _ => false,
+        }
+    }
+}
+
+impl Eq for Prepared {
+    ghost use Rattle.std.proofs.Common.{refl};
+    ghost use Rattle.gate_tx.specs.Equality.{transaction_decides, tx_in_decides, tx_out_decides};
+    ghost use Rattle.gate_admit.specs.Equality.{option_decides, deciding_all};
+
+    ghost laws = { deciding_all (option_decides (λ a b. transaction_decides tx_in_decides tx_out_decides a b (⟦<Transaction as PartialEq>⟧.eq a b) refl)) };
+}
+
+impl Exact for Prepared {
+    ghost use Rattle.std.proofs.Common.{refl};
+    ghost use Rattle.gate_tx.specs.Equality.{transaction_decides, tx_in_decides, tx_out_decides};
+    ghost use Rattle.gate_admit.specs.Equality.{option_decides};
+
+    ghost exact = { option_decides (λ a b. transaction_decides tx_in_decides tx_out_decides a b (⟦<Transaction as PartialEq>⟧.eq a b) refl) };
 }

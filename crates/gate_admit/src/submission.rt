@@ -1,4 +1,4 @@
-ghost use Rattle.std.specs.Prelude.{◌≡◌, IfOk, OnOk, OnErr};
+ghost use Rattle.std.specs.Prelude.{◌≡◌, IfOk, OnErr};
 ghost use Rattle.gate_admit.specs.Good.{IsGood};
 ghost use Rattle.gate_admit.specs.Submission.{submit_of};
 
@@ -28,6 +28,7 @@ pub fn submit(
     ensures ok { IfOk result (λ decision. submit_of chain.now pool.old floor.old prepared.now verdicts.now now budget ≡ record { decision = decision; entries = pool.new; floor = floor.new }) }
     ensures pool_kept { OnErr result (pool.new ≡ pool.old) }
     ensures floor_kept { OnErr result (floor.new ≡ floor.old) }
+    ensures good { IsGood chain.now pool.old → IsGood chain.now pool.new }
 {
     let grant = match judge(alloc, chain, pool, floor, prepared, verdicts)? {
         Ok(grant) => grant,

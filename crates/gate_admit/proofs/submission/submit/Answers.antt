@@ -1,6 +1,6 @@
 use Rattle.std.proofs.Common.{◌≡◌, ◌∙◌, sym, ap, Ok, Err, Some, None}
 use Rattle.std.specs.Option.{option_copied}
-use Rattle.gate_admit.specs.Submission.{entered}
+use Rattle.gate_admit.proofs.Granted.{kept_good}
 use Rattle.gate_admit.proofs.Submitting.{submitted}
 use Rattle.gate_admit.proofs.submission.submit.Goals as goal
 
@@ -23,3 +23,6 @@ returns-in_default-clause-ok c =
     submitted c.args.chain.now c.args.pool.now c.args.floor.now c.args.prepared.now c.args.verdicts.now c.args.now c.args.budget (Ok c.in-Ok.grant) c.args.pool.now
     (sym c.in-Ok.is ∙ c.in_ok-grant.ensures)
     (rw same (cc))
+
+pub returns-in_ok-admit-clause-good : goal.returns-in_ok-admit-clause-good
+returns-in_ok-admit-clause-good c = kept_good c.args.chain.now c.args.pool.now c.args.floor.now c.args.prepared.now c.args.verdicts.now c.args.now c.args.budget _ (returns-in_ok-admit-clause-ok c)
