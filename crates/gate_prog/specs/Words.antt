@@ -1,0 +1,7 @@
+-- The words of a line.
+use Rattle.std.specs.Prelude.{ℕ, nat_lt, ◌==◌, if◌then◌else◌, List, length, Option, Some, None}
+use Rattle.std.specs.List.{position_or_len, before_first, after_first}
+
+-- what stands before the first space, and after it
+unfoldable pub part_of : List ℕ → Option (List ℕ × List ℕ)
+part_of line = if nat_lt (position_or_len (λ b. b == 32) line) (length line) then Some (before_first (λ b. b == 32) line, after_first (λ b. b == 32) line) else None
