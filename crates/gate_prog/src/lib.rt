@@ -10,7 +10,5 @@ mod output;
 mod word;
 
 pub use fault::LaneFault;
-pub use line::{Found, MAX_LINE, MAX_LINES, next_byte, next_line};
-pub use number::{numbers_are_decimal, read_number};
-pub use output::write_text;
-pub use word::next_word;
+pub use line::{MAX_LINE, MAX_LINES};
+pub use number::{MAX_NUMBER, numbers_are_decimal};

@@ -16,7 +16,7 @@ pub const MAX_LINES: u64 = 1_000_000;
 
 /// What stands at the reader's place.
 #[derive(Clone, Copy, Debug, PartialEq, Eq)]
-pub enum Found {
+pub(crate) enum Found {
     /// A line with its newline.
     Whole,
     /// What is left after the last newline: it isn't empty.
@@ -28,7 +28,7 @@ pub enum Found {
 }
 
 /// The next byte, or `None` at the end.
-pub fn next_byte<R: Read>(reader: &mut R) -> Result<Option<u8>, LaneFault>
+pub(crate) fn next_byte<R: Read>(reader: &mut R) -> Result<Option<u8>, LaneFault>
     ensures bytes { ByteRead (R.remaining reader.old) (R.remaining reader.new) result }
     ensures err { IfErr result (λ fault. fault ≡ LaneFault.Read) }
 {
@@ -41,7 +41,7 @@ pub fn next_byte<R: Read>(reader: &mut R) -> Result<Option<u8>, LaneFault>
 }
 
 /// Reads the next line into `line`, without its newline, and never more than `MAX_LINE` bytes of it.
-pub fn next_line<R: Read>(reader: &mut R, line: &mut Vec<u8>) -> Result<Found, LaneFault>
+pub(crate) fn next_line<R: Read>(reader: &mut R, line: &mut Vec<u8>) -> Result<Found, LaneFault>
     ensures { LineRead (R.remaining reader.old) (R.remaining reader.new) line.new.items result }
 {
     line.clear();

@@ -1,7 +1,7 @@
 //! Numbers in decimal, without sign or leading zeros.
 ghost use Rattle.std.specs.Prelude.{◌≡◌, ◌==◌, ◌≤◌, ◌↔◌, List, ℕ, Some, slice_index};
 ghost use Rattle.std.specs.Fmt.{decimal};
-ghost use Rattle.gate_prog.specs.Numbers.{number_of, no_leading_zero, max_number};
+ghost use Rattle.gate_prog.specs.Numbers.{number_of, small_number_of, no_leading_zero, max_number};
 
 /// The greatest number that a line may name: the greatest whole number that every JSON reader keeps exact.
 pub const MAX_NUMBER: u64 = 9_007_199_254_740_991;
@@ -26,7 +26,7 @@ fn begins_with_plus(text: &[u8]) -> bool
 }
 
 /// The number that the text is, at most `MAX_NUMBER`.
-pub fn read_number(text: &str) -> Option<u64>
+pub(crate) fn read_number(text: &str) -> Option<u64>
     ensures { result ≡ number_of text.now }
 {
     if !lacks_leading_zero(text.as_bytes()) {
@@ -45,3 +45,10 @@ pub fn read_number(text: &str) -> Option<u64>
 pub fn numbers_are_decimal()
     ensures { (text : List ℕ) (n : ℕ) → (number_of text ≡ Some n) ↔ ((text ≡ decimal n) × (n ≤ max_number)) }
 {}
+
+/// The number that the text is, where it fits 32 bits, as heights, times of blocks and places do.
+pub(crate) fn read_small_number(text: &str) -> Option<u32>
+    ensures { result ≡ small_number_of text.now }
+{
+    u32::try_from(read_number(text)?).ok()
+}

@@ -8,7 +8,7 @@ use std::alloc::{AllocError, Global};
 use std::io::Write;
 
 /// Writes all of the text. Any error of the writer, or an empty write, is `Write`.
-pub fn write_text<W: Write>(writer: &mut W, text: &[u8]) -> Result<(), LaneFault>
+pub(crate) fn write_text<W: Write>(writer: &mut W, text: &[u8]) -> Result<(), LaneFault>
     ensures ok { OnOk result (Appends (W.contents writer.old) (W.contents writer.new) text.now) }
     ensures err { OnErr result (PartWritten (W.contents writer.old) (W.contents writer.new) text.now) }
     ensures kind { IfErr result (λ fault. fault ≡ LaneFault.Write) }
