@@ -1,0 +1,45 @@
+ghost use Rattle.std.specs.Prelude.{◌≡◌, IfOk};
+
+use crate::memory::Memory;
+use std::alloc::Global;
+
+/// A value of which an equal one can be made in new memory.
+pub trait Copied: Drop {
+    fn copy(&self, alloc: Global) -> Result<Self, Memory>
+    where
+        Self: Sized,
+        ensures { IfOk result (λ x. x ≡ self.now) };
+}
+
+impl Copied for u8 {
+    fn copy(&self, _alloc: Global) -> Result<u8, Memory> {
+        Ok(*self)
+    }
+}
+
+impl Copied for u32 {
+    fn copy(&self, _alloc: Global) -> Result<u32, Memory> {
+        Ok(*self)
+    }
+}
+
+impl Copied for u64 {
+    fn copy(&self, _alloc: Global) -> Result<u64, Memory> {
+        Ok(*self)
+    }
+}
+
+impl Copied for bool {
+    fn copy(&self, _alloc: Global) -> Result<bool, Memory> {
+        Ok(*self)
+    }
+}
+
+impl<T: Copied> Copied for Option<T> {
+    fn copy(&self, alloc: Global) -> Result<Option<T>, Memory> {
+        match self {
+            Some(value) => Ok(Some(value.copy(alloc)?)),
+            None => Ok(None),
+        }
+    }
+}

@@ -1,0 +1,3 @@
+pub mod Amounts
+pub mod Denials
+pub mod Order
