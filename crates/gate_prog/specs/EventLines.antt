@@ -6,9 +6,9 @@ use Rattle.hex.specs.Hex.{decode_of}
 use Rattle.hex.specs.declared.error.FromHexError.{FromHexError}
 use Rattle.gate_tx.specs.Tx.{Tx}
 use Rattle.gate_tx.specs.Reading.{decoded}
-use Rattle.gate_core.specs.Address.{address_of}
-use Rattle.gate_core.specs.declared.Event.{Event}
-use Rattle.gate_core.specs.declared.Event.TheVariants as events
+use Rattle.gate_core.specs.Addresses.{address_of}
+use Rattle.gate_core.specs.declared.event.Event.{Event}
+use Rattle.gate_core.specs.declared.event.Event.TheVariants as events
 use Rattle.gate_prog.specs.Words.{part_of, is_word}
 use Rattle.gate_prog.specs.Numbers.{number_of}
 

@@ -1,6 +1,6 @@
 //! The event that a line spells.
-ghost use Rattle.std.specs.Prelude.{◌≡◌, IfOk};
-ghost use Rattle.gate_prog.specs.EventLines.{event_of, peer_event_of, enter_event_of, tx_event_of, prepared_of};
+ghost use Rattle.std.specs.Prelude.{◌≡◌, IfOk, MatchOption, None, Some};
+ghost use Rattle.gate_prog.specs.EventLines.{event_of, numbered_of, peer_event_of, enter_event_of, tx_event_of, prepared_of};
 
 use crate::number::read_number;
 use crate::word::{is_one_word, next_word};

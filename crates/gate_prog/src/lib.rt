@@ -3,6 +3,7 @@
 //! The main clauses are those of [`run_lane`]: the lines written are the reply lines of the lines read.
 #![tactic(auto)]
 
+mod event_line;
 mod fault;
 mod line;
 mod number;
