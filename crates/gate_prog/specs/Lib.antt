@@ -4,3 +4,4 @@ pub mod Writing
 pub mod Words
 pub mod Numbers
 pub mod EventLines
+pub mod OpeningLines

@@ -7,6 +7,7 @@ mod event_line;
 mod fault;
 mod line;
 mod number;
+mod opening_line;
 mod output;
 mod word;
 
