@@ -5,3 +5,5 @@ pub mod Words
 pub mod Numbers
 pub mod EventLines
 pub mod OpeningLines
+pub mod Lanes
+pub mod Turns

@@ -5,6 +5,7 @@
 
 mod event_line;
 mod fault;
+mod lane;
 mod line;
 mod number;
 mod opening_line;
@@ -12,5 +13,6 @@ mod output;
 mod word;
 
 pub use fault::LaneFault;
+pub use lane::run_lane;
 pub use line::{MAX_LINE, MAX_LINES};
 pub use number::{MAX_NUMBER, numbers_are_decimal};

@@ -4,7 +4,8 @@ ghost use Rattle.std.specs.Io.KnownBytes.{Appends};
 ghost use Rattle.gate_prog.specs.Writing.{PartWritten};
 
 use crate::fault::LaneFault;
-use std::alloc::{AllocError, Global};
+use gate_bytes::Memory;
+use std::alloc::Global;
 use std::io::Write;
 
 /// Writes all of the text. Any error of the writer, or an empty write, is `Write`.
@@ -24,7 +25,7 @@ pub(crate) fn write_text<W: Write>(writer: &mut W, text: &[u8]) -> Result<(), La
 }
 
 /// The text and its newline in one buffer, so that one write may take the line.
-pub(crate) fn with_newline(alloc: Global, text: &str) -> Result<Vec<u8>, AllocError>
+pub(crate) fn with_newline(alloc: Global, text: &str) -> Result<Vec<u8>, Memory>
     ensures { IfOk result (λ line. line.items ≡ text.now ++ 10 ∷ []) }
 {
     let mut line = Vec::from_slice(alloc, text.as_bytes())?;
