@@ -6,3 +6,4 @@ pub mod Runs
 pub mod TextForms
 pub mod TurnLemmas
 pub mod SoFar
+pub mod EvenSteps

@@ -3,10 +3,10 @@ use Rattle.std.specs.Prelude.{◌≡◌, ℕ, ◌+◌, ◌≤◌, nat_lt, nat_le
 use Rattle.std.specs.Io.{StartsWith}
 use Rattle.std.specs.Io.KnownBytes.{Appends, Consumes}
 use Rattle.gate_core.specs.World.{World}
-use Rattle.gate_core.specs.Steps.{StepGives}
+use Rattle.gate_core.specs.Good.{StepGives}
 use Rattle.gate_core.specs.Texts.{reply_text}
 use Rattle.gate_core.specs.declared.event.Event.{Event}
-use Rattle.gate_core.specs.declared.event.Reply.{Reply}
+use Rattle.gate_core.specs.declared.reply.Reply.{Reply}
 use Rattle.gate_prog.specs.Lines.{line_limit, count_limit, LacksNewline, EachLacksNewline, lines_of, unlines, is_skipped}
 use Rattle.gate_prog.specs.EventLines.{line_event}
 

@@ -7,3 +7,6 @@ pub mod EventLines
 pub mod OpeningLines
 pub mod Lanes
 pub mod Turns
+pub mod VerdictRows
+pub mod OpeningFaults
+pub mod BlockTimes

@@ -8,11 +8,15 @@ mod fault;
 mod lane;
 mod line;
 mod number;
+mod opening_fault;
 mod opening_line;
 mod output;
+mod times;
+mod verdict_rows;
 mod word;
 
 pub use fault::LaneFault;
 pub use lane::run_lane;
 pub use line::{MAX_LINE, MAX_LINES};
+pub use opening_fault::{OpeningFault, OpeningToken};
 pub use number::{MAX_NUMBER, numbers_are_decimal};
