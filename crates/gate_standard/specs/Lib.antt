@@ -1,3 +1,4 @@
 pub mod Amounts
 pub mod Denials
 pub mod Order
+pub mod Rules

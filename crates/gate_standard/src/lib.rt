@@ -4,9 +4,11 @@
 #![tactic(auto)]
 
 mod amounts;
+mod check;
 mod denial;
 mod order;
 
 pub use amounts::{MAX_MONEY, fee_at, rate_of};
+pub use check::check_transaction;
 pub use denial::Denial;
 pub use order::the_order;

@@ -7,7 +7,7 @@ use std::fmt;
 use std::marker::Model;
 
 /// The id of a transaction without its witnesses: 32 bytes in hash order, printed reversed.
-#[derive(Clone, Copy, Debug, PartialEq, Eq, Hash)]
+#[derive(Clone, Copy, Debug, PartialEq, Eq, PartialOrd, Ord, Hash)]
 pub struct Txid {
     hash: [u8; 32],
 }
@@ -72,7 +72,7 @@ impl fmt::Display for Txid {
 }
 
 /// The id of a transaction with its witnesses (BIP 141): 32 bytes in hash order, printed reversed.
-#[derive(Clone, Copy, Debug, PartialEq, Eq, Hash)]
+#[derive(Clone, Copy, Debug, PartialEq, Eq, PartialOrd, Ord, Hash)]
 pub struct Wtxid {
     hash: [u8; 32],
 }

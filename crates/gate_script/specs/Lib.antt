@@ -1,0 +1,4 @@
+pub mod Instructions
+pub mod Pushes
+pub mod Templates
+pub mod Witness
