@@ -1,5 +1,5 @@
 -- A text that is short enough has counts that are read: what has ranges, a shape and such a text is a transaction.
-use Rattle.std.proofs.Common.{◌≡◌, ℕ, ◌+◌, ◌*◌, ◌<◌, ◌≤◌, Bool, true, false, cond, ltb, List, [], ◌∷◌, ◌++◌, length, refl, sym, ap, arith}
+use Rattle.std.proofs.Common.{◌≡◌, ℕ, ◌+◌, ◌*◌, ◌<◌, ◌≤◌, Bool, true, false, cond, ltb, List, [], ◌∷◌, ◌++◌, length, refl, arith}
 use Rattle.std.specs.Int.{w32, cast_unsigned}
 use Rattle.std.specs.List.{flat_map, list_any, AllByRecursion}
 use Rattle.std.proofs.lemmas.List.{length-append}
@@ -10,7 +10,7 @@ use Rattle.gate_bytes.specs.Compact.{compact, IsCount}
 use Rattle.gate_tx.specs.declared.transaction.TxIn.{TxIn}
 use Rattle.gate_tx.specs.declared.transaction.TxOut.{TxOut}
 use Rattle.gate_tx.specs.Tx.{Tx}
-use Rattle.gate_tx.specs.Text.{string, listed, point, input, output, witness, is_full, has_witness, stripped, flagged, text, longest, IsInput, IsOutput, IsWitness, IsTx, IsTransaction}
+use Rattle.gate_tx.specs.Text.{string, listed, input, output, witness, is_full, has_witness, stripped, flagged, text, longest, IsInput, IsOutput, IsWitness, IsTx, IsTransaction}
 use Rattle.gate_tx.specs.Sizes.{capped, stripped_lists, witness_lists, stripped_size_of, full_size_of, weight_of}
 use Rattle.gate_tx.specs.Ranges.{IsRangedInput, IsRangedOutput, IsRanged}
 use Rattle.gate_tx.proofs.Whole.{or_false, is_empty}
@@ -149,6 +149,6 @@ pub is_full_size : (t : Tx) (m n : ℕ) → length (text t) ≤ longest → m �
 unfolding full_size_of
 is_full_size t m n le p q = omega (arith, length-text t)
 
-pub is_weight : (t : Tx) (m n : ℕ) → length (text t) ≤ longest → m ≡ capped (stripped_lists t.inputs t.outputs) → n ≡ capped (witness_lists t.inputs) → 4 * m + n ≡ weight_of t
+pub is_weight : (t : Tx) (m n : ℕ) → length (text t) ≤ longest → m ≡ capped (stripped_lists t.inputs t.outputs) → n ≡ capped (witness_lists t.inputs) → 3 * m + (m + n) ≡ weight_of t
 unfolding weight_of
 is_weight t m n le p q = omega (arith, length-text t, length-stripped t)

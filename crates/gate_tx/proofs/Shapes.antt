@@ -6,7 +6,7 @@ use Rattle.std.specs.List.{AllByRecursion}
 use Rattle.std.proofs.lemmas.Int.{to_z-of_z}
 use Rattle.gate_tx.specs.declared.transaction.TxIn.{TxIn}
 use Rattle.gate_tx.specs.declared.transaction.TxOut.{TxOut}
-use Rattle.gate_tx.specs.Tx.{Tx, tx_of}
+use Rattle.gate_tx.specs.Tx.{tx_of}
 use Rattle.gate_tx.specs.Text.{text, longest, IsTransaction}
 use Rattle.gate_tx.specs.Sizes.{stripped_lists, witness_lists}
 use Rattle.gate_tx.specs.Ranges.{IsRangedInput, IsRangedOutput}

@@ -1,0 +1,4 @@
+pub mod Granted
+pub mod Following
+pub mod Conflicts
+pub mod Submitting

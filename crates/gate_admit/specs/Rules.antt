@@ -1,0 +1,120 @@
+-- The written order of admission, and the decision: the first rule that fails, or a grant.
+use Rattle.std.specs.Prelude.{ℕ, ◌+◌, ◌-◌, ◌/◌, ℤ, pos, negsuc, nat_lt, Bool, true, false, ◌||◌, ◌&&◌, is_some, List, [], ◌∷◌, ◌++◌, sum_by, Option, Some, None, Result, Ok, Err}
+use Rattle.std.specs.List.{list_any}
+use Rattle.gate_tx.specs.declared.Coin.{Coin}
+use Rattle.gate_tx.specs.declared.TxIn.{TxIn}
+use Rattle.gate_tx.specs.declared.TxOut.{TxOut}
+use Rattle.gate_tx.specs.Tx.{Tx}
+use Rattle.gate_tx.specs.Ids.{txid_of, wtxid_of}
+use Rattle.gate_tx.specs.Sizes.{weight_of}
+use Rattle.gate_standard.specs.declared.Denial.{Denial}
+use Rattle.gate_standard.specs.declared.Denial.TheVariants.{Decode, AlreadyInMempool, SameNonWitnessData, MempoolConflict, AlreadyKnown, MissingOrSpent, InputValues, InBelowOut, FeeOutOfRange, MinRelayFee}
+use Rattle.gate_standard.specs.Amounts.{max_money, amount, required_fee}
+use Rattle.gate_standard.specs.Order.{Rule, first_failing}
+use Rattle.gate_standard.specs.Rules.{transaction_rules}
+use Rattle.gate_chain.specs.History.{History}
+use Rattle.gate_chain.specs.Coins.{coin_of, opened_with_of}
+use Rattle.gate_admit.specs.declared.grant.Grant.{Grant}
+use Rattle.gate_admit.specs.declared.verdicts.Verdicts.{Verdicts}
+use Rattle.gate_admit.specs.Pool.{Admitted, spends, entry_by_txid, entry_by_wtxid}
+use Rattle.gate_admit.specs.Coins.{misses_coin, coins_of}
+
+-- ---- A21 to A23: the transaction beside the entries of the pool
+
+-- whether an entry is a direct conflict of a transaction: it spends one of its outpoints
+abbrev pub is_conflict : Tx → Admitted → Bool
+is_conflict tx entry = list_any (λ (i : TxIn). spends entry.tx i.prevout) tx.inputs
+
+unfoldable pub pool_rules : List Admitted → Tx → List Rule
+pool_rules entries tx =
+    (AlreadyInMempool, is_some (entry_by_wtxid entries (wtxid_of tx)))
+    ∷ (SameNonWitnessData, is_some (entry_by_txid entries (txid_of tx)))
+    ∷ (MempoolConflict, list_any (is_conflict tx) entries)
+    ∷ []
+
+-- ---- A24 and A25: whether each input has a coin
+
+-- whether one of these outputs of a transaction, the first at this index, is an unspent coin of the chain
+abbrev pub is_chain_coin_from : History → List ℕ → ℕ → List TxOut → Bool
+is_chain_coin_from chain txid index [] = false
+is_chain_coin_from chain txid index (o ∷ outputs) =
+    is_some (coin_of chain (record { txid = txid; index = index })) || is_chain_coin_from chain txid (index + 1) outputs
+
+unfoldable pub coin_rules : History → List Admitted → Tx → List Rule
+coin_rules chain entries tx =
+    (AlreadyKnown, (misses_coin chain entries tx.inputs && is_chain_coin_from chain (txid_of tx) 0 tx.outputs) || opened_with_of chain (txid_of tx))
+    ∷ (MissingOrSpent, misses_coin chain entries tx.inputs)
+    ∷ []
+
+-- ---- A28: the value of each coin, and the sum up to it
+
+abbrev pub is_outside : ℤ → Bool
+is_outside (pos n) = nat_lt max_money n
+is_outside (negsuc n) = true
+
+-- the rules on one coin, where those before it sum to this
+abbrev pub value_rules : ℕ → Coin → List Rule
+value_rules sum coin = (InputValues, is_outside coin.value || nat_lt max_money (sum + amount coin.value)) ∷ []
+
+-- input by input
+unfoldable pub values_rules : ℕ → List Coin → List Rule
+values_rules sum [] = []
+values_rules sum (coin ∷ coins) = value_rules sum coin ++ values_rules (sum + amount coin.value) coins
+
+-- ---- A29, A30 and A35: what is paid
+
+-- in satoshi: what the coins hold, and what the outputs hold
+abbrev pub coins_value : List Coin → ℕ
+coins_value coins = sum_by (λ (c : Coin). amount c.value) coins
+
+abbrev pub outputs_value : Tx → ℕ
+outputs_value tx = sum_by (λ (o : TxOut). amount o.value) tx.outputs
+
+-- the size in virtual bytes: a quarter of the weight, rounded up
+abbrev pub vsize_of : Tx → ℕ
+vsize_of tx = (weight_of tx + 3) / 4
+
+-- what is asked of every transaction, in satoshi per 1,000 virtual bytes
+abbrev pub min_relay_rate : ℕ
+min_relay_rate = 1000
+
+-- what comes in and what goes out
+unfoldable pub balance_rules : ℕ → ℕ → List Rule
+balance_rules paid_in paid_out =
+    (InBelowOut, nat_lt paid_in paid_out)
+    ∷ (FeeOutOfRange, nat_lt max_money (paid_in - paid_out))
+    ∷ []
+
+unfoldable pub fee_rules : ℕ → ℕ → ℕ → List Rule
+fee_rules floor fee vsize = (MinRelayFee, nat_lt fee (required_fee min_relay_rate vsize)) ∷ []
+
+-- ---- the whole
+
+-- the rules on a transaction over a chain, a pool, its floor and the verdicts at hand, in the written order
+unfoldable pub admission_rules : History → List Admitted → ℕ → Tx → Verdicts → List Rule
+admission_rules chain entries floor tx verdicts =
+    let coins = coins_of chain entries tx.inputs in
+    transaction_rules tx
+    ++ (pool_rules entries tx
+    ++ (coin_rules chain entries tx
+    ++ (values_rules 0 coins
+    ++ (balance_rules (coins_value coins) (outputs_value tx)
+    ++ fee_rules floor (coins_value coins - outputs_value tx) (vsize_of tx)))))
+
+-- what a grant says of a transaction
+unfoldable pub grant_of : History → List Admitted → Tx → Grant
+grant_of chain entries tx =
+    record { fee = coins_value (coins_of chain entries tx.inputs) - outputs_value tx; vsize = vsize_of tx; replaced = 0 }
+
+-- the denial by the rules on a transaction alone, which A1 begins: there is one
+abbrev pub first_denial : Option Tx → Option Denial
+first_denial None = Some Decode
+first_denial (Some tx) = first_failing (transaction_rules tx)
+
+abbrev pub denied_or : Option Denial → Grant → Result Grant Denial
+denied_or (Some denial) grant = Err denial
+denied_or None grant = Ok grant
+
+unfoldable pub decision_of : History → List Admitted → ℕ → Option Tx → Verdicts → Result Grant Denial
+decision_of chain entries floor None verdicts = Err Decode
+decision_of chain entries floor (Some tx) verdicts = denied_or (first_failing (admission_rules chain entries floor tx verdicts)) (grant_of chain entries tx)

@@ -1,0 +1,145 @@
+ghost use Rattle.std.specs.Prelude.{◌≡◌, None, IfOk};
+ghost use Rattle.std.specs.Option.{option_map, option_copied};
+ghost use Rattle.gate_tx.specs.Reading.{decoded};
+ghost use Rattle.gate_tx.specs.Ids.{txid_of, wtxid_of};
+ghost use Rattle.gate_admit.specs.Rules.{first_denial};
+
+use crate::identified::Identified;
+use gate_bytes::{Copied, Exact, Memory};
+use gate_standard::{Denial, check_transaction};
+use gate_tx::{Transaction, TxFault, Txid, Wtxid, read_tx};
+use std::alloc::Global;
+use std::marker::Model;
+
+/// A submission before it meets a chain and a pool: contracts see the transaction that its bytes spell, or none.
+#[derive(Debug, Drop)]
+pub struct Prepared {
+    identified: Option<Identified>,
+    denial: Option<Denial>,
+}
+
+impl Model for Prepared {
+    ghost use Rattle.std.specs.Prelude.{◌≡◌, Option};
+    ghost use Rattle.gate_tx.specs.Tx.{Tx};
+
+    ghost Value = { Option Tx };
+
+    ghost use Rattle.gate_admit.specs.Rules.{first_denial};
+
+    ghost view = { λ p. p.identified };
+
+    ghost invariant = { λ p. p.denial ≡ first_denial p.identified };
+}
+
+impl Prepared {
+    /// The submission of these bytes.
+    pub fn new(alloc: Global, bytes: &[u8]) -> Result<Prepared, Memory>
+        ensures { IfOk result (λ prepared. prepared ≡ decoded bytes.now) }
+    {
+        match read_tx(alloc, bytes) {
+            Ok(transaction) => {
+                let denial = check_transaction(alloc, &transaction)?;
+                Ok(Prepared {
+                    identified: Some(Identified::new(alloc, transaction)?),
+                    denial,
+                })
+            }
+            Err(TxFault::Memory) => Err(Memory),
+            Err(_) => Ok(Prepared::undecodable()),
+        }
+    }
+
+    /// The submission of what spells no transaction.
+    pub fn undecodable() -> Prepared
+        ensures { result ≡ None }
+    {
+        Prepared {
+            identified: None,
+            denial: Some(Denial::Decode),
+        }
+    }
+
+    pub(crate) fn identified(&self) -> Option<&Identified>
+        ensures { option_copied result ≡ self.now }
+    {
+        self.identified.as_ref()
+    }
+
+    pub fn transaction(&self) -> Option<&Transaction>
+        ensures { option_copied result ≡ self.now }
+    {
+        match &self.identified {
+            Some(identified) => Some(identified.transaction()),
+            None => None,
+        }
+    }
+
+    pub fn txid(&self) -> Option<Txid>
+        ensures { result ≡ option_map txid_of self.now }
+    {
+        match &self.identified {
+            Some(identified) => Some(identified.txid()),
+            None => None,
+        }
+    }
+
+    pub fn wtxid(&self) -> Option<Wtxid>
+        ensures { result ≡ option_map wtxid_of self.now }
+    {
+        match &self.identified {
+            Some(identified) => Some(identified.wtxid()),
+            None => None,
+        }
+    }
+
+    /// The first rule that fails of those on a transaction alone.
+    pub fn denial(&self) -> Option<Denial>
+        ensures { result ≡ first_denial self.now }
+    {
+        self.denial
+    }
+}
+
+impl Copied for Prepared {
+    fn copy(&self, alloc: Global) -> Result<Prepared, Memory> {
+        Ok(Prepared {
+            identified: self.identified.copy(alloc)?,
+            denial: self.denial,
+        })
+    }
+}
+
+impl PartialEq for Prepared {
+    ghost use Rattle.std.proofs.Common.{refl};
+    ghost use Rattle.std.specs.Option.{option_eq};
+    ghost use Rattle.gate_tx.specs.Equality.{transaction_decides, tx_in_decides, tx_out_decides};
+    ghost use Rattle.gate_admit.specs.Equality.{option_decides, deciding};
+
+    ghost eq = { λ a b. option_eq ⟦<Transaction as PartialEq>⟧.eq a b };
+
+    ghost laws = { deciding (option_decides (λ a b. transaction_decides tx_in_decides tx_out_decides a b (⟦<Transaction as PartialEq>⟧.eq a b) refl)) };
+
+    fn eq(&self, other: &Prepared) -> bool {
+        match (&self.identified, &other.identified) {
+            (Some(one), Some(another)) => one.transaction() == another.transaction(),
+            (None, None) => true,
+            _ => false,
+        }
+    }
+}
+
+impl Eq for Prepared {
+    ghost use Rattle.std.proofs.Common.{refl};
+    ghost use Rattle.gate_tx.specs.Equality.{transaction_decides, tx_in_decides, tx_out_decides};
+    ghost use Rattle.gate_admit.specs.Equality.{option_decides, deciding_all};
+
+    ghost laws = { deciding_all (option_decides (λ a b. transaction_decides tx_in_decides tx_out_decides a b (⟦<Transaction as PartialEq>⟧.eq a b) refl)) };
+}
+
+impl Exact for Prepared {
+    ghost use Rattle.std.proofs.Common.{refl};
+    ghost use Rattle.gate_tx.specs.Equality.{transaction_decides, tx_in_decides, tx_out_decides};
+    ghost use Rattle.gate_admit.specs.Equality.{option_decides};
+
+    ghost exact = { option_decides (λ a b. transaction_decides tx_in_decides tx_out_decides a b (⟦<Transaction as PartialEq>⟧.eq a b) refl) };
+}

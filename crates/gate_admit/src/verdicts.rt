@@ -1,0 +1,47 @@
+//! Verdicts on scripts, handed in by whoever runs them.
+use gate_bytes::{Copied, Kept, Memory};
+use gate_tx::Wtxid;
+use std::alloc::Global;
+
+/// What a script interpreter found of an input.
+#[derive(Clone, Copy, Debug, PartialEq, Eq)]
+pub enum Verdict {
+    /// The script succeeds under every rule.
+    Good,
+    /// It fails under a rule of policy alone.
+    Soft,
+    /// It fails under a rule of consensus.
+    Hard,
+}
+
+/// The verdict on one input of one transaction.
+#[derive(Clone, Copy, Debug, PartialEq, Eq)]
+pub struct VerdictRow {
+    pub wtxid: Wtxid,
+    pub input: u32,
+    pub verdict: Verdict,
+}
+
+/// Verdicts by transaction and input, and one for every other pair.
+#[derive(Debug, Drop, PartialEq, Eq)]
+pub struct Verdicts {
+    /// Of several rows on one input the first counts.
+    pub rows: Kept<VerdictRow>,
+    /// What is answered for an input without a row.
+    pub other: Option<Verdict>,
+}
+
+impl Copied for VerdictRow {
+    fn copy(&self, _alloc: Global) -> Result<VerdictRow, Memory> {
+        Ok(*self)
+    }
+}
+
+impl Copied for Verdicts {
+    fn copy(&self, alloc: Global) -> Result<Verdicts, Memory> {
+        Ok(Verdicts {
+            rows: self.rows.copy(alloc)?,
+            other: self.other,
+        })
+    }
+}
