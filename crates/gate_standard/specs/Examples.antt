@@ -1,6 +1,5 @@
 -- Transactions on which the definitions are tried: what each of them decides is computed by the prover.
 use Rattle.std.specs.Prelude.{ℕ, List, [], ◌∷◌, ◌++◌, pos, replicate}
-use Rattle.gate_tx.specs.declared.transaction.OutPoint.{OutPoint}
 use Rattle.gate_tx.specs.declared.transaction.TxIn.{TxIn}
 use Rattle.gate_tx.specs.declared.transaction.TxOut.{TxOut}
 use Rattle.gate_tx.specs.Tx.{Tx}

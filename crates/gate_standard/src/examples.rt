@@ -1,5 +1,5 @@
 //! The definitions at values that are known from outside.
-ghost use Rattle.std.specs.Prelude.{◌≡◌, ◌∷◌, [], true, false, None, Some};
+ghost use Rattle.std.specs.Prelude.{◌≡◌, ◌∷◌, [], None, Some};
 ghost use Rattle.gate_standard.specs.declared.denial.Denial.TheVariants as denials;
 ghost use Rattle.gate_standard.specs.Amounts.{required_fee, feerate};
 ghost use Rattle.gate_standard.specs.Order.{first_failing};

@@ -1,5 +1,3 @@
-ghost use Rattle.std.specs.Prelude.{◌≡◌};
-
 use super::*;
 use gate_bytes::Kept;
 use gate_tx::{OutPoint, Transaction, TxIn, TxOut, Txid};
