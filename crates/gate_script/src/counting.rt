@@ -2,7 +2,10 @@ ghost use Rattle.std.specs.Prelude.{◌≡◌, ◌-◌, ◌^◌, min};
 ghost use Rattle.gate_script.specs.Sigops.{sigops_of, checks};
 
 use crate::op::{Op, ops};
-use crate::opcode::{OP_0, OP_1, OP_16, OP_CHECKMULTISIG, OP_CHECKMULTISIGVERIFY, OP_CHECKSIG, OP_CHECKSIGVERIFY, OP_RESERVED};
+use crate::opcode::{
+    OP_0, OP_1, OP_16, OP_CHECKMULTISIG, OP_CHECKMULTISIGVERIFY, OP_CHECKSIG, OP_CHECKSIGVERIFY,
+    OP_RESERVED,
+};
 
 /// How many signatures a check of several counts for where the number before it isn't read.
 const MOST_KEYS: u64 = 20;
@@ -35,9 +38,8 @@ fn checks(accurate: bool, before: u8, opcode: u8) -> u64
 {
     match opcode {
         OP_CHECKSIG | OP_CHECKSIGVERIFY => 1,
-        OP_CHECKMULTISIG | OP_CHECKMULTISIGVERIFY if accurate && OP_1 <= before && before <= OP_16 => {
-            u64::from(before - OP_RESERVED)
-        }
+        OP_CHECKMULTISIG | OP_CHECKMULTISIGVERIFY
+            if accurate && OP_1 <= before && before <= OP_16 => { u64::from(before - OP_RESERVED) }
         OP_CHECKMULTISIG | OP_CHECKMULTISIGVERIFY => MOST_KEYS,
         _ => 0,
     }

@@ -10,15 +10,14 @@ mod opcode;
 mod public_key;
 mod pushes;
 mod reading;
-
 mod templates;
 mod witness;
 
+pub use counting::sigops;
 pub use matching::template;
 pub use op::{Op, ops};
 pub use pushes::{is_push_only, push_stack};
 pub use reading::Ops;
-pub use counting::sigops;
 pub use templates::Template;
 pub use witness::witness_program;
 
