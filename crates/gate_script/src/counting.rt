@@ -1,4 +1,4 @@
-ghost use Rattle.std.specs.Prelude.{◌≡◌, ◌-◌, ◌^◌, min};
+ghost use Rattle.std.specs.Prelude.{◌≡◌, ◌≤◌, ◌*◌, ◌-◌, ◌^◌, length, min};
 ghost use Rattle.gate_script.specs.Sigops.{sigops_of, checks};
 
 use crate::op::{Op, ops};
@@ -15,7 +15,8 @@ const MOST_KEYS: u64 = 20;
 /// (Bitcoin Core 22.0, `CScript::GetSigOpCount`). A script of less than 2^59 bytes counts less than
 /// 2^64; more is the greatest u64.
 pub fn sigops(script: &[u8], accurate: bool) -> u64
-    ensures { result ≡ min (sigops_of accurate script.now) (2 ^ 64 - 1) }
+    ensures exact { result ≡ min (sigops_of accurate script.now) (2 ^ 64 - 1) }
+    ensures most { result ≤ 20 * length script.now }
 {
     let mut count: u64 = 0;
     let mut before = OP_0;

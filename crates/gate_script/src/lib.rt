@@ -4,6 +4,7 @@
 #![tactic(auto)]
 
 mod counting;
+mod law;
 mod matching;
 mod op;
 mod opcode;
@@ -14,6 +15,7 @@ mod templates;
 mod witness;
 
 pub use counting::sigops;
+pub use law::spellings_are_read;
 pub use matching::template;
 pub use op::{Op, ops};
 pub use pushes::{is_push_only, push_stack};
