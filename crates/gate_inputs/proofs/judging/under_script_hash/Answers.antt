@@ -9,5 +9,5 @@ pub returns : goal.returns
 unfolding answers_by
 returns c =
     let program = c.witness_program-program.ensures in
-    let light = leb-capped (sigops_of true c.args.redeem.now) c.sigops-operations.result c.sigops-operations.ensures in
-    same_answers light (c.allows_witness.ensures ∙ allows-same ScriptHash c.as_slice.ensures program) (c.cost.ensures ∙ cost-capped c.args.input.now (Some c.args.redeem.now) c.sigops-operations.result c.sigops-operations.ensures program)
+    let light = leb-capped (sigops_of true c.args.redeem.now) c.sigops-operations.result c.sigops-operations.ensures.exact in
+    same_answers light (c.allows_witness.ensures ∙ allows-same ScriptHash c.as_slice.ensures program) (c.cost.ensures ∙ cost-capped c.args.input.now (Some c.args.redeem.now) c.sigops-operations.result c.sigops-operations.ensures.exact program)
