@@ -1,0 +1,5 @@
+mod Dotted
+pub mod Keeping
+mod Listings
+mod Peers
+pub mod Running

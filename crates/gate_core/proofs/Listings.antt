@@ -1,0 +1,45 @@
+-- What the listings of a run are.
+use Rattle.std.proofs.Common.{◌≡◌, ℕ, zero, suc, List, [], ◌∷◌, take, slice_get, Option, Some, None, Result, Ok, Err}
+use Rattle.gate_tx.specs.Tx.{Tx}
+use Rattle.gate_standard.specs.declared.Denial.{Denial}
+use Rattle.gate_admit.specs.declared.Grant.{Grant}
+use Rattle.gate_admit.specs.Pool.{listing_of}
+use Rattle.gate_admit.specs.Submission.{submit_of}
+use Rattle.gate_core.specs.declared.event.Event.{Event}
+use Rattle.gate_core.specs.declared.event.Event.TheVariants.{Enter, Leave, Tx as Submit, Mempool}
+use Rattle.gate_core.specs.declared.refusal.Refusal.{Refusal}
+use Rattle.gate_core.specs.declared.reply.Reply.{Reply}
+use Rattle.gate_core.specs.declared.reply.Reply.TheVariants.{Listing}
+use Rattle.gate_core.specs.World.{World}
+use Rattle.gate_core.specs.Access.{first_refusal, peer_rules}
+use Rattle.gate_core.specs.Steps.{decided, served, answered, step_of}
+use Rattle.gate_core.specs.Runs.{run_of, ListsThePool}
+
+decided_lists : (w : World) (peer : ℕ) (transaction : Option Tx) (decision : Result Grant Denial) (txids : List (List ℕ)) → (decided w peer transaction decision).0 ≡ Listing txids → ⊥
+decided_lists w peer None decision txids h = cc
+decided_lists w peer (Some tx) (Ok grant) txids h = cc
+decided_lists w peer (Some tx) (Err denial) txids h = cc
+
+served_lists : (w : World) (event : Event) (txids : List (List ℕ)) → (served w event).0 ≡ Listing txids → txids ≡ listing_of w.pool
+served_lists w (Enter peer address) txids h = cc
+served_lists w (Leave peer) txids h = cc
+served_lists w (Submit peer now transaction) txids h =
+    let s = submit_of w.chain w.pool w.floor transaction w.verdicts now w.budget in
+    absurd (decided_lists (record w { pool = s.entries; floor = s.floor }) peer transaction s.decision txids h)
+served_lists w (Mempool peer) txids h = cc
+
+answered_lists : (w : World) (event : Event) (refusal : Option Refusal) (txids : List (List ℕ)) → (answered w event refusal).0 ≡ Listing txids → txids ≡ listing_of w.pool
+answered_lists w event (Some refusal) txids h = cc
+answered_lists w event None txids h = served_lists w event txids h
+
+step_lists : (w : World) (event : Event) (txids : List (List ℕ)) → (step_of w event).0 ≡ Listing txids → txids ≡ listing_of w.pool
+unfolding step_of
+step_lists w event txids h = answered_lists w event (first_refusal (peer_rules w event)) txids h
+
+some_is : (reply other : Reply) → Some reply ≡ Some other → reply ≡ other
+some_is reply other h = cc
+
+pub lists_the_pool : (events : List Event) (w : World) → ListsThePool w events
+lists_the_pool [] w k txids h = cc
+lists_the_pool (event ∷ events) w zero txids h = step_lists w event txids (some_is _ _ h)
+lists_the_pool (event ∷ events) w (suc k) txids h = lists_the_pool events (step_of w event).1 k txids h

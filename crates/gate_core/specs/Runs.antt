@@ -1,0 +1,54 @@
+-- Runs: the step over a list of events, and what holds after every one of them.
+use Rattle.std.specs.Prelude.{◌≡◌, ◌≢◌, ℕ, List, [], ◌∷◌, ◌++◌, take, slice_get, Option, Some}
+use Rattle.std.specs.List.{flat_map, AllPairs}
+use Rattle.gate_tx.specs.declared.OutPoint.{OutPoint}
+use Rattle.gate_tx.specs.Tx.{Tx}
+use Rattle.gate_admit.specs.Pool.{Admitted, spent_by, listing_of}
+use Rattle.gate_admit.specs.Good.{AreApart}
+use Rattle.gate_core.specs.declared.event.Event.{Event}
+use Rattle.gate_core.specs.declared.opening.Opening.{Opening}
+use Rattle.gate_core.specs.declared.reply.Reply.{Reply}
+use Rattle.gate_core.specs.declared.reply.Reply.TheVariants.{Listing}
+use Rattle.gate_core.specs.World.{World, opened_world}
+use Rattle.gate_core.specs.Steps.{step_of}
+use Rattle.gate_core.specs.Good.{IsGoodWorld, StepGives, transactions_in, transactions_of}
+
+-- the replies to events in turn, and the state after the last
+abbrev pub run_of : World → List Event → List Reply × World
+run_of w [] = ([], w)
+run_of w (event ∷ events) =
+    let first = step_of w event in
+    let rest = run_of first.1 events in
+    (first.0 ∷ rest.0, rest.1)
+
+-- a run is apart where all transactions of its first state and of its events are
+abbrev pub IsRunApart : World → List Event → Type 0
+IsRunApart w events = AreApart (transactions_in w ++ flat_map transactions_of events)
+
+-- steps that lead from a state through events, each answered, to a state
+abbrev pub LeadsTo : World → List Event → List Reply → World → Type 0
+LeadsTo w [] [] end = end ≡ w
+LeadsTo w [] (reply ∷ replies) end = ⊥
+LeadsTo w (event ∷ events) [] end = ⊥
+LeadsTo w (event ∷ events) (reply ∷ replies) end = (next : World) × StepGives w event reply next × LeadsTo next events replies end
+
+-- from a good state steps that are apart give the run, and end in a good state
+abbrev pub StepsGiveTheRun : Type 0
+StepsGiveTheRun =
+    (w : World) (events : List Event) (replies : List Reply) (end : World) → IsGoodWorld w → IsRunApart w events → LeadsTo w events replies end
+    → ((replies, end) ≡ run_of w events) × IsGoodWorld end
+
+-- no outpoint is spent by two entries, nor twice by one
+abbrev pub SpendsOnce : List Admitted → Type 0
+SpendsOnce pool = AllPairs (λ (p : OutPoint) (q : OutPoint). p ≢ q) (spent_by pool)
+
+-- each reply that is a listing has the txids of the pool at that point, in order of admission
+abbrev pub ListsThePool : World → List Event → Type 0
+ListsThePool w events =
+    (k : ℕ) (txids : List (List ℕ)) → slice_get (run_of w events).0 k ≡ Some (Listing txids) → txids ≡ listing_of (run_of w (take k events)).1.pool
+
+-- so it is after any events that are apart, from any opening
+abbrev pub RunsKeepThePoolSound : Type 0
+RunsKeepThePoolSound =
+    (o : Opening) (events : List Event) → AreApart (flat_map transactions_of events)
+    → SpendsOnce (run_of (opened_world o) events).1.pool × ListsThePool (opened_world o) events

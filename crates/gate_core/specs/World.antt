@@ -1,0 +1,28 @@
+-- What a state is: the chain, the pool over it with its floor, the sessions of peers, and the settings.
+use Rattle.std.specs.Prelude.{ℕ, Bool, List, []}
+use Rattle.gate_chain.specs.History.{History, opened}
+use Rattle.gate_admit.specs.declared.Verdicts.{Verdicts}
+use Rattle.gate_admit.specs.Pool.{Admitted}
+use Rattle.gate_core.specs.Sessions.{Session}
+use Rattle.gate_core.specs.declared.opening.Opening.{Opening}
+
+pub record World : Type 0 where
+  pub chain : History
+  pub pool : List Admitted
+  pub floor : ℕ
+  pub sessions : List Session
+  pub budget : ℕ
+  pub verdicts : Verdicts
+  pub bloom : Bool
+
+-- the state of an opening: no entries, no floor, no peers
+abbrev pub opened_world : Opening → World
+opened_world o = record {
+  chain = opened o.coins o.times;
+  pool = [];
+  floor = 0;
+  sessions = [];
+  budget = o.budget;
+  verdicts = o.verdicts;
+  bloom = o.bloom;
+}

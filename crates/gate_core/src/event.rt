@@ -1,0 +1,62 @@
+//! What a caller asks.
+ghost use Rattle.std.specs.Prelude.{◌≡◌};
+
+use crate::address::Address;
+use gate_admit::Prepared;
+use gate_bytes::{Copied, Memory};
+use std::alloc::Global;
+
+/// One request to the gate. A peer is named by a number that its first `Enter` takes for good.
+#[derive(Debug, Drop)]
+pub enum Event {
+    /// A peer enters, from this address.
+    Enter { peer: u64, address: Address },
+    /// A peer leaves, which closes its session.
+    Leave { peer: u64 },
+    /// A peer submits a transaction at this second.
+    Tx {
+        peer: u64,
+        now: u64,
+        transaction: Prepared,
+    },
+    /// A peer asks for the txids in the pool.
+    Mempool { peer: u64 },
+}
+
+impl Event {
+    ghost use Rattle.gate_core.specs.Steps.{peer_of};
+
+    /// The number of the peer that makes it.
+    pub fn peer(&self) -> u64
+        ensures { result ≡ peer_of self.now }
+    {
+        match self {
+            Event::Enter { peer, .. } => *peer,
+            Event::Leave { peer } => *peer,
+            Event::Tx { peer, .. } => *peer,
+            Event::Mempool { peer } => *peer,
+        }
+    }
+}
+
+impl Copied for Event {
+    fn copy(&self, alloc: Global) -> Result<Event, Memory> {
+        match self {
+            Event::Enter { peer, address } => Ok(Event::Enter {
+                peer: *peer,
+                address: *address,
+            }),
+            Event::Leave { peer } => Ok(Event::Leave { peer: *peer }),
+            Event::Tx {
+                peer,
+                now,
+                transaction,
+            } => Ok(Event::Tx {
+                peer: *peer,
+                now: *now,
+                transaction: transaction.copy(alloc)?,
+            }),
+            Event::Mempool { peer } => Ok(Event::Mempool { peer: *peer }),
+        }
+    }
+}
