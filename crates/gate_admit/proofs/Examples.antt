@@ -1,5 +1,5 @@
 -- The definitions on the worked rows: one coin of 100,000 satoshi, and what spends it.
-use Rattle.std.proofs.Common.{◌≡◌, ℕ, pos, Bool, false, List, [], ◌∷◌, Option, Some, None, Result, Ok, Err, refl, cond}
+use Rattle.std.proofs.Common.{◌≡◌, ℕ, pos, Bool, false, List, [], ◌∷◌, Option, Some, None, Result, Ok, Err, refl, ap, ◌∙◌}
 use Rattle.std.specs.Prelude.{replicate}
 use Rattle.std.specs.Str.{bytes_eq}
 use Rattle.gate_tx.specs.Tx.{Tx}
@@ -8,12 +8,12 @@ use Rattle.gate_tx.specs.Sizes.{weight_of, stripped_size_of}
 use Rattle.gate_standard.specs.declared.Denial.TheVariants.{MempoolConflict, MinRelayFee}
 use Rattle.gate_standard.specs.Amounts.{required_fee}
 use Rattle.gate_standard.specs.Order.{first_failing}
-use Rattle.gate_standard.specs.Rules.{transaction_rules}
+use Rattle.gate_standard.proofs.OrderLemmas.{found_in_second}
 use Rattle.gate_chain.specs.History.{History}
 use Rattle.gate_chain.specs.Coins.{coin_of, opened_with_of}
 use Rattle.gate_admit.specs.declared.verdicts.Verdicts.{Verdicts}
 use Rattle.gate_admit.specs.Pool.{Admitted}
-use Rattle.gate_admit.specs.Rules.{pool_rules, coin_rules, values_rules, balance_rules, fee_rules, vsize_of, admission_rules, grant_of, decision_of}
+use Rattle.gate_admit.specs.Rules.{alone_rules, denied_or, pool_rules, coin_rules, values_rules, balance_rules, fee_rules, vsize_of, admission_rules, grant_of, decision_of}
 
 -- a script of version 0 with a key hash
 abbrev to_key : List ℕ
@@ -34,15 +34,18 @@ paying amount = record {
   locktime = 0;
 }
 
+abbrev IsGoodAlone : Tx → Type 0
+IsGoodAlone tx = first_failing (alone_rules tx) ≡ None
+
 -- 110 satoshi for 110 virtual bytes are enough
-granted : (verdicts : Verdicts) → opened_with_of chain (txid_of (paying 99890)) ≡ false → decision_of chain [] 0 (Some (paying 99890)) verdicts ≡ Ok (record { fee = 110; vsize = 110; replaced = 0 })
-unfolding decision_of admission_rules transaction_rules pool_rules coin_rules values_rules balance_rules fee_rules grant_of weight_of stripped_size_of required_fee coin_of
-granted verdicts h = rw h refl
+granted : (verdicts : Verdicts) → IsGoodAlone (paying 99890) → opened_with_of chain (txid_of (paying 99890)) ≡ false → decision_of chain [] 0 (Some (paying 99890)) verdicts ≡ Ok (record { fee = 110; vsize = 110; replaced = 0 })
+unfolding decision_of admission_rules pool_rules coin_rules values_rules balance_rules fee_rules grant_of weight_of required_fee coin_of
+granted verdicts alone new = ap (λ found. denied_or found (grant_of chain [] (paying 99890))) (found_in_second (alone_rules (paying 99890)) _ alone) ∙ rw new refl
 
 -- 109 are not
-underpaid : (verdicts : Verdicts) → opened_with_of chain (txid_of (paying 99891)) ≡ false → decision_of chain [] 0 (Some (paying 99891)) verdicts ≡ Err MinRelayFee
-unfolding decision_of admission_rules transaction_rules pool_rules coin_rules values_rules balance_rules fee_rules grant_of weight_of stripped_size_of required_fee coin_of
-underpaid verdicts h = rw h refl
+underpaid : (verdicts : Verdicts) → IsGoodAlone (paying 99891) → opened_with_of chain (txid_of (paying 99891)) ≡ false → decision_of chain [] 0 (Some (paying 99891)) verdicts ≡ Err MinRelayFee
+unfolding decision_of admission_rules pool_rules coin_rules values_rules balance_rules fee_rules grant_of weight_of required_fee coin_of
+underpaid verdicts alone new = ap (λ found. denied_or found (grant_of chain [] (paying 99891))) (found_in_second (alone_rules (paying 99891)) _ alone) ∙ rw new refl
 
 abbrev first_entry : Admitted
 first_entry = record { tx = paying 99000; fee = 1000; vsize = 110; time = 5000 }

@@ -11,13 +11,18 @@ use Rattle.gate_standard.specs.declared.Denial.{Denial}
 use Rattle.gate_standard.specs.declared.Denial.TheVariants.{Decode, AlreadyInMempool, SameNonWitnessData, MempoolConflict, AlreadyKnown, MissingOrSpent, InputValues, InBelowOut, FeeOutOfRange, MinRelayFee}
 use Rattle.gate_standard.specs.Amounts.{max_money, amount, required_fee}
 use Rattle.gate_standard.specs.Order.{Rule, first_failing}
-use Rattle.gate_standard.specs.Rules.{transaction_rules}
+use Rattle.gate_standard.specs.Rules.{transaction_rules, standard_rules}
 use Rattle.gate_chain.specs.History.{History}
 use Rattle.gate_chain.specs.Coins.{coin_of, opened_with_of}
 use Rattle.gate_admit.specs.declared.grant.Grant.{Grant}
 use Rattle.gate_admit.specs.declared.verdicts.Verdicts.{Verdicts}
 use Rattle.gate_admit.specs.Pool.{Admitted, spends, entry_by_txid, entry_by_wtxid}
 use Rattle.gate_admit.specs.Coins.{misses_coin, coins_of}
+
+-- ---- A2 to A19: the transaction alone
+
+unfoldable pub alone_rules : Tx → List Rule
+alone_rules tx = transaction_rules tx ++ standard_rules tx
 
 -- ---- A21 to A23: the transaction beside the entries of the pool
 
@@ -94,7 +99,7 @@ fee_rules floor fee vsize = (MinRelayFee, nat_lt fee (required_fee min_relay_rat
 unfoldable pub admission_rules : History → List Admitted → ℕ → Tx → Verdicts → List Rule
 admission_rules chain entries floor tx verdicts =
     let coins = coins_of chain entries tx.inputs in
-    transaction_rules tx
+    alone_rules tx
     ++ (pool_rules entries tx
     ++ (coin_rules chain entries tx
     ++ (values_rules 0 coins
@@ -106,10 +111,10 @@ unfoldable pub grant_of : History → List Admitted → Tx → Grant
 grant_of chain entries tx =
     record { fee = coins_value (coins_of chain entries tx.inputs) - outputs_value tx; vsize = vsize_of tx; replaced = 0 }
 
--- the denial by the rules on a transaction alone, which A1 begins: there is one
+-- the denial by A1, that there is no transaction, or by the rules on a transaction alone
 abbrev pub first_denial : Option Tx → Option Denial
 first_denial None = Some Decode
-first_denial (Some tx) = first_failing (transaction_rules tx)
+first_denial (Some tx) = first_failing (alone_rules tx)
 
 abbrev pub denied_or : Option Denial → Grant → Result Grant Denial
 denied_or (Some denial) grant = Err denial
