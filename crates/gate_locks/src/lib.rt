@@ -1,0 +1,14 @@
+//! Absolute and relative locks: whether a transaction may stand in the next block (BIP 65's locktime, BIP 68, BIP 113).
+//!
+//! Nothing here takes memory. The main clause is that of `sequence_locks_met`, which says that the relative lock of each
+//! input is met exactly by BIP 68.
+#![tactic(auto)]
+
+mod finality;
+mod relative;
+
+pub use finality::is_final;
+pub use relative::sequence_locks_met;
+
+
+
