@@ -11,9 +11,11 @@ use Rattle.gate_standard.specs.Order.{first_failing}
 use Rattle.gate_standard.proofs.OrderLemmas.{found_in_second}
 use Rattle.gate_chain.specs.History.{History}
 use Rattle.gate_chain.specs.Coins.{coin_of, opened_with_of}
+use Rattle.gate_locks.specs.Finality.{is_final_at}
+use Rattle.gate_locks.specs.Locks.{sequence_locks_met_by, is_lock_met_by}
 use Rattle.gate_admit.specs.declared.verdicts.Verdicts.{Verdicts}
 use Rattle.gate_admit.specs.Pool.{Admitted}
-use Rattle.gate_admit.specs.Rules.{alone_rules, denied_or, pool_rules, coin_rules, values_rules, balance_rules, fee_rules, vsize_of, admission_rules, grant_of, decision_of}
+use Rattle.gate_admit.specs.Rules.{alone_rules, final_rules, lock_rules, denied_or, pool_rules, coin_rules, value_rules, balance_rules, fee_rules, vsize_of, admission_rules, grant_of, decision_of}
 
 -- a script of version 0 with a key hash
 abbrev to_key : List ℕ
@@ -39,12 +41,12 @@ IsGoodAlone tx = first_failing (alone_rules tx) ≡ None
 
 -- 110 satoshi for 110 virtual bytes are enough
 granted : (verdicts : Verdicts) → IsGoodAlone (paying 99890) → opened_with_of chain (txid_of (paying 99890)) ≡ false → decision_of chain [] 0 (Some (paying 99890)) verdicts ≡ Ok (record { fee = 110; vsize = 110; replaced = 0 })
-unfolding decision_of admission_rules pool_rules coin_rules values_rules balance_rules fee_rules grant_of weight_of required_fee coin_of
+unfolding decision_of admission_rules final_rules pool_rules coin_rules lock_rules value_rules balance_rules fee_rules grant_of weight_of required_fee coin_of is_final_at sequence_locks_met_by is_lock_met_by
 granted verdicts alone new = ap (λ found. denied_or found (grant_of chain [] (paying 99890))) (found_in_second (alone_rules (paying 99890)) _ alone) ∙ rw new refl
 
 -- 109 are not
 underpaid : (verdicts : Verdicts) → IsGoodAlone (paying 99891) → opened_with_of chain (txid_of (paying 99891)) ≡ false → decision_of chain [] 0 (Some (paying 99891)) verdicts ≡ Err MinRelayFee
-unfolding decision_of admission_rules pool_rules coin_rules values_rules balance_rules fee_rules grant_of weight_of required_fee coin_of
+unfolding decision_of admission_rules final_rules pool_rules coin_rules lock_rules value_rules balance_rules fee_rules grant_of weight_of required_fee coin_of is_final_at sequence_locks_met_by is_lock_met_by
 underpaid verdicts alone new = ap (λ found. denied_or found (grant_of chain [] (paying 99891))) (found_in_second (alone_rules (paying 99891)) _ alone) ∙ rw new refl
 
 abbrev first_entry : Admitted

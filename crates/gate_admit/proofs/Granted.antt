@@ -25,10 +25,10 @@ use Rattle.gate_admit.specs.declared.grant.Grant.{Grant}
 use Rattle.gate_admit.specs.declared.verdicts.Verdicts.{Verdicts}
 use Rattle.gate_admit.specs.Pool.{Admitted, spends_of, spent_by, spends}
 use Rattle.gate_admit.specs.Coins.{view_coin}
-use Rattle.gate_admit.specs.Rules.{is_conflict, alone_rules, pool_rules, coin_rules, admission_rules, grant_of, denied_or, decision_of}
+use Rattle.gate_admit.specs.Rules.{is_conflict, alone_rules, final_rules, pool_rules, coin_rules, admission_rules, grant_of, denied_or, decision_of}
 use Rattle.gate_admit.specs.Submission.{Submitted, admitted, entered, submit_of}
 use Rattle.gate_admit.specs.Good.{IsGood}
-use Rattle.gate_admit.proofs.Conflicts.{is_some-find}
+use Rattle.gate_admit.proofs.Conflicting.{is_some-find}
 
 -- ---- lists
 
@@ -142,7 +142,8 @@ rules_grant : (chain : History) (entries : List Admitted) (floor : ℕ) (tx : Tx
 unfolding admission_rules
 rules_grant chain entries floor tx verdicts h =
     let all = none_fails-append (alone_rules tx) _ (none_fails _ h) in
-    let pool = none_fails-append (pool_rules entries tx) _ all.1 in
+    let final = none_fails-append (final_rules chain tx) _ all.1 in
+    let pool = none_fails-append (pool_rules entries tx) _ final.1 in
     let coin = none_fails-append (coin_rules chain entries tx) _ pool.1 in
     grantable chain entries tx (each_once tx all.0) pool.0 coin.0
 

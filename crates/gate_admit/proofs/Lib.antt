@@ -1,5 +1,6 @@
 pub mod Granted
 pub mod Following
+pub mod Valuing
 mod Examples
-pub mod Conflicts
+pub mod Conflicting
 pub mod Submitting
