@@ -5,12 +5,15 @@
 #![tactic(auto)]
 
 mod coins;
+mod conflicts;
 mod entry;
 mod floor;
 mod grant;
 mod identified;
 mod judging;
 mod law;
+mod locking;
+mod paying;
 mod pool;
 mod prepared;
 mod submission;

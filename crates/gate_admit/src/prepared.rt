@@ -2,11 +2,12 @@ ghost use Rattle.std.specs.Prelude.{◌≡◌, None, IfOk};
 ghost use Rattle.std.specs.Option.{option_map, option_copied};
 ghost use Rattle.gate_tx.specs.Reading.{decoded};
 ghost use Rattle.gate_tx.specs.Ids.{txid_of, wtxid_of};
-ghost use Rattle.gate_admit.specs.Rules.{first_denial};
+ghost use Rattle.gate_standard.specs.Order.{first_failing};
+ghost use Rattle.gate_admit.specs.Rules.{alone_rules, first_denial};
 
 use crate::identified::Identified;
 use gate_bytes::{Copied, Exact, Memory};
-use gate_standard::{Denial, check_transaction};
+use gate_standard::{Denial, check_transaction, is_standard};
 use gate_tx::{Transaction, TxFault, Txid, Wtxid, read_tx};
 use std::alloc::Global;
 use std::marker::Model;
@@ -31,6 +32,17 @@ impl Model for Prepared {
     ghost invariant = { λ p. p.denial ≡ first_denial p.identified };
 }
 
+/// The first of A2 to A19 that fails.
+#[tactic(auto, using(gate_standard::proofs::OrderLemmas::first_failing_append), unfolding(crate::specs::Rules::alone_rules))]
+fn check_alone(alloc: Global, tx: &Transaction) -> Result<Option<Denial>, Memory>
+    ensures { IfOk result (λ found. found ≡ first_failing (alone_rules tx.now)) }
+{
+    match check_transaction(alloc, tx)? {
+        Some(denial) => Ok(Some(denial)),
+        None => Ok(is_standard(tx)),
+    }
+}
+
 impl Prepared {
     /// The submission of these bytes.
     pub fn new(alloc: Global, bytes: &[u8]) -> Result<Prepared, Memory>
@@ -38,7 +50,7 @@ impl Prepared {
     {
         match read_tx(alloc, bytes) {
             Ok(transaction) => {
-                let denial = check_transaction(alloc, &transaction)?;
+                let denial = check_alone(alloc, &transaction)?;
                 Ok(Prepared {
                     identified: Some(Identified::new(alloc, transaction)?),
                     denial,

@@ -1,6 +1,6 @@
 use Rattle.std.proofs.Common.{◌≡◌, ◌≤◌, drop, length}
 use Rattle.gate_admit.specs.Rules.{is_chain_coin_from}
-use Rattle.gate_admit.proofs.judging.is_chain_coin.Given as goal
+use Rattle.gate_admit.proofs.coins.is_chain_coin.Given as goal
 
 abbrev pub invariant-loop-output : goal.invariant-loop-output
 invariant-loop-output l =

@@ -2,7 +2,7 @@ use Rattle.std.proofs.Common.{◌≡◌, ◌≤◌, ◌*◌, ◌^◌, take, leng
 use Rattle.std.specs.Prelude.{sum_by}
 use Rattle.gate_tx.specs.declared.TxOut.{TxOut}
 use Rattle.gate_standard.specs.Amounts.{amount}
-use Rattle.gate_admit.proofs.judging.outputs_value.Given as goal
+use Rattle.gate_admit.proofs.paying.outputs_value.Given as goal
 
 abbrev pub invariant-loop-output : goal.invariant-loop-output
 invariant-loop-output l =
