@@ -9,11 +9,28 @@ pub trait Copied: Drop {
     where
         Self: Sized,
         ensures { IfOk result (λ x. x ≡ self.now) };
+
+    /// Copies each item of a list. A type of plain bytes does it in one piece.
+    fn copy_list(items: &[Self], alloc: Global) -> Result<Vec<Self>, Memory>
+    where
+        Self: Sized,
+        ensures { IfOk result (λ copies. copies.items ≡ items.now) }
+    {
+        let mut copies = Vec::with_capacity(alloc, items.len())?;
+        for item in items {
+            copies.push(item.copy(alloc)?)?;
+        }
+        Ok(copies)
+    }
 }
 
 impl Copied for u8 {
     fn copy(&self, _alloc: Global) -> Result<u8, Memory> {
         Ok(*self)
+    }
+
+    fn copy_list(items: &[u8], alloc: Global) -> Result<Vec<u8>, Memory> {
+        Ok(Vec::from_slice(alloc, items)?)
     }
 }
 

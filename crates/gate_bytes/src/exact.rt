@@ -1,5 +1,6 @@
 ghost use Rattle.std.specs.Prelude.{◌≡◌, ◌↔◌, IsTrue};
 ghost use Rattle.std.specs.Bool.{Decides};
+ghost use Rattle.std.specs.Cmp.{booleans_Decides};
 ghost use Rattle.std.proofs.lemmas.Bool.Decides.{Decides-eqb};
 
 /// A type whose `==` is true of equal values and of no others.
@@ -17,6 +18,10 @@ impl Exact for u32 {
 
 impl Exact for u64 {
     ghost exact = { λ a b. Decides-eqb a b };
+}
+
+impl Exact for bool {
+    ghost exact = { booleans_Decides };
 }
 
 /// Whether two values are equal.

@@ -1,0 +1,81 @@
+-- What a lane may write for the lines of its input, and where it leaves the state.
+use Rattle.std.specs.Prelude.{◌≡◌, ℕ, ◌+◌, ◌≤◌, nat_lt, nat_le, if◌then◌else◌, Bool, true, List, [], ◌∷◌, ◌++◌, length, Option, Some, None, IfSome, ◌⊎◌, codes, MatchBool}
+use Rattle.std.specs.Io.{StartsWith}
+use Rattle.std.specs.Io.KnownBytes.{Appends, Consumes}
+use Rattle.gate_core.specs.World.{World}
+use Rattle.gate_core.specs.Good.{StepGives}
+use Rattle.gate_core.specs.Texts.{reply_text}
+use Rattle.gate_core.specs.declared.event.Event.{Event}
+use Rattle.gate_core.specs.declared.reply.Reply.{Reply}
+use Rattle.gate_prog.specs.Lines.{line_limit, count_limit, LacksNewline, EachLacksNewline, lines_of, unlines, is_skipped}
+use Rattle.gate_prog.specs.EventLines.{line_event}
+
+-- ---- what a line is answered
+
+abbrev pub bad_line : List ℕ
+bad_line = codes "refused L1 bad-line"
+
+abbrev pub line_too_long : List ℕ
+line_too_long = codes "refused L2 line-too-long"
+
+abbrev pub too_many_lines : List ℕ
+too_many_lines = codes "refused L3 too-many-lines"
+
+abbrev pub fault_memory : List ℕ
+fault_memory = codes "fault memory"
+
+-- the one reply line to an event, or to a line of no form: a step's, or that memory ran out in the step
+abbrev pub EventAnswered : World → Option Event → List ℕ → World → Type 0
+EventAnswered old None reply new = (reply ≡ bad_line) × (new ≡ old)
+EventAnswered old (Some event) reply new =
+    ((answer : Reply) × (reply ≡ reply_text answer) × StepGives old event answer new)
+    ⊎ ((reply ≡ fault_memory) × (new ≡ old))
+
+-- the reply lines to one line within the limits: none to one that is skipped
+abbrev pub LineAnswered : World → List ℕ → List (List ℕ) → World → Type 0
+LineAnswered old line [] new = (is_skipped line ≡ true) × (new ≡ old)
+LineAnswered old line (reply ∷ []) new = MatchBool (is_skipped line) ⊥ (EventAnswered old (line_event line) reply new)
+LineAnswered old line (reply ∷ other ∷ replies) new = ⊥
+
+-- From the state old, with this many lines before them, these lines may have these reply lines and leave the state new.
+-- The limits are tested before a line is skipped or read, and nothing after a line past them counts.
+abbrev pub Run : ℕ → World → List (List ℕ) → List (List ℕ) → World → Type 0
+Run number old [] replies new = (replies ≡ []) × (new ≡ old)
+Run number old (line ∷ lines) replies new = MatchBool (nat_lt number count_limit)
+    (MatchBool (nat_le (length line) line_limit)
+    ((first : List (List ℕ)) × (rest : List (List ℕ)) × (mid : World) × (replies ≡ first ++ rest)
+    × LineAnswered old line first mid × Run (number + 1) mid lines rest new)
+    ((replies ≡ line_too_long ∷ []) × (new ≡ old)))
+    ((replies ≡ too_many_lines ∷ []) × (new ≡ old))
+
+-- ---- what a lane did
+
+-- the lane went to the end of its input, or to its limit
+abbrev pub LaneDone : Option (List ℕ) → Option (List ℕ) → Option (List ℕ) → World → World → ℕ → Type 0
+LaneDone input before after old new count =
+    (replies : List (List ℕ)) × Appends before after (unlines replies) × (count ≡ length replies)
+    × IfSome input (λ bytes. Run 0 old (lines_of bytes) replies new)
+
+-- the reader failed: the reply lines are those of the whole lines that it gave
+abbrev pub LaneUnread : Option (List ℕ) → Option (List ℕ) → Option (List ℕ) → Option (List ℕ) → World → World → Type 0
+LaneUnread input rest before after old new =
+    (lines : List (List ℕ)) × (piece : List ℕ) × (replies : List (List ℕ))
+    × Consumes input rest (unlines lines ++ piece) × EachLacksNewline lines × LacksNewline piece
+    × Appends before after (unlines replies) × Run 0 old lines replies new
+
+-- all of these reply lines but a last one were sent, and a part of that one
+abbrev pub AllSentButOne : List (List ℕ) → List ℕ → Type 0
+AllSentButOne replies sent = (whole : List (List ℕ)) × (last : List (List ℕ)) × (part : List ℕ)
+    × (replies ≡ whole ++ last) × (length last ≤ 1) × (sent ≡ unlines whole ++ part) × StartsWith (unlines last) part
+
+-- the first lines of the input
+abbrev pub FirstLines : Option (List ℕ) → List (List ℕ) → Type 0
+FirstLines input lines = IfSome input (λ bytes. (more : List (List ℕ)) × (lines_of bytes ≡ lines ++ more))
+
+-- the writer failed, or memory ran out: what went out is a front of the run's text, and the state is the run's after the
+-- lines whose replies went out whole, with at most one line more
+abbrev pub StoppedFrom : ℕ → Option (List ℕ) → Option (List ℕ) → Option (List ℕ) → World → World → Type 0
+StoppedFrom number input before after old new =
+    (lines : List (List ℕ)) × (replies : List (List ℕ)) × (sent : List ℕ)
+    × FirstLines input lines × Run number old lines replies new
+    × Appends before after sent × AllSentButOne replies sent

@@ -1,0 +1,12 @@
+pub mod Lines
+pub mod Reading
+pub mod Writing
+pub mod Words
+pub mod Numbers
+pub mod EventLines
+pub mod OpeningLines
+pub mod Lanes
+pub mod Turns
+pub mod VerdictRows
+pub mod OpeningFaults
+pub mod BlockTimes

@@ -1,0 +1,22 @@
+//! The texts that the gate reads and writes: an opening, the events of a lane, and the jobs of the command line.
+//!
+//! The main clauses are those of [`run_lane`]: the lines written are the reply lines of the lines read.
+#![tactic(auto)]
+
+mod event_line;
+mod fault;
+mod lane;
+mod line;
+mod number;
+mod opening_fault;
+mod opening_line;
+mod output;
+mod times;
+mod verdict_rows;
+mod word;
+
+pub use fault::LaneFault;
+pub use lane::run_lane;
+pub use line::{MAX_LINE, MAX_LINES};
+pub use opening_fault::{OpeningFault, OpeningToken};
+pub use number::{MAX_NUMBER, numbers_are_decimal};
