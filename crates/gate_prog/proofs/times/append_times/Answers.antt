@@ -4,12 +4,12 @@ use Rattle.gate_prog.proofs.times.append_times.Goals as goal
 
 pub overflow_cast-time : goal.overflow_cast-time
 overflow_cast-time c =
-    let fits = time_fits c.args.count c.loop.counter c.args.first c.args.step c.loop-test.true c.requires.fit in
+    let fits = time_fits c.args.count c.loop.counter c.args.first c.args.step c.loop-test.true c.requires in
     omega (arith, fits)
 
 pub overflow_add-time : goal.overflow_add-time
 overflow_add-time c =
-    let fits = time_fits c.args.count c.loop.counter c.args.first c.args.step c.loop-test.true c.requires.fit in
+    let fits = time_fits c.args.count c.loop.counter c.args.first c.args.step c.loop-test.true c.requires in
     omega (arith, fits)
 
 pub loop-preserved : goal.loop-preserved
