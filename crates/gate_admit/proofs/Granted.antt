@@ -17,7 +17,7 @@ use Rattle.gate_tx.specs.Ids.{txid_of, wtxid_of}
 use Rattle.gate_tx.specs.Tx.{Tx}
 use Rattle.gate_standard.specs.declared.Denial.{Denial}
 use Rattle.gate_standard.specs.Order.{Rule, NoneFails, first_failing, Decides as DecidesRules}
-use Rattle.gate_standard.specs.Rules.{transaction_rules, output_rules, spends_twice, spends as spends_among}
+use Rattle.gate_standard.specs.Rules.{transaction_rules, value_rules, spends_twice, spends as spends_among}
 use Rattle.gate_standard.proofs.OrderLemmas.{first_failing_decides}
 use Rattle.gate_chain.specs.History.{History}
 use Rattle.gate_chain.specs.Coins.{opened_with_of}
@@ -119,7 +119,7 @@ some_from_not_none (Some x) h = refl
 
 each_once : (tx : Tx) → NoneFails (transaction_rules tx) → spends_twice tx.inputs ≡ false
 unfolding transaction_rules
-each_once tx h = (none_fails-append (output_rules 0 tx.outputs) _ h.1.1.1).1.0
+each_once tx h = (none_fails-append (value_rules 0 tx.outputs) _ h.1.1.1).1.0
 
 grantable : (chain : History) (entries : List Admitted) (tx : Tx) → spends_twice tx.inputs ≡ false → NoneFails (pool_rules entries tx) → NoneFails (coin_rules chain entries tx) → IsGrantable chain entries tx
 unfolding pool_rules coin_rules

@@ -26,3 +26,6 @@ pub use pool::Pool;
 pub use prepared::Prepared;
 pub use submission::submit;
 pub use verdicts::{Verdict, VerdictRow, Verdicts};
+
+#[cfg(test)]
+mod tests;

@@ -3,8 +3,8 @@ use Rattle.std.proofs.Common.{◌≡◌, ℕ, zero, suc, ◌+◌, ◌-◌, ◌<�
 use Rattle.std.proofs.lemmas.Bool.Decides.{nat_tests}
 use Rattle.std.proofs.lemmas.List.Sums.{sum_by-cons}
 use Rattle.std.specs.List.Sorted.{IsNonDecreasing}
-use Rattle.std.proofs.lemmas.List.Sorted.{IsPermutation-refl, IsPermutation-sym, IsPermutation-trans, IsPermutation-cons, IsPermutation-insert, sum_by-IsPermutation, length_permutation, IsNonDecreasingBy-from_sort}
-use Rattle.gate_chain.specs.Median.{put_in_order, in_order, median_of}
+use Rattle.std.proofs.lemmas.List.Sorted.{IsPermutation-refl, IsPermutation-sym, IsPermutation-trans, IsPermutation-cons, IsPermutation-middle, sum_by-IsPermutation, length_permutation, IsNonDecreasingBy-from_sort}
+use Rattle.gate_chain.specs.Median.{put_in_order, in_order, StandsInOrder}
 
 -- 1 at the number itself
 abbrev bit : ℕ → ℕ → ℕ
@@ -120,3 +120,36 @@ pub sorted_is_in_order : (times sorted : List ℕ) → IsPermutation times sorte
 sorted_is_in_order times sorted moved up =
     one_order sorted (in_order times) (rising_index sorted (λ i j le lt. up i j 0 le lt)) (rising-in_order times)
     (λ n. sym (often-sum_by n sorted) ∙ (sum_by-IsPermutation (bit n) times sorted moved ∙ (often-sum_by n times ∙ sym (often-in_order n times))))
+
+above_from : (n : ℕ) (xs : List ℕ) → IsFrom n xs → (k d : ℕ) → k < length xs → n ≤ get_or xs k d
+above_from n [] all k d lt = absurd (omega arith)
+above_from n (x ∷ xs) all zero d lt = all.0
+above_from n (x ∷ xs) all (suc k) d lt = above_from n xs all.1 k d (omega arith)
+
+non_decreasing : (xs : List ℕ) → IsRising xs → IsNonDecreasing xs
+non_decreasing [] up i j d le lt = absurd (omega arith)
+non_decreasing (x ∷ xs) up zero zero d le lt = omega arith
+non_decreasing (x ∷ xs) up zero (suc j) d le lt = above_from x xs up.0 j d (omega arith)
+non_decreasing (x ∷ xs) up (suc i) zero d le lt = absurd (omega arith)
+non_decreasing (x ∷ xs) up (suc i) (suc j) d le lt = non_decreasing xs up.1 i j d (omega arith) (omega arith)
+
+moved-put : (time : ℕ) (xs : List ℕ) → IsPermutation (time ∷ xs) (put_in_order time xs)
+moved-put time [] = IsPermutation-refl (time ∷ [])
+moved-put time (x ∷ xs) = by (nat_le time x) (moved-put time xs)
+  where
+    by : (b : Bool) → IsPermutation (time ∷ xs) (put_in_order time xs) → IsPermutation (time ∷ x ∷ xs) (if b then time ∷ x ∷ xs else x ∷ put_in_order time xs)
+    by true rest = IsPermutation-refl (time ∷ x ∷ xs)
+    by false rest =
+        IsPermutation-trans (time ∷ x ∷ xs) (x ∷ time ∷ xs) (x ∷ put_in_order time xs)
+        (IsPermutation-sym (x ∷ time ∷ xs) (time ∷ x ∷ xs) (IsPermutation-middle (x ∷ []) time xs))
+        (IsPermutation-cons x (time ∷ xs) (put_in_order time xs) rest)
+
+moved-in_order : (xs : List ℕ) → IsPermutation xs (in_order xs)
+moved-in_order [] = IsPermutation-refl []
+moved-in_order (x ∷ xs) =
+    IsPermutation-trans (x ∷ xs) (x ∷ in_order xs) (put_in_order x (in_order xs))
+    (IsPermutation-cons x xs (in_order xs) (moved-in_order xs))
+    (moved-put x (in_order xs))
+
+pub times_stand_in_order : StandsInOrder
+times_stand_in_order times = (non_decreasing (in_order times) (rising-in_order times), moved-in_order times)

@@ -1,4 +1,4 @@
-ghost use Rattle.std.specs.Prelude.{◌≡◌, IfOk};
+ghost use Rattle.std.specs.Prelude.{◌≡◌, ◌≤◌, ◌↔◌, IsSome, IfSome, IfOk};
 ghost use Rattle.std.specs.Option.{option_copied};
 ghost use Rattle.gate_chain.specs.Coins.{coin_of, opened_with_of};
 ghost use Rattle.gate_chain.specs.History.{opened};
@@ -9,6 +9,7 @@ use crate::fault::OpenFault;
 use crate::keeping::{Coins, keep};
 use crate::median::{MEDIAN_SPAN, median};
 use crate::opening::OpeningCoin;
+use gate_bytes::{Copied, Memory};
 use gate_tx::{Coin, OutPoint, Txid};
 use std::alloc::Global;
 use std::marker::Model;
@@ -24,12 +25,12 @@ pub struct Chain {
 }
 
 impl Model for Chain {
-    ghost use Rattle.std.specs.Prelude.{◌<◌, ◌≤◌, ◌+◌, length};
     ghost use Rattle.gate_chain.specs.History.{History, opened};
+    ghost use Rattle.gate_chain.specs.Keeping.{IsFaultless};
 
     ghost Value = { History };
 
-    ghost invariant = { λ c. (0 < length c.times.items) × (length c.times.items ≤ 1000000) };
+    ghost invariant = { λ c. IsFaultless c.coins c.times.items };
 
     ghost view = { λ c. opened c.coins c.times.items };
 }
@@ -59,7 +60,8 @@ impl Chain {
 
     /// The coin at an outpoint.
     pub fn coin(&self, outpoint: &OutPoint) -> Option<&Coin>
-        ensures { option_copied result ≡ coin_of self.now outpoint.now }
+        ensures coin { option_copied result ≡ coin_of self.now outpoint.now }
+        ensures height { IfSome result (λ coin. coin.now.height ≤ tip_of self.now) }
     {
         self.coins.coin(outpoint)
     }
@@ -74,14 +76,16 @@ impl Chain {
 
     /// The greatest height.
     pub fn tip(&self) -> u32
-        ensures { result ≡ tip_of self.now }
+        ensures tip { result ≡ tip_of self.now }
+        ensures bound { result ≤ 10000000 }
     {
         (self.times.len() - 1) as u32
     }
 
     /// The time of the block at a height, in seconds since 1970, none above the tip.
     pub fn time(&self, height: u32) -> Option<u32>
-        ensures { result ≡ time_of self.now height }
+        ensures time { result ≡ time_of self.now height }
+        ensures within { IsSome result ↔ (height ≤ tip_of self.now) }
     {
         self.times.get(height as usize).copied()
     }
@@ -89,7 +93,8 @@ impl Chain {
     /// The median of the times of a height and of up to ten heights before it (BIP 113), none above the tip.
     #[tactic(auto, unfolding(crate::specs::Times::mtp_of))]
     pub fn mtp(&self, height: u32) -> Option<u32>
-        ensures { result ≡ mtp_of self.now height }
+        ensures median { result ≡ mtp_of self.now height }
+        ensures within { IsSome result ↔ (height ≤ tip_of self.now) }
     {
         let height = height as usize;
         if height >= self.times.len() {
@@ -97,5 +102,14 @@ impl Chain {
         }
         let first = height.saturating_sub(MEDIAN_SPAN - 1);
         Some(median(&self.times[first..height + 1]))
+    }
+}
+
+impl Copied for Chain {
+    fn copy(&self, alloc: Global) -> Result<Chain, Memory> {
+        Ok(Chain {
+            coins: self.coins.copy(alloc)?,
+            times: Vec::from_slice(alloc, self.times.as_slice())?,
+        })
     }
 }

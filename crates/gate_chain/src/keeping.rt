@@ -5,7 +5,7 @@ ghost use Rattle.gate_chain.specs.Opening.{coin_fault, coins_fault, is_money, Is
 
 use crate::fault::OpenFault;
 use crate::opening::OpeningCoin;
-use gate_bytes::Memory;
+use gate_bytes::{Copied, Memory};
 use gate_tx::{Coin, OutPoint, Txid, is_unspendable};
 use indexmap::{IndexMap, IndexSet};
 use std::alloc::Global;
@@ -107,6 +107,19 @@ impl Coins {
         let kept: Result<_, _> = self.unspent.insert(outpoint, coin);
         let _ = kept.unwrap();
         Ok(())
+    }
+}
+
+impl Copied for Coins {
+    fn copy(&self, alloc: Global) -> Result<Coins, Memory> {
+        let mut coins = Coins::with_capacity(alloc, self.unspent.len())?;
+        for (outpoint, coin) in self.unspent.iter() {
+            coins.push(OpeningCoin {
+                outpoint: *outpoint,
+                coin: coin.copy(alloc)?,
+            })?;
+        }
+        Ok(coins)
     }
 }
 

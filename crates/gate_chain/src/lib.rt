@@ -14,4 +14,8 @@ mod opening;
 pub use block::{Block, Header};
 pub use chain::Chain;
 pub use fault::OpenFault;
+pub use median::stands_in_order;
 pub use opening::OpeningCoin;
+
+#[cfg(test)]
+mod tests;

@@ -1,5 +1,5 @@
 ghost use Rattle.std.specs.Prelude.{◌≡◌, ◌<◌, ◌≤◌, Some, length};
-ghost use Rattle.gate_chain.specs.Median.{median_of};
+ghost use Rattle.gate_chain.specs.Median.{median_of, StandsInOrder};
 
 /// How many times a median is taken of, at most (BIP 113).
 pub(crate) const MEDIAN_SPAN: usize = 11;
@@ -15,4 +15,10 @@ pub(crate) fn median(times: &[u32]) -> u32
     ordered.copy_from_slice(times);
     ordered.sort_unstable();
     ordered[times.len() / 2]
+}
+
+/// The law of the times that a median is taken of: they rise, and are those that were given.
+pub fn stands_in_order()
+    ensures { StandsInOrder }
+{
 }

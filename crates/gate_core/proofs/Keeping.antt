@@ -9,9 +9,9 @@ use Rattle.gate_chain.specs.History.{History}
 use Rattle.gate_admit.specs.declared.Grant.{Grant}
 use Rattle.gate_admit.specs.declared.Verdicts.{Verdicts}
 use Rattle.gate_admit.specs.Pool.{Admitted}
-use Rattle.gate_admit.specs.Good.{IsGood}
 use Rattle.gate_admit.specs.Rules.{decision_of}
 use Rattle.gate_admit.specs.Submission.{admitted, entered, submit_of}
+use Rattle.gate_admit.proofs.Granted.{submission_good}
 use Rattle.gate_core.specs.declared.event.Event.{Event}
 use Rattle.gate_core.specs.declared.event.Event.TheVariants.{Enter, Leave, Tx as Submit, Mempool}
 use Rattle.gate_core.specs.declared.opening.Opening.{Opening}
@@ -20,10 +20,6 @@ use Rattle.gate_core.specs.World.{World, opened_world}
 use Rattle.gate_core.specs.Access.{first_refusal, peer_rules}
 use Rattle.gate_core.specs.Steps.{decided, served, answered, step_of}
 use Rattle.gate_core.specs.Good.{IsGoodWorld, transactions_in, transactions_of}
-
-submission_good : (chain : History) (entries : List Admitted) (floor : ℕ) (transaction : Option Tx) (verdicts : Verdicts) (now budget : ℕ)
-    → IsGood chain entries → IsGood chain (submit_of chain entries floor transaction verdicts now budget).entries
-submission_good chain entries floor transaction verdicts now budget good = ?
 
 decided_good : (w : World) (peer : ℕ) (transaction : Option Tx) (decision : Result Grant Denial) → IsGoodWorld w → IsGoodWorld (decided w peer transaction decision).1
 decided_good w peer None decision good = good

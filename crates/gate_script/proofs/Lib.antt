@@ -1,2 +1,4 @@
 pub mod Steps
 pub mod Keys
+pub mod StackItems
+pub mod Operations

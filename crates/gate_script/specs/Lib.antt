@@ -1,4 +1,5 @@
 pub mod Instructions
 pub mod Pushes
+pub mod Sigops
 pub mod Templates
 pub mod Witness

@@ -3,18 +3,24 @@
 //! the instructions of the script, and everything else is said over that list or over the bytes.
 #![tactic(auto)]
 
+mod counting;
 mod matching;
 mod op;
 mod opcode;
 mod public_key;
 mod pushes;
 mod reading;
+
 mod templates;
 mod witness;
 
 pub use matching::template;
 pub use op::{Op, ops};
-pub use pushes::is_push_only;
+pub use pushes::{is_push_only, push_stack};
 pub use reading::Ops;
+pub use counting::sigops;
 pub use templates::Template;
 pub use witness::witness_program;
+
+#[cfg(test)]
+mod tests;

@@ -77,3 +77,8 @@ was_absent fresh false = λ is yes. refl
 pub was_present : (fresh had : Bool) → fresh ≡ not had → fresh ≡ false → had ≡ true
 was_present fresh true = λ is no. refl
 was_present fresh false = λ is no. cc
+
+pub spends_once : (inputs : List TxIn) → length inputs < 2 → false ≡ spends_twice inputs
+spends_once [] few = refl
+spends_once (input ∷ []) few = refl
+spends_once (input ∷ other ∷ inputs) few = absurd (omega arith)

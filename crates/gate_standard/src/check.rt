@@ -3,7 +3,7 @@ ghost use Rattle.std.specs.Prelude.{◌≡◌, ◌+◌, ◌≤◌, None, Some, I
 ghost use Rattle.std.specs.List.{list_all, list_any};
 ghost use Rattle.gate_standard.specs.Order.{first_failing};
 ghost use Rattle.gate_standard.specs.Amounts.{max_money, amount};
-ghost use Rattle.gate_standard.specs.Rules.{value_rules, output_rules, spends_twice, spends_null, is_coinbase, coinbase_rules, transaction_rules};
+ghost use Rattle.gate_standard.specs.Rules.{rules_of_value, value_rules, spends_twice, spends_null, is_coinbase, coinbase_rules, transaction_rules};
 
 use crate::{Denial, MAX_MONEY};
 use gate_bytes::Memory;
@@ -19,8 +19,8 @@ fn add_value(sum: u64, value: i64) -> Result<u64, Denial>
     requires { sum ≤ max_money }
     ensures ok { IfOk result (λ next. next ≡ sum + amount value) }
     ensures small { IfOk result (λ next. next ≤ max_money) }
-    ensures passes { OnOk result (first_failing (value_rules sum value) ≡ None) }
-    ensures err { IfErr result (λ denial. first_failing (value_rules sum value) ≡ Some denial) }
+    ensures passes { OnOk result (first_failing (rules_of_value sum value) ≡ None) }
+    ensures err { IfErr result (λ denial. first_failing (rules_of_value sum value) ≡ Some denial) }
 {
     if value < 0 {
         return Err(Denial::VoutNegative);
@@ -36,7 +36,7 @@ fn add_value(sum: u64, value: i64) -> Result<u64, Denial>
 }
 
 fn check_values(outputs: &[TxOut]) -> Option<Denial>
-    ensures { result ≡ first_failing (output_rules 0 outputs.now) }
+    ensures { result ≡ first_failing (value_rules 0 outputs.now) }
 {
     let mut sum = 0;
     for output in outputs {
@@ -48,11 +48,14 @@ fn check_values(outputs: &[TxOut]) -> Option<Denial>
     None
 }
 
-/// A tree and no hash table: whoever sends a transaction chooses its outpoints, and no choice of
-/// them can make a tree slow.
+/// Whether two inputs spend one outpoint. A tree of outpoints and no hash table: whoever sends a
+/// transaction chooses them, and no choice can make a tree slow.
 fn spends_twice(alloc: Global, inputs: &[TxIn]) -> Result<bool, Memory>
     ensures { IfOk result (λ found. found ≡ spends_twice inputs.now) }
 {
+    if let [] | [_] = inputs {
+        return Ok(false);
+    }
     let mut spent = BTreeSet::new(alloc);
     for input in inputs {
         if !spent.insert(input.prevout)? {

@@ -20,7 +20,7 @@ pub enum Denial {
     VoutNegative,
     /// A6: an output's value is above all the money there can be.
     VoutTooLarge,
-    /// A7: so is a running sum of the outputs.
+    /// A7: a running sum of the outputs' values is above that.
     TotalTooLarge,
     /// A8: two inputs spend one outpoint.
     InputsDuplicate,
@@ -32,7 +32,7 @@ pub enum Denial {
     Coinbase,
     /// A12: the version is neither 1 nor 2.
     Version,
-    /// A13: the weight is above 400,000.
+    /// A13: the weight is above 400,000 (BIP 141).
     TxSize,
     /// A14: an input script is above 1,650 bytes.
     ScriptSigSize,

@@ -7,8 +7,12 @@ mod amounts;
 mod check;
 mod denial;
 mod order;
+mod outputs;
+mod standard;
 
 pub use amounts::{MAX_MONEY, fee_at, rate_of};
 pub use check::check_transaction;
 pub use denial::Denial;
 pub use order::the_order;
+pub use outputs::dust_threshold;
+pub use standard::is_standard;

@@ -1,5 +1,5 @@
-use Rattle.std.proofs.Common.{◌∙◌, sym}
-use Rattle.gate_standard.proofs.Repeats.{repeats_after_none, repeats_after_met, repeats_after_new, repeats_from, was_absent, was_present}
+use Rattle.std.proofs.Common.{◌∙◌, sym, arith}
+use Rattle.gate_standard.proofs.Repeats.{repeats_after_none, repeats_after_met, repeats_after_new, repeats_from, spends_once, was_absent, was_present}
 use Rattle.gate_standard.proofs.check.spends_twice.Goals as goal
 
 pub loop-input-init : goal.loop-input-init
@@ -14,3 +14,6 @@ pub returns-then-not-branch : goal.returns-then-not-branch
 returns-then-not-branch c =
     let at = repeats_from c.loop-input.spent c.args.inputs.now c.loop-input.input-index c.input-item.result c.loop-input-test.true c.input-item.is in
     sym (c.loop-input.invariant ∙ at ∙ repeats_after_met c.loop-input.spent c.input-item.result _ (was_present _ _ c.in_ok-insert.ensures.added c.if-not-branch.true))
+
+pub returns-in-empty : goal.returns-in-empty
+returns-in-empty c = spends_once c.args.inputs.now (omega (arith, c.in-empty.len_below))

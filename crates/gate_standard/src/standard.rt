@@ -1,0 +1,96 @@
+//! What is relayed by default.
+ghost use Rattle.std.specs.Prelude.{◌≡◌, None, Some, Ok, Err, IfOk, IfErr, OnOk};
+ghost use Rattle.std.specs.List.{flat_map, count_by};
+ghost use Rattle.gate_standard.specs.Order.{first_failing};
+ghost use Rattle.gate_standard.specs.Outputs.{carries_data};
+ghost use Rattle.gate_standard.specs.Rules.{rules_of_input, rules_of_output, standard_rules};
+
+use crate::Denial;
+use crate::outputs::{is_below_dust, is_null_data, is_standard_template};
+use gate_script::{is_push_only, template};
+use gate_tx::{Transaction, TxIn, TxOut};
+
+/// The most weight (Bitcoin Core's `MAX_STANDARD_TX_WEIGHT`).
+const MAX_WEIGHT: usize = 400_000;
+
+/// The longest input script in bytes (Bitcoin Core's `MAX_STANDARD_SCRIPTSIG_SIZE`).
+const MAX_INPUT_SCRIPT: usize = 1650;
+
+/// The least stripped size in bytes (Bitcoin Core's `MIN_STANDARD_TX_NONWITNESS_SIZE`).
+const MIN_STRIPPED_SIZE: usize = 82;
+
+fn check_inputs(inputs: &[TxIn]) -> Option<Denial>
+    ensures { result ≡ first_failing (flat_map rules_of_input inputs.now) }
+{
+    for input in inputs {
+        let script = input.script.as_slice();
+        if script.len() > MAX_INPUT_SCRIPT {
+            return Some(Denial::ScriptSigSize);
+        }
+        if !is_push_only(script) {
+            return Some(Denial::ScriptSigNotPushOnly);
+        }
+    }
+    None
+}
+
+/// Whether the output carries data, unless a rule fails on it.
+#[tactic(auto, unfolding(crate::specs::Outputs::is_standard_output, crate::specs::Outputs::carries_data, crate::specs::Outputs::is_dust))]
+fn check_output(output: &TxOut) -> Result<bool, Denial>
+    ensures carries { IfOk result (λ carries. carries ≡ carries_data output.now) }
+    ensures passes { OnOk result (first_failing (rules_of_output output.now) ≡ None) }
+    ensures err { IfErr result (λ denial. first_failing (rules_of_output output.now) ≡ Some denial) }
+{
+    let template = template(output.script.as_slice());
+    if !is_standard_template(&template, output.script.len()) {
+        return Err(Denial::ScriptPubKey);
+    }
+    let carries = is_null_data(&template);
+    if !carries && is_below_dust(output) {
+        return Err(Denial::Dust);
+    }
+    Ok(carries)
+}
+
+/// How many outputs carry data, unless a rule fails on an output.
+fn check_outputs(outputs: &[TxOut]) -> Result<usize, Denial>
+    ensures carriers { IfOk result (λ carriers. carriers ≡ count_by carries_data outputs.now) }
+    ensures passes { OnOk result (first_failing (flat_map rules_of_output outputs.now) ≡ None) }
+    ensures err { IfErr result (λ denial. first_failing (flat_map rules_of_output outputs.now) ≡ Some denial) }
+{
+    let mut carriers = 0;
+    for output in outputs {
+        match check_output(output) {
+            Ok(true) => carriers += 1,
+            Ok(false) => {}
+            Err(denial) => return Err(denial),
+        }
+    }
+    Ok(carriers)
+}
+
+/// The first rule that fails of those of policy on a transaction alone: A12 to A19 (Bitcoin Core
+/// 22.0's `IsStandardTx`, and its least size).
+#[tactic(auto, using(crate::proofs::OrderLemmas::first_failing_append), unfolding(crate::specs::Rules::standard_rules))]
+pub fn is_standard(tx: &Transaction) -> Option<Denial>
+    ensures { result ≡ first_failing (standard_rules tx.now) }
+{
+    if tx.version() != 1 && tx.version() != 2 {
+        return Some(Denial::Version);
+    }
+    if tx.weight() > MAX_WEIGHT {
+        return Some(Denial::TxSize);
+    }
+    if let Some(denial) = check_inputs(tx.inputs()) {
+        return Some(denial);
+    }
+    match check_outputs(tx.outputs()) {
+        Err(denial) => return Some(denial),
+        Ok(carriers) if carriers > 1 => return Some(Denial::MultiOpReturn),
+        Ok(_) => {}
+    }
+    if tx.stripped_size() < MIN_STRIPPED_SIZE {
+        return Some(Denial::TxSizeSmall);
+    }
+    None
+}
