@@ -20,3 +20,6 @@ pub use opening::Opening;
 pub use refusal::{Refusal, Then};
 pub use reply::Reply;
 pub use state::{State, StepFault};
+
+#[cfg(test)]
+mod tests;
