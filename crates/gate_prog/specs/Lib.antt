@@ -12,3 +12,4 @@ pub mod OpeningFaults
 pub mod BlockTimes
 pub mod Said
 pub mod Openings
+pub mod Jobs

@@ -27,3 +27,6 @@ pub use line::{MAX_LINE, MAX_LINES};
 pub use opening::read_opening;
 pub use opening_fault::{OpeningFault, OpeningToken};
 pub use number::{MAX_NUMBER, numbers_are_decimal};
+
+#[cfg(test)]
+mod tests;

@@ -15,5 +15,5 @@ overflow_add-time c =
 pub loop-preserved : goal.loop-preserved
 loop-preserved c = record {
   items = times_pushed _ _ _ c.loop.time c.loop.counter c.args.first c.args.step c.loop.invariant.items c.loop.invariant.time c.in_ok-push.ensures.items;
-  time = time-next c.loop.time c.loop.counter c.args.first c.args.step c.loop.invariant.time;
+  time = rw c.from-time-in-loop.ensures (time-next c.loop.time c.loop.counter c.args.first c.args.step c.loop.invariant.time);
 }
