@@ -1,11 +1,10 @@
 -- An id reads back from what is printed of it.
-use Rattle.std.proofs.Common.{◌≡◌, ℕ, ◌+◌, ◌-◌, ◌<◌, ◌≤◌, List, length, reverse, get_or, Option, Some, Ok, Result, ap, ◌∙◌, arith, inl, inr}
+use Rattle.std.proofs.Common.{ℕ, ◌-◌, List, length, reverse, Option, Some, ap, ◌∙◌, arith, inl, inr}
 use Rattle.std.proofs.lemmas.Bool.{cases_lt as split}
 use Rattle.std.proofs.lemmas.List.{reverse-reverse, length-reverse, get_or-reverse, get_or_past}
-use Rattle.hex.specs.Hex.{encode_lower}
 use Rattle.hex.proofs.HexLemmas.{decode_sized-encode_lower}
 use Rattle.gate_bytes.specs.Reading.{IsBytes}
-use Rattle.gate_tx.specs.Ids.{id_text, read_id, reversed}
+use Rattle.gate_tx.specs.Ids.{read_id, reversed}
 use Rattle.gate_tx.specs.Laws.{IdsAreReadBack}
 
 reverse-bytes : (xs : List ℕ) → IsBytes xs → IsBytes (reverse xs)
