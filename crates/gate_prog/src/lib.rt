@@ -4,6 +4,7 @@
 #![tactic(auto)]
 
 mod args;
+mod check;
 mod draft;
 mod event_line;
 mod fault;
