@@ -14,3 +14,4 @@ pub mod Said
 pub mod Openings
 pub mod Checks
 pub mod Jobs
+pub mod LaneRuns

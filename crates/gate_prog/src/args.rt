@@ -41,6 +41,7 @@ fn gate_command<'a>(alloc: Global) -> Result<Command<'a>, AllocError> {
         .about("The admission gate of a Bitcoin node's mempool")
         .after_help("Examples:\n  gate check 01000000000000000000\n  gate run < examples/first-path.txt")
         .no_binary_name(true)
+        .bin_name("gate")?
         .subcommand_required(true)
         .subcommand(check)?
         .subcommand(run)
