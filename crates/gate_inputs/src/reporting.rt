@@ -7,8 +7,8 @@ use gate_bytes::{Copied, Memory};
 use std::alloc::Global;
 use std::marker::Model;
 
-/// The answers for a piece. Nothing else than `report` makes one, and contracts see it as its piece,
-/// which says what the answers are.
+/// The answers for a piece. Only `report` and copies of its reports make one: contracts see it as
+/// its piece, which says what the answers are.
 #[derive(Debug, Drop)]
 pub struct InputReport {
     piece: Piece,
@@ -55,7 +55,7 @@ impl InputReport {
         self.answers.witness_standard
     }
 
-    /// At most 2^64 - 1.
+    /// At most 2^64 - 1, which less than 2^50 bytes don't reach.
     pub fn sigop_cost(&self) -> u64
         ensures { result ≡ min (sigop_cost_of self.now.input self.now.coin) (2 ^ 64 - 1) }
     {

@@ -3,3 +3,4 @@ pub mod Keys
 pub mod StackItems
 pub mod Operations
 pub mod Spelling
+pub mod Patterns

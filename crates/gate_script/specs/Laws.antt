@@ -1,8 +1,9 @@
 -- What scripts spell: each instruction has its bytes, and instructions spelled one after another are read as they are.
-use Rattle.std.specs.Prelude.{◌≡◌, ◌⊎◌, ⊤, ℕ, ◌^◌, ◌<◌, ◌≤◌, false, List, [], ◌∷◌, ◌++◌, length}
+use Rattle.std.specs.Prelude.{◌≡◌, ◌↔◌, IsTrue, ◌⊎◌, ⊤, ℕ, ◌^◌, ◌<◌, ◌≤◌, false, List, [], ◌∷◌, ◌++◌, length}
 use Rattle.std.specs.List.{flat_map, AllByRecursion}
 use Rattle.byteorder.specs.Endian.{little_bytes}
 use Rattle.gate_bytes.specs.Reading.{IsBytes}
+use Rattle.gate_script.specs.Templates.{frames}
 use Rattle.gate_script.specs.Instructions.{Instruction, Push, Truncated, Plain, is_push, prefix_size, instructions}
 
 -- the opcode, the bytes that say how many are pushed, and these
@@ -33,3 +34,11 @@ IsEntire _ = ⊤
 
 abbrev pub ScriptsAreSpelled : Type 0
 ScriptsAreSpelled = (script : List ℕ) → IsBytes script → AllByRecursion IsEntire (instructions script) → flat_map spelled (instructions script) ≡ script
+
+-- the script is `front`, so many bytes and `back`
+abbrev pub IsFramed : List ℕ → ℕ → List ℕ → List ℕ → Type 0
+IsFramed front count back script = (middle : List ℕ) × (length middle ≡ count) × (script ≡ front ++ (middle ++ back))
+
+-- the test of a template's bytes is met just by the scripts of that pattern
+abbrev pub FramesArePatterns : Type 0
+FramesArePatterns = (front : List ℕ) (count : ℕ) (back script : List ℕ) → IsTrue (frames front count back script) ↔ IsFramed front count back script
