@@ -1,5 +1,5 @@
 -- A chain with one connected block, on which the definitions are tried.
-use Rattle.std.specs.Prelude.{ℕ, false, List, [], ◌∷◌, ◌++◌, pos, replicate}
+use Rattle.std.specs.Prelude.{ℕ, false, [], ◌∷◌, ◌++◌, pos, replicate}
 use Rattle.gate_tx.specs.declared.OutPoint.{OutPoint}
 use Rattle.gate_tx.specs.declared.TxIn.{TxIn}
 use Rattle.gate_tx.specs.declared.TxOut.{TxOut}

@@ -107,23 +107,38 @@ fn the_median_of_eleven_times(rt: HostRuntime) -> Result<(), Fail> {
     Ok(())
 }
 
+/// What is wrong with a coin that stands behind a good one of outpoint 1 0, at tip 1.
+fn second_fault(
+    alloc: Global,
+    outpoint: OutPoint,
+    value: i64,
+    height: u32,
+    script: &[u8],
+) -> Option<OpenFault> {
+    let rows: [Row<'_>; 2] = [
+        (point(1, 0), 1, 1, &SCRIPT),
+        (outpoint, value, height, script),
+    ];
+    fault_of(alloc, &rows, &[1, 2])
+}
+
 #[test]
 fn the_first_fault_is_named(rt: HostRuntime) {
     let alloc = rt.alloc();
-    let good: Row<'_> = (point(1, 0), 1, 1, &SCRIPT);
-    let faulty: [(Row<'_>, OpenFault); 6] = [
-        ((point(1, 0), -1, 2, &[0x6a]), OpenFault::CoinValue(1)),
-        ((point(2, 0), 2_100_000_000_000_001, 0, &[]), OpenFault::CoinValue(1)),
-        ((point(1, 0), 0, 2, &[0x6a, 0x50]), OpenFault::CoinUnspendable(1)),
-        ((point(1, 0), 0, 2, &SCRIPT), OpenFault::CoinAboveTip(1)),
-        ((point(1, 0), 0, 1, &SCRIPT), OpenFault::CoinTwice(1)),
-        ((point(1, 0), 0, 1, &[]), OpenFault::CoinTwice(1)),
-    ];
-    for (row, fault) in &faulty {
-        assert_eq!(rt; fault_of(alloc, &[good, *row], &[1, 2]), Some(*fault));
-        assert_eq!(rt; fault_of(alloc, &[good, *row], &[]), Some(OpenFault::NoTimes));
-    }
-    assert_eq!(rt; fault_of(alloc, &[good, (point(1, 1), 0, 0, &[])], &[1, 2]), None);
+    let value = second_fault(alloc, point(1, 0), -1, 2, &[0x6a]);
+    assert_eq!(rt; value, Some(OpenFault::CoinValue(1)));
+    let value = second_fault(alloc, point(2, 0), 2_100_000_000_000_001, 0, &[]);
+    assert_eq!(rt; value, Some(OpenFault::CoinValue(1)));
+    let script = second_fault(alloc, point(1, 0), 0, 2, &[0x6a, 0x50]);
+    assert_eq!(rt; script, Some(OpenFault::CoinUnspendable(1)));
+    let height = second_fault(alloc, point(1, 0), 0, 2, &SCRIPT);
+    assert_eq!(rt; height, Some(OpenFault::CoinAboveTip(1)));
+    let twice = second_fault(alloc, point(1, 0), 0, 1, &[]);
+    assert_eq!(rt; twice, Some(OpenFault::CoinTwice(1)));
+    let good = second_fault(alloc, point(1, 1), 0, 0, &[]);
+    assert_eq!(rt; good, None);
+    let times = fault_of(alloc, &[(point(1, 0), -1, 0, &[])], &[]);
+    assert_eq!(rt; times, Some(OpenFault::NoTimes));
 }
 
 #[test]

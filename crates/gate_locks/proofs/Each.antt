@@ -1,5 +1,5 @@
 -- What a loop over inputs and the heights of their coins keeps.
-use Rattle.std.proofs.Common.{◌≡◌, ℕ, ◌≤◌, ◌+◌, Bool, true, false, ◌&&◌, ◌||◌, ◌⊎◌, inl, inr, List, [], ◌∷◌, All, length, zip, refl, sym, ap, subst, ◌∙◌, arith}
+use Rattle.std.proofs.Common.{◌≡◌, ℕ, ◌≤◌, Bool, true, false, ◌&&◌, ◌||◌, ◌⊎◌, inl, inr, List, [], ◌∷◌, All, zip, refl, sym, ap, subst, ◌∙◌}
 use Rattle.std.proofs.lemmas.List.Elements.{All-head, All-tail}
 use Rattle.std.specs.List.{list_all}
 use Rattle.gate_tx.specs.declared.TxIn.{TxIn}
@@ -20,9 +20,9 @@ pub left_after : (chain : History) (most : ℕ) (inputs : List TxIn) (heights : 
     → IsLeft chain most inputs heights before before_heights → IsLeft chain most inputs heights after after_heights
 left_after chain most inputs heights before after before_heights after_heights i h first second met left = record {
   decides = left.decides
-    ∙ ap (λ (xs : List TxIn). all_met chain xs before_heights) first
-    ∙ ap (λ (hs : List ℕ). all_met chain (i ∷ after) hs) second
-    ∙ ap (λ b. b && all_met chain after after_heights) met;
+      ∙ ap (λ (xs : List TxIn). all_met chain xs before_heights) first
+      ∙ ap (λ (hs : List ℕ). all_met chain (i ∷ after) hs) second
+      ∙ ap (λ b. b && all_met chain after after_heights) met;
   fit = let P : ℕ → Type 0 = λ h. h ≤ most in All-tail P h after_heights (subst (All P) second left.fit);
 }
 

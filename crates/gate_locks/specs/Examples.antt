@@ -1,5 +1,5 @@
 -- Transactions and a chain on which the definitions are tried.
-use Rattle.std.specs.Prelude.{ℕ, ℤ, pos, List, [], ◌∷◌, replicate}
+use Rattle.std.specs.Prelude.{ℕ, ℤ, pos, [], ◌∷◌, replicate}
 use Rattle.gate_tx.specs.declared.TxIn.{TxIn}
 use Rattle.gate_tx.specs.Tx.{Tx, tx_of}
 use Rattle.gate_chain.specs.History.{History, opened}

@@ -1,5 +1,5 @@
 -- The relative locks of a transaction's inputs (BIP 68).
-use Rattle.std.specs.Prelude.{ℕ, ℤ, ◌+◌, ◌-◌, ◌*◌, ◌==◌, ◌||◌, nat_le, nat_lt, not, bit_and, Bool, List, zip, unwrap_or, if◌then◌else◌}
+use Rattle.std.specs.Prelude.{ℕ, ℤ, ◌+◌, ◌-◌, ◌*◌, ◌==◌, ◌||◌, nat_le, not, bit_and, Bool, List, zip, unwrap_or, if◌then◌else◌}
 use Rattle.std.specs.Int.{w32, cast_unsigned}
 use Rattle.std.specs.List.{list_all}
 use Rattle.gate_tx.specs.Tx.{Tx}

@@ -13,8 +13,7 @@ pub(crate) fn locktimes()
     ensures time { is_final_at (timed 500000000 0) 500000001 500000000 ≡ false }
     ensures past { is_final_at (timed 500000000 0) 5 500000001 ≡ true }
     ensures waived { is_final_at (timed 5 0xffff_ffff) 5 9 ≡ true }
-{
-}
+{}
 
 /// Locks of blocks, at tip 4: the next block stands 3 above a coin of height 2.
 #[tactic(auto, unfolding(crate::specs::Locks::sequence_locks_met_by, crate::specs::Locks::is_lock_met_by))]
@@ -25,8 +24,7 @@ pub(crate) fn blocks()
     ensures version_below_zero { sequence_locks_met_by (locked (negsuc 0) 4) (2 ∷ []) five_blocks ≡ false }
     ensures disabled { sequence_locks_met_by (locked (pos 2) 0x8000_0004) (2 ∷ []) five_blocks ≡ true }
     ensures unconfirmed { sequence_locks_met_by (locked (pos 2) 0) (5 ∷ []) five_blocks ≡ true }
-{
-}
+{}
 
 /// Locks of 512 seconds, at tip 4, whose median time past is 2200: that of height 1 is 1600.
 #[tactic(auto, unfolding(crate::specs::Locks::sequence_locks_met_by, crate::specs::Locks::is_lock_met_by, gate_chain::specs::Times::mtp_of, gate_chain::specs::Median::median_of))]
@@ -35,5 +33,4 @@ pub(crate) fn seconds()
     ensures early { sequence_locks_met_by (locked (pos 2) 0x0040_0002) (2 ∷ []) five_blocks ≡ false }
     ensures first { sequence_locks_met_by (locked (pos 2) 0x0040_0002) (0 ∷ []) five_blocks ≡ true }
     ensures unconfirmed { sequence_locks_met_by (locked (pos 2) 0x0040_0000) (5 ∷ []) five_blocks ≡ true }
-{
-}
+{}
