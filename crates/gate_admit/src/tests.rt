@@ -53,33 +53,47 @@ fn open(alloc: Global) -> Result<Chain, Fail> {
     )
 }
 
-/// The transaction of version 2 that spends output 0 of these ids, with a signature of this byte each, to one output.
-fn spend(
-    alloc: Global,
-    keys: &[u8],
+/// A transaction of version 2 that spends output 0 of some ids, with a signature of one byte each, to one output.
+#[derive(Clone, Copy)]
+struct Spend<'a> {
+    keys: &'a [u8],
     sequence: u32,
     value: i64,
     signature: u8,
-) -> Result<Vec<u8>, Memory> {
-    let mut bytes = Vec::from_slice(alloc, &[2, 0, 0, 0, 0, 1])?;
-    bytes.push(keys.len().min(252) as u8)?;
-    for key in keys {
-        bytes.extend_from_slice(&[*key; 32])?;
-        bytes.extend_from_slice(&[0; 5])?;
-        bytes.extend_from_slice(&sequence.to_le_bytes())?;
+    locktime: u32,
+}
+
+/// The one of the first row.
+const FIRST: Spend<'static> = Spend {
+    keys: &[0x11],
+    sequence: 0xffff_fffd,
+    value: 99_890,
+    signature: 0x30,
+    locktime: 0,
+};
+
+impl Spend<'_> {
+    fn bytes(&self, alloc: Global) -> Result<Vec<u8>, Memory> {
+        let mut bytes = Vec::from_slice(alloc, &[2, 0, 0, 0, 0, 1])?;
+        bytes.push(self.keys.len().min(252) as u8)?;
+        for key in self.keys {
+            bytes.extend_from_slice(&[*key; 32])?;
+            bytes.extend_from_slice(&[0; 5])?;
+            bytes.extend_from_slice(&self.sequence.to_le_bytes())?;
+        }
+        bytes.push(1)?;
+        bytes.extend_from_slice(&self.value.to_le_bytes())?;
+        bytes.push(22)?;
+        bytes.extend_from_slice(&SCRIPT)?;
+        for _key in self.keys {
+            bytes.extend_from_slice(&[2, 72])?;
+            bytes.extend_from_slice(&[self.signature; 72])?;
+            bytes.push(33)?;
+            bytes.extend_from_slice(&[2; 33])?;
+        }
+        bytes.extend_from_slice(&self.locktime.to_le_bytes())?;
+        Ok(bytes)
     }
-    bytes.push(1)?;
-    bytes.extend_from_slice(&value.to_le_bytes())?;
-    bytes.push(22)?;
-    bytes.extend_from_slice(&SCRIPT)?;
-    for _key in keys {
-        bytes.extend_from_slice(&[2, 72])?;
-        bytes.extend_from_slice(&[signature; 72])?;
-        bytes.push(33)?;
-        bytes.extend_from_slice(&[2; 33])?;
-    }
-    bytes.extend_from_slice(&[0; 4])?;
-    Ok(bytes)
 }
 
 #[derive(Drop)]
@@ -142,7 +156,7 @@ fn paid(fee: u64) -> Result<Grant, Denial> {
 fn one_coin_one_submission_one_listing(rt: HostRuntime) -> Result<(), Fail> {
     let alloc = rt.alloc();
     let mut gate = Gate::new(alloc, open(alloc)?)?;
-    let bytes = spend(alloc, &[0x11], 0xffff_fffd, 99_890, 0x30)?;
+    let bytes = FIRST.bytes(alloc)?;
     assert_eq!(rt; bytes.len(), 192);
     assert_eq!(rt; gate.judge(alloc, &bytes)?, paid(110));
     assert_eq!(rt; gate.pool.count(), 0);
@@ -169,9 +183,13 @@ fn one_coin_one_submission_one_listing(rt: HostRuntime) -> Result<(), Fail> {
 fn denials_of_the_first_path(rt: HostRuntime) -> Result<(), Fail> {
     let alloc = rt.alloc();
     let mut gate = Gate::new(alloc, open(alloc)?)?;
-    let final_sequence = 0xffff_ffff;
-    let first = spend(alloc, &[0x11], final_sequence, 99_000, 0x30)?;
-    assert_eq!(rt; gate.submit(alloc, &first)?, paid(1000));
+    // It signals no replacement.
+    let spend = Spend {
+        sequence: 0xffff_ffff,
+        value: 99_000,
+        ..FIRST
+    };
+    assert_eq!(rt; gate.submit(alloc, &spend.bytes(alloc)?)?, paid(1000));
     for (keys, value, signature, denial) in [
         ([0x11].as_slice(), 99_000, 0x30, Denial::AlreadyInMempool),
         ([0x11].as_slice(), 99_000, 0x31, Denial::SameNonWitnessData),
@@ -181,10 +199,16 @@ fn denials_of_the_first_path(rt: HostRuntime) -> Result<(), Fail> {
         ([0x12].as_slice(), 100_001, 0x30, Denial::InBelowOut),
         ([0x12].as_slice(), 99_891, 0x30, Denial::MinRelayFee),
         ([0x12, 0x12].as_slice(), 1, 0x30, Denial::InputsDuplicate),
+        ([0x15].as_slice(), 293, 0x30, Denial::Dust),
         ([0x15].as_slice(), 100_000, 0x30, Denial::MissingOrSpent),
     ] {
-        let bytes = spend(alloc, keys, final_sequence, value, signature)?;
-        assert_eq!(rt; gate.submit(alloc, &bytes)?, Err(denial));
+        let other = Spend {
+            keys,
+            value,
+            signature,
+            ..spend
+        };
+        assert_eq!(rt; gate.submit(alloc, &other.bytes(alloc)?)?, Err(denial));
     }
     assert_eq!(rt; gate.submit(alloc, &[2, 0, 0, 0])?, Err(Denial::Decode));
     assert_eq!(rt; gate.pool.count(), 1);
@@ -199,22 +223,80 @@ fn id_of_an_opening_coin(rt: HostRuntime) -> Result<(), Fail> {
         alloc,
         open_with(alloc, opening_coin(alloc, txid, 5, 1000)?)?,
     )?;
-    let known = spend(alloc, &[0x11], 0xffff_fffd, 99_890, 0x30)?;
-    assert_eq!(rt; gate.submit(alloc, &known)?, Err(Denial::AlreadyKnown));
+    let bytes = FIRST.bytes(alloc)?;
+    assert_eq!(rt; gate.submit(alloc, &bytes)?, Err(Denial::AlreadyKnown));
+    Ok(())
+}
+
+#[test]
+fn locktimes(rt: HostRuntime) -> Result<(), Fail> {
+    let alloc = rt.alloc();
+    let gate = Gate::new(alloc, open(alloc)?)?;
+    let refused = Err(Denial::NonFinal);
+    for (locktime, sequence, decision) in [
+        (100, FIRST.sequence, paid(110)),
+        (101, FIRST.sequence, refused),
+        (101, 0xffff_ffff, paid(110)),
+        (500_000_000, FIRST.sequence, refused),
+    ] {
+        let spend = Spend {
+            locktime,
+            sequence,
+            ..FIRST
+        };
+        assert_eq!(rt;
+            gate.judge(alloc, &spend.bytes(alloc)?)?,
+            decision,
+            "at {locktime}"
+        );
+    }
+    Ok(())
+}
+
+#[test]
+fn relative_locks_and_maturity(rt: HostRuntime) -> Result<(), Fail> {
+    let alloc = rt.alloc();
+    for (height, coinbase, sequence, decision) in [
+        (91, false, 0x0a, paid(110)),
+        (92, false, 0x0a, Err(Denial::NonBip68Final)),
+        (1, false, 0x0040_006f, paid(110)),
+        (1, false, 0x0040_0070, Err(Denial::NonBip68Final)),
+        (1, true, FIRST.sequence, paid(110)),
+        (2, true, FIRST.sequence, Err(Denial::PrematureSpend)),
+    ] {
+        let mut opening = opening_coin(alloc, Txid::new([0x31; 32]), 0, 100_000)?;
+        opening.coin.height = height;
+        opening.coin.coinbase = coinbase;
+        let gate = Gate::new(alloc, open_with(alloc, opening)?)?;
+        let spend = Spend {
+            keys: &[0x31],
+            sequence,
+            ..FIRST
+        };
+        assert_eq!(rt;
+            gate.judge(alloc, &spend.bytes(alloc)?)?,
+            decision,
+            "at {height}"
+        );
+    }
     Ok(())
 }
 
 #[test]
 fn submissions_as_they_are_read(rt: HostRuntime) -> Result<(), Fail> {
     let alloc = rt.alloc();
-    let prepared = Prepared::new(alloc, &spend(alloc, &[0x11], 0xffff_fffd, 99_890, 0x30)?)?;
+    let prepared = Prepared::new(alloc, &FIRST.bytes(alloc)?)?;
     assert_eq!(rt; prepared.txid(), Txid::read(PRINTED));
     assert!(rt; prepared.wtxid().is_some());
     assert!(rt; prepared.transaction().is_some());
     assert_eq!(rt; prepared.denial(), None);
     assert!(rt; prepared.copy(alloc)? == prepared);
 
-    let other = Prepared::new(alloc, &spend(alloc, &[0x11], 0xffff_fffd, 99_890, 0x31)?)?;
+    let signed_anew = Spend {
+        signature: 0x31,
+        ..FIRST
+    };
+    let other = Prepared::new(alloc, &signed_anew.bytes(alloc)?)?;
     assert_eq!(rt; other.txid(), prepared.txid());
     assert!(rt; other != prepared);
 
