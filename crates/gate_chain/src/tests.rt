@@ -132,12 +132,16 @@ fn faults_have_tokens(rt: HostRuntime) {
     assert_eq!(rt; OpenFault::CoinAboveTip(3).token(), "coin-above-tip");
 }
 
+fn equal_times(alloc: Global, count: usize) -> Result<Vec<u32>, AllocError> {
+    vec![in alloc; 7; count]
+}
+
 #[test]
 fn there_may_be_a_million_times(rt: HostRuntime) -> Result<(), Fail> {
-    let times = vec![in rt.alloc(); 7; 1_000_001]?;
-    let chain = opened(rt.alloc(), &[], &times[..1_000_000])?;
-    assert_eq!(rt; chain.tip(), 999_999);
-    let limit = fault_of(rt.alloc(), &[], times.as_slice());
-    assert_eq!(rt; limit, Some(OpenFault::TimesLimit));
+    let alloc = rt.alloc();
+    let most = Chain::open(alloc, Vec::new(alloc), equal_times(alloc, 1_000_000)?)?;
+    assert_eq!(rt; most.tip(), 999_999);
+    let more = Chain::open(alloc, Vec::new(alloc), equal_times(alloc, 1_000_001)?);
+    assert_eq!(rt; more.err(), Some(OpenFault::TimesLimit));
     Ok(())
 }

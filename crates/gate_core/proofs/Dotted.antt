@@ -105,7 +105,10 @@ dotted-octets_of (a ∷ b ∷ c ∷ d ∷ []) octets h =
     let third = and_left _ _ later in
     let fourth = and_right (is_octet c) _ later in
     record {
-      a = digits_value 10 a; b = digits_value 10 b; c = digits_value 10 c; d = digits_value 10 d;
+      a = digits_value 10 a;
+      b = digits_value 10 b;
+      c = digits_value 10 c;
+      d = digits_value 10 d;
       fit = (octet-small a first, octet-small b second, octet-small c third, octet-small d fourth);
       value = sym found.1;
       spelled = rejoined a b c d _ _ _ _ (octet-printed a first) (octet-printed b second) (octet-printed c third) (octet-printed d fourth);

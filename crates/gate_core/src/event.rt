@@ -7,12 +7,17 @@ use gate_bytes::{Copied, Memory};
 use std::alloc::Global;
 
 /// One request to the gate. A peer is named by a number that its first `Enter` takes for good.
-#[derive(Debug, Drop)]
+#[derive(Debug, Drop, PartialEq, Eq)]
 pub enum Event {
     /// A peer enters, from this address.
-    Enter { peer: u64, address: Address },
+    Enter {
+        peer: u64,
+        address: Address,
+    },
     /// A peer leaves, which closes its session.
-    Leave { peer: u64 },
+    Leave {
+        peer: u64,
+    },
     /// A peer submits a transaction at this second.
     Tx {
         peer: u64,
@@ -20,7 +25,9 @@ pub enum Event {
         transaction: Prepared,
     },
     /// A peer asks for the txids in the pool.
-    Mempool { peer: u64 },
+    Mempool {
+        peer: u64,
+    },
 }
 
 impl Event {

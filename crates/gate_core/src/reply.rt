@@ -24,7 +24,10 @@ pub enum Reply {
     /// The txids in the pool, in order of admission.
     Listing(Kept<Txid>),
     /// The rule that fails, and what followed for the session.
-    Denied { refusal: Refusal, then: Then },
+    Denied {
+        refusal: Refusal,
+        then: Then,
+    },
 }
 
 impl Reply {

@@ -97,7 +97,9 @@ impl State {
             }
             Event::Leave { peer } => self.sessions.refusal(*peer),
             Event::Tx {
-                peer, transaction, ..
+                peer,
+                transaction,
+                ..
             } => self.refusal_of_tx(*peer, transaction),
             Event::Mempool { peer } => self.refusal_of_mempool(*peer),
         }

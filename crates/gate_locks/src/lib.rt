@@ -10,5 +10,5 @@ mod relative;
 pub use finality::is_final;
 pub use relative::sequence_locks_met;
 
-
-
+#[cfg(test)]
+mod tests;

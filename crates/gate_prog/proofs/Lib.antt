@@ -7,3 +7,8 @@ pub mod TextForms
 pub mod TurnLemmas
 pub mod SoFar
 pub mod EvenSteps
+pub mod OpeningParts
+pub mod Saying
+pub mod Steps
+pub mod Heard
+pub mod GateRuns

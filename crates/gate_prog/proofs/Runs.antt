@@ -12,10 +12,10 @@ at_true P Q b e p = subst (λ (c : Bool). MatchBool c P Q) (sym e) p
 at_false : (P Q : Type 0) (b : Bool) → b ≡ false → Q → MatchBool b P Q
 at_false P Q b e q = subst (λ (c : Bool). MatchBool c P Q) (sym e) q
 
-not-lt : (a b : ℕ) → b ≤ a → nat_lt a b ≡ false
+pub not-lt : (a b : ℕ) → b ≤ a → nat_lt a b ≡ false
 not-lt a b h = grind (arith, nat_tests)
 
-not-le : (a b : ℕ) → b < a → nat_le a b ≡ false
+pub not-le : (a b : ℕ) → b < a → nat_le a b ≡ false
 not-le a b h = grind (arith, nat_tests)
 
 pub Run-line : (number : ℕ) (old mid new : World) (line : List ℕ) (lines first rest : List (List ℕ))

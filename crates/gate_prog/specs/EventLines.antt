@@ -1,7 +1,7 @@
 -- The event that a line spells.
 use Rattle.std.specs.Prelude.{ℕ, if◌then◌else◌, List, codes, Option, Some, None, Result, Ok, Err, option_and_then}
 use Rattle.std.specs.Option.{option_map}
-use Rattle.std.specs.Str.{bytes_eq, is_utf8}
+use Rattle.std.specs.Str.{bytes_eq}
 use Rattle.hex.specs.Hex.{decode_of}
 use Rattle.hex.specs.declared.error.FromHexError.{FromHexError}
 use Rattle.gate_tx.specs.Tx.{Tx}
@@ -9,6 +9,7 @@ use Rattle.gate_tx.specs.Reading.{decoded}
 use Rattle.gate_core.specs.Addresses.{address_of}
 use Rattle.gate_core.specs.declared.event.Event.{Event}
 use Rattle.gate_core.specs.declared.event.Event.TheVariants as events
+use Rattle.gate_prog.specs.Lines.{if_text}
 use Rattle.gate_prog.specs.Words.{part_of, is_word}
 use Rattle.gate_prog.specs.Numbers.{number_of}
 
@@ -64,6 +65,6 @@ called_event p = if bytes_eq p.0 (codes "peer") then peer_event_of p.1 else None
 abbrev pub event_of : List ℕ → Option Event
 event_of text = option_and_then called_event (part_of text)
 
--- the event of a line: one that isn't text has no form
+-- the event of a line
 abbrev pub line_event : List ℕ → Option Event
-line_event line = if is_utf8 line then event_of line else None
+line_event line = if_text event_of line

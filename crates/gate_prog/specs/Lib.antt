@@ -10,3 +10,6 @@ pub mod Turns
 pub mod VerdictRows
 pub mod OpeningFaults
 pub mod BlockTimes
+pub mod Said
+pub mod Openings
+pub mod Jobs

@@ -1,5 +1,6 @@
 -- The lines of a text, their limits, and those that ask for nothing.
-use Rattle.std.specs.Prelude.{◌≢◌, ℕ, ◌==◌, if◌then◌else◌, Bool, true, List, [], ◌∷◌, ◌++◌}
+use Rattle.std.specs.Prelude.{◌≢◌, ℕ, ◌==◌, if◌then◌else◌, Bool, true, List, [], ◌∷◌, ◌++◌, Option, None}
+use Rattle.std.specs.Str.{is_utf8}
 
 -- the most bytes of a line
 abbrev pub line_limit : ℕ
@@ -35,3 +36,7 @@ EachLacksNewline (line ∷ lines) = LacksNewline line × EachLacksNewline lines
 abbrev pub is_skipped : List ℕ → Bool
 is_skipped [] = true
 is_skipped (x ∷ xs) = x == 35
+
+-- what a line is read as: one that isn't text has no form
+abbrev pub if_text : {X : Type 0} → (List ℕ → Option X) → List ℕ → Option X
+if_text form line = if is_utf8 line then form line else None

@@ -1,7 +1,7 @@
 -- What one line of an opening says.
 use Rattle.std.specs.Prelude.{ℕ, nat_le, ◌==◌, pos, if◌then◌else◌, Bool, true, false, List, [], ◌∷◌, length, codes, Option, Some, None, Result, Ok, Err, option_and_then}
 use Rattle.std.specs.Option.{option_map}
-use Rattle.std.specs.Str.{bytes_eq, is_utf8}
+use Rattle.std.specs.Str.{bytes_eq}
 use Rattle.hex.specs.Hex.{decode_of}
 use Rattle.hex.specs.declared.error.FromHexError.{FromHexError}
 use Rattle.gate_tx.specs.Ids.{read_id}
@@ -10,6 +10,7 @@ use Rattle.gate_admit.specs.declared.Verdict.TheVariants.{Good, Soft, Hard}
 use Rattle.gate_prog.specs.declared.opening_line.OpeningLine.{OpeningLine}
 use Rattle.gate_prog.specs.declared.opening_line.OpeningLine.TheVariants as says
 use Rattle.gate_prog.specs.declared.opening_line.CoinHead.{CoinHead}
+use Rattle.gate_prog.specs.Lines.{if_text}
 use Rattle.gate_prog.specs.Words.{part_of}
 use Rattle.gate_prog.specs.Numbers.{number_of, small_number_of}
 
@@ -122,6 +123,6 @@ named_line p =
 abbrev pub opening_line_of : List ℕ → Option OpeningLine
 opening_line_of text = option_and_then named_line (part_of text)
 
--- what a line says: one that isn't text has no form
+-- what a line says
 abbrev pub said_by : List ℕ → Option OpeningLine
-said_by line = if is_utf8 line then opening_line_of line else None
+said_by line = if_text opening_line_of line

@@ -3,11 +3,15 @@
 //! The main clauses are those of [`run_lane`]: the lines written are the reply lines of the lines read.
 #![tactic(auto)]
 
+mod args;
+mod draft;
 mod event_line;
 mod fault;
+mod job;
 mod lane;
 mod line;
 mod number;
+mod opening;
 mod opening_fault;
 mod opening_line;
 mod output;
@@ -15,8 +19,14 @@ mod times;
 mod verdict_rows;
 mod word;
 
+pub use args::{ArgsFault, read_args};
 pub use fault::LaneFault;
+pub use job::{Job, run_job};
 pub use lane::run_lane;
 pub use line::{MAX_LINE, MAX_LINES};
+pub use opening::read_opening;
 pub use opening_fault::{OpeningFault, OpeningToken};
 pub use number::{MAX_NUMBER, numbers_are_decimal};
+
+#[cfg(test)]
+mod tests;

@@ -24,14 +24,13 @@ pub(crate) fn append_times(
     first: u32,
     step: u64,
 ) -> Result<(), Memory>
-    requires fit { some_too_great (times_from count first step) ≡ false }
-    requires few { step ≤ 9007199254740991 }
+    requires { some_too_great (times_from count first step) ≡ false }
     ensures { OnOk result (times.new.items ≡ times.old.items ++ times_from count first step) }
 {
-    let mut time = u64::from(first);
+    let mut time = u128::from(first);
     for _ in 0..count {
         times.push(time as u32)?;
-        time += step;
+        time += u128::from(step);
     }
     Ok(())
 }

@@ -2,3 +2,4 @@ pub mod Steps
 pub mod Keys
 pub mod StackItems
 pub mod Operations
+pub mod Spelling

@@ -59,13 +59,23 @@ instruction_at-truncated opcode rest push short =
     let past : ltb (length rest) (extent opcode rest) ≡ true = grind (arith, nat_tests) in
     yes (is_push opcode) _ _ push ∙ yes (ltb (length rest) (extent opcode rest)) _ _ past
 
+pub plain-first : (opcode : ℕ) (rest : List ℕ) → is_push opcode ≡ false → instructions (opcode ∷ rest) ≡ Plain opcode ∷ instructions rest
+plain-first opcode rest plain =
+    instructions-cons opcode rest
+    ∙ ap (λ first. first ∷ instructions (drop (extent opcode rest) rest)) (instruction_at-plain opcode rest plain)
+    ∙ ap (λ n. Plain opcode ∷ instructions (drop n rest)) (extent-plain opcode rest plain)
+
+pub push-first : (opcode : ℕ) (rest bytes left : List ℕ) → is_push opcode ≡ true → PushesWhole opcode rest bytes left → instructions (opcode ∷ rest) ≡ Push opcode bytes ∷ instructions left
+push-first opcode rest bytes left push whole =
+    instructions-cons opcode rest
+    ∙ ap (λ first. first ∷ instructions (drop (extent opcode rest) rest)) (instruction_at-push opcode rest bytes left push whole)
+    ∙ ap (λ after. Push opcode bytes ∷ instructions after) (sym whole.follows)
+
 pub read-plain : (script : List ℕ) (opcode : ℕ) (rest : List ℕ) → number_at 1 script ≡ Ok (opcode, rest) → is_push opcode ≡ false → instructions script ≡ Plain opcode ∷ instructions rest
-read-plain script opcode rest read plain =
-    ap instructions (number_at-one script opcode rest read) ∙ instructions-cons opcode rest ∙ ap (λ first. first ∷ instructions (drop (extent opcode rest) rest)) (instruction_at-plain opcode rest plain) ∙ ap (λ n. Plain opcode ∷ instructions (drop n rest)) (extent-plain opcode rest plain)
+read-plain script opcode rest read plain = ap instructions (number_at-one script opcode rest read) ∙ plain-first opcode rest plain
 
 pub read-push : (script : List ℕ) (opcode : ℕ) (rest bytes left : List ℕ) → number_at 1 script ≡ Ok (opcode, rest) → is_push opcode ≡ true → PushesWhole opcode rest bytes left → instructions script ≡ Push opcode bytes ∷ instructions left
-read-push script opcode rest bytes left read push whole =
-    ap instructions (number_at-one script opcode rest read) ∙ instructions-cons opcode rest ∙ ap (λ first. first ∷ instructions (drop (extent opcode rest) rest)) (instruction_at-push opcode rest bytes left push whole) ∙ ap (λ after. Push opcode bytes ∷ instructions after) (sym whole.follows)
+read-push script opcode rest bytes left read push whole = ap instructions (number_at-one script opcode rest read) ∙ push-first opcode rest bytes left push whole
 
 pub read-truncated : (script : List ℕ) (opcode : ℕ) (rest : List ℕ) → number_at 1 script ≡ Ok (opcode, rest) → is_push opcode ≡ true → length rest < extent opcode rest → instructions script ≡ Truncated opcode ∷ instructions []
 read-truncated script opcode rest read push short =

@@ -1,6 +1,5 @@
 //! What every transaction must meet before it is looked at further.
-ghost use Rattle.std.specs.Prelude.{◌≡◌, ◌+◌, ◌≤◌, None, Some, IfOk, IfErr, OnOk, ◌==◌, ◌&&◌};
-ghost use Rattle.std.specs.List.{list_all, list_any};
+ghost use Rattle.std.specs.Prelude.{◌≡◌, ◌+◌, ◌≤◌, None, Some, IfOk, IfErr, OnOk};
 ghost use Rattle.gate_standard.specs.Order.{first_failing};
 ghost use Rattle.gate_standard.specs.Amounts.{max_money, amount};
 ghost use Rattle.gate_standard.specs.Rules.{rules_of_value, value_rules, spends_twice, spends_null, is_coinbase, coinbase_rules, transaction_rules};

@@ -6,6 +6,7 @@
 mod amounts;
 mod check;
 mod denial;
+mod examples;
 mod order;
 mod outputs;
 mod standard;
@@ -16,3 +17,6 @@ pub use denial::Denial;
 pub use order::the_order;
 pub use outputs::dust_threshold;
 pub use standard::is_standard;
+
+#[cfg(test)]
+mod tests;

@@ -1,6 +1,6 @@
 //! Which outputs are standard, and what is dust.
 ghost use Rattle.std.specs.Prelude.{◌≡◌};
-ghost use Rattle.gate_standard.specs.Outputs.{dust_threshold_of, is_standard_template, is_null_data, is_dust, is_below};
+ghost use Rattle.gate_standard.specs.Outputs.{dust_threshold_of, is_standard_template, is_null_data, is_below};
 
 use crate::amounts::fee_at;
 use gate_bytes::compact_size;

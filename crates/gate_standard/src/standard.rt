@@ -1,5 +1,5 @@
 //! What is relayed by default.
-ghost use Rattle.std.specs.Prelude.{◌≡◌, None, Some, Ok, Err, IfOk, IfErr, OnOk};
+ghost use Rattle.std.specs.Prelude.{◌≡◌, None, Some, IfOk, IfErr, OnOk};
 ghost use Rattle.std.specs.List.{flat_map, count_by};
 ghost use Rattle.gate_standard.specs.Order.{first_failing};
 ghost use Rattle.gate_standard.specs.Outputs.{carries_data};

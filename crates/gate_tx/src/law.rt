@@ -1,4 +1,4 @@
-ghost use Rattle.gate_tx.specs.Laws.{EachHasOneText, EachTextIsOfOne, TextsStandApart, TextsAreReadBack, DecodedIsSpelled};
+ghost use Rattle.gate_tx.specs.Laws.{EachHasOneText, EachTextIsOfOne, TextsStandApart, TextsAreReadBack, DecodedIsSpelled, CutsAreShort, MoreIsTrailing, LongIsTooLarge, EmptyWitnessesAreRefused};
 
 /// That a transaction has one text and a text is of one transaction, and that no text begins a
 /// different text.
@@ -13,4 +13,13 @@ pub fn texts_stand_apart()
 pub fn texts_are_read_back()
     ensures back { TextsAreReadBack }
     ensures spelled { DecodedIsSpelled }
+{}
+
+/// Which fault `read_tx` answers to a text that is cut, to one with bytes behind it, to more bytes
+/// than a text has, and to the form with flag 1 where each witness is empty.
+pub fn faults_are_told()
+    ensures cut { CutsAreShort }
+    ensures more { MoreIsTrailing }
+    ensures long { LongIsTooLarge }
+    ensures empty { EmptyWitnessesAreRefused }
 {}

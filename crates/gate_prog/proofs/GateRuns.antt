@@ -1,0 +1,19 @@
+-- What `gate run` writes, from what its opening came to.
+use Rattle.std.proofs.Common.{◌≡◌, ℕ, List, Option, Some, None, IfSome, Result, Ok, Err, IfOk, sym, subst}
+use Rattle.gate_core.specs.World.{World}
+use Rattle.gate_prog.specs.declared.opening_fault.OpeningFault.{OpeningFault}
+use Rattle.gate_prog.specs.declared.opening_fault.OpeningFault.TheVariants.{Line}
+use Rattle.gate_prog.specs.declared.opening_fault.OpeningToken.{OpeningToken}
+use Rattle.gate_prog.specs.Jobs.{FaultPrinted, GateRan, TextRan}
+use Rattle.gate_prog.specs.Said.{spelled}
+
+gate_refused : (input before after : Option (List ℕ)) (line : ℕ) (token : OpeningToken) (status : ℕ)
+    → IfSome input (λ text. spelled text ≡ Err (Line line token)) → FaultPrinted line token before after status → GateRan input before after status
+gate_refused None before after line token status h printed = tt
+gate_refused (Some text) before after line token status h printed = subst (λ (r : Result World OpeningFault). TextRan text r before after status) (sym h) printed
+
+pub fault_ran : {E : Type 0} (r : Result ℕ E) (input before after : Option (List ℕ)) (line : ℕ) (token : OpeningToken)
+    → IfSome input (λ text. spelled text ≡ Err (Line line token)) → IfOk r (λ status. FaultPrinted line token before after status)
+    → IfOk r (λ status. GateRan input before after status)
+fault_ran (Ok status) input before after line token h printed = gate_refused input before after line token status h printed
+fault_ran (Err fault) input before after line token h printed = tt

@@ -1,0 +1,6 @@
+use Rattle.std.proofs.Common.{ap, Err}
+use Rattle.gate_prog.proofs.GateRuns.{fault_ran}
+use Rattle.gate_prog.proofs.job.run_gate.Goals as goal
+
+pub returns-in-Err-Line : goal.returns-in-Err-Line
+returns-in-Err-Line g c = fault_ran _ _ _ _ c.in-Err-Line.line c.in-Err-Line.token (c.in-Err-Line.ensures.fault c.in-Err-Line.line c.in-Err-Line.token (ap Err c.in-Err-Line.field-0-is)) c.refuse_opening.ensures

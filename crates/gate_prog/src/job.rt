@@ -1,0 +1,79 @@
+//! The jobs of the command line.
+ghost use Rattle.std.specs.Prelude.{◌≡◌, ◌++◌, ◌∷◌, [], IfOk};
+ghost use Rattle.gate_prog.specs.Jobs.{JobDone, FaultPrinted, GateRan, opening_line};
+
+use crate::fault::LaneFault;
+use crate::lane::run_lane;
+use crate::opening::read_opening;
+use crate::opening_fault::{OpeningFault, OpeningToken};
+use crate::output::{with_newline, write_text};
+use gate_bytes::Memory;
+use std::alloc::Global;
+use std::io::{Read, Write};
+
+/// What the program is asked to do.
+#[derive(Clone, Copy, Debug, PartialEq, Eq)]
+pub enum Job {
+    /// Opens a gate from the input, and answers its events.
+    Run,
+}
+
+/// Does a job over a reader and a writer, and gives the status that the program ends with. After a fault the lines that
+/// went out are those of [`run_lane`].
+pub fn run_job<R: Read, W: Write>(
+    alloc: Global,
+    job: &Job,
+    reader: &mut R,
+    writer: &mut W,
+) -> Result<u8, LaneFault>
+    ensures done { IfOk result (λ status. JobDone job.now (R.remaining reader.old) (W.contents writer.old) (W.contents writer.new) status) }
+{
+    match job {
+        Job::Run => run_gate(alloc, reader, writer),
+    }
+}
+
+/// An opening, and then a lane over the rest of the reader.
+fn run_gate<R: Read, W: Write>(
+    alloc: Global,
+    reader: &mut R,
+    writer: &mut W,
+) -> Result<u8, LaneFault>
+    ensures { IfOk result (λ status. GateRan (R.remaining reader.old) (W.contents writer.old) (W.contents writer.new) status) }
+{
+    match read_opening(alloc, reader) {
+        Ok(mut state) => match run_lane(alloc, &mut state, reader, writer) {
+            Ok(_) => Ok(0),
+            Err(fault) => Err(fault),
+        },
+        Err(OpeningFault::Line(line, token)) => refuse_opening(alloc, writer, line, token),
+        Err(OpeningFault::Read) => Err(LaneFault::Read),
+        Err(OpeningFault::Memory) => Err(LaneFault::Memory),
+    }
+}
+
+/// Writes the line of an opening's fault, and gives the status that follows it.
+fn refuse_opening<W: Write>(
+    alloc: Global,
+    writer: &mut W,
+    line: u64,
+    token: OpeningToken,
+) -> Result<u8, LaneFault>
+    ensures { IfOk result (λ status. FaultPrinted line token (W.contents writer.old) (W.contents writer.new) status) }
+{
+    let Ok(text) = refusal_line(alloc, line, token) else {
+        return Err(LaneFault::Memory);
+    };
+    match write_text(writer, text.as_slice()) {
+        Ok(()) => Ok(2),
+        Err(fault) => Err(fault),
+    }
+}
+
+/// `opening LINE TOKEN`, with its newline.
+fn refusal_line(alloc: Global, line: u64, token: OpeningToken) -> Result<Vec<u8>, Memory>
+    ensures { IfOk result (λ text. text.items ≡ opening_line line token ++ 10 ∷ []) }
+{
+    let text = format!(in alloc; "opening {line} {token}")?;
+    with_newline(alloc, text.as_str())
+}

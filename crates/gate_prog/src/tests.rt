@@ -1,0 +1,157 @@
+//! Openings and lanes over readers and writers in memory, and over some that break.
+use crate::{Job, LaneFault, OpeningFault, OpeningToken, numbers_are_decimal, read_opening, run_job};
+use std::alloc::Global;
+use std::io;
+use std::io::{BufReader, ErrorKind, Read, Write};
+use std::test::Fail;
+
+/// A reader that is interrupted once its bytes are out.
+#[derive(Drop)]
+struct Interrupted<'a>(&'a [u8]);
+
+impl Read for Interrupted<'_> {
+    fn read(&mut self, buf: &mut [u8]) -> io::Result<usize> {
+        if self.0.is_empty() {
+            return Err(io::Error::from(ErrorKind::Interrupted));
+        }
+        self.0.read(buf)
+    }
+}
+
+/// A writer that takes `left` bytes, one at a time, and then none.
+#[derive(Drop)]
+struct Drops {
+    left: usize,
+}
+
+impl Write for Drops {
+    fn write(&mut self, buf: &[u8]) -> io::Result<usize> {
+        if self.left == 0 || buf.is_empty() {
+            return Ok(0);
+        }
+        self.left -= 1;
+        Ok(1)
+    }
+
+    fn flush(&mut self) -> io::Result<()> {
+        Ok(())
+    }
+}
+
+/// What `gate run` writes for an input, and its status.
+fn run(alloc: Global, input: &[u8]) -> Result<(u8, Vec<u8>), LaneFault> {
+    let mut reader = input;
+    let mut written = Vec::new(alloc);
+    let status = run_job(alloc, &Job::Run, &mut reader, &mut written)?;
+    Ok((status, written))
+}
+
+/// One submission of a coin, and one listing.
+const FIRST_PATH: &[u8] = b"budget 1000000
+times 101 1000 600
+coin 1111111111111111111111111111111111111111111111111111111111111111 0 100000 1 plain 00142222222222222222222222222222222222222222
+verdict * ok
+bloom 1
+---
+peer 1 enter 192.0.2.1
+peer 1 tx 5000 0200000000010111111111111111111111111111111111111111111111111111111111111111110000000000fdffffff013286010000000000160014222222222222222222222222222222222222222202483030303030303030303030303030303030303030303030303030303030303030303030303030303030303030303030303030303030303030303030303030303030303030303030302102020202020202020202020202020202020202020202020202020202020202020200000000
+peer 1 mempool
+";
+
+#[test]
+fn the_first_path(rt: HostRuntime) -> Result<(), Fail> {
+    let (status, written) = run(rt.alloc(), FIRST_PATH)?;
+    assert_eq!(rt; status, 0);
+    assert_eq!(rt;
+        std::str::from_utf8(written.as_slice())?,
+        "entered none
+admitted 5ab0eb89aa597c4c79ebb7cd83e361997309eb27e186bc95d794fe37e6453fc2 fee 110 vsize 110 replaced 0
+listing 1 5ab0eb89aa597c4c79ebb7cd83e361997309eb27e186bc95d794fe37e6453fc2
+"
+    );
+    Ok(())
+}
+
+#[test]
+fn lines_of_all_kinds(rt: HostRuntime) -> Result<(), Fail> {
+    let input: &[u8] = b"# settings\n\ntimes 1 0 0\n---\n# \xff\n\n \n\xff\npeer 1 leave\r\n---\npeer 01 leave\npeer 1 tx 0 0\npeer 1 leave";
+    let mut reader = BufReader::new(rt.alloc(), input)?;
+    let mut written = Vec::new(rt.alloc());
+    assert_eq!(rt; run_job(rt.alloc(), &Job::Run, &mut reader, &mut written), Ok(0));
+    assert_eq!(rt;
+        std::str::from_utf8(written.as_slice())?,
+        "refused L1 bad-line
+refused L1 bad-line
+refused L1 bad-line
+refused L1 bad-line
+refused L1 bad-line
+denied P1 keep peer-unknown
+denied P1 keep peer-unknown
+"
+    );
+    Ok(())
+}
+
+#[test]
+fn faults_of_openings(rt: HostRuntime) -> Result<(), Fail> {
+    let coin = "coin 1111111111111111111111111111111111111111111111111111111111111111 0 1 0 plain -";
+    let wtxid = "abababababababababababababababababababababababababababababababab";
+    let cases = [
+        ("budget 5", "opening 0 no-times"),
+        ("times 1 4294967296 1", "opening 1 bad-line"),
+        ("times 2 4294967295 1", "opening 1 times-limit"),
+        ("times 1000000 0 0\ntimes 1 0 0", "opening 2 times-limit"),
+        ("bloom 1\n\nbloom 1", "opening 3 bad-line"),
+        ("times 1 0 0\n===", "opening 2 bad-line"),
+    ];
+    for (input, line) in cases {
+        let (status, written) = run(rt.alloc(), input.as_bytes())?;
+        assert_eq!(rt; status, 2);
+        assert_eq!(rt; std::str::from_utf8(written.as_slice())?.trim_end(), line);
+    }
+    let twice = format!(in rt.alloc(); "times 1 0 0\n{coin}\n# again\n{coin}\n")?;
+    let (status, written) = run(rt.alloc(), twice.as_bytes())?;
+    assert_eq!(rt; status, 2);
+    assert_eq!(rt; std::str::from_utf8(written.as_slice())?, "opening 4 coin-twice\n");
+    let rows = format!(in rt.alloc(); "verdict {wtxid} 0 ok\nverdict {wtxid} 1 ok\nverdict {wtxid} 0 hard\n")?;
+    let (_, written) = run(rt.alloc(), rows.as_bytes())?;
+    assert_eq!(rt; std::str::from_utf8(written.as_slice())?, "opening 3 bad-line\n");
+    Ok(())
+}
+
+#[test]
+fn the_rest_of_the_reader(rt: HostRuntime) -> Result<(), Fail> {
+    let mut reader: &[u8] = b"times 1 0 0\n---\npeer 1 leave";
+    assert!(rt; read_opening(rt.alloc(), &mut reader).is_ok());
+    assert_eq!(rt; std::str::from_utf8(reader)?, "peer 1 leave");
+    let mut broken = Interrupted(b"times 1 0 0\n--");
+    assert_eq!(rt; read_opening(rt.alloc(), &mut broken).err(), Some(OpeningFault::Read));
+    let mut empty: &[u8] = b"";
+    assert_eq!(rt;
+        read_opening(rt.alloc(), &mut empty).err(),
+        Some(OpeningFault::Line(0, OpeningToken::NoTimes))
+    );
+    Ok(())
+}
+
+#[test]
+fn a_reader_that_breaks(rt: HostRuntime) -> Result<(), Fail> {
+    let mut reader = Interrupted(b"times 1 0 0\n---\npeer 1 leave\npeer 1 leave");
+    let mut written = Vec::new(rt.alloc());
+    assert_eq!(rt; run_job(rt.alloc(), &Job::Run, &mut reader, &mut written), Err(LaneFault::Read));
+    assert_eq!(rt; std::str::from_utf8(written.as_slice())?, "denied P1 keep peer-unknown\n");
+    Ok(())
+}
+
+#[test]
+fn a_writer_of_single_bytes(rt: HostRuntime) -> Result<(), Fail> {
+    let mut reader: &[u8] = b"times 1 0 0\n---\npeer 1 leave\npeer 1 leave\npeer 1 leave\n";
+    let mut writer = Drops { left: 56 };
+    assert_eq!(rt; run_job(rt.alloc(), &Job::Run, &mut reader, &mut writer), Err(LaneFault::Write));
+    assert_eq!(rt; reader.len(), 0);
+    let mut reader: &[u8] = b"times 1 0 0\n---\npeer 1 leave\npeer 1 leave\npeer 1 leave\n";
+    let mut writer = Drops { left: 84 };
+    assert_eq!(rt; run_job(rt.alloc(), &Job::Run, &mut reader, &mut writer), Ok(0));
+    numbers_are_decimal();
+    Ok(())
+}

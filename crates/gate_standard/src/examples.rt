@@ -1,0 +1,31 @@
+//! The definitions at values that are known from outside.
+ghost use Rattle.std.specs.Prelude.{◌≡◌, ◌∷◌, [], None, Some};
+ghost use Rattle.gate_standard.specs.declared.denial.Denial.TheVariants as denials;
+ghost use Rattle.gate_standard.specs.Amounts.{required_fee, feerate};
+ghost use Rattle.gate_standard.specs.Order.{first_failing};
+ghost use Rattle.gate_standard.specs.Outputs.{dust_threshold_of};
+ghost use Rattle.gate_standard.specs.Rules.{transaction_rules, standard_rules};
+ghost use Rattle.gate_standard.specs.Examples.{spending, from_nothing, pays, makes, to_key_hash, to_script_hash, to_witness_key, to_witness_script};
+
+/// What fees, rates and dust come to.
+#[tactic(auto, unfolding(crate::specs::Amounts::required_fee, crate::specs::Amounts::feerate, crate::specs::Outputs::dust_threshold_of))]
+pub(crate) fn amounts()
+    ensures fee { required_fee 3000 98 ≡ 294 }
+    ensures least { required_fee 1 1 ≡ 1 }
+    ensures free { required_fee 0 5 ≡ 0 }
+    ensures rate { feerate 1000 110 ≡ 9090 }
+    ensures key_hash { dust_threshold_of (pays 0 to_key_hash) ≡ 546 }
+    ensures script_hash { dust_threshold_of (pays 0 to_script_hash) ≡ 540 }
+    ensures witness_key { dust_threshold_of (pays 0 to_witness_key) ≡ 294 }
+    ensures witness_script { dust_threshold_of (pays 0 to_witness_script) ≡ 330 }
+{}
+
+/// What whole transactions are decided to be.
+#[tactic(auto, unfolding(crate::specs::Rules::transaction_rules, gate_tx::specs::Sizes::stripped_size_of))]
+pub(crate) fn decisions()
+    ensures spent_twice { first_failing (transaction_rules (makes (spending 17 ∷ spending 17 ∷ []) (pays 1000 to_witness_key ∷ []))) ≡ Some denials.InputsDuplicate }
+    ensures coinbase { first_failing (transaction_rules (makes (from_nothing (81 ∷ 81 ∷ []) ∷ []) (pays 1000 to_witness_key ∷ []))) ≡ Some denials.Coinbase }
+    ensures sound { first_failing (transaction_rules (makes (spending 17 ∷ []) (pays 294 to_witness_key ∷ []))) ≡ None }
+    ensures dust { first_failing (standard_rules (makes (spending 17 ∷ []) (pays 293 to_witness_key ∷ pays 1000 (81 ∷ []) ∷ []))) ≡ Some denials.Dust }
+    ensures standard { first_failing (standard_rules (makes (spending 17 ∷ []) (pays 294 to_witness_key ∷ []))) ≡ None }
+{}
