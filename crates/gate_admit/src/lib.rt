@@ -34,4 +34,6 @@ pub use submission::submit;
 pub use verdicts::{Verdict, VerdictRow, Verdicts};
 
 #[cfg(test)]
+mod fixture;
+#[cfg(test)]
 mod tests;

@@ -1,156 +1,12 @@
-//! The worked rows of the first path: a chain of 101 blocks with four coins of 100,000 satoshi.
-use super::*;
-use gate_bytes::{Copied, Kept, Memory};
-use gate_standard::Denial;
-use gate_tx::{Coin, OutPoint, Txid};
-use std::alloc::Global;
-use std::test::Fail;
-
-const NOW: u64 = 5000;
-
-const BUDGET: u64 = 1_000_000;
-
-/// Version 0, and a key hash of twenty bytes 22.
-const SCRIPT: [u8; 22] = [
-    0x00, 0x14, 0x22, 0x22, 0x22, 0x22, 0x22, 0x22, 0x22, 0x22, 0x22, 0x22, 0x22, 0x22, 0x22, 0x22,
-    0x22, 0x22, 0x22, 0x22, 0x22, 0x22,
-];
-
-/// The printed id of the transaction that spends the first coin to 99,890 satoshi.
-const PRINTED: &str = "5ab0eb89aa597c4c79ebb7cd83e361997309eb27e186bc95d794fe37e6453fc2";
-
-fn opening_coin(alloc: Global, txid: Txid, index: u32, value: i64) -> Result<OpeningCoin, Memory> {
-    let script = Kept::from_vec(Vec::from_slice(alloc, &SCRIPT)?);
-    Ok(OpeningCoin {
-        outpoint: OutPoint { txid, index },
-        coin: Coin {
-            value,
-            script,
-            height: 1,
-            coinbase: false,
-        },
-    })
-}
-
-/// The opening of the rows, with one coin more.
-fn open_with(alloc: Global, other: OpeningCoin) -> Result<Chain, Fail> {
-    let mut coins = Vec::new(alloc);
-    for key in [0x11, 0x12, 0x13, 0x14] {
-        coins.push(opening_coin(alloc, Txid::new([key; 32]), 0, 100_000)?)?;
-    }
-    coins.push(other)?;
-    let mut times = Vec::new(alloc);
-    for height in 0..101u32 {
-        times.push(1000 + 600 * height)?;
-    }
-    Ok(Chain::open(alloc, coins, times)?)
-}
-
-fn open(alloc: Global) -> Result<Chain, Fail> {
-    open_with(
-        alloc,
-        opening_coin(alloc, Txid::new([0x21; 32]), 0, 2_100_000_000_000_000)?,
-    )
-}
-
-/// A transaction of version 2 that spends output 0 of some ids, with a signature of one byte each, to one output.
-#[derive(Clone, Copy)]
-struct Spend<'a> {
-    keys: &'a [u8],
-    sequence: u32,
-    value: i64,
-    signature: u8,
-    locktime: u32,
-}
-
-/// The one of the first row.
-const FIRST: Spend<'static> = Spend {
-    keys: &[0x11],
-    sequence: 0xffff_fffd,
-    value: 99_890,
-    signature: 0x30,
-    locktime: 0,
+//! The worked rows, as far as the rules go that are built.
+use crate::fixture::{
+    FIRST, Gate, NOW, PRINTED, SCRIPT, Spend, locked_coin, open, open_with, opening_coin, paid,
 };
-
-impl Spend<'_> {
-    fn bytes(&self, alloc: Global) -> Result<Vec<u8>, Memory> {
-        let mut bytes = Vec::from_slice(alloc, &[2, 0, 0, 0, 0, 1])?;
-        bytes.push(self.keys.len().min(252) as u8)?;
-        for key in self.keys {
-            bytes.extend_from_slice(&[*key; 32])?;
-            bytes.extend_from_slice(&[0; 5])?;
-            bytes.extend_from_slice(&self.sequence.to_le_bytes())?;
-        }
-        bytes.push(1)?;
-        bytes.extend_from_slice(&self.value.to_le_bytes())?;
-        bytes.push(22)?;
-        bytes.extend_from_slice(&SCRIPT)?;
-        for _key in self.keys {
-            bytes.extend_from_slice(&[2, 72])?;
-            bytes.extend_from_slice(&[self.signature; 72])?;
-            bytes.push(33)?;
-            bytes.extend_from_slice(&[2; 33])?;
-        }
-        bytes.extend_from_slice(&self.locktime.to_le_bytes())?;
-        Ok(bytes)
-    }
-}
-
-#[derive(Drop)]
-struct Gate {
-    chain: Chain,
-    pool: Pool,
-    floor: Floor,
-    verdicts: Verdicts,
-}
-
-impl Gate {
-    fn new(alloc: Global, chain: Chain) -> Result<Gate, Memory> {
-        Ok(Gate {
-            chain,
-            pool: Pool::new(alloc)?,
-            floor: Floor::new(0),
-            verdicts: Verdicts {
-                rows: Kept::from_vec(Vec::new(alloc)),
-                other: Some(Verdict::Good),
-            },
-        })
-    }
-
-    fn judge(&self, alloc: Global, bytes: &[u8]) -> Result<Result<Grant, Denial>, Memory> {
-        let prepared = Prepared::new(alloc, bytes)?;
-        judge(
-            alloc,
-            &self.chain,
-            &self.pool,
-            &self.floor,
-            &prepared,
-            &self.verdicts,
-        )
-    }
-
-    fn submit(&mut self, alloc: Global, bytes: &[u8]) -> Result<Result<Grant, Denial>, Memory> {
-        let prepared = Prepared::new(alloc, bytes)?;
-        submit(
-            alloc,
-            &self.chain,
-            &mut self.pool,
-            &mut self.floor,
-            &prepared,
-            &self.verdicts,
-            NOW,
-            BUDGET,
-        )
-    }
-}
-
-fn paid(fee: u64) -> Result<Grant, Denial> {
-    Ok(Grant {
-        fee,
-        vsize: 110,
-        replaced: 0,
-    })
-}
+use crate::*;
+use gate_bytes::{Copied, Kept};
+use gate_standard::Denial;
+use gate_tx::{OutPoint, Txid};
+use std::test::Fail;
 
 #[test]
 fn one_coin_one_submission_one_listing(rt: HostRuntime) -> Result<(), Fail> {
@@ -278,6 +134,125 @@ fn relative_locks_and_maturity(rt: HostRuntime) -> Result<(), Fail> {
             decision,
             "at {height}"
         );
+    }
+    Ok(())
+}
+
+#[test]
+fn costs_of_signature_operations(rt: HostRuntime) -> Result<(), Fail> {
+    let alloc = rt.alloc();
+    let gate = Gate::new(alloc, open(alloc)?)?;
+    // A multisig of one key, which counts 20.
+    let mut output = Vec::from_slice(alloc, &[0x51, 33])?;
+    output.extend_from_slice(&[2; 33])?;
+    output.extend_from_slice(&[0x51, 0xae])?;
+    let by_cost = Ok(Grant {
+        fee: 405,
+        vsize: 405,
+        replaced: 0,
+    });
+    for (value, decision) in [(99_595, by_cost), (99_596, Err(Denial::MinRelayFee))] {
+        let spend = Spend {
+            value,
+            output: &output,
+            ..FIRST
+        };
+        assert_eq!(rt;
+            gate.judge(alloc, &spend.bytes(alloc)?)?,
+            decision,
+            "at {value}"
+        );
+    }
+    Ok(())
+}
+
+#[test]
+fn spends_that_are_not_standard(rt: HostRuntime) -> Result<(), Fail> {
+    let alloc = rt.alloc();
+    let mut key_hash = Vec::from_slice(alloc, &[0x76, 0xa9, 0x14])?;
+    key_hash.extend_from_slice(&[0x22; 20])?;
+    key_hash.extend_from_slice(&[0x88, 0xac])?;
+    for (script, denial) in [
+        ([0x51].as_slice(), Denial::NonstandardInputs),
+        (key_hash.as_slice(), Denial::WitnessNonstandard),
+    ] {
+        let opening = locked_coin(alloc, Txid::new([0x31; 32]), 0, 100_000, script)?;
+        let gate = Gate::new(alloc, open_with(alloc, opening)?)?;
+        let spend = Spend {
+            keys: &[0x31],
+            ..FIRST
+        };
+        assert_eq!(rt; gate.judge(alloc, &spend.bytes(alloc)?)?, Err(denial));
+    }
+    Ok(())
+}
+
+#[test]
+fn reports_made_beforehand(rt: HostRuntime) -> Result<(), Fail> {
+    let alloc = rt.alloc();
+    let gate = Gate::new(alloc, open(alloc)?)?;
+    let bytes = FIRST.bytes(alloc)?;
+    for script in [SCRIPT.as_slice(), [0x51].as_slice()] {
+        let prepared = Prepared::new(alloc, &bytes)?;
+        let inputs = prepared.transaction().ok_or("a transaction")?.inputs();
+        assert_eq!(rt; inputs.len(), 1);
+        let coin = locked_coin(alloc, Txid::new([0x11; 32]), 0, 100_000, script)?.coin;
+        let made = report(
+            alloc,
+            Piece {
+                wtxid: prepared.wtxid().ok_or("an id")?,
+                index: 0,
+                input: inputs[0].copy(alloc)?,
+                coin,
+            },
+        )?;
+        let mut reports = Vec::new(alloc);
+        reports.push(made)?;
+        let prepared = prepared.with_reports(Kept::from_vec(reports));
+        let decision = judge(
+            alloc,
+            &gate.chain,
+            &gate.pool,
+            &gate.floor,
+            &prepared,
+            &gate.verdicts,
+        )?;
+        assert_eq!(rt; decision, paid(110));
+    }
+    Ok(())
+}
+
+#[test]
+fn verdicts_of_rows(rt: HostRuntime) -> Result<(), Fail> {
+    let alloc = rt.alloc();
+    let mut gate = Gate::new(alloc, open(alloc)?)?;
+    let bytes = FIRST.bytes(alloc)?;
+    let wtxid = Prepared::new(alloc, &bytes)?.wtxid().ok_or("an id")?;
+    let row = |input, verdict| VerdictRow {
+        wtxid,
+        input,
+        verdict,
+    };
+    for (rows, decision) in [
+        (
+            [row(1, Verdict::Good), row(2, Verdict::Good)],
+            Err(Denial::VerdictMissing),
+        ),
+        (
+            [row(0, Verdict::Soft), row(0, Verdict::Good)],
+            Err(Denial::SoftVerdict),
+        ),
+        (
+            [row(0, Verdict::Hard), row(0, Verdict::Good)],
+            Err(Denial::HardVerdict),
+        ),
+        ([row(0, Verdict::Good), row(0, Verdict::Hard)], paid(110)),
+    ] {
+        gate.verdicts = Verdicts {
+            rows: Kept::from_vec(Vec::from_slice(alloc, &rows)?),
+            other: None,
+        };
+        assert_eq!(rt; gate.judge(alloc, &bytes)?, decision);
     }
     Ok(())
 }
