@@ -1,32 +1,37 @@
 //! The program `gate`: it hands its words, standard input and standard output to `gate_prog`.
 #![tactic(auto)]
 
-use gate_prog::{read_args, run_job};
+use gate_prog::{ArgsFault, read_args, run_job};
 use std::env;
 use std::io;
 use std::io::BufReader;
 use std::process::ExitCode;
 
 fn main(rt: HostRuntime) -> ExitCode {
-    match run(&rt) {
+    match status(&rt) {
         Ok(status) => ExitCode::from(status),
         Err(_) => ExitCode::FAILURE,
     }
 }
 
-fn run(rt: &HostRuntime) -> io::Result<u8> {
+fn status(rt: &HostRuntime) -> io::Result<u8> {
     let alloc = rt.alloc();
     let args: Vec<String> = env::args(rt)?.collect(alloc)?;
     let mut words = Vec::new(alloc);
     for word in args.iter().skip(1) {
         words.push(word.as_str())?;
     }
-    let job = match read_args(words.as_slice()) {
+    let job = match read_args(alloc, words.as_slice()) {
         Ok(job) => job,
-        Err(fault) => {
-            rt.eprintln(fault)?;
+        Err(ArgsFault::Help(text)) => {
+            rt.print(text)?;
+            return Ok(0);
+        }
+        Err(ArgsFault::Usage(text)) => {
+            rt.eprint(text)?;
             return Ok(2);
         }
+        Err(ArgsFault::Memory) => return Ok(1),
     };
     let mut reader = BufReader::new(alloc, rt.reader())?;
     let mut writer = io::writer(rt);

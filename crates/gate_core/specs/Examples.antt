@@ -1,10 +1,9 @@
 -- The step on small states, by computation.
-use Rattle.std.specs.Prelude.{◌≡◌, ℕ, Bool, true, false, List, [], ◌∷◌, None}
+use Rattle.std.specs.Prelude.{◌≡◌, Bool, true, false, List, [], ◌∷◌, None}
 use Rattle.gate_standard.specs.declared.Denial.TheVariants.{Decode}
 use Rattle.gate_core.specs.declared.event.Event.TheVariants.{Enter, Leave, Tx as Submit, Mempool}
 use Rattle.gate_core.specs.declared.refusal.Then.TheVariants.{Keep, Close}
 use Rattle.gate_core.specs.declared.refusal.Refusal.TheVariants.{PeerUnknown, PeerClosed, PeerKnown, MempoolNoBloom, Admission}
-use Rattle.gate_core.specs.declared.reply.Reply.{Reply}
 use Rattle.gate_core.specs.declared.reply.Reply.TheVariants.{Entered, Left, Listing, Denied}
 use Rattle.gate_core.specs.Sessions.{Session, session}
 use Rattle.gate_core.specs.World.{World}

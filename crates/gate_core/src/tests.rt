@@ -102,7 +102,12 @@ fn submission_and_listing(rt: HostRuntime) -> Result<(), Fail> {
     let alloc = rt.alloc();
     let bytes = spend(alloc, 99_890)?;
     let submit = Asked::Submit(bytes.as_slice());
-    let asked = [(1, Asked::Enter), (1, submit), (1, submit), (1, Asked::Mempool)];
+    let asked = [
+        (1, Asked::Enter),
+        (1, submit),
+        (1, submit),
+        (1, Asked::Mempool),
+    ];
     let text = lines(alloc, true, &asked)?;
     assert_eq!(rt;
         text.as_str(),

@@ -4,6 +4,7 @@
 //! input is met exactly by BIP 68.
 #![tactic(auto)]
 
+mod examples;
 mod finality;
 mod relative;
 

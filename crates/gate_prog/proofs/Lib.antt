@@ -12,3 +12,4 @@ pub mod Saying
 pub mod Steps
 pub mod Heard
 pub mod GateRuns
+pub mod LedLanes

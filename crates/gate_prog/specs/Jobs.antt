@@ -8,6 +8,8 @@ use Rattle.gate_prog.specs.declared.job.Job.TheVariants as jobs
 use Rattle.gate_prog.specs.declared.opening_fault.OpeningFault.{OpeningFault}
 use Rattle.gate_prog.specs.declared.opening_fault.OpeningFault.TheVariants as faults
 use Rattle.gate_prog.specs.declared.opening_fault.OpeningToken.{OpeningToken}
+use Rattle.gate_prog.specs.Checks.{check_lines, check_status}
+use Rattle.gate_prog.specs.EventLines.{prepared_of}
 use Rattle.gate_prog.specs.Lanes.{Run}
 use Rattle.gate_prog.specs.Lines.{lines_of, unlines}
 use Rattle.gate_prog.specs.OpeningFaults.{token_text}
@@ -37,4 +39,5 @@ abbrev pub GateRan : Option (List ℕ) → Option (List ℕ) → Option (List �
 GateRan input before after status = IfSome input (λ text. TextRan text (spelled text) before after status)
 
 abbrev pub JobDone : Job → Option (List ℕ) → Option (List ℕ) → Option (List ℕ) → ℕ → Type 0
+JobDone (jobs.Check hex) input before after status = Appends before after (unlines (check_lines (prepared_of hex))) × (status ≡ check_status (prepared_of hex))
 JobDone jobs.Run input before after status = GateRan input before after status

@@ -12,4 +12,6 @@ pub mod OpeningFaults
 pub mod BlockTimes
 pub mod Said
 pub mod Openings
+pub mod Checks
 pub mod Jobs
+pub mod LaneRuns

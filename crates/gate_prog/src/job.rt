@@ -1,19 +1,22 @@
 //! The jobs of the command line.
-ghost use Rattle.std.specs.Prelude.{◌≡◌, ◌++◌, ◌∷◌, [], IfOk};
+ghost use Rattle.std.specs.Prelude.{◌≡◌, ◌++◌, ◌∷◌, [], None, IfOk};
 ghost use Rattle.gate_prog.specs.Jobs.{JobDone, FaultPrinted, GateRan, opening_line};
 
+use crate::check::check_hex;
 use crate::fault::LaneFault;
 use crate::lane::run_lane;
 use crate::opening::read_opening;
 use crate::opening_fault::{OpeningFault, OpeningToken};
 use crate::output::{with_newline, write_text};
-use gate_bytes::Memory;
+use gate_bytes::{Memory, Text};
 use std::alloc::Global;
 use std::io::{Read, Write};
 
 /// What the program is asked to do.
-#[derive(Clone, Copy, Debug, PartialEq, Eq)]
+#[derive(Debug, Drop, PartialEq, Eq)]
 pub enum Job {
+    /// Checks one transaction in hex by itself.
+    Check(Text),
     /// Opens a gate from the input, and answers its events.
     Run,
 }
@@ -29,7 +32,21 @@ pub fn run_job<R: Read, W: Write>(
     ensures done { IfOk result (λ status. JobDone job.now (R.remaining reader.old) (W.contents writer.old) (W.contents writer.new) status) }
 {
     match job {
+        Job::Check(hex) => run_check(alloc, hex.as_str(), writer),
         Job::Run => run_gate(alloc, reader, writer),
+    }
+}
+
+/// The lines of a check in one write, so that want of memory prints nothing.
+fn run_check<W: Write>(alloc: Global, hex: &str, writer: &mut W) -> Result<u8, LaneFault>
+    ensures { IfOk result (λ status. JobDone (Job.Check hex.now) None (W.contents writer.old) (W.contents writer.new) status) }
+{
+    let Ok(checked) = check_hex(alloc, hex) else {
+        return Err(LaneFault::Memory);
+    };
+    match write_text(writer, checked.text.as_bytes()) {
+        Ok(()) => Ok(checked.status),
+        Err(fault) => Err(fault),
     }
 }
 

@@ -4,11 +4,13 @@
 #![tactic(auto)]
 
 mod args;
+mod check;
 mod draft;
 mod event_line;
 mod fault;
 mod job;
 mod lane;
+mod laws;
 mod line;
 mod number;
 mod opening;
@@ -23,6 +25,7 @@ pub use args::{ArgsFault, read_args};
 pub use fault::LaneFault;
 pub use job::{Job, run_job};
 pub use lane::run_lane;
+pub use laws::lanes_are_runs;
 pub use line::{MAX_LINE, MAX_LINES};
 pub use opening::read_opening;
 pub use opening_fault::{OpeningFault, OpeningToken};

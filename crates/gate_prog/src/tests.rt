@@ -1,5 +1,7 @@
 //! Openings and lanes over readers and writers in memory, and over some that break.
-use crate::{Job, LaneFault, OpeningFault, OpeningToken, numbers_are_decimal, read_opening, run_job};
+use crate::{
+    ArgsFault, Job, LaneFault, OpeningFault, OpeningToken, numbers_are_decimal, read_args, read_opening, run_job,
+};
 use std::alloc::Global;
 use std::io;
 use std::io::{BufReader, ErrorKind, Read, Write};
@@ -153,5 +155,39 @@ fn a_writer_of_single_bytes(rt: HostRuntime) -> Result<(), Fail> {
     let mut writer = Drops { left: 84 };
     assert_eq!(rt; run_job(rt.alloc(), &Job::Run, &mut reader, &mut writer), Ok(0));
     numbers_are_decimal();
+    Ok(())
+}
+
+/// The coinbase of the first block.
+const GENESIS: &str = "01000000010000000000000000000000000000000000000000000000000000000000000000ffffffff4d04ffff001d0104455468652054696d65732030332f4a616e2f32303039204368616e63656c6c6f72206f6e206272696e6b206f66207365636f6e64206261696c6f757420666f722062616e6b73ffffffff0100f2052a01000000434104678afdb0fe5548271967f1a67130b7105cd6a828e03909a67962e0ea1f61deb649f6bc3f4cef38c4f35504e51ec112de5c384df7ba0b8d578a4c702b6bf11d5fac00000000";
+
+#[test]
+fn checks_of_transactions(rt: HostRuntime) -> Result<(), Fail> {
+    let mut reader: &[u8] = b"";
+    let mut written = Vec::new(rt.alloc());
+    let job = read_args(rt.alloc(), &["check", GENESIS])?;
+    assert_eq!(rt; run_job(rt.alloc(), &job, &mut reader, &mut written), Ok(1));
+    assert_eq!(rt;
+        std::str::from_utf8(written.as_slice())?,
+        "4a5e1e4baab89f3a32518a88c31bc87f618f76673e2cc77ab2127b7afdeda33b 4a5e1e4baab89f3a32518a88c31bc87f618f76673e2cc77ab2127b7afdeda33b 816
+denied A11 coinbase
+"
+    );
+    let mut written = Vec::new(rt.alloc());
+    let job = read_args(rt.alloc(), &["check", "zz"])?;
+    assert_eq!(rt; run_job(rt.alloc(), &job, &mut reader, &mut written), Ok(1));
+    assert_eq!(rt; std::str::from_utf8(written.as_slice())?, "denied A1 tx-decode\n");
+    Ok(())
+}
+
+#[test]
+fn words_of_the_command_line(rt: HostRuntime) -> Result<(), Fail> {
+    assert!(rt; read_args(rt.alloc(), &["run"])? == Job::Run);
+    assert!(rt; matches!(read_args(rt.alloc(), &["--help"]), Err(ArgsFault::Help(_))));
+    assert!(rt; matches!(read_args(rt.alloc(), &["help", "run"]), Err(ArgsFault::Help(_))));
+    assert!(rt; matches!(read_args(rt.alloc(), &["run", "more"]), Err(ArgsFault::Usage(_))));
+    assert!(rt; matches!(read_args(rt.alloc(), &["check"]), Err(ArgsFault::Usage(_))));
+    assert!(rt; matches!(read_args(rt.alloc(), &["nothing"]), Err(ArgsFault::Usage(_))));
+    assert!(rt; matches!(read_args(rt.alloc(), &[]), Err(ArgsFault::Usage(_))));
     Ok(())
 }

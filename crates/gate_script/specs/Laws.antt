@@ -1,7 +1,8 @@
 -- What scripts spell: each instruction has its bytes, and instructions spelled one after another are read as they are.
-use Rattle.std.specs.Prelude.{◌≡◌, ◌⊎◌, ℕ, ◌^◌, ◌<◌, ◌≤◌, false, List, [], ◌∷◌, ◌++◌, length}
+use Rattle.std.specs.Prelude.{◌≡◌, ◌⊎◌, ⊤, ℕ, ◌^◌, ◌<◌, ◌≤◌, false, List, [], ◌∷◌, ◌++◌, length}
 use Rattle.std.specs.List.{flat_map, AllByRecursion}
 use Rattle.byteorder.specs.Endian.{little_bytes}
+use Rattle.gate_bytes.specs.Reading.{IsBytes}
 use Rattle.gate_script.specs.Instructions.{Instruction, Push, Truncated, Plain, is_push, prefix_size, instructions}
 
 -- the opcode, the bytes that say how many are pushed, and these
@@ -24,3 +25,11 @@ IsWhole (Truncated opcode) = ⊥
 
 abbrev pub SpellingsAreRead : Type 0
 SpellingsAreRead = (ops : List Instruction) → AllByRecursion IsWhole ops → instructions (flat_map spelled ops) ≡ ops
+
+-- it isn't cut by the end of the script
+abbrev pub IsEntire : Instruction → Type 0
+IsEntire (Truncated opcode) = ⊥
+IsEntire _ = ⊤
+
+abbrev pub ScriptsAreSpelled : Type 0
+ScriptsAreSpelled = (script : List ℕ) → IsBytes script → AllByRecursion IsEntire (instructions script) → flat_map spelled (instructions script) ≡ script

@@ -1,0 +1,40 @@
+-- What the check of a transaction by itself prints, and the status that follows.
+use Rattle.std.specs.Prelude.{ℕ, ◌++◌, List, [], ◌∷◌, codes, Option, Some, None}
+use Rattle.std.specs.Fmt.{decimal}
+use Rattle.gate_tx.specs.Tx.{Tx}
+use Rattle.gate_tx.specs.Ids.{txid_of, wtxid_of, id_text}
+use Rattle.gate_tx.specs.Sizes.{weight_of}
+use Rattle.gate_standard.specs.Denials.{rule_of, token_of}
+use Rattle.gate_standard.specs.Order.{Rule, first_failing}
+use Rattle.gate_standard.specs.Rules.{transaction_rules, standard_rules}
+use Rattle.gate_standard.specs.declared.Denial.{Denial}
+use Rattle.gate_standard.specs.declared.Denial.TheVariants.{Decode}
+
+-- the rules on a transaction by itself
+abbrev pub check_rules : Tx → List Rule
+check_rules tx = transaction_rules tx ++ standard_rules tx
+
+-- `TXID WTXID WEIGHT`
+abbrev pub id_line : Tx → List ℕ
+id_line tx = id_text (txid_of tx) ++ (codes " " ++ (id_text (wtxid_of tx) ++ (codes " " ++ decimal (weight_of tx))))
+
+-- `denied RULE TOKEN`
+abbrev pub denied_line : Denial → List ℕ
+denied_line denial = codes "denied A" ++ (decimal (rule_of denial) ++ (codes " " ++ token_of denial))
+
+abbrev pub verdict_line : Option Denial → List ℕ
+verdict_line None = codes "standard"
+verdict_line (Some denial) = denied_line denial
+
+abbrev pub verdict_status : Option Denial → ℕ
+verdict_status None = 0
+verdict_status (Some denial) = 1
+
+-- of what spells no transaction, and of a transaction
+abbrev pub check_lines : Option Tx → List (List ℕ)
+check_lines None = denied_line Decode ∷ []
+check_lines (Some tx) = id_line tx ∷ verdict_line (first_failing (check_rules tx)) ∷ []
+
+abbrev pub check_status : Option Tx → ℕ
+check_status None = 1
+check_status (Some tx) = verdict_status (first_failing (check_rules tx))

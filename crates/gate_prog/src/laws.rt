@@ -1,0 +1,8 @@
+//! Laws above the definitions.
+ghost use Rattle.gate_prog.specs.LaneRuns.{LanesAreRuns};
+
+/// From a good state, and where no two transactions share a txid, the reply lines of a lane in which no step ran out of
+/// memory are those of the run over the events that its lines spell, with `refused` lines in their places.
+pub fn lanes_are_runs()
+    ensures { LanesAreRuns }
+{}
