@@ -6,6 +6,7 @@ use crate::*;
 use gate_bytes::{Copied, Kept};
 use gate_standard::Denial;
 use gate_tx::{OutPoint, Txid};
+use std::alloc::Global;
 use std::test::Fail;
 
 #[test]
@@ -222,38 +223,41 @@ fn reports_made_beforehand(rt: HostRuntime) -> Result<(), Fail> {
     Ok(())
 }
 
+/// The decision on the first transaction by these verdicts on its inputs.
+fn decided_by(
+    alloc: Global,
+    gate: &mut Gate,
+    verdicts: &[(u32, Verdict)],
+) -> Result<Result<Grant, Denial>, Fail> {
+    let bytes = FIRST.bytes(alloc)?;
+    let wtxid = Prepared::new(alloc, &bytes)?.wtxid().ok_or("an id")?;
+    let mut rows = Vec::new(alloc);
+    for (input, verdict) in verdicts {
+        rows.push(VerdictRow {
+            wtxid,
+            input: *input,
+            verdict: *verdict,
+        })?;
+    }
+    gate.verdicts = Verdicts {
+        rows: Kept::from_vec(rows),
+        other: None,
+    };
+    Ok(gate.judge(alloc, &bytes)?)
+}
+
 #[test]
 fn verdicts_of_rows(rt: HostRuntime) -> Result<(), Fail> {
     let alloc = rt.alloc();
     let mut gate = Gate::new(alloc, open(alloc)?)?;
-    let bytes = FIRST.bytes(alloc)?;
-    let wtxid = Prepared::new(alloc, &bytes)?.wtxid().ok_or("an id")?;
-    let row = |input, verdict| VerdictRow {
-        wtxid,
-        input,
-        verdict,
-    };
-    for (rows, decision) in [
-        (
-            [row(1, Verdict::Good), row(2, Verdict::Good)],
-            Err(Denial::VerdictMissing),
-        ),
-        (
-            [row(0, Verdict::Soft), row(0, Verdict::Good)],
-            Err(Denial::SoftVerdict),
-        ),
-        (
-            [row(0, Verdict::Hard), row(0, Verdict::Good)],
-            Err(Denial::HardVerdict),
-        ),
-        ([row(0, Verdict::Good), row(0, Verdict::Hard)], paid(110)),
-    ] {
-        gate.verdicts = Verdicts {
-            rows: Kept::from_vec(Vec::from_slice(alloc, &rows)?),
-            other: None,
-        };
-        assert_eq!(rt; gate.judge(alloc, &bytes)?, decision);
-    }
+    let missing = decided_by(alloc, &mut gate, &[(1, Verdict::Good)])?;
+    assert_eq!(rt; missing, Err(Denial::VerdictMissing));
+    let soft = decided_by(alloc, &mut gate, &[(0, Verdict::Soft)])?;
+    assert_eq!(rt; soft, Err(Denial::SoftVerdict));
+    let hard = decided_by(alloc, &mut gate, &[(0, Verdict::Hard)])?;
+    assert_eq!(rt; hard, Err(Denial::HardVerdict));
+    let first = decided_by(alloc, &mut gate, &[(0, Verdict::Good), (0, Verdict::Hard)])?;
+    assert_eq!(rt; first, paid(110));
     Ok(())
 }
 
