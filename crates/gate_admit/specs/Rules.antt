@@ -6,7 +6,6 @@ use Rattle.gate_tx.specs.declared.TxIn.{TxIn}
 use Rattle.gate_tx.specs.declared.TxOut.{TxOut}
 use Rattle.gate_tx.specs.Tx.{Tx}
 use Rattle.gate_tx.specs.Ids.{txid_of, wtxid_of}
-use Rattle.gate_tx.specs.Sizes.{weight_of}
 use Rattle.gate_standard.specs.declared.Denial.{Denial}
 use Rattle.gate_standard.specs.declared.Denial.TheVariants.{Decode, NonFinal, AlreadyInMempool, SameNonWitnessData, MempoolConflict, AlreadyKnown, MissingOrSpent, NonBip68Final, PrematureSpend, InputValues, InBelowOut, FeeOutOfRange, MinRelayFee}
 use Rattle.gate_standard.specs.Amounts.{max_money, amount, required_fee}
@@ -21,6 +20,7 @@ use Rattle.gate_admit.specs.declared.grant.Grant.{Grant}
 use Rattle.gate_admit.specs.declared.verdicts.Verdicts.{Verdicts}
 use Rattle.gate_admit.specs.Pool.{Admitted, spends, entry_by_txid, entry_by_wtxid}
 use Rattle.gate_admit.specs.Coins.{misses_coin, coins_of}
+use Rattle.gate_admit.specs.Reports.{reported, sigop_cost, vsize_of, report_rules, verdict_rules}
 
 -- ---- A2 to A19: the transaction alone
 
@@ -98,10 +98,6 @@ coins_value coins = sum_by (λ (c : Coin). amount c.value) coins
 abbrev pub outputs_value : Tx → ℕ
 outputs_value tx = sum_by (λ (o : TxOut). amount o.value) tx.outputs
 
--- the size in virtual bytes: a quarter of the weight, rounded up
-abbrev pub vsize_of : Tx → ℕ
-vsize_of tx = (weight_of tx + 3) / 4
-
 -- what is asked of every transaction, in satoshi per 1,000 virtual bytes
 abbrev pub min_relay_rate : ℕ
 min_relay_rate = 1000
@@ -122,6 +118,7 @@ fee_rules floor fee vsize = (MinRelayFee, nat_lt fee (required_fee min_relay_rat
 unfoldable pub admission_rules : History → List Admitted → ℕ → Tx → Verdicts → List Rule
 admission_rules chain entries floor tx verdicts =
     let coins = coins_of chain entries tx.inputs in
+    let answers = reported tx.inputs coins in
     alone_rules tx
     ++ (final_rules chain tx
     ++ (pool_rules entries tx
@@ -129,12 +126,19 @@ admission_rules chain entries floor tx verdicts =
     ++ (lock_rules chain coins tx
     ++ (value_rules (tip_of chain + 1) 0 coins
     ++ (balance_rules (coins_value coins) (outputs_value tx)
-    ++ fee_rules floor (coins_value coins - outputs_value tx) (vsize_of tx)))))))
+    ++ (report_rules answers tx
+    ++ (fee_rules floor (coins_value coins - outputs_value tx) (vsize_of (sigop_cost answers tx.outputs) tx)
+    ++ verdict_rules verdicts (wtxid_of tx) 0 tx.inputs))))))))
 
 -- what a grant says of a transaction
 unfoldable pub grant_of : History → List Admitted → Tx → Grant
 grant_of chain entries tx =
-    record { fee = coins_value (coins_of chain entries tx.inputs) - outputs_value tx; vsize = vsize_of tx; replaced = 0 }
+    let coins = coins_of chain entries tx.inputs in
+    record {
+      fee = coins_value coins - outputs_value tx;
+      vsize = vsize_of (sigop_cost (reported tx.inputs coins) tx.outputs) tx;
+      replaced = 0;
+    }
 
 -- the denial by A1, that there is no transaction, or by the rules on a transaction alone
 abbrev pub first_denial : Option Tx → Option Denial

@@ -15,13 +15,10 @@ use gate_tx::{Coin, OutPoint, TxIn};
 use std::alloc::Global;
 use std::marker::Model;
 
-/// A coin with its script lent: contracts see the coin.
+/// A coin that is lent: contracts see the coin.
 #[derive(Drop)]
 pub(crate) struct LentCoin<'a> {
-    value: i64,
-    script: &'a [u8],
-    height: u32,
-    coinbase: bool,
+    coin: &'a Coin,
 }
 
 impl<'a> Model for LentCoin<'a> {
@@ -29,37 +26,14 @@ impl<'a> Model for LentCoin<'a> {
 
     ghost Value = { Coin };
 
-    ghost view = { λ c. record { value = c.value; script = c.script.now; height = c.height; coinbase = c.coinbase } };
+    ghost view = { λ c. c.coin.now };
 }
 
-impl<'a> LentCoin<'a> {
-    pub fn of(coin: &'a Coin) -> LentCoin<'a>
-        ensures { result ≡ coin.now }
+impl LentCoin<'_> {
+    pub fn coin(&self) -> &Coin
+        ensures { result.now ≡ self.now }
     {
-        LentCoin {
-            value: coin.value,
-            script: coin.script.as_slice(),
-            height: coin.height,
-            coinbase: coin.coinbase,
-        }
-    }
-
-    pub fn value(&self) -> i64
-        ensures { result ≡ self.now.value }
-    {
-        self.value
-    }
-
-    pub fn height(&self) -> u32
-        ensures { result ≡ self.now.height }
-    {
-        self.height
-    }
-
-    pub fn coinbase(&self) -> bool
-        ensures { result ≡ self.now.coinbase }
-    {
-        self.coinbase
+        self.coin
     }
 }
 
@@ -73,7 +47,7 @@ pub(crate) fn view_coin<'a>(
     ensures height { IfSome result (λ coin. coin.height ≤ tip_of chain.now + 1) }
 {
     match chain.coin(point) {
-        Some(coin) => Some(LentCoin::of(coin)),
+        Some(coin) => Some(LentCoin { coin }),
         None => None,
     }
 }

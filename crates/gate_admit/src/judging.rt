@@ -9,7 +9,9 @@ use crate::locking::{check_final, check_locks};
 use crate::paying::{check_balance, check_coins_paid, check_fee, vsize_of};
 use crate::pool::Pool;
 use crate::prepared::Prepared;
+use crate::reporting::{check_reports, reported};
 use crate::verdicts::Verdicts;
+use crate::verifying::check_verdicts;
 use gate_bytes::Memory;
 use gate_chain::Chain;
 use gate_standard::Denial;
@@ -54,8 +56,16 @@ pub fn judge(
         Ok(fee) => fee,
         Err(denial) => return Ok(Err(denial)),
     };
-    let vsize = vsize_of(tx);
+    let answers = reported(alloc, prepared.reports(), tx.transaction().inputs(), &coins)?;
+    let cost = match check_reports(tx.transaction(), &answers) {
+        Ok(cost) => cost,
+        Err(denial) => return Ok(Err(denial)),
+    };
+    let vsize = vsize_of(cost, tx);
     if let Some(denial) = check_fee(floor, fee, vsize) {
+        return Ok(Err(denial));
+    }
+    if let Some(denial) = check_verdicts(verdicts, tx) {
         return Ok(Err(denial));
     }
     Ok(Ok(Grant {

@@ -16,12 +16,15 @@ mod locking;
 mod paying;
 mod pool;
 mod prepared;
+mod reporting;
 mod submission;
 mod verdicts;
+mod verifying;
 
 pub use entry::Entry;
 pub use floor::Floor;
 pub use gate_chain::{Chain, OpenFault, OpeningCoin};
+pub use gate_inputs::{InputReport, Piece, report};
 pub use grant::Grant;
 pub use judging::judge;
 pub use law::{decisions_follow_the_order, pools_stay_good};
@@ -30,5 +33,7 @@ pub use prepared::Prepared;
 pub use submission::submit;
 pub use verdicts::{Verdict, VerdictRow, Verdicts};
 
+#[cfg(test)]
+mod fixture;
 #[cfg(test)]
 mod tests;

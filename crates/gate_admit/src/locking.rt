@@ -37,7 +37,7 @@ fn heights_of(alloc: Global, coins: &[LentCoin<'_>]) -> Result<Vec<u32>, Memory>
 {
     let mut heights = Vec::with_capacity(alloc, coins.len())?;
     for coin in coins {
-        heights.push(coin.height())?;
+        heights.push(coin.coin().height)?;
     }
     Ok(heights)
 }

@@ -2,13 +2,14 @@
 ghost use Rattle.std.specs.Prelude.{◌≡◌, ◌+◌, ◌-◌, ◌≤◌, ◌<◌, ◌^◌, Some, None, IfOk, IfErr, OnOk};
 ghost use Rattle.gate_standard.specs.Amounts.{max_money, amount};
 ghost use Rattle.gate_standard.specs.Order.{first_failing};
-ghost use Rattle.gate_admit.specs.Rules.{is_immature, rules_of_coin, value_rules, balance_rules, fee_rules, coins_value, outputs_value, vsize_of};
+ghost use Rattle.gate_admit.specs.Rules.{is_immature, rules_of_coin, value_rules, balance_rules, fee_rules, coins_value, outputs_value};
+ghost use Rattle.gate_admit.specs.Reports.{vsize_of};
 
 use crate::coins::LentCoin;
 use crate::floor::Floor;
 use crate::identified::Identified;
 use gate_standard::{Denial, MAX_MONEY, fee_at};
-use gate_tx::{Transaction, TxOut};
+use gate_tx::{Coin, Transaction, TxOut};
 
 /// How deep a coinbase's coin has to stand (Bitcoin Core's `COINBASE_MATURITY`).
 const MATURITY: u32 = 100;
@@ -16,14 +17,14 @@ const MATURITY: u32 = 100;
 /// What every transaction has to pay, in satoshi per 1,000 virtual bytes.
 const MIN_RELAY_RATE: u64 = 1000;
 
-fn is_immature(next_height: u32, coin: &LentCoin<'_>) -> bool
+fn is_immature(next_height: u32, coin: &Coin) -> bool
     ensures { result ≡ is_immature next_height coin.now }
 {
-    coin.coinbase() && next_height.saturating_sub(coin.height()) < MATURITY
+    coin.coinbase && next_height.saturating_sub(coin.height) < MATURITY
 }
 
 /// The sum with this coin, unless A27 or A28 fails.
-fn check_coin(next_height: u32, sum: u64, coin: &LentCoin<'_>) -> Result<u64, Denial>
+fn check_coin(next_height: u32, sum: u64, coin: &Coin) -> Result<u64, Denial>
     requires { sum ≤ max_money }
     ensures ok { IfOk result (λ next. next ≡ sum + amount coin.now.value) }
     ensures small { IfOk result (λ next. next ≤ max_money) }
@@ -33,7 +34,7 @@ fn check_coin(next_height: u32, sum: u64, coin: &LentCoin<'_>) -> Result<u64, De
     if is_immature(next_height, coin) {
         return Err(Denial::PrematureSpend);
     }
-    let value = coin.value();
+    let value = coin.value;
     if value < 0 {
         return Err(Denial::InputValues);
     }
@@ -54,7 +55,7 @@ pub(crate) fn check_coins_paid(next_height: u32, coins: &[LentCoin<'_>]) -> Resu
 {
     let mut sum = 0;
     for coin in coins {
-        match check_coin(next_height, sum, coin) {
+        match check_coin(next_height, sum, coin.coin()) {
             Ok(next) => sum = next,
             Err(denial) => return Err(denial),
         }
@@ -104,11 +105,12 @@ pub(crate) fn check_balance(paid_in: u64, tx: &Transaction) -> Result<u64, Denia
     Ok(fee)
 }
 
-/// The size in virtual bytes.
-pub(crate) fn vsize_of(tx: &Identified) -> u64
-    ensures { result ≡ vsize_of tx.now }
+/// The size in virtual bytes, with this cost of signature operations.
+pub(crate) fn vsize_of(cost: u64, tx: &Identified) -> u64
+    requires { cost ≤ 16000 }
+    ensures { result ≡ vsize_of cost tx.now }
 {
-    tx.weight().div_ceil(4) as u64
+    (tx.weight() as u64).max(20 * cost).div_ceil(4)
 }
 
 /// A35, where it fails.

@@ -6,7 +6,8 @@ ghost use Rattle.gate_standard.specs.Order.{first_failing};
 ghost use Rattle.gate_admit.specs.Rules.{alone_rules, first_denial};
 
 use crate::identified::Identified;
-use gate_bytes::{Copied, Exact, Memory};
+use gate_bytes::{Copied, Exact, Kept, Memory};
+use gate_inputs::InputReport;
 use gate_standard::{Denial, check_transaction, is_standard};
 use gate_tx::{Transaction, TxFault, Txid, Wtxid, read_tx};
 use std::alloc::Global;
@@ -17,6 +18,7 @@ use std::marker::Model;
 pub struct Prepared {
     identified: Option<Identified>,
     denial: Option<Denial>,
+    reports: Option<Kept<InputReport>>,
 }
 
 impl Model for Prepared {
@@ -54,6 +56,7 @@ impl Prepared {
                 Ok(Prepared {
                     identified: Some(Identified::new(alloc, transaction)?),
                     denial,
+                    reports: None,
                 })
             }
             Err(TxFault::Memory) => Err(Memory),
@@ -68,6 +71,31 @@ impl Prepared {
         Prepared {
             identified: None,
             denial: Some(Denial::Decode),
+            reports: None,
+        }
+    }
+
+    /// The same with reports on its inputs, which were made beforehand: the first on input 0, and so on. One that is
+    /// missing or is that of another input or coin is made where it is needed.
+    pub fn with_reports(self, reports: Kept<InputReport>) -> Prepared
+        ensures { result ≡ self }
+    {
+        let Prepared {
+            identified,
+            denial,
+            reports: _replaced,
+        } = self;
+        Prepared {
+            identified,
+            denial,
+            reports: Some(reports),
+        }
+    }
+
+    pub(crate) fn reports(&self) -> &[InputReport] {
+        match &self.reports {
+            Some(reports) => reports.as_slice(),
+            None => &[],
         }
     }
 
@@ -117,6 +145,7 @@ impl Copied for Prepared {
         Ok(Prepared {
             identified: self.identified.copy(alloc)?,
             denial: self.denial,
+            reports: self.reports.copy(alloc)?,
         })
     }
 }
