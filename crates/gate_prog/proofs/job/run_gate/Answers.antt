@@ -1,5 +1,5 @@
 use Rattle.std.proofs.Common.{ap, Err}
-use Rattle.gate_prog.proofs.GateRuns.{fault_ran, stopped_in_refusal, stopped_in_lane}
+use Rattle.gate_prog.proofs.GateRuns.{fault_ran, stopped_in_refusal}
 use Rattle.gate_prog.proofs.job.run_gate.Goals as goal
 
 pub returns-in-Err-Line-clause-done : goal.returns-in-Err-Line-clause-done
