@@ -2,10 +2,9 @@
 #![tactic(auto)]
 
 use gate_prog::{ArgsFault, read_args, run_job};
-use std::env;
-use std::io;
 use std::io::BufReader;
 use std::process::ExitCode;
+use std::{env, io};
 
 fn main(rt: HostRuntime) -> ExitCode {
     match status(&rt) {

@@ -1,10 +1,12 @@
 -- What `gate run` writes, from what its opening came to.
-use Rattle.std.proofs.Common.{◌≡◌, ℕ, List, Option, Some, None, IfSome, Result, Ok, Err, IfOk, sym, subst}
+use Rattle.std.proofs.Common.{◌≡◌, ℕ, List, Option, Some, None, IfSome, Result, Ok, Err, IfOk, IfErr, inl, sym, subst}
 use Rattle.gate_core.specs.World.{World}
 use Rattle.gate_prog.specs.declared.opening_fault.OpeningFault.{OpeningFault}
 use Rattle.gate_prog.specs.declared.opening_fault.OpeningFault.TheVariants.{Line}
 use Rattle.gate_prog.specs.declared.opening_fault.OpeningToken.{OpeningToken}
-use Rattle.gate_prog.specs.Jobs.{FaultPrinted, GateRan, TextRan}
+use Rattle.gate_prog.specs.declared.fault.LaneFault.{LaneFault}
+use Rattle.gate_prog.specs.declared.fault.LaneFault.TheVariants as faults
+use Rattle.gate_prog.specs.Jobs.{FaultPrinted, GateRan, TextRan, GateStopped, RefusalStopped}
 use Rattle.gate_prog.specs.Said.{spelled}
 
 gate_refused : (input before after : Option (List ℕ)) (line : ℕ) (token : OpeningToken) (status : ℕ)
@@ -17,3 +19,12 @@ pub fault_ran : {E : Type 0} (r : Result ℕ E) (input before after : Option (Li
     → IfOk r (λ status. GateRan input before after status)
 fault_ran (Ok status) input before after line token h printed = gate_refused input before after line token status h printed
 fault_ran (Err fault) input before after line token h printed = tt
+
+-- ---- after a fault
+
+pub stopped_in_refusal : {T : Type 0} (r : Result T LaneFault) (input rest before after : Option (List ℕ)) (line : ℕ) (token : OpeningToken)
+    → IfSome input (λ text. spelled text ≡ Err (Line line token)) → IfErr r (RefusalStopped line token before after) → IfErr r (GateStopped input rest before after)
+stopped_in_refusal (Ok done) input rest before after line token h stopped = tt
+stopped_in_refusal (Err faults.Read) input rest before after line token h stopped = absurd stopped
+stopped_in_refusal (Err faults.Write) input rest before after line token h stopped = inl (line, token, h, stopped)
+stopped_in_refusal (Err faults.Memory) input rest before after line token h stopped = inl stopped

@@ -1,7 +1,6 @@
 -- A lane without a fault of memory leads through the events of its lines.
-use Rattle.std.proofs.Common.{◌≡◌, ◌≢◌, ℕ, ◌+◌, nat_lt, nat_le, Bool, true, false, if◌then◌else◌, List, [], ◌∷◌, ◌++◌, length, Option, Some, None, MatchBool, inl, inr, refl, sym, ap, subst, ◌∙◌}
-use Rattle.gate_core.specs.Good.{IsGoodWorld, StepGives}
-use Rattle.gate_core.specs.Runs.{run_of, IsRunApart, LeadsTo, StepsGiveTheRun}
+use Rattle.std.proofs.Common.{◌≡◌, ◌≢◌, ℕ, ◌+◌, nat_lt, nat_le, Bool, true, false, if◌then◌else◌, List, [], ◌∷◌, ◌++◌, length, Option, Some, None, MatchBool, inl, inr, sym, ap, subst, ◌∙◌}
+use Rattle.gate_core.specs.Runs.{LeadsTo, StepsGiveTheRun}
 use Rattle.gate_core.specs.Texts.{reply_text}
 use Rattle.gate_core.specs.World.{World}
 use Rattle.gate_core.specs.declared.Event.{Event}
@@ -68,7 +67,7 @@ led number old (line ∷ lines) replies new h clean =
     (λ few. led_within (nat_le (length line) line_limit) _ old new _ replies _ line_too_long few
     (λ (first, rest, mid, parts, answered, goes).
     subst (λ (rs : List (List ℕ)). Led old new (if is_skipped line then lane_events (number + 1) lines else with_event (line_event line) (lane_events (number + 1) lines)) rs
-      (λ answers. if is_skipped line then lane_replies (number + 1) lines answers else with_answer (line_event line) answers (lane_replies (number + 1) lines))) (sym parts)
+    (λ answers. if is_skipped line then lane_replies (number + 1) lines answers else with_answer (line_event line) answers (lane_replies (number + 1) lines))) (sym parts)
     (led_answered old mid new line first rest (lane_events (number + 1) lines) (lane_replies (number + 1) lines) answered (subst LacksFault parts clean)
     (λ c. led (number + 1) mid lines rest new goes c))))
 

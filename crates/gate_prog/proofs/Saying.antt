@@ -1,5 +1,5 @@
 -- What all lines say, from what the first of them says.
-use Rattle.std.proofs.Common.{◌≡◌, ℕ, ◌+◌, ◌<◌, ◌≤◌, nat_lt, nat_le, Bool, true, false, if◌then◌else◌, List, [], ◌∷◌, length, Ok, Err, Result, refl, ap, ◌∙◌, arith}
+use Rattle.std.proofs.Common.{◌≡◌, ℕ, ◌+◌, ◌<◌, ◌≤◌, nat_lt, nat_le, Bool, true, false, if◌then◌else◌, List, ◌∷◌, length, Ok, Err, Result, ap, ◌∙◌}
 use Rattle.std.proofs.lemmas.Bool.{lt-ltb, le-leb}
 use Rattle.gate_prog.specs.declared.opening_fault.OpeningFault.{OpeningFault}
 use Rattle.gate_prog.specs.declared.opening_fault.OpeningFault.TheVariants.{Line}
@@ -7,7 +7,6 @@ use Rattle.gate_prog.specs.declared.opening_fault.OpeningToken.TheVariants.{BadL
 use Rattle.gate_prog.specs.Lines.{line_limit, count_limit}
 use Rattle.gate_prog.specs.Said.{Said, all_said, on_said, with_text, is_end}
 use Rattle.gate_prog.proofs.Runs.{not-lt, not-le}
-
 
 on_limits : (a b c : Bool) (ended went : Result Said OpeningFault) (fault : Result Said OpeningFault) → a ≡ true → b ≡ true
     → (if a then (if b then (if c then ended else went) else fault) else fault) ≡ (if c then ended else went)

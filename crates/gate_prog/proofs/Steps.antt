@@ -1,16 +1,15 @@
 -- One step of an opening, from what was read and what was said.
-use Rattle.std.proofs.Common.{◌≡◌, ℕ, ◌+◌, ◌<◌, ◌≤◌, true, false, List, [], ◌∷◌, ◌++◌, length, Option, Some, None, IfSome, Ok, Err, refl, sym, ap, subst, ◌∙◌, arith, append_assoc, append-nil}
+use Rattle.std.proofs.Common.{◌≡◌, ℕ, ◌+◌, ◌<◌, ◌≤◌, true, false, List, [], ◌∷◌, ◌++◌, length, Option, Some, None, IfSome, Ok, Err, sym, ap, ◌∙◌, append_assoc, append-nil}
 use Rattle.std.specs.Io.KnownBytes.{Consumes, IsAtEnd}
 use Rattle.gate_prog.specs.declared.opening_fault.OpeningFault.{OpeningFault}
 use Rattle.gate_prog.specs.declared.opening_fault.OpeningFault.TheVariants.{Line, Read, Memory}
-use Rattle.gate_prog.specs.declared.opening_fault.OpeningToken.{OpeningToken}
 use Rattle.gate_prog.specs.declared.opening_fault.OpeningToken.TheVariants.{BadLine}
-use Rattle.gate_prog.specs.declared.opening.Step.TheVariants.{Went, Ended}
+use Rattle.gate_prog.specs.declared.opening.Step.TheVariants.{Ended}
 use Rattle.gate_prog.specs.Lines.{LacksNewline, line_limit, count_limit, lines_of}
 use Rattle.gate_prog.specs.Said.{Said, Takes, all_said, with_text, is_end}
 use Rattle.gate_prog.specs.Openings.{StepTaken, opening_part}
 use Rattle.gate_prog.proofs.LineLists.{lines_of-whole}
-use Rattle.gate_prog.proofs.TurnLemmas.{OnlyLine, LongLine, LongLine-read, FirstLines-whole}
+use Rattle.gate_prog.proofs.TurnLemmas.{LongLine}
 use Rattle.gate_prog.specs.Lanes.{FirstLines}
 use Rattle.gate_prog.proofs.OpeningParts.{opening_part-end, opening_part-only}
 use Rattle.gate_prog.proofs.Saying.{all_said-ended, all_said-went, all_said-fault, all_said-long}

@@ -20,8 +20,8 @@ lane_events number [] = []
 lane_events number (line ∷ lines) =
     if nat_lt number count_limit
     then if nat_le (length line) line_limit
-      then if is_skipped line then lane_events (number + 1) lines else with_event (line_event line) (lane_events (number + 1) lines)
-      else []
+    then if is_skipped line then lane_events (number + 1) lines else with_event (line_event line) (lane_events (number + 1) lines)
+    else []
     else []
 
 -- the reply line of one line, from the answers to the events from it on, and what follows it
@@ -36,9 +36,9 @@ lane_replies number [] answers = []
 lane_replies number (line ∷ lines) answers =
     if nat_lt number count_limit
     then if nat_le (length line) line_limit
-      then if is_skipped line then lane_replies (number + 1) lines answers
-        else with_answer (line_event line) answers (lane_replies (number + 1) lines)
-      else line_too_long ∷ []
+    then if is_skipped line then lane_replies (number + 1) lines answers
+    else with_answer (line_event line) answers (lane_replies (number + 1) lines)
+    else line_too_long ∷ []
     else too_many_lines ∷ []
 
 -- memory ran out in no step

@@ -1,5 +1,5 @@
 -- What one line of an opening says.
-use Rattle.std.specs.Prelude.{ℕ, nat_le, ◌==◌, pos, if◌then◌else◌, Bool, true, false, List, [], ◌∷◌, length, codes, Option, Some, None, Result, Ok, Err, option_and_then}
+use Rattle.std.specs.Prelude.{ℕ, nat_le, ◌==◌, pos, if◌then◌else◌, Bool, true, false, List, [], length, codes, Option, Some, None, Result, Ok, Err, option_and_then}
 use Rattle.std.specs.Option.{option_map}
 use Rattle.std.specs.Str.{bytes_eq}
 use Rattle.hex.specs.Hex.{decode_of}

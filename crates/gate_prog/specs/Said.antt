@@ -1,5 +1,5 @@
 -- What the lines of an opening say: each in turn, up to a line `---` or the end of the text.
-use Rattle.std.specs.Prelude.{◌≡◌, ℕ, ◌+◌, nat_lt, nat_le, ◌||◌, not, if◌then◌else◌, Bool, true, false, List, [], ◌∷◌, ◌++◌, length, codes, Option, Some, None, is_some, Result, Ok, Err}
+use Rattle.std.specs.Prelude.{◌≡◌, ℕ, ◌+◌, nat_lt, nat_le, ◌||◌, if◌then◌else◌, Bool, false, List, [], ◌∷◌, ◌++◌, length, codes, Option, Some, None, is_some, Result, Ok, Err}
 use Rattle.std.specs.Option.{unwrap_or}
 use Rattle.std.specs.Str.{bytes_eq}
 use Rattle.gate_chain.specs.Opening.{open_fault}
@@ -92,8 +92,8 @@ all_said number said [] = Ok said
 all_said number said (line ∷ lines) =
     if nat_lt number count_limit
     then if nat_le (length line) line_limit
-      then if is_end line then Ok said else on_said (with_text said (number + 1) line) (λ next. all_said (number + 1) next lines)
-      else Err (Line (number + 1) BadLine)
+    then if is_end line then Ok said else on_said (with_text said (number + 1) line) (λ next. all_said (number + 1) next lines)
+    else Err (Line (number + 1) BadLine)
     else Err (Line (number + 1) BadLine)
 
 abbrev pub opening_of : Said → Opening

@@ -31,15 +31,21 @@ fn gate_command<'a>(alloc: Global) -> Result<Command<'a>, AllocError> {
         .required(true)
         .help("A transaction in hexadecimal digits of either case");
     let check = Command::new(alloc, "check")
-        .about("Checks one transaction by itself: prints its ids and weight, and then `standard` or the first rule that fails")
+        .about(
+            "Checks one transaction by itself: prints its ids and weight, and then `standard` or the first rule that fails",
+        )
         .after_help("Example: gate check 01000000000000000000")
         .arg(hex)?;
     let run = Command::new(alloc, "run")
-        .about("Opens a gate from standard input, and answers the events behind its line `---`, a line each")
+        .about(
+            "Opens a gate from standard input, and answers the events behind its line `---`, a line each",
+        )
         .after_help("Example: gate run < examples/first-path.txt");
     Command::new(alloc, "gate")
         .about("The admission gate of a Bitcoin node's mempool")
-        .after_help("Examples:\n  gate check 01000000000000000000\n  gate run < examples/first-path.txt")
+        .after_help(
+            "Examples:\n  gate check 01000000000000000000\n  gate run < examples/first-path.txt",
+        )
         .no_binary_name(true)
         .bin_name("gate")?
         .subcommand_required(true)

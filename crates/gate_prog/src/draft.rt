@@ -58,7 +58,12 @@ impl Draft {
     }
 
     /// Takes a line by its number, from 1, that isn't the opening's last.
-    pub(crate) fn take(&mut self, alloc: Global, number: u64, line: &[u8]) -> Result<(), OpeningFault>
+    pub(crate) fn take(
+        &mut self,
+        alloc: Global,
+        number: u64,
+        line: &[u8],
+    ) -> Result<(), OpeningFault>
         ensures { Takes result self.new (with_text self.old number line.now) }
     {
         if asks_nothing(line) {
@@ -106,7 +111,13 @@ impl Draft {
         }
     }
 
-    fn add_times(&mut self, number: u64, count: u64, first: u32, step: u64) -> Result<(), OpeningFault>
+    fn add_times(
+        &mut self,
+        number: u64,
+        count: u64,
+        first: u32,
+        step: u64,
+    ) -> Result<(), OpeningFault>
         ensures { Takes result self.new (with_line self.old number (OpeningLine.Times count first step)) }
     {
         if exceeds(self.times.len(), count, first, step) {

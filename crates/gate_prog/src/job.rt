@@ -1,6 +1,6 @@
 //! The jobs of the command line.
-ghost use Rattle.std.specs.Prelude.{◌≡◌, ◌++◌, ◌∷◌, [], None, IfOk};
-ghost use Rattle.gate_prog.specs.Jobs.{JobDone, FaultPrinted, GateRan, opening_line};
+ghost use Rattle.std.specs.Prelude.{◌≡◌, ◌++◌, ◌∷◌, [], None, IfOk, IfErr};
+ghost use Rattle.gate_prog.specs.Jobs.{JobDone, JobStopped, FaultPrinted, RefusalStopped, GateRan, GateStopped, CheckStopped, opening_line};
 
 use crate::check::check_hex;
 use crate::fault::LaneFault;
@@ -21,8 +21,7 @@ pub enum Job {
     Run,
 }
 
-/// Does a job over a reader and a writer, and gives the status that the program ends with. After a fault the lines that
-/// went out are those of [`run_lane`].
+/// Does a job over a reader and a writer, and gives the status that the program ends with; a fault is status 1.
 pub fn run_job<R: Read, W: Write>(
     alloc: Global,
     job: &Job,
@@ -30,6 +29,7 @@ pub fn run_job<R: Read, W: Write>(
     writer: &mut W,
 ) -> Result<u8, LaneFault>
     ensures done { IfOk result (λ status. JobDone job.now (R.remaining reader.old) (W.contents writer.old) (W.contents writer.new) status) }
+    ensures stopped { IfErr result (λ fault. JobStopped job.now (R.remaining reader.old) (R.remaining reader.new) (W.contents writer.old) (W.contents writer.new) fault) }
 {
     match job {
         Job::Check(hex) => run_check(alloc, hex.as_str(), writer),
@@ -39,7 +39,8 @@ pub fn run_job<R: Read, W: Write>(
 
 /// The lines of a check in one write, so that want of memory prints nothing.
 fn run_check<W: Write>(alloc: Global, hex: &str, writer: &mut W) -> Result<u8, LaneFault>
-    ensures { IfOk result (λ status. JobDone (Job.Check hex.now) None (W.contents writer.old) (W.contents writer.new) status) }
+    ensures done { IfOk result (λ status. JobDone (Job.Check hex.now) None (W.contents writer.old) (W.contents writer.new) status) }
+    ensures stopped { IfErr result (λ fault. CheckStopped hex.now (W.contents writer.old) (W.contents writer.new) fault) }
 {
     let Ok(checked) = check_hex(alloc, hex) else {
         return Err(LaneFault::Memory);
@@ -56,7 +57,8 @@ fn run_gate<R: Read, W: Write>(
     reader: &mut R,
     writer: &mut W,
 ) -> Result<u8, LaneFault>
-    ensures { IfOk result (λ status. GateRan (R.remaining reader.old) (W.contents writer.old) (W.contents writer.new) status) }
+    ensures done { IfOk result (λ status. GateRan (R.remaining reader.old) (W.contents writer.old) (W.contents writer.new) status) }
+    ensures stopped { IfErr result (λ fault. GateStopped (R.remaining reader.old) (R.remaining reader.new) (W.contents writer.old) (W.contents writer.new) fault) }
 {
     match read_opening(alloc, reader) {
         Ok(mut state) => match run_lane(alloc, &mut state, reader, writer) {
@@ -76,7 +78,8 @@ fn refuse_opening<W: Write>(
     line: u64,
     token: OpeningToken,
 ) -> Result<u8, LaneFault>
-    ensures { IfOk result (λ status. FaultPrinted line token (W.contents writer.old) (W.contents writer.new) status) }
+    ensures done { IfOk result (λ status. FaultPrinted line token (W.contents writer.old) (W.contents writer.new) status) }
+    ensures stopped { IfErr result (λ fault. RefusalStopped line token (W.contents writer.old) (W.contents writer.new) fault) }
 {
     let Ok(text) = refusal_line(alloc, line, token) else {
         return Err(LaneFault::Memory);

@@ -27,9 +27,9 @@ pub use job::{Job, run_job};
 pub use lane::run_lane;
 pub use laws::lanes_are_runs;
 pub use line::{MAX_LINE, MAX_LINES};
+pub use number::{MAX_NUMBER, numbers_are_decimal};
 pub use opening::read_opening;
 pub use opening_fault::{OpeningFault, OpeningToken};
-pub use number::{MAX_NUMBER, numbers_are_decimal};
 
 #[cfg(test)]
 mod tests;

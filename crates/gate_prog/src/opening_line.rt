@@ -21,11 +21,7 @@ pub(crate) enum OpeningLine {
     /// The pool's budget in virtual bytes.
     Budget(u64),
     /// Block times in seconds: the first of them, and the step to each next one.
-    Times {
-        count: u64,
-        first: u32,
-        step: u64,
-    },
+    Times { count: u64, first: u32, step: u64 },
     Coin(OpeningCoin),
     Verdict(VerdictRow),
     /// The verdict on pairs of a transaction and an input without a row.

@@ -1,6 +1,7 @@
 //! Openings and lanes over readers and writers in memory, and over some that break.
 use crate::{
-    ArgsFault, Job, LaneFault, OpeningFault, OpeningToken, numbers_are_decimal, read_args, read_opening, run_job,
+    ArgsFault, Job, LaneFault, OpeningFault, OpeningToken, numbers_are_decimal, read_args,
+    read_opening, run_job,
 };
 use std::alloc::Global;
 use std::io;
@@ -76,10 +77,14 @@ listing 1 5ab0eb89aa597c4c79ebb7cd83e361997309eb27e186bc95d794fe37e6453fc2
 
 #[test]
 fn lines_of_all_kinds(rt: HostRuntime) -> Result<(), Fail> {
-    let input: &[u8] = b"# settings\n\ntimes 1 0 0\n---\n# \xff\n\n \n\xff\npeer 1 leave\r\n---\npeer 01 leave\npeer 1 tx 0 0\npeer 1 leave";
+    let input: &[u8] =
+        b"# settings\n\ntimes 1 0 0\n---\n# \xff\n\n \n\xff\npeer 1 leave\r\n---\npeer 01 leave\npeer 1 tx 0 0\npeer 1 leave";
     let mut reader = BufReader::new(rt.alloc(), input)?;
     let mut written = Vec::new(rt.alloc());
-    assert_eq!(rt; run_job(rt.alloc(), &Job::Run, &mut reader, &mut written), Ok(0));
+    assert_eq!(rt;
+        run_job(rt.alloc(), &Job::Run, &mut reader, &mut written),
+        Ok(0)
+    );
     assert_eq!(rt;
         std::str::from_utf8(written.as_slice())?,
         "refused L1 bad-line
@@ -96,7 +101,8 @@ denied P1 keep peer-unknown
 
 #[test]
 fn faults_of_openings(rt: HostRuntime) -> Result<(), Fail> {
-    let coin = "coin 1111111111111111111111111111111111111111111111111111111111111111 0 1 0 plain -";
+    let coin =
+        "coin 1111111111111111111111111111111111111111111111111111111111111111 0 1 0 plain -";
     let wtxid = "abababababababababababababababababababababababababababababababab";
     let cases = [
         ("budget 5", "opening 0 no-times"),
@@ -114,10 +120,18 @@ fn faults_of_openings(rt: HostRuntime) -> Result<(), Fail> {
     let twice = format!(in rt.alloc(); "times 1 0 0\n{coin}\n# again\n{coin}\n")?;
     let (status, written) = run(rt.alloc(), twice.as_bytes())?;
     assert_eq!(rt; status, 2);
-    assert_eq!(rt; std::str::from_utf8(written.as_slice())?, "opening 4 coin-twice\n");
-    let rows = format!(in rt.alloc(); "verdict {wtxid} 0 ok\nverdict {wtxid} 1 ok\nverdict {wtxid} 0 hard\n")?;
+    assert_eq!(rt;
+        std::str::from_utf8(written.as_slice())?,
+        "opening 4 coin-twice\n"
+    );
+    let rows = format!(in rt.alloc();
+        "verdict {wtxid} 0 ok\nverdict {wtxid} 1 ok\nverdict {wtxid} 0 hard\n"
+    )?;
     let (_, written) = run(rt.alloc(), rows.as_bytes())?;
-    assert_eq!(rt; std::str::from_utf8(written.as_slice())?, "opening 3 bad-line\n");
+    assert_eq!(rt;
+        std::str::from_utf8(written.as_slice())?,
+        "opening 3 bad-line\n"
+    );
     Ok(())
 }
 
@@ -127,7 +141,10 @@ fn the_rest_of_the_reader(rt: HostRuntime) -> Result<(), Fail> {
     assert!(rt; read_opening(rt.alloc(), &mut reader).is_ok());
     assert_eq!(rt; std::str::from_utf8(reader)?, "peer 1 leave");
     let mut broken = Interrupted(b"times 1 0 0\n--");
-    assert_eq!(rt; read_opening(rt.alloc(), &mut broken).err(), Some(OpeningFault::Read));
+    assert_eq!(rt;
+        read_opening(rt.alloc(), &mut broken).err(),
+        Some(OpeningFault::Read)
+    );
     let mut empty: &[u8] = b"";
     assert_eq!(rt;
         read_opening(rt.alloc(), &mut empty).err(),
@@ -140,8 +157,14 @@ fn the_rest_of_the_reader(rt: HostRuntime) -> Result<(), Fail> {
 fn a_reader_that_breaks(rt: HostRuntime) -> Result<(), Fail> {
     let mut reader = Interrupted(b"times 1 0 0\n---\npeer 1 leave\npeer 1 leave");
     let mut written = Vec::new(rt.alloc());
-    assert_eq!(rt; run_job(rt.alloc(), &Job::Run, &mut reader, &mut written), Err(LaneFault::Read));
-    assert_eq!(rt; std::str::from_utf8(written.as_slice())?, "denied P1 keep peer-unknown\n");
+    assert_eq!(rt;
+        run_job(rt.alloc(), &Job::Run, &mut reader, &mut written),
+        Err(LaneFault::Read)
+    );
+    assert_eq!(rt;
+        std::str::from_utf8(written.as_slice())?,
+        "denied P1 keep peer-unknown\n"
+    );
     Ok(())
 }
 
@@ -149,17 +172,24 @@ fn a_reader_that_breaks(rt: HostRuntime) -> Result<(), Fail> {
 fn a_writer_of_single_bytes(rt: HostRuntime) -> Result<(), Fail> {
     let mut reader: &[u8] = b"times 1 0 0\n---\npeer 1 leave\npeer 1 leave\npeer 1 leave\n";
     let mut writer = Drops { left: 56 };
-    assert_eq!(rt; run_job(rt.alloc(), &Job::Run, &mut reader, &mut writer), Err(LaneFault::Write));
+    assert_eq!(rt;
+        run_job(rt.alloc(), &Job::Run, &mut reader, &mut writer),
+        Err(LaneFault::Write)
+    );
     assert_eq!(rt; reader.len(), 0);
     let mut reader: &[u8] = b"times 1 0 0\n---\npeer 1 leave\npeer 1 leave\npeer 1 leave\n";
     let mut writer = Drops { left: 84 };
-    assert_eq!(rt; run_job(rt.alloc(), &Job::Run, &mut reader, &mut writer), Ok(0));
+    assert_eq!(rt;
+        run_job(rt.alloc(), &Job::Run, &mut reader, &mut writer),
+        Ok(0)
+    );
     numbers_are_decimal();
     Ok(())
 }
 
 /// The coinbase of the first block.
-const GENESIS: &str = "01000000010000000000000000000000000000000000000000000000000000000000000000ffffffff4d04ffff001d0104455468652054696d65732030332f4a616e2f32303039204368616e63656c6c6f72206f6e206272696e6b206f66207365636f6e64206261696c6f757420666f722062616e6b73ffffffff0100f2052a01000000434104678afdb0fe5548271967f1a67130b7105cd6a828e03909a67962e0ea1f61deb649f6bc3f4cef38c4f35504e51ec112de5c384df7ba0b8d578a4c702b6bf11d5fac00000000";
+const GENESIS: &str =
+    "01000000010000000000000000000000000000000000000000000000000000000000000000ffffffff4d04ffff001d0104455468652054696d65732030332f4a616e2f32303039204368616e63656c6c6f72206f6e206272696e6b206f66207365636f6e64206261696c6f757420666f722062616e6b73ffffffff0100f2052a01000000434104678afdb0fe5548271967f1a67130b7105cd6a828e03909a67962e0ea1f61deb649f6bc3f4cef38c4f35504e51ec112de5c384df7ba0b8d578a4c702b6bf11d5fac00000000";
 
 #[test]
 fn checks_of_transactions(rt: HostRuntime) -> Result<(), Fail> {
@@ -176,7 +206,10 @@ denied A11 coinbase
     let mut written = Vec::new(rt.alloc());
     let job = read_args(rt.alloc(), &["check", "zz"])?;
     assert_eq!(rt; run_job(rt.alloc(), &job, &mut reader, &mut written), Ok(1));
-    assert_eq!(rt; std::str::from_utf8(written.as_slice())?, "denied A1 tx-decode\n");
+    assert_eq!(rt;
+        std::str::from_utf8(written.as_slice())?,
+        "denied A1 tx-decode\n"
+    );
     Ok(())
 }
 
@@ -184,10 +217,25 @@ denied A11 coinbase
 fn words_of_the_command_line(rt: HostRuntime) -> Result<(), Fail> {
     assert!(rt; read_args(rt.alloc(), &["run"])? == Job::Run);
     assert!(rt; matches!(read_args(rt.alloc(), &["--help"]), Err(ArgsFault::Help(_))));
-    assert!(rt; matches!(read_args(rt.alloc(), &["help", "run"]), Err(ArgsFault::Help(_))));
-    assert!(rt; matches!(read_args(rt.alloc(), &["run", "more"]), Err(ArgsFault::Usage(_))));
+    assert!(rt;
+        matches!(
+            read_args(rt.alloc(), &["help", "run"]),
+            Err(ArgsFault::Help(_))
+        )
+    );
+    assert!(rt;
+        matches!(
+            read_args(rt.alloc(), &["run", "more"]),
+            Err(ArgsFault::Usage(_))
+        )
+    );
     assert!(rt; matches!(read_args(rt.alloc(), &["check"]), Err(ArgsFault::Usage(_))));
-    assert!(rt; matches!(read_args(rt.alloc(), &["nothing"]), Err(ArgsFault::Usage(_))));
+    assert!(rt;
+        matches!(
+            read_args(rt.alloc(), &["nothing"]),
+            Err(ArgsFault::Usage(_))
+        )
+    );
     assert!(rt; matches!(read_args(rt.alloc(), &[]), Err(ArgsFault::Usage(_))));
     Ok(())
 }
