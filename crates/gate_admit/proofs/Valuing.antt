@@ -7,7 +7,6 @@ use Rattle.gate_standard.specs.declared.Denial.{Denial}
 use Rattle.gate_standard.specs.Amounts.{amount}
 use Rattle.gate_standard.specs.Order.{Rule, first_failing, or_else}
 use Rattle.gate_standard.proofs.OrderLemmas.{first_failing_append}
-use Rattle.gate_admit.specs.declared.verdicts.Verdict.{Verdict}
 use Rattle.gate_admit.specs.declared.verdicts.VerdictRow.{VerdictRow}
 use Rattle.gate_admit.specs.declared.verdicts.Verdicts.{Verdicts}
 use Rattle.gate_admit.specs.Rules.{rules_of_coin, value_rules}

@@ -15,7 +15,7 @@ use Rattle.gate_standard.specs.Order.{Rule}
 use Rattle.gate_inputs.specs.declared.Answers.{Answers}
 use Rattle.gate_inputs.specs.Answers.{answers_of}
 use Rattle.gate_admit.specs.declared.verdicts.Verdict.{Verdict}
-use Rattle.gate_admit.specs.declared.verdicts.Verdict.TheVariants.{Good, Soft, Hard}
+use Rattle.gate_admit.specs.declared.verdicts.Verdict.TheVariants.{Soft, Hard}
 use Rattle.gate_admit.specs.declared.verdicts.VerdictRow.{VerdictRow}
 use Rattle.gate_admit.specs.declared.verdicts.Verdicts.{Verdicts}
 

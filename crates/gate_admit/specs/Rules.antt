@@ -1,5 +1,5 @@
 -- The written order of admission, and the decision: the first rule that fails, or a grant.
-use Rattle.std.specs.Prelude.{ℕ, ◌+◌, ◌-◌, ◌/◌, ℤ, pos, negsuc, nat_lt, Bool, true, false, not, ◌||◌, ◌&&◌, map, is_some, List, [], ◌∷◌, ◌++◌, sum_by, Option, Some, None, Result, Ok, Err}
+use Rattle.std.specs.Prelude.{ℕ, ◌+◌, ◌-◌, ℤ, pos, negsuc, nat_lt, Bool, true, false, not, ◌||◌, ◌&&◌, map, is_some, List, [], ◌∷◌, ◌++◌, sum_by, Option, Some, None, Result, Ok, Err}
 use Rattle.std.specs.List.{list_any}
 use Rattle.gate_tx.specs.declared.Coin.{Coin}
 use Rattle.gate_tx.specs.declared.TxIn.{TxIn}

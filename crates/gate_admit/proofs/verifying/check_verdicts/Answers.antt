@@ -1,8 +1,7 @@
-use Rattle.std.proofs.Common.{◌≡◌, ◌∙◌, ◌+◌, ap, sym, Some, None, List, ℕ, Option, arith}
+use Rattle.std.proofs.Common.{◌≡◌, ◌∙◌, ap, sym, Some, None, List, ℕ, arith}
 use Rattle.gate_tx.specs.declared.TxIn.{TxIn}
 use Rattle.gate_tx.specs.Tx.{Tx}
 use Rattle.gate_tx.specs.Ids.{wtxid_of}
-use Rattle.gate_standard.specs.declared.Denial.{Denial}
 use Rattle.gate_standard.specs.Order.{first_failing}
 use Rattle.gate_admit.specs.Reports.{rules_of_verdict, verdict_of, verdict_rules}
 use Rattle.gate_admit.proofs.Valuing.{verdict_fails, verdict_passes}
