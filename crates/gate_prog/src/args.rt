@@ -63,7 +63,7 @@ pub fn read_args<'a>(alloc: Global, words: &'a [&'a str]) -> Result<Job, ArgsFau
 
 fn job_of(alloc: Global, matches: &ArgMatches<'_>) -> Result<Job, ArgsFault> {
     let Some((name, rest)) = matches.subcommand() else {
-        return Err(ArgsFault::Memory);
+        return Err(no_job(alloc));
     };
     if name == "run" {
         return Ok(Job::Run);
@@ -73,8 +73,13 @@ fn job_of(alloc: Global, matches: &ArgMatches<'_>) -> Result<Job, ArgsFault> {
             let hex = String::from_str(alloc, hex)?;
             Ok(Job::Check(Text::from_string(hex)))
         }
-        None => Err(ArgsFault::Memory),
+        None => Err(no_job(alloc)),
     }
+}
+
+/// Words that ask for nothing: the commands above leave none such.
+fn no_job(alloc: Global) -> ArgsFault {
+    ArgsFault::Usage(String::new(alloc))
 }
 
 fn fault_of(alloc: Global, error: &clap::Error) -> ArgsFault {
