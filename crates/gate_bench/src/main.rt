@@ -1,7 +1,9 @@
-//! How many megabytes of transactions are decoded and hashed in a second, for `make bench`.
+//! How many megabytes of transactions are decoded and hashed in a second, and how long a chain of many coins takes to
+//! open and to answer, for `make bench`.
 //! The figures go to standard error, since no two runs agree on them; standard output stays empty.
 #![tactic(auto)]
 
+mod chains;
 mod measure;
 mod sample;
 
@@ -30,6 +32,19 @@ fn report(
     Ok(())
 }
 
+/// Prints what opening a chain of so many coins takes, and looking each of them up.
+fn report_chain(rt: &(impl Eprint + AllocGlobal + std::rt::Clock), count: u32) -> Result<()> {
+    let coins = chains::coins(rt.alloc(), count)?;
+    let begun = Instant::now(rt)?;
+    let chain = chains::open(rt.alloc(), coins)?;
+    let opening = begun.elapsed(rt)?.as_micros();
+    let begun = Instant::now(rt)?;
+    chains::look_up(&chain, count)?;
+    let looking = begun.elapsed(rt)?.as_micros();
+    eprintln!(rt; "{count} coins: opened in {opening} us, each looked up in {looking} us")?;
+    Ok(())
+}
+
 fn main(rt: HostRuntime) -> Result<()> {
     let small = small_texts(rt.alloc())?;
     report(&rt, "transactions of 192 bytes", &small, sample::SMALL)?;
@@ -40,5 +55,7 @@ fn main(rt: HostRuntime) -> Result<()> {
         &large,
         large.len(),
     )?;
+    report_chain(&rt, 100_000)?;
+    report_chain(&rt, 1_000_000)?;
     Ok(())
 }

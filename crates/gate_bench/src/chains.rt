@@ -1,0 +1,60 @@
+//! Chains of many coins, opened and asked for each of them.
+use anyhow::{Result, bail};
+use gate_bytes::Kept;
+use gate_chain::{Chain, OpeningCoin};
+use gate_tx::{Coin, OutPoint, Txid};
+use std::alloc::Global;
+
+/// The outpoint of the coin of this number.
+pub fn outpoint(number: u32) -> OutPoint {
+    let mut hash = [0x11; 32];
+    let [a, b, c, d] = number.to_le_bytes();
+    hash[0] = a;
+    hash[1] = b;
+    hash[2] = c;
+    hash[3] = d;
+    OutPoint {
+        txid: Txid::new(hash),
+        index: 0,
+    }
+}
+
+/// So many coins, each of a transaction of its own, to a key hash.
+pub fn coins(alloc: Global, count: u32) -> Result<Vec<OpeningCoin>> {
+    let mut coins = Vec::new(alloc);
+    for number in 0..count {
+        let mut script = Vec::with_capacity(alloc, 22)?;
+        script.extend_from_slice(&[0x00, 0x14])?;
+        script.extend_from_slice(&[0x22; 20])?;
+        coins.push(OpeningCoin {
+            outpoint: outpoint(number),
+            coin: Coin {
+                value: 100_000,
+                script: Kept::from_vec(script),
+                height: 0,
+                coinbase: false,
+            },
+        })?;
+    }
+    Ok(coins)
+}
+
+/// A chain of one block time over these coins.
+pub fn open(alloc: Global, coins: Vec<OpeningCoin>) -> Result<Chain> {
+    let mut times = Vec::new(alloc);
+    times.push(1000)?;
+    match Chain::open(alloc, coins, times) {
+        Ok(chain) => Ok(chain),
+        Err(fault) => bail!("the coins of the measurement are refused: {fault}"),
+    }
+}
+
+/// Looks each coin up, and fails where one is missing.
+pub fn look_up(chain: &Chain, count: u32) -> Result<()> {
+    for number in 0..count {
+        if chain.coin(&outpoint(number)).is_none() {
+            bail!("coin {number} is missing");
+        }
+    }
+    Ok(())
+}
