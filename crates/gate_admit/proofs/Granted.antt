@@ -17,7 +17,7 @@ use Rattle.gate_tx.specs.Ids.{txid_of, wtxid_of}
 use Rattle.gate_tx.specs.Tx.{Tx}
 use Rattle.gate_standard.specs.declared.Denial.{Denial}
 use Rattle.gate_standard.specs.Order.{Rule, NoneFails, first_failing, Decides as DecidesRules}
-use Rattle.gate_standard.specs.Rules.{transaction_rules, value_rules, spends_twice, spends as spends_among}
+use Rattle.gate_standard.specs.Rules.{transaction_rules, standard_rules, value_rules, spends_twice, spends as spends_among}
 use Rattle.gate_standard.proofs.OrderLemmas.{first_failing_decides}
 use Rattle.gate_chain.specs.History.{History}
 use Rattle.gate_chain.specs.Coins.{opened_with_of}
@@ -25,10 +25,10 @@ use Rattle.gate_admit.specs.declared.grant.Grant.{Grant}
 use Rattle.gate_admit.specs.declared.verdicts.Verdicts.{Verdicts}
 use Rattle.gate_admit.specs.Pool.{Admitted, spends_of, spent_by, spends}
 use Rattle.gate_admit.specs.Coins.{view_coin}
-use Rattle.gate_admit.specs.Rules.{is_conflict, pool_rules, coin_rules, admission_rules, grant_of, denied_or, decision_of}
+use Rattle.gate_admit.specs.Rules.{is_conflict, alone_rules, final_rules, pool_rules, coin_rules, admission_rules, grant_of, denied_or, decision_of}
 use Rattle.gate_admit.specs.Submission.{Submitted, admitted, entered, submit_of}
 use Rattle.gate_admit.specs.Good.{IsGood}
-use Rattle.gate_admit.proofs.Conflicts.{is_some-find}
+use Rattle.gate_admit.proofs.Conflicting.{is_some-find}
 
 -- ---- lists
 
@@ -117,9 +117,11 @@ some_from_not_none : {X : Type 0} (o : Option X) → is_none o ≡ false → is_
 some_from_not_none None h = sym h
 some_from_not_none (Some x) h = refl
 
-each_once : (tx : Tx) → NoneFails (transaction_rules tx) → spends_twice tx.inputs ≡ false
-unfolding transaction_rules
-each_once tx h = (none_fails-append (value_rules 0 tx.outputs) _ h.1.1.1).1.0
+each_once : (tx : Tx) → NoneFails (alone_rules tx) → spends_twice tx.inputs ≡ false
+unfolding alone_rules transaction_rules
+each_once tx h =
+    let every = (none_fails-append (transaction_rules tx) (standard_rules tx) h).0 in
+    (none_fails-append (value_rules 0 tx.outputs) _ every.1.1.1).1.0
 
 grantable : (chain : History) (entries : List Admitted) (tx : Tx) → spends_twice tx.inputs ≡ false → NoneFails (pool_rules entries tx) → NoneFails (coin_rules chain entries tx) → IsGrantable chain entries tx
 unfolding pool_rules coin_rules
@@ -139,8 +141,9 @@ grantable chain entries tx once pool coin =
 rules_grant : (chain : History) (entries : List Admitted) (floor : ℕ) (tx : Tx) (verdicts : Verdicts) → first_failing (admission_rules chain entries floor tx verdicts) ≡ None → IsGrantable chain entries tx
 unfolding admission_rules
 rules_grant chain entries floor tx verdicts h =
-    let all = none_fails-append (transaction_rules tx) _ (none_fails _ h) in
-    let pool = none_fails-append (pool_rules entries tx) _ all.1 in
+    let all = none_fails-append (alone_rules tx) _ (none_fails _ h) in
+    let final = none_fails-append (final_rules chain tx) _ all.1 in
+    let pool = none_fails-append (pool_rules entries tx) _ final.1 in
     let coin = none_fails-append (coin_rules chain entries tx) _ pool.1 in
     grantable chain entries tx (each_once tx all.0) pool.0 coin.0
 

@@ -1,4 +1,6 @@
 pub mod Granted
 pub mod Following
-pub mod Conflicts
+pub mod Valuing
+mod Examples
+pub mod Conflicting
 pub mod Submitting

@@ -1,6 +1,7 @@
 pub mod Identified
 pub mod Pool
 pub mod Coins
+pub mod Reports
 pub mod Rules
 pub mod Submission
 pub mod Good

@@ -1,23 +1,36 @@
 -- The written order of admission, and the decision: the first rule that fails, or a grant.
-use Rattle.std.specs.Prelude.{ℕ, ◌+◌, ◌-◌, ◌/◌, ℤ, pos, negsuc, nat_lt, Bool, true, false, ◌||◌, ◌&&◌, is_some, List, [], ◌∷◌, ◌++◌, sum_by, Option, Some, None, Result, Ok, Err}
+use Rattle.std.specs.Prelude.{ℕ, ◌+◌, ◌-◌, ℤ, pos, negsuc, nat_lt, Bool, true, false, not, ◌||◌, ◌&&◌, map, is_some, List, [], ◌∷◌, ◌++◌, sum_by, Option, Some, None, Result, Ok, Err}
 use Rattle.std.specs.List.{list_any}
 use Rattle.gate_tx.specs.declared.Coin.{Coin}
 use Rattle.gate_tx.specs.declared.TxIn.{TxIn}
 use Rattle.gate_tx.specs.declared.TxOut.{TxOut}
 use Rattle.gate_tx.specs.Tx.{Tx}
 use Rattle.gate_tx.specs.Ids.{txid_of, wtxid_of}
-use Rattle.gate_tx.specs.Sizes.{weight_of}
 use Rattle.gate_standard.specs.declared.Denial.{Denial}
-use Rattle.gate_standard.specs.declared.Denial.TheVariants.{Decode, AlreadyInMempool, SameNonWitnessData, MempoolConflict, AlreadyKnown, MissingOrSpent, InputValues, InBelowOut, FeeOutOfRange, MinRelayFee}
+use Rattle.gate_standard.specs.declared.Denial.TheVariants.{Decode, NonFinal, AlreadyInMempool, SameNonWitnessData, MempoolConflict, AlreadyKnown, MissingOrSpent, NonBip68Final, PrematureSpend, InputValues, InBelowOut, FeeOutOfRange, MinRelayFee}
 use Rattle.gate_standard.specs.Amounts.{max_money, amount, required_fee}
 use Rattle.gate_standard.specs.Order.{Rule, first_failing}
-use Rattle.gate_standard.specs.Rules.{transaction_rules}
+use Rattle.gate_standard.specs.Rules.{transaction_rules, standard_rules}
 use Rattle.gate_chain.specs.History.{History}
 use Rattle.gate_chain.specs.Coins.{coin_of, opened_with_of}
+use Rattle.gate_chain.specs.Times.{tip_of}
+use Rattle.gate_locks.specs.Finality.{is_final_at}
+use Rattle.gate_locks.specs.Locks.{median_at, sequence_locks_met_by}
 use Rattle.gate_admit.specs.declared.grant.Grant.{Grant}
 use Rattle.gate_admit.specs.declared.verdicts.Verdicts.{Verdicts}
 use Rattle.gate_admit.specs.Pool.{Admitted, spends, entry_by_txid, entry_by_wtxid}
 use Rattle.gate_admit.specs.Coins.{misses_coin, coins_of}
+use Rattle.gate_admit.specs.Reports.{reported, sigop_cost, vsize_of, report_rules, verdict_rules}
+
+-- ---- A2 to A19: the transaction alone
+
+unfoldable pub alone_rules : Tx → List Rule
+alone_rules tx = transaction_rules tx ++ standard_rules tx
+
+-- ---- A20: the locktime
+
+unfoldable pub final_rules : History → Tx → List Rule
+final_rules chain tx = (NonFinal, not (is_final_at tx (tip_of chain + 1) (median_at chain (tip_of chain)))) ∷ []
 
 -- ---- A21 to A23: the transaction beside the entries of the pool
 
@@ -46,20 +59,35 @@ coin_rules chain entries tx =
     ∷ (MissingOrSpent, misses_coin chain entries tx.inputs)
     ∷ []
 
--- ---- A28: the value of each coin, and the sum up to it
+-- ---- A26: relative locks
+
+abbrev pub heights_of : List Coin → List ℕ
+heights_of coins = map (λ (c : Coin). c.height) coins
+
+unfoldable pub lock_rules : History → List Coin → Tx → List Rule
+lock_rules chain coins tx = (NonBip68Final, not (sequence_locks_met_by tx (heights_of coins) chain)) ∷ []
+
+-- ---- A27 and A28: the depth of a coinbase's coin, the value of each coin, and the sum up to it
+
+-- a coin of a coinbase that stands less than 100 blocks below the next
+abbrev pub is_immature : ℕ → Coin → Bool
+is_immature next_height coin = coin.coinbase && nat_lt (next_height - coin.height) 100
 
 abbrev pub is_outside : ℤ → Bool
 is_outside (pos n) = nat_lt max_money n
 is_outside (negsuc n) = true
 
 -- the rules on one coin, where those before it sum to this
-abbrev pub value_rules : ℕ → Coin → List Rule
-value_rules sum coin = (InputValues, is_outside coin.value || nat_lt max_money (sum + amount coin.value)) ∷ []
+abbrev pub rules_of_coin : ℕ → ℕ → Coin → List Rule
+rules_of_coin next_height sum coin =
+    (PrematureSpend, is_immature next_height coin)
+    ∷ (InputValues, is_outside coin.value || nat_lt max_money (sum + amount coin.value))
+    ∷ []
 
 -- input by input
-unfoldable pub values_rules : ℕ → List Coin → List Rule
-values_rules sum [] = []
-values_rules sum (coin ∷ coins) = value_rules sum coin ++ values_rules (sum + amount coin.value) coins
+unfoldable pub value_rules : ℕ → ℕ → List Coin → List Rule
+value_rules next_height sum [] = []
+value_rules next_height sum (coin ∷ coins) = rules_of_coin next_height sum coin ++ value_rules next_height (sum + amount coin.value) coins
 
 -- ---- A29, A30 and A35: what is paid
 
@@ -69,10 +97,6 @@ coins_value coins = sum_by (λ (c : Coin). amount c.value) coins
 
 abbrev pub outputs_value : Tx → ℕ
 outputs_value tx = sum_by (λ (o : TxOut). amount o.value) tx.outputs
-
--- the size in virtual bytes: a quarter of the weight, rounded up
-abbrev pub vsize_of : Tx → ℕ
-vsize_of tx = (weight_of tx + 3) / 4
 
 -- what is asked of every transaction, in satoshi per 1,000 virtual bytes
 abbrev pub min_relay_rate : ℕ
@@ -94,22 +118,32 @@ fee_rules floor fee vsize = (MinRelayFee, nat_lt fee (required_fee min_relay_rat
 unfoldable pub admission_rules : History → List Admitted → ℕ → Tx → Verdicts → List Rule
 admission_rules chain entries floor tx verdicts =
     let coins = coins_of chain entries tx.inputs in
-    transaction_rules tx
+    let answers = reported tx.inputs coins in
+    alone_rules tx
+    ++ (final_rules chain tx
     ++ (pool_rules entries tx
     ++ (coin_rules chain entries tx
-    ++ (values_rules 0 coins
+    ++ (lock_rules chain coins tx
+    ++ (value_rules (tip_of chain + 1) 0 coins
     ++ (balance_rules (coins_value coins) (outputs_value tx)
-    ++ fee_rules floor (coins_value coins - outputs_value tx) (vsize_of tx)))))
+    ++ (report_rules answers tx
+    ++ (fee_rules floor (coins_value coins - outputs_value tx) (vsize_of (sigop_cost answers tx.outputs) tx)
+    ++ verdict_rules verdicts (wtxid_of tx) 0 tx.inputs))))))))
 
 -- what a grant says of a transaction
 unfoldable pub grant_of : History → List Admitted → Tx → Grant
 grant_of chain entries tx =
-    record { fee = coins_value (coins_of chain entries tx.inputs) - outputs_value tx; vsize = vsize_of tx; replaced = 0 }
+    let coins = coins_of chain entries tx.inputs in
+    record {
+      fee = coins_value coins - outputs_value tx;
+      vsize = vsize_of (sigop_cost (reported tx.inputs coins) tx.outputs) tx;
+      replaced = 0;
+    }
 
--- the denial by the rules on a transaction alone, which A1 begins: there is one
+-- the denial by A1, that there is no transaction, or by the rules on a transaction alone
 abbrev pub first_denial : Option Tx → Option Denial
 first_denial None = Some Decode
-first_denial (Some tx) = first_failing (transaction_rules tx)
+first_denial (Some tx) = first_failing (alone_rules tx)
 
 abbrev pub denied_or : Option Denial → Grant → Result Grant Denial
 denied_or (Some denial) grant = Err denial

@@ -5,20 +5,26 @@
 #![tactic(auto)]
 
 mod coins;
+mod conflicts;
 mod entry;
 mod floor;
 mod grant;
 mod identified;
 mod judging;
 mod law;
+mod locking;
+mod paying;
 mod pool;
 mod prepared;
+mod reporting;
 mod submission;
 mod verdicts;
+mod verifying;
 
 pub use entry::Entry;
 pub use floor::Floor;
 pub use gate_chain::{Chain, OpenFault, OpeningCoin};
+pub use gate_inputs::{InputReport, Piece, report};
 pub use grant::Grant;
 pub use judging::judge;
 pub use law::{decisions_follow_the_order, pools_stay_good};
@@ -27,5 +33,7 @@ pub use prepared::Prepared;
 pub use submission::submit;
 pub use verdicts::{Verdict, VerdictRow, Verdicts};
 
+#[cfg(test)]
+mod fixture;
 #[cfg(test)]
 mod tests;

@@ -73,7 +73,7 @@ impl Pool {
     pub fn listing(&self, alloc: Global) -> Result<Kept<Txid>, Memory>
         ensures { IfOk result (λ txids. txids ≡ listing_of self.now) }
     {
-        let mut txids = Vec::with_capacity(alloc, self.entries.len())?;
+        let mut txids = Vec::with_capacity(alloc, self.count())?;
         for entry in self.entries.as_slice() {
             txids.push(entry.txid())?;
         }

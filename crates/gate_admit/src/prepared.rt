@@ -2,11 +2,13 @@ ghost use Rattle.std.specs.Prelude.{◌≡◌, None, IfOk};
 ghost use Rattle.std.specs.Option.{option_map, option_copied};
 ghost use Rattle.gate_tx.specs.Reading.{decoded};
 ghost use Rattle.gate_tx.specs.Ids.{txid_of, wtxid_of};
-ghost use Rattle.gate_admit.specs.Rules.{first_denial};
+ghost use Rattle.gate_standard.specs.Order.{first_failing};
+ghost use Rattle.gate_admit.specs.Rules.{alone_rules, first_denial};
 
 use crate::identified::Identified;
-use gate_bytes::{Copied, Exact, Memory};
-use gate_standard::{Denial, check_transaction};
+use gate_bytes::{Copied, Exact, Kept, Memory};
+use gate_inputs::InputReport;
+use gate_standard::{Denial, check_transaction, is_standard};
 use gate_tx::{Transaction, TxFault, Txid, Wtxid, read_tx};
 use std::alloc::Global;
 use std::marker::Model;
@@ -16,6 +18,7 @@ use std::marker::Model;
 pub struct Prepared {
     identified: Option<Identified>,
     denial: Option<Denial>,
+    reports: Option<Kept<InputReport>>,
 }
 
 impl Model for Prepared {
@@ -31,6 +34,17 @@ impl Model for Prepared {
     ghost invariant = { λ p. p.denial ≡ first_denial p.identified };
 }
 
+/// The first of A2 to A19 that fails.
+#[tactic(auto, using(gate_standard::proofs::OrderLemmas::first_failing_append), unfolding(crate::specs::Rules::alone_rules))]
+fn check_alone(alloc: Global, tx: &Transaction) -> Result<Option<Denial>, Memory>
+    ensures { IfOk result (λ found. found ≡ first_failing (alone_rules tx.now)) }
+{
+    match check_transaction(alloc, tx)? {
+        Some(denial) => Ok(Some(denial)),
+        None => Ok(is_standard(tx)),
+    }
+}
+
 impl Prepared {
     /// The submission of these bytes.
     pub fn new(alloc: Global, bytes: &[u8]) -> Result<Prepared, Memory>
@@ -38,10 +52,11 @@ impl Prepared {
     {
         match read_tx(alloc, bytes) {
             Ok(transaction) => {
-                let denial = check_transaction(alloc, &transaction)?;
+                let denial = check_alone(alloc, &transaction)?;
                 Ok(Prepared {
                     identified: Some(Identified::new(alloc, transaction)?),
                     denial,
+                    reports: None,
                 })
             }
             Err(TxFault::Memory) => Err(Memory),
@@ -56,6 +71,31 @@ impl Prepared {
         Prepared {
             identified: None,
             denial: Some(Denial::Decode),
+            reports: None,
+        }
+    }
+
+    /// The same with reports on its inputs, which were made beforehand: the first on input 0, and so on. One that is
+    /// missing or is that of another input or coin is made where it is needed.
+    pub fn with_reports(self, reports: Kept<InputReport>) -> Prepared
+        ensures { result ≡ self }
+    {
+        let Prepared {
+            identified,
+            denial,
+            reports: _replaced,
+        } = self;
+        Prepared {
+            identified,
+            denial,
+            reports: Some(reports),
+        }
+    }
+
+    pub(crate) fn reports(&self) -> &[InputReport] {
+        match &self.reports {
+            Some(reports) => reports.as_slice(),
+            None => &[],
         }
     }
 
@@ -105,6 +145,7 @@ impl Copied for Prepared {
         Ok(Prepared {
             identified: self.identified.copy(alloc)?,
             denial: self.denial,
+            reports: self.reports.copy(alloc)?,
         })
     }
 }

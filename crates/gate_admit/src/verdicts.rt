@@ -1,4 +1,5 @@
 //! Verdicts on scripts, handed in by whoever runs them.
+
 use gate_bytes::{Copied, Kept, Memory};
 use gate_tx::Wtxid;
 use std::alloc::Global;
@@ -43,5 +44,31 @@ impl Copied for Verdicts {
             rows: self.rows.copy(alloc)?,
             other: self.other,
         })
+    }
+}
+
+impl Verdicts {
+    ghost use Rattle.std.specs.Prelude.{◌≡◌};
+    ghost use Rattle.std.specs.Option.{option_copied};
+    ghost use Rattle.gate_admit.specs.Reports.{row_on, verdict_of};
+
+    /// The first row on an input.
+    fn row(&self, wtxid: &Wtxid, input: u32) -> Option<&VerdictRow>
+        ensures { option_copied result ≡ row_on self.now.rows wtxid.now input }
+    {
+        self.rows
+            .as_slice()
+            .iter()
+            .find(|row| row.wtxid == *wtxid && row.input == input)
+    }
+
+    /// The verdict on an input: that of its first row, else the one for all others.
+    pub fn on(&self, wtxid: &Wtxid, input: u32) -> Option<Verdict>
+        ensures { result ≡ verdict_of self.now wtxid.now input }
+    {
+        match self.row(wtxid, input) {
+            Some(row) => Some(row.verdict),
+            None => self.other,
+        }
     }
 }

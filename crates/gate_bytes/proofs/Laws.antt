@@ -1,14 +1,12 @@
 -- The laws of numbers and counts.
-use Rattle.std.proofs.Common.{◌≡◌, ◌⊎◌, ℕ, ◌^◌, ◌<◌, ◌≤◌, ltb, cond, eqb, List, [], ◌∷◌, ◌++◌, Result, Ok, Err, Option, Some, None, refl, sym, ap, ◌∙◌, subst, arith, inl, inr}
-use Rattle.std.specs.Prelude.{FitsSigned}
-use Rattle.std.specs.Int.{w32, w64, cast_unsigned}
+use Rattle.std.proofs.Common.{◌≡◌, ℕ, ◌^◌, ◌<◌, ltb, cond, eqb, List, [], ◌∷◌, ◌++◌, Result, Ok, Err, refl, sym, ap, ◌∙◌, arith, inl, inr}
+use Rattle.std.specs.Int.{w32, w64}
 use Rattle.std.proofs.lemmas.Bool.{lt-ltb, le-ltb, cases_lt as split}
 use Rattle.std.proofs.lemmas.List.{append-nil}
-use Rattle.byteorder.specs.Endian.{little_bytes}
 use Rattle.gate_bytes.specs.declared.fault.ByteFault.{ByteFault}
 use Rattle.gate_bytes.specs.declared.fault.ByteFault.TheVariants.{Short}
 use Rattle.gate_bytes.specs.Compact.{compact}
-use Rattle.gate_bytes.specs.Reading.{number_at, compact_at}
+use Rattle.gate_bytes.specs.Reading.{number_at}
 use Rattle.gate_bytes.specs.Laws.{IsWidth, NumbersAreRead, SignedNumbersAreRead, CountsAreRead, CountsStandApart}
 use Rattle.gate_bytes.proofs.Numbers.{ok_is, IsWide, wide1, wide2, wide4, wide8, number_takes, number_again}
 use Rattle.gate_bytes.proofs.Signed.{signed4, signed8, signed_takes, signed_again}

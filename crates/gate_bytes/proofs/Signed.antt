@@ -1,5 +1,5 @@
 -- Numbers in two's complement: what is read is what was written, and no other bytes read as it.
-use Rattle.std.proofs.Common.{◌≡◌, ℕ, ℤ, ◌^◌, ◌<◌, ltb, List, ◌++◌, length, drop, Result, Ok, Err, ap, subst, ◌∙◌, arith, refl, SFits}
+use Rattle.std.proofs.Common.{◌≡◌, ℕ, ℤ, ◌^◌, ◌<◌, ltb, List, ◌++◌, length, drop, Result, Ok, ap, subst, ◌∙◌, arith, refl, SFits}
 use Rattle.std.specs.Int.{Width, w32, w64, cast_signed, cast_unsigned}
 use Rattle.std.proofs.Math.Facts.{sfits_to_z, Fits-bits}
 use Rattle.std.proofs.lemmas.Int.{ints, to_z-of_z, of_z-to_z}

@@ -5,3 +5,4 @@ pub mod Times
 pub mod Coins
 pub mod Opening
 pub mod Keeping
+pub mod Examples

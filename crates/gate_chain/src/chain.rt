@@ -39,11 +39,7 @@ impl Chain {
     /// Opens a chain of these coins and of the times of its blocks, from height 0 on. A fault names the first thing that is
     /// wrong: the number of times, and then of each coin in turn its value, its script, its height and its outpoint.
     #[tactic(auto, unfolding(crate::specs::Opening::open_fault))]
-    pub fn open(
-        alloc: Global,
-        coins: Vec<OpeningCoin>,
-        times: Vec<u32>,
-    ) -> Result<Chain, OpenFault>
+    pub fn open(alloc: Global, coins: Vec<OpeningCoin>, times: Vec<u32>) -> Result<Chain, OpenFault>
         ensures opened { IfOk result (λ chain. chain ≡ opened coins.items times.items) }
         ensures fault { IsRefusedFor (open_fault coins.items times.items) result }
     {

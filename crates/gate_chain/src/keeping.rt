@@ -124,11 +124,7 @@ impl Copied for Coins {
 }
 
 /// Keeps the coins of an opening, or names the first fault of one.
-pub(crate) fn keep(
-    alloc: Global,
-    opening: Vec<OpeningCoin>,
-    tip: u32,
-) -> Result<Coins, OpenFault>
+pub(crate) fn keep(alloc: Global, opening: Vec<OpeningCoin>, tip: u32) -> Result<Coins, OpenFault>
     ensures ok { IfOk result (λ coins. coins ≡ opening.items) }
     ensures fault { IsRefusedFor (coins_fault tip [] opening.items) result }
 {

@@ -6,6 +6,7 @@
 
 mod block;
 mod chain;
+mod examples;
 mod fault;
 mod keeping;
 mod median;

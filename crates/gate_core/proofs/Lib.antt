@@ -1,5 +1,6 @@
 mod Dotted
 pub mod Keeping
 mod Listings
+mod Order
 mod Peers
 pub mod Running

@@ -1,5 +1,5 @@
 -- What the listings of a run are.
-use Rattle.std.proofs.Common.{◌≡◌, ℕ, zero, suc, List, [], ◌∷◌, take, slice_get, Option, Some, None, Result, Ok, Err}
+use Rattle.std.proofs.Common.{◌≡◌, ℕ, zero, suc, List, [], ◌∷◌, Option, Some, None, Result, Ok, Err}
 use Rattle.gate_tx.specs.Tx.{Tx}
 use Rattle.gate_standard.specs.declared.Denial.{Denial}
 use Rattle.gate_admit.specs.declared.Grant.{Grant}
@@ -13,7 +13,7 @@ use Rattle.gate_core.specs.declared.reply.Reply.TheVariants.{Listing}
 use Rattle.gate_core.specs.World.{World}
 use Rattle.gate_core.specs.Access.{first_refusal, peer_rules}
 use Rattle.gate_core.specs.Steps.{decided, served, answered, step_of}
-use Rattle.gate_core.specs.Runs.{run_of, ListsThePool}
+use Rattle.gate_core.specs.Runs.{ListsThePool}
 
 decided_lists : (w : World) (peer : ℕ) (transaction : Option Tx) (decision : Result Grant Denial) (txids : List (List ℕ)) → (decided w peer transaction decision).0 ≡ Listing txids → ⊥
 decided_lists w peer None decision txids h = cc

@@ -1,5 +1,5 @@
 -- Access: the rules on an event's peer in the written order, and the refusal of the first that fails.
-use Rattle.std.specs.Prelude.{ℕ, Bool, false, not, is_some, is_none, if◌then◌else◌, List, [], ◌∷◌, ◌++◌, Option, Some, None}
+use Rattle.std.specs.Prelude.{◌≡◌, ℕ, Bool, true, false, not, is_some, is_none, if◌then◌else◌, List, [], ◌∷◌, ◌++◌, Option, Some, None}
 use Rattle.std.specs.Option.{option_map_or}
 use Rattle.gate_tx.specs.Tx.{Tx}
 use Rattle.gate_tx.specs.Ids.{wtxid_of}
@@ -46,3 +46,16 @@ peer_rules w (Enter peer address) = (PeerKnown, is_known w.sessions peer) ∷ []
 peer_rules w (Leave peer) = session_rules w.sessions peer
 peer_rules w (Submit peer now transaction) = submission_rules w peer transaction
 peer_rules w (Mempool peer) = listing_rules w peer
+
+abbrev pub NoneFails : List PeerRule → Type 0
+NoneFails [] = Unit {0}
+NoneFails (rule ∷ rules) = (rule.1 ≡ false) × NoneFails rules
+
+-- what a refusal, or none, says of the rules
+abbrev pub Refuses : List PeerRule → Option Refusal → Type 0
+Refuses rules None = NoneFails rules
+Refuses rules (Some refusal) = (before : List PeerRule) × (after : List PeerRule) × (rules ≡ before ++ ((refusal, true) ∷ after)) × NoneFails before
+
+-- a refusal names a rule that fails, with none failing before it; without one no rule fails
+abbrev pub AccessFollowsTheOrder : Type 0
+AccessFollowsTheOrder = (w : World) (event : Event) → Refuses (peer_rules w event) (first_refusal (peer_rules w event))

@@ -1,5 +1,5 @@
 -- What holds of every state, and the premise that transactions are told apart by their ids.
-use Rattle.std.specs.Prelude.{◌≡◌, ℕ, List, [], ◌∷◌, ◌++◌, map, Option, Some, None}
+use Rattle.std.specs.Prelude.{◌≡◌, List, [], ◌++◌, map}
 use Rattle.std.specs.Option.{option_to_list}
 use Rattle.gate_tx.specs.Tx.{Tx}
 use Rattle.gate_admit.specs.Pool.{Admitted}

@@ -7,3 +7,4 @@ pub mod Access
 pub mod Steps
 pub mod Good
 pub mod Runs
+pub mod Examples

@@ -1,8 +1,7 @@
 -- Runs: the step over a list of events, and what holds after every one of them.
-use Rattle.std.specs.Prelude.{◌≡◌, ◌≢◌, ℕ, List, [], ◌∷◌, ◌++◌, take, slice_get, Option, Some}
+use Rattle.std.specs.Prelude.{◌≡◌, ◌≢◌, ℕ, List, [], ◌∷◌, ◌++◌, take, slice_get, Some}
 use Rattle.std.specs.List.{flat_map, AllPairs}
 use Rattle.gate_tx.specs.declared.OutPoint.{OutPoint}
-use Rattle.gate_tx.specs.Tx.{Tx}
 use Rattle.gate_admit.specs.Pool.{Admitted, spent_by, listing_of}
 use Rattle.gate_admit.specs.Good.{AreApart}
 use Rattle.gate_core.specs.declared.event.Event.{Event}

@@ -1,5 +1,5 @@
 -- The sessions of peers.
-use Rattle.std.specs.Prelude.{ℕ, Bool, true, false, ◌==◌, List, [], ◌∷◌, find, Option, if◌then◌else◌}
+use Rattle.std.specs.Prelude.{ℕ, Bool, false, ◌==◌, List, [], ◌∷◌, find, Option, if◌then◌else◌}
 
 -- a peer by its number, and whether its session is open
 pub record Session : Type 0 where

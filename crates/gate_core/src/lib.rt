@@ -15,7 +15,9 @@ mod state;
 
 pub use address::Address;
 pub use event::Event;
-pub use laws::{addresses_are_dotted, runs_keep_the_pool_sound, steps_give_the_run};
+pub use laws::{
+    access_follows_the_order, addresses_are_dotted, runs_keep_the_pool_sound, steps_give_the_run,
+};
 pub use opening::Opening;
 pub use refusal::{Refusal, Then};
 pub use reply::Reply;

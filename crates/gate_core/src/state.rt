@@ -65,13 +65,8 @@ impl State {
             verdicts,
             bloom,
         } = opening;
-        let chain = match Chain::open(alloc, coins.into_vec(), times.into_vec()) {
-            Ok(chain) => chain,
-            Err(fault) => return Err(fault),
-        };
-        let Ok(pool) = Pool::new(alloc) else {
-            return Err(OpenFault::Memory);
-        };
+        let chain = Chain::open(alloc, coins.into_vec(), times.into_vec())?;
+        let pool = Pool::new(alloc)?;
         Ok(State {
             chain,
             pool,

@@ -1,4 +1,6 @@
 //! Worked sessions: a chain of 101 blocks with one coin of 100,000 satoshi.
+ghost use Rattle.gate_core.specs.Examples.{SmallSteps};
+
 use super::*;
 use gate_admit::{OpenFault, OpeningCoin, Prepared, Verdict, Verdicts};
 use gate_bytes::{Copied, Kept, Memory};
@@ -59,116 +61,103 @@ fn opening(alloc: Global, blocks: u32, bloom: bool) -> Result<Opening, Memory> {
     })
 }
 
-fn enter(peer: u64) -> Result<Event, Fail> {
-    let address = Address::parse("192.0.2.1").ok_or("no address")?;
-    Ok(Event::Enter { peer, address })
+#[derive(Clone, Copy)]
+enum Asked<'a> {
+    Enter,
+    Leave,
+    Submit(&'a [u8]),
+    Mempool,
 }
 
-fn tx(alloc: Global, peer: u64, bytes: &[u8]) -> Result<Event, Memory> {
-    Ok(Event::Tx {
-        peer,
-        now: 5000,
-        transaction: Prepared::new(alloc, bytes)?,
-    })
+fn event(alloc: Global, peer: u64, asked: Asked<'_>) -> Result<Event, Fail> {
+    match asked {
+        Asked::Enter => Ok(Event::Enter {
+            peer,
+            address: Address::parse("192.0.2.1").ok_or("no address")?,
+        }),
+        Asked::Leave => Ok(Event::Leave { peer }),
+        Asked::Submit(bytes) => Ok(Event::Tx {
+            peer,
+            now: 5000,
+            transaction: Prepared::new(alloc, bytes)?,
+        }),
+        Asked::Mempool => Ok(Event::Mempool { peer }),
+    }
 }
 
-fn line(alloc: Global, state: &mut State, event: Event) -> Result<String, Fail> {
-    let reply = state.step(alloc, &event)?;
-    Ok(reply.text(alloc)?)
+/// The lines of the replies from an opened state.
+fn lines(alloc: Global, bloom: bool, all: &[(u64, Asked<'_>)]) -> Result<String, Fail> {
+    let mut state = State::open(alloc, opening(alloc, 101, bloom)?)?;
+    let mut text = String::new(alloc);
+    for (peer, asked) in all {
+        let reply = state.step(alloc, &event(alloc, *peer, *asked)?)?;
+        text.push_str(reply.text(alloc)?.as_str())?;
+        text.push_str("\n")?;
+    }
+    Ok(text)
 }
 
 #[test]
 fn submission_and_listing(rt: HostRuntime) -> Result<(), Fail> {
     let alloc = rt.alloc();
     let bytes = spend(alloc, 99_890)?;
-    let mut state = State::open(alloc, opening(alloc, 101, true)?)?;
-    assert_eq!(rt;
-        line(alloc, &mut state, enter(1)?)?.as_str(),
-        "entered none"
-    );
-    let wants = [
-        "admitted 5ab0eb89aa597c4c79ebb7cd83e361997309eb27e186bc95d794fe37e6453fc2 fee 110 vsize 110 replaced 0",
-        "denied P5 keep txn-already-in-mempool",
+    let submit = Asked::Submit(bytes.as_slice());
+    let asked = [
+        (1, Asked::Enter),
+        (1, submit),
+        (1, submit),
+        (1, Asked::Mempool),
     ];
-    for want in wants {
-        let event = tx(alloc, 1, bytes.as_slice())?;
-        assert_eq!(rt; line(alloc, &mut state, event)?.as_str(), want);
-    }
-    let listed = line(alloc, &mut state, Event::Mempool { peer: 1 })?;
+    let text = lines(alloc, true, &asked)?;
     assert_eq!(rt;
-        listed.as_str(),
-        "listing 1 5ab0eb89aa597c4c79ebb7cd83e361997309eb27e186bc95d794fe37e6453fc2"
+        text.as_str(),
+        "entered none\n\
+         admitted 5ab0eb89aa597c4c79ebb7cd83e361997309eb27e186bc95d794fe37e6453fc2 fee 110 vsize 110 replaced 0\n\
+         denied P5 keep txn-already-in-mempool\n\
+         listing 1 5ab0eb89aa597c4c79ebb7cd83e361997309eb27e186bc95d794fe37e6453fc2\n"
     );
     Ok(())
 }
 
 #[test]
 fn entering_and_leaving(rt: HostRuntime) -> Result<(), Fail> {
-    let alloc = rt.alloc();
-    let mut state = State::open(alloc, opening(alloc, 101, false)?)?;
-    let unknown = "denied P1 keep peer-unknown";
+    let asked = [
+        (1, Asked::Leave),
+        (1, Asked::Submit(&[0])),
+        (1, Asked::Enter),
+        (1, Asked::Enter),
+        (1, Asked::Leave),
+        (1, Asked::Leave),
+        (1, Asked::Submit(&[0])),
+        (1, Asked::Enter),
+    ];
+    let text = lines(rt.alloc(), false, &asked)?;
     assert_eq!(rt;
-        line(alloc, &mut state, Event::Leave { peer: 1 })?.as_str(),
-        unknown
+        text.as_str(),
+        "denied P1 keep peer-unknown\ndenied P1 keep peer-unknown\nentered none\n\
+         denied P3 keep peer-known\nleft\ndenied P2 keep peer-closed\n\
+         denied P2 keep peer-closed\ndenied P3 keep peer-known\n"
     );
-    assert_eq!(rt;
-        line(alloc, &mut state, tx(alloc, 1, &[0])?)?.as_str(),
-        unknown
-    );
-    assert_eq!(rt;
-        line(alloc, &mut state, enter(1)?)?.as_str(),
-        "entered none"
-    );
-    let known = "denied P3 keep peer-known";
-    assert_eq!(rt; line(alloc, &mut state, enter(1)?)?.as_str(), known);
-    assert_eq!(rt;
-        line(alloc, &mut state, Event::Leave { peer: 1 })?.as_str(),
-        "left"
-    );
-    let closed = "denied P2 keep peer-closed";
-    assert_eq!(rt;
-        line(alloc, &mut state, Event::Leave { peer: 1 })?.as_str(),
-        closed
-    );
-    assert_eq!(rt;
-        line(alloc, &mut state, tx(alloc, 1, &[0])?)?.as_str(),
-        closed
-    );
-    assert_eq!(rt; line(alloc, &mut state, enter(1)?)?.as_str(), known);
     Ok(())
 }
 
 #[test]
 fn refusals_that_close(rt: HostRuntime) -> Result<(), Fail> {
-    let alloc = rt.alloc();
-    let mut state = State::open(alloc, opening(alloc, 101, false)?)?;
-    let closed = "denied P2 keep peer-closed";
+    let asked = [
+        (1, Asked::Enter),
+        (1, Asked::Mempool),
+        (1, Asked::Mempool),
+        (2, Asked::Enter),
+        (2, Asked::Submit(&[2, 0, 0, 0])),
+        (2, Asked::Submit(&[1, 0, 0, 0, 0, 0, 0, 0, 0, 0])),
+        (2, Asked::Submit(&[0])),
+    ];
+    let text = lines(rt.alloc(), false, &asked)?;
     assert_eq!(rt;
-        line(alloc, &mut state, enter(1)?)?.as_str(),
-        "entered none"
-    );
-    let listed = line(alloc, &mut state, Event::Mempool { peer: 1 })?;
-    assert_eq!(rt; listed.as_str(), "denied P6 close mempool-no-bloom");
-    assert_eq!(rt;
-        line(alloc, &mut state, Event::Mempool { peer: 1 })?.as_str(),
-        closed
-    );
-
-    assert_eq!(rt;
-        line(alloc, &mut state, enter(2)?)?.as_str(),
-        "entered none"
-    );
-    let cut = line(alloc, &mut state, tx(alloc, 2, &[2, 0, 0, 0])?)?;
-    assert_eq!(rt; cut.as_str(), "denied A1 keep tx-decode");
-    let empty = line(
-        alloc,
-        &mut state,
-        tx(alloc, 2, &[1, 0, 0, 0, 0, 0, 0, 0, 0, 0])?,
-    )?;
-    assert_eq!(rt; empty.as_str(), "denied A2 close bad-txns-vin-empty");
-    assert_eq!(rt;
-        line(alloc, &mut state, tx(alloc, 2, &[0])?)?.as_str(),
-        closed
+        text.as_str(),
+        "entered none\ndenied P6 close mempool-no-bloom\ndenied P2 keep peer-closed\n\
+         entered none\ndenied A1 keep tx-decode\ndenied A2 close bad-txns-vin-empty\n\
+         denied P2 keep peer-closed\n"
     );
     Ok(())
 }
@@ -229,19 +218,32 @@ fn opening_faults(rt: HostRuntime) -> Result<(), Fail> {
 }
 
 #[test]
-fn copies_are_equal(rt: HostRuntime) -> Result<(), Fail> {
+fn copied_events(rt: HostRuntime) -> Result<(), Fail> {
     let alloc = rt.alloc();
     let bytes = spend(alloc, 99_890)?;
-    let event = tx(alloc, 7, bytes.as_slice())?;
-    assert!(rt; event.copy(alloc)? == event);
-    assert!(rt; event != enter(7)?);
-    assert_eq!(rt; event.peer(), 7);
-    let mut state = State::open(alloc, opening(alloc, 101, true)?)?;
-    let _entered = state.step(alloc, &enter(7)?)?;
-    let admitted = state.step(alloc, &event)?;
-    let listing = state.step(alloc, &Event::Mempool { peer: 7 })?;
-    assert!(rt; admitted.copy(alloc)? == admitted);
-    assert!(rt; listing.copy(alloc)? == listing);
-    assert!(rt; admitted != listing);
+    let submit = event(alloc, 7, Asked::Submit(bytes.as_slice()))?;
+    assert_eq!(rt; submit.peer(), 7);
+    assert!(rt; submit.copy(alloc)? == submit);
+    assert!(rt; submit != event(alloc, 7, Asked::Leave)?);
     Ok(())
+}
+
+#[test]
+fn copied_replies(rt: HostRuntime) -> Result<(), Fail> {
+    let alloc = rt.alloc();
+    let txid = Txid::new([7; 32]);
+    let listing = Reply::Listing(Kept::from_vec(Vec::from_slice(alloc, &[txid])?));
+    assert!(rt; listing.copy(alloc)? == listing);
+    assert!(rt; listing != Reply::Left);
+    Ok(())
+}
+
+/// The definition of the step on small states, by computation.
+fn small_steps()
+    ensures { SmallSteps }
+{}
+
+#[test]
+fn steps_by_definition() {
+    small_steps();
 }

@@ -2,3 +2,5 @@ pub mod Steps
 pub mod Keys
 pub mod StackItems
 pub mod Operations
+pub mod Spelling
+pub mod Patterns

@@ -43,29 +43,39 @@ no : {A : Type 0} (b : Bool) (x y : A) → b ≡ false → cond b x y ≡ y
 no b x y e = ap (λ t. cond t x y) e
 
 -- what an opcode of each kind is
-instruction_at-plain : (opcode : ℕ) (rest : List ℕ) → is_push opcode ≡ false → instruction_at opcode rest ≡ Plain opcode
+pub instruction_at-plain : (opcode : ℕ) (rest : List ℕ) → is_push opcode ≡ false → instruction_at opcode rest ≡ Plain opcode
 instruction_at-plain opcode rest plain = no (is_push opcode) _ _ plain
 
-extent-plain : (opcode : ℕ) (rest : List ℕ) → is_push opcode ≡ false → extent opcode rest ≡ 0
+pub extent-plain : (opcode : ℕ) (rest : List ℕ) → is_push opcode ≡ false → extent opcode rest ≡ 0
 extent-plain opcode rest plain = no (is_push opcode) _ _ plain
 
-instruction_at-push : (opcode : ℕ) (rest bytes left : List ℕ) → is_push opcode ≡ true → PushesWhole opcode rest bytes left → instruction_at opcode rest ≡ Push opcode bytes
+pub instruction_at-push : (opcode : ℕ) (rest bytes left : List ℕ) → is_push opcode ≡ true → PushesWhole opcode rest bytes left → instruction_at opcode rest ≡ Push opcode bytes
 instruction_at-push opcode rest bytes left push whole =
     let fits : ltb (length rest) (extent opcode rest) ≡ false = grind (arith, nat_tests, whole.fits) in
     yes (is_push opcode) _ _ push ∙ no (ltb (length rest) (extent opcode rest)) _ _ fits ∙ ap (λ pushed. Push opcode pushed) (sym whole.pushed)
 
-instruction_at-truncated : (opcode : ℕ) (rest : List ℕ) → is_push opcode ≡ true → length rest < extent opcode rest → instruction_at opcode rest ≡ Truncated opcode
+pub instruction_at-truncated : (opcode : ℕ) (rest : List ℕ) → is_push opcode ≡ true → length rest < extent opcode rest → instruction_at opcode rest ≡ Truncated opcode
 instruction_at-truncated opcode rest push short =
     let past : ltb (length rest) (extent opcode rest) ≡ true = grind (arith, nat_tests) in
     yes (is_push opcode) _ _ push ∙ yes (ltb (length rest) (extent opcode rest)) _ _ past
 
+pub plain-first : (opcode : ℕ) (rest : List ℕ) → is_push opcode ≡ false → instructions (opcode ∷ rest) ≡ Plain opcode ∷ instructions rest
+plain-first opcode rest plain =
+    instructions-cons opcode rest
+    ∙ ap (λ first. first ∷ instructions (drop (extent opcode rest) rest)) (instruction_at-plain opcode rest plain)
+    ∙ ap (λ n. Plain opcode ∷ instructions (drop n rest)) (extent-plain opcode rest plain)
+
+pub push-first : (opcode : ℕ) (rest bytes left : List ℕ) → is_push opcode ≡ true → PushesWhole opcode rest bytes left → instructions (opcode ∷ rest) ≡ Push opcode bytes ∷ instructions left
+push-first opcode rest bytes left push whole =
+    instructions-cons opcode rest
+    ∙ ap (λ first. first ∷ instructions (drop (extent opcode rest) rest)) (instruction_at-push opcode rest bytes left push whole)
+    ∙ ap (λ after. Push opcode bytes ∷ instructions after) (sym whole.follows)
+
 pub read-plain : (script : List ℕ) (opcode : ℕ) (rest : List ℕ) → number_at 1 script ≡ Ok (opcode, rest) → is_push opcode ≡ false → instructions script ≡ Plain opcode ∷ instructions rest
-read-plain script opcode rest read plain =
-    ap instructions (number_at-one script opcode rest read) ∙ instructions-cons opcode rest ∙ ap (λ first. first ∷ instructions (drop (extent opcode rest) rest)) (instruction_at-plain opcode rest plain) ∙ ap (λ n. Plain opcode ∷ instructions (drop n rest)) (extent-plain opcode rest plain)
+read-plain script opcode rest read plain = ap instructions (number_at-one script opcode rest read) ∙ plain-first opcode rest plain
 
 pub read-push : (script : List ℕ) (opcode : ℕ) (rest bytes left : List ℕ) → number_at 1 script ≡ Ok (opcode, rest) → is_push opcode ≡ true → PushesWhole opcode rest bytes left → instructions script ≡ Push opcode bytes ∷ instructions left
-read-push script opcode rest bytes left read push whole =
-    ap instructions (number_at-one script opcode rest read) ∙ instructions-cons opcode rest ∙ ap (λ first. first ∷ instructions (drop (extent opcode rest) rest)) (instruction_at-push opcode rest bytes left push whole) ∙ ap (λ after. Push opcode bytes ∷ instructions after) (sym whole.follows)
+read-push script opcode rest bytes left read push whole = ap instructions (number_at-one script opcode rest read) ∙ push-first opcode rest bytes left push whole
 
 pub read-truncated : (script : List ℕ) (opcode : ℕ) (rest : List ℕ) → number_at 1 script ≡ Ok (opcode, rest) → is_push opcode ≡ true → length rest < extent opcode rest → instructions script ≡ Truncated opcode ∷ instructions []
 read-truncated script opcode rest read push short =

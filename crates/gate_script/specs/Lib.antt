@@ -1,4 +1,5 @@
 pub mod Instructions
+pub mod Laws
 pub mod Pushes
 pub mod Sigops
 pub mod Templates

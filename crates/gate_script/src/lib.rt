@@ -4,21 +4,22 @@
 #![tactic(auto)]
 
 mod counting;
+mod law;
 mod matching;
 mod op;
 mod opcode;
 mod public_key;
 mod pushes;
 mod reading;
-
 mod templates;
 mod witness;
 
+pub use counting::sigops;
+pub use law::{frames_are_patterns, spellings_are_read};
 pub use matching::template;
 pub use op::{Op, ops};
 pub use pushes::{is_push_only, push_stack};
 pub use reading::Ops;
-pub use counting::sigops;
 pub use templates::Template;
 pub use witness::witness_program;
 

@@ -4,7 +4,7 @@ ghost use Rattle.gate_script.specs.Instructions.{instruction_of};
 ghost use Rattle.gate_script.specs.Pushes.{is_push_only, pushes, item_of, push_stack_of};
 
 use crate::op::{Op, ops};
-use crate::opcode::{OP_0, OP_1, OP_16, OP_1NEGATE, OP_RESERVED};
+use crate::opcode::{OP_0, OP_1, OP_1NEGATE, OP_16, OP_RESERVED};
 use gate_bytes::{Kept, Memory};
 use std::alloc::Global;
 
@@ -57,7 +57,9 @@ fn item_of(alloc: Global, op: &Op) -> Result<Option<Kept<u8>>, Memory>
         Op::Push { bytes, .. } if bytes.len() <= LONGEST_ITEM => bytes.to_vec(alloc)?,
         Op::Plain(OP_0) => Vec::new(alloc),
         Op::Plain(OP_1NEGATE) => vec![in alloc; 0x81]?,
-        Op::Plain(opcode) if OP_1 <= *opcode && *opcode <= OP_16 => vec![in alloc; *opcode - OP_RESERVED]?,
+        Op::Plain(opcode) if OP_1 <= *opcode && *opcode <= OP_16 => vec![in alloc;
+            *opcode - OP_RESERVED,
+        ]?,
         _ => return Ok(None),
     };
     Ok(Some(Kept::from_vec(item)))

@@ -2,7 +2,13 @@ use crate::{Op, Template, is_push_only, ops, push_stack, sigops, template, witne
 use std::test::Fail;
 
 /// The bytes `front`, so many of `byte`, and `back`.
-fn framed(rt: &HostRuntime, front: &[u8], byte: u8, count: usize, back: &[u8]) -> Result<Vec<u8>, Fail> {
+fn framed(
+    rt: &HostRuntime,
+    front: &[u8],
+    byte: u8,
+    count: usize,
+    back: &[u8],
+) -> Result<Vec<u8>, Fail> {
     let mut script = Vec::new(rt.alloc());
     script.extend_from_slice(front)?;
     for _ in 0..count {
@@ -60,9 +66,21 @@ fn plain_templates(rt: HostRuntime) -> Result<(), Fail> {
 #[test]
 fn multisig_templates(rt: HostRuntime) -> Result<(), Fail> {
     let one = framed(&rt, &[0x51, 0x21, 2], 7, 32, &[0x51, 0xae])?;
-    assert_eq!(rt; template(one.as_slice()), Template::Multisig { required: 1, keys: 1 });
+    assert_eq!(rt;
+        template(one.as_slice()),
+        Template::Multisig {
+            required: 1,
+            keys: 1
+        }
+    );
     let pushed_by_two = framed(&rt, &[0x51, 0x4c, 0x21, 3], 7, 32, &[0x51, 0xae])?;
-    assert_eq!(rt; template(pushed_by_two.as_slice()), Template::Multisig { required: 1, keys: 1 });
+    assert_eq!(rt;
+        template(pushed_by_two.as_slice()),
+        Template::Multisig {
+            required: 1,
+            keys: 1
+        }
+    );
     let two_required = framed(&rt, &[0x52, 0x21, 2], 7, 32, &[0x51, 0xae])?;
     assert_eq!(rt; template(two_required.as_slice()), Template::Nonstandard);
     let two_counted = framed(&rt, &[0x51, 0x21, 2], 7, 32, &[0x52, 0xae])?;
@@ -93,14 +111,22 @@ fn pushed_items(rt: HostRuntime) -> Result<(), Fail> {
     }
     assert_eq!(rt; push_stack(rt.alloc(), &[0x50])?.is_none(), true);
     assert_eq!(rt; push_stack(rt.alloc(), &[])?.ok_or("no stack")?.len(), 0);
-    assert_eq!(rt; push_stack(rt.alloc(), &[0x51, 0x02, 0xaa])?.is_none(), true);
+    assert_eq!(rt;
+        push_stack(rt.alloc(), &[0x51, 0x02, 0xaa])?.is_none(),
+        true
+    );
     let most = framed(&rt, &[0x4d, 0x08, 0x02], 7, 520, &[])?;
     let stack = push_stack(rt.alloc(), most.as_slice())?.ok_or("no stack")?;
     assert_eq!(rt; stack.len(), 1);
     let more = framed(&rt, &[0x4d, 0x09, 0x02], 7, 521, &[])?;
     assert_eq!(rt; push_stack(rt.alloc(), more.as_slice())?.is_none(), true);
     let items = framed(&rt, &[], 0x51, 1000, &[])?;
-    assert_eq!(rt; push_stack(rt.alloc(), items.as_slice())?.ok_or("no stack")?.len(), 1000);
+    assert_eq!(rt;
+        push_stack(rt.alloc(), items.as_slice())?
+            .ok_or("no stack")?
+            .len(),
+        1000
+    );
     let items = framed(&rt, &[], 0x51, 1001, &[])?;
     assert_eq!(rt; push_stack(rt.alloc(), items.as_slice())?.is_none(), true);
     Ok(())
@@ -108,9 +134,23 @@ fn pushed_items(rt: HostRuntime) -> Result<(), Fail> {
 
 #[test]
 fn instructions_of_each_kind(rt: HostRuntime) {
-    let mut left = ops(&[0x02, 0xaa, 0xbb, 0x4e, 0x01, 0, 0, 0, 0xcc, 0x61, 0x4d, 0x01]);
-    assert_eq!(rt; left.next(), Some(Op::Push { opcode: 0x02, bytes: &[0xaa, 0xbb] }));
-    assert_eq!(rt; left.next(), Some(Op::Push { opcode: 0x4e, bytes: &[0xcc] }));
+    let mut left = ops(&[
+        0x02, 0xaa, 0xbb, 0x4e, 0x01, 0, 0, 0, 0xcc, 0x61, 0x4d, 0x01,
+    ]);
+    assert_eq!(rt;
+        left.next(),
+        Some(Op::Push {
+            opcode: 0x02,
+            bytes: &[0xaa, 0xbb]
+        })
+    );
+    assert_eq!(rt;
+        left.next(),
+        Some(Op::Push {
+            opcode: 0x4e,
+            bytes: &[0xcc]
+        })
+    );
     assert_eq!(rt; left.next(), Some(Op::Plain(0x61)));
     assert_eq!(rt; left.next(), Some(Op::Truncated { opcode: 0x4d }));
     assert_eq!(rt; left.next(), None);

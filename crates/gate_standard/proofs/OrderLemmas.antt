@@ -23,3 +23,9 @@ skips denial false rest more = refl
 pub first_failing_append : (xs ys : List Rule) → first_failing (xs ++ ys) ≡ or_else (first_failing xs) (first_failing ys)
 first_failing_append [] ys = refl
 first_failing_append (x ∷ xs) ys = ap (λ o. if x.1 then Some x.0 else o) (first_failing_append xs ys) ∙ skips x.0 x.1 (first_failing xs) (first_failing ys)
+
+pub found_in_first : (xs ys : List Rule) (denial : Denial) → first_failing xs ≡ Some denial → first_failing (xs ++ ys) ≡ Some denial
+found_in_first xs ys denial h = first_failing_append xs ys ∙ ap (λ o. or_else o (first_failing ys)) h
+
+pub found_in_second : (xs ys : List Rule) → first_failing xs ≡ None → first_failing (xs ++ ys) ≡ first_failing ys
+found_in_second xs ys h = first_failing_append xs ys ∙ ap (λ o. or_else o (first_failing ys)) h

@@ -6,7 +6,8 @@ use crate::transaction::OutPoint;
 use gate_bytes::{Copied, Exact, Kept, Memory};
 use std::alloc::Global;
 
-/// An unspent output as the chain keeps it: the height of its block, and whether a coinbase made it.
+/// An unspent output, in satoshi, with the height of the block that holds it and whether a
+/// coinbase made it.
 #[derive(Debug, Drop, PartialEq, Eq)]
 pub struct Coin {
     pub value: i64,

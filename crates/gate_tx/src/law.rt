@@ -1,4 +1,4 @@
-ghost use Rattle.gate_tx.specs.Laws.{EachHasOneText, EachTextIsOfOne, TextsStandApart, TextsAreReadBack, DecodedIsSpelled, CutsAreShort, MoreIsTrailing, LongIsTooLarge, EmptyWitnessesAreRefused};
+ghost use Rattle.gate_tx.specs.Laws.{EachHasOneText, EachTextIsOfOne, TextsStandApart, TextsAreReadBack, DecodedIsSpelled, CutsAreShort, MoreIsTrailing, LongIsTooLarge, EmptyWitnessesAreRefused, IdsAreReadBack};
 
 /// That a transaction has one text and a text is of one transaction, and that no text begins a
 /// different text.
@@ -22,4 +22,9 @@ pub fn faults_are_told()
     ensures more { MoreIsTrailing }
     ensures long { LongIsTooLarge }
     ensures empty { EmptyWitnessesAreRefused }
+{}
+
+/// That an id reads back from what is printed of it.
+pub fn ids_are_read_back()
+    ensures { IdsAreReadBack }
 {}

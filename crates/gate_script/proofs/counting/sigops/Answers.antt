@@ -1,6 +1,6 @@
 use Rattle.std.proofs.Common.{◌∷◌, ◌∙◌, ap, arith}
 use Rattle.gate_script.specs.Instructions.{instruction_of}
-use Rattle.gate_script.proofs.Operations.{sigops-nil, sigops-push, sigops-truncated, sigops-plain}
+use Rattle.gate_script.proofs.Operations.{sigops-nil, sigops-push, sigops-truncated, sigops-plain, sigops_of-most}
 use Rattle.gate_script.proofs.counting.sigops.Goals as goal
 
 pub loop-op-preserved-in-Push : goal.loop-op-preserved-in-Push
@@ -15,9 +15,9 @@ loop-op-preserved c =
 
 pub returns-in-None : goal.returns-in-None
 returns-in-None c =
-    omega (arith, c.loop-op.invariant.3, sigops-nil c.args.accurate c.loop-op.before c.loop-op.op-iterator c.in-None.ensures.steps.0)
+    omega (arith, sigops_of-most c.args.accurate c.args.script.now, c.loop-op.invariant.3, sigops-nil c.args.accurate c.loop-op.before c.loop-op.op-iterator c.in-None.ensures.steps.0)
 
 pub returns-in-Truncated : goal.returns-in-Truncated
 returns-in-Truncated c =
     let moved = c.in-Some.ensures.steps ∙ ap (λ op. instruction_of op ∷ c.next.new.self) c.in-Truncated.is in
-    omega (arith, c.loop-op.invariant.3, sigops-truncated c.args.accurate c.loop-op.before c.loop-op.op-iterator c.next.new.self c.in-Truncated.opcode moved)
+    omega (arith, sigops_of-most c.args.accurate c.args.script.now, c.loop-op.invariant.3, sigops-truncated c.args.accurate c.loop-op.before c.loop-op.op-iterator c.next.new.self c.in-Truncated.opcode moved)

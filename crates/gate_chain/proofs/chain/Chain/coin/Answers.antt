@@ -1,6 +1,5 @@
-use Rattle.std.proofs.Common.{◌≡◌, sym, ap, ◌∙◌}
+use Rattle.std.proofs.Common.{sym, ap, ◌∙◌}
 use Rattle.gate_chain.specs.Coins.{coin_of}
-use Rattle.gate_chain.specs.Times.{tip_of}
 use Rattle.gate_chain.proofs.Entries.{option_or-none}
 use Rattle.gate_chain.proofs.Opened.{coins_fit, heights_fit, height_of_lent, tip_of-opened}
 use Rattle.gate_chain.proofs.chain.Chain.coin.Goals as goal

@@ -1,7 +1,6 @@
-use Rattle.std.proofs.Common.{◌≡◌, ap, sym, subst}
+use Rattle.std.proofs.Common.{ap, sym, subst}
 use Rattle.gate_core.specs.declared.reply.Reply.{Reply}
 use Rattle.gate_core.specs.World.{World}
-use Rattle.gate_core.specs.Steps.{step_of}
 use Rattle.gate_core.specs.Good.{IsGoodWorld}
 use Rattle.gate_core.proofs.Keeping.{step_good}
 use Rattle.gate_core.proofs.state.State.step.Goals as goal

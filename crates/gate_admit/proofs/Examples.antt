@@ -1,0 +1,93 @@
+-- The definitions on the worked rows: one coin of 100,000 satoshi, and what spends it.
+use Rattle.std.proofs.Common.{◌≡◌, ℕ, pos, true, false, List, [], ◌∷◌, Some, None, refl}
+use Rattle.std.specs.Prelude.{replicate}
+use Rattle.std.specs.Str.{bytes_eq}
+use Rattle.gate_tx.specs.declared.Coin.{Coin}
+use Rattle.gate_tx.specs.Tx.{Tx}
+use Rattle.gate_tx.specs.Ids.{txid_of, wtxid_of}
+use Rattle.gate_tx.specs.Sizes.{weight_of}
+use Rattle.gate_standard.specs.declared.Denial.TheVariants.{MempoolConflict, MinRelayFee, PrematureSpend, VerdictMissing}
+use Rattle.gate_standard.specs.Amounts.{required_fee}
+use Rattle.gate_standard.specs.Order.{first_failing}
+use Rattle.gate_chain.specs.History.{History}
+use Rattle.gate_chain.specs.Coins.{coin_of}
+use Rattle.gate_admit.specs.declared.verdicts.Verdict.TheVariants.{Good, Hard}
+use Rattle.gate_admit.specs.declared.verdicts.Verdicts.{Verdicts}
+use Rattle.gate_admit.specs.Pool.{Admitted}
+use Rattle.gate_admit.specs.Coins.{coins_of}
+use Rattle.gate_admit.specs.Reports.{vsize_of, verdict_of, rules_of_verdict, verdict_rules}
+use Rattle.gate_admit.specs.Rules.{pool_rules, is_immature, value_rules, fee_rules}
+
+-- a script of version 0 with a key hash
+abbrev to_key : List ℕ
+to_key = 0 ∷ 20 ∷ replicate 20 0x22
+
+abbrev chain : History
+chain = record {
+  coins = record { outpoint = record { txid = replicate 32 0x11; index = 0 }; coin = record { value = pos 100000; script = to_key; height = 1; coinbase = false } } ∷ [];
+  times = replicate 101 1000;
+  blocks = [];
+}
+
+abbrev paying : ℕ → Tx
+paying amount = record {
+  version = pos 2;
+  inputs = record { prevout = record { txid = replicate 32 0x11; index = 0 }; script = []; sequence = 0xffff_fffd; witness = replicate 72 0x30 ∷ replicate 33 2 ∷ [] } ∷ [];
+  outputs = record { value = pos amount; script = 0 ∷ 20 ∷ replicate 20 0x22 } ∷ [];
+  locktime = 0;
+}
+
+-- 110 virtual bytes, which 110 satoshi pay and 109 don't
+size_of_one : vsize_of 0 (paying 99890) ≡ 110
+unfolding weight_of
+size_of_one = refl
+
+-- a cost of 81 weighs more than its bytes
+size_by_cost : vsize_of 81 (paying 99890) ≡ 405
+unfolding weight_of
+size_by_cost = refl
+
+paid : first_failing (fee_rules 0 110 110) ≡ None
+unfolding fee_rules required_fee
+paid = refl
+
+underpaid : first_failing (fee_rules 0 109 110) ≡ Some MinRelayFee
+unfolding fee_rules required_fee
+underpaid = refl
+
+coin_found : first_failing (value_rules 101 0 (coins_of chain [] (paying 99890).inputs)) ≡ None
+unfolding coin_of value_rules
+coin_found = refl
+
+abbrev first_entry : Admitted
+first_entry = record { tx = paying 99000; fee = 1000; vsize = 110; time = 5000 }
+
+-- a second transaction that spends the coin is a conflict
+spent_twice : bytes_eq (wtxid_of (paying 99000)) (wtxid_of (paying 98890)) ≡ false → bytes_eq (txid_of (paying 99000)) (txid_of (paying 98890)) ≡ false → first_failing (pool_rules (first_entry ∷ []) (paying 98890)) ≡ Some MempoolConflict
+unfolding pool_rules
+spent_twice h k = rw (h, k) refl
+
+-- a coinbase's coin at height 1 is old enough for height 101, and one at height 2 isn't
+abbrev coinbase_at : ℕ → Coin
+coinbase_at height = record { value = pos 100000; script = to_key; height = height; coinbase = true }
+
+mature : is_immature 101 (coinbase_at 1) ≡ false
+mature = refl
+
+immature : first_failing (value_rules 101 0 (coinbase_at 2 ∷ [])) ≡ Some PrematureSpend
+unfolding value_rules
+immature = refl
+
+-- of two rows on an input the first counts, and an input without one has no verdict
+abbrev two_rows : Verdicts
+two_rows = record {
+  rows = record { wtxid = 7 ∷ []; input = 0; verdict = Good } ∷ record { wtxid = 7 ∷ []; input = 0; verdict = Hard } ∷ [];
+  other = None;
+}
+
+first_row_counts : verdict_of two_rows (7 ∷ []) 0 ≡ Some Good
+first_row_counts = refl
+
+no_row : first_failing (verdict_rules two_rows (7 ∷ []) 1 (paying 99890).inputs) ≡ Some VerdictMissing
+unfolding verdict_rules rules_of_verdict
+no_row = refl

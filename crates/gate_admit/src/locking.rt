@@ -1,0 +1,63 @@
+//! Locks: A20, and A26.
+ghost use Rattle.std.specs.Prelude.{◌≡◌, ◌≤◌, ◌+◌, IfOk, length, map, All};
+ghost use Rattle.gate_standard.specs.Order.{first_failing};
+ghost use Rattle.gate_chain.specs.Times.{tip_of};
+ghost use Rattle.gate_locks.specs.Locks.{median_at};
+ghost use Rattle.gate_admit.specs.Rules.{final_rules, lock_rules, heights_of};
+
+use crate::coins::LentCoin;
+use gate_bytes::Memory;
+use gate_chain::Chain;
+use gate_locks::{is_final, sequence_locks_met};
+use gate_standard::Denial;
+use gate_tx::Transaction;
+use std::alloc::Global;
+
+/// The median time past of the tip.
+fn tip_median(chain: &Chain) -> u32
+    ensures { result ≡ median_at chain.now (tip_of chain.now) }
+{
+    chain.mtp(chain.tip()).unwrap()
+}
+
+/// A20, where it fails.
+#[tactic(auto, unfolding(crate::specs::Rules::final_rules))]
+pub(crate) fn check_final(chain: &Chain, tx: &Transaction) -> Option<Denial>
+    ensures { result ≡ first_failing (final_rules chain.now tx.now) }
+{
+    if is_final(tx, chain.tip() + 1, tip_median(chain)) {
+        None
+    } else {
+        Some(Denial::NonFinal)
+    }
+}
+
+fn heights_of(alloc: Global, coins: &[LentCoin<'_>]) -> Result<Vec<u32>, Memory>
+    ensures { IfOk result (λ heights. heights.items ≡ heights_of coins.now) }
+{
+    let mut heights = Vec::with_capacity(alloc, coins.len())?;
+    for coin in coins {
+        heights.push(coin.coin().height)?;
+    }
+    Ok(heights)
+}
+
+/// A26, where it fails.
+#[tactic(auto, unfolding(crate::specs::Rules::lock_rules))]
+pub(crate) fn check_locks(
+    alloc: Global,
+    chain: &Chain,
+    coins: &[LentCoin<'_>],
+    tx: &Transaction,
+) -> Result<Option<Denial>, Memory>
+    requires one_each { length coins.now ≡ length tx.now.inputs }
+    requires within { All (λ c. c.height ≤ tip_of chain.now + 1) coins.now }
+    ensures { IfOk result (λ found. found ≡ first_failing (lock_rules chain.now coins.now tx.now)) }
+{
+    let heights = heights_of(alloc, coins)?;
+    if sequence_locks_met(tx, &heights, chain) {
+        Ok(None)
+    } else {
+        Ok(Some(Denial::NonBip68Final))
+    }
+}

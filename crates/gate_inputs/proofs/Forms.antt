@@ -1,0 +1,86 @@
+-- The answers by the template of the coin.
+use Rattle.std.proofs.Common.{◌≡◌, ℕ, ◌+◌, ◌*◌, ◌-◌, ◌^◌, Bool, true, false, leb, List, [], ◌∷◌, Option, Some, None, refl, ap, ◌∙◌, min, arith}
+use Rattle.std.specs.Prelude.{option_and_then}
+use Rattle.std.specs.Option.{option_map_or}
+use Rattle.gate_script.specs.Sigops.{sigops_of}
+use Rattle.std.proofs.lemmas.Bool.{cond-false}
+use Rattle.std.proofs.lemmas.Bool.Decides.{nat_tests}
+use Rattle.gate_script.specs.Witness.{witness_program_of}
+use Rattle.gate_tx.specs.declared.transaction.TxIn.{TxIn}
+use Rattle.gate_tx.specs.declared.coin.Coin.{Coin}
+use Rattle.gate_script.specs.Templates.{template_of}
+use Rattle.gate_script.specs.declared.templates.Template.{Template}
+use Rattle.gate_script.specs.declared.templates.Template.TheVariants.{ScriptHash, WitnessV0Key, WitnessV0Script, Taproot, WitnessUnknown, NullData, Key, KeyHash, Multisig, Nonstandard}
+use Rattle.gate_inputs.specs.declared.answer.Answers.{Answers}
+use Rattle.gate_inputs.specs.Answers.{answers_of, answers_by}
+use Rattle.gate_inputs.specs.Reports.{hashes_script, redeem_of, counted_redeem, is_standard_by, is_standard_spend, program_by, allows_witness, is_witness_standard, witness_cost, cost_by, sigop_cost_of}
+use Rattle.gate_inputs.proofs.Redeeming.{counted_redeem-script_hash}
+
+abbrev pub made : Bool → Bool → ℕ → Answers
+made s w k = record { standard = s; witness_standard = w; sigop_cost = k }
+
+-- the answers, were this the template
+abbrev answers_at : Template → TxIn → List ℕ → Answers
+answers_at form input script = record {
+  standard = is_standard_by form (redeem_of input.script);
+  witness_standard = allows_witness form input.witness (program_by form (redeem_of input.script) script);
+  sigop_cost = min (cost_by input (counted_redeem form input.script) (program_by form (counted_redeem form input.script) script)) (2 ^ 64 - 1);
+}
+
+answers_of-at : (form : Template) (input : TxIn) (coin : Coin) → template_of coin.script ≡ form → answers_of input coin ≡ answers_at form input coin.script
+unfolding answers_of is_standard_spend is_witness_standard sigop_cost_of
+answers_of-at form input coin is = ap (λ f. answers_at f input coin.script) is
+
+pub answers_of-script_hash : (input : TxIn) (coin : Coin) → template_of coin.script ≡ ScriptHash → answers_of input coin ≡ answers_by ScriptHash input (redeem_of input.script) []
+unfolding answers_by
+answers_of-script_hash input coin is =
+    answers_of-at ScriptHash input coin is
+    ∙ ap (λ redeem. let made : Answers = record { standard = is_standard_by ScriptHash (redeem_of input.script); witness_standard = allows_witness ScriptHash input.witness (program_by ScriptHash (redeem_of input.script) []); sigop_cost = min (cost_by input redeem (program_by ScriptHash redeem [])) (2 ^ 64 - 1) } in made) (counted_redeem-script_hash input.script)
+
+answers_at-direct : (form : Template) (input : TxIn) (script : List ℕ) → hashes_script form ≡ false → answers_at form input script ≡ answers_by form input None script
+unfolding answers_by
+answers_at-direct ScriptHash input script other = absurd (cc)
+answers_at-direct WitnessV0Key input script other = refl
+answers_at-direct WitnessV0Script input script other = refl
+answers_at-direct Taproot input script other = refl
+answers_at-direct WitnessUnknown input script other = refl
+answers_at-direct NullData input script other = refl
+answers_at-direct Key input script other = refl
+answers_at-direct KeyHash input script other = refl
+answers_at-direct (Multisig required keys) input script other = refl
+answers_at-direct Nonstandard input script other = refl
+
+pub answers_of-direct : (form : Template) (input : TxIn) (coin : Coin) → template_of coin.script ≡ form → hashes_script form ≡ false → answers_of input coin ≡ answers_by form input None coin.script
+answers_of-direct form input coin is other = answers_of-at form input coin is ∙ answers_at-direct form input coin.script other
+
+pub same_answers : {s s' w w' : Bool} {k k' : ℕ} → s ≡ s' → w ≡ w' → k ≡ k' → made s w k ≡ made s' w' k'
+same_answers p q r = cc
+
+-- the program of a coin that isn't locked by a script hash
+pub program_by-direct : (form : Template) (script : List ℕ) → hashes_script form ≡ false → program_by form None script ≡ witness_program_of script
+program_by-direct form script other = ap (option_and_then witness_program_of) (cond-false (hashes_script form) None (Some script) other)
+
+-- a count that is capped at the greatest number of 64 bits, in a test and in a sum
+pub leb-capped : (n r : ℕ) → r ≡ min n (2 ^ 64 - 1) → leb r 15 ≡ leb n 15
+leb-capped n r capped = grind (arith, nat_tests)
+
+pub sum-capped : (a b c r : ℕ) → r ≡ min b (2 ^ 64 - 1) → min (4 * a + 4 * r + c) (2 ^ 64 - 1) ≡ min (4 * a + 4 * b + c) (2 ^ 64 - 1)
+sum-capped a b c r capped = omega arith
+
+pub cost-capped : (input : TxIn) (redeem : Option (List ℕ)) {p p' : Option (ℕ × List ℕ)} (r : ℕ) → r ≡ min (option_map_or (sigops_of true) redeem 0) (2 ^ 64 - 1) → p ≡ p'
+    → min (4 * sigops_of false input.script + 4 * r + witness_cost input.witness p) (2 ^ 64 - 1) ≡ min (cost_by input redeem p') (2 ^ 64 - 1)
+cost-capped input redeem {p' = p'} r capped e =
+    ap (λ q. min (4 * sigops_of false input.script + 4 * r + witness_cost input.witness q) (2 ^ 64 - 1)) e
+    ∙ sum-capped (sigops_of false input.script) (option_map_or (sigops_of true) redeem 0) (witness_cost input.witness p') r capped
+
+pub allows-same : (form : Template) {w w' : List (List ℕ)} {p p' : Option (ℕ × List ℕ)} → w ≡ w' → p ≡ p' → allows_witness form w p ≡ allows_witness form w' p'
+allows-same form {w = w} {p' = p'} e f = ap (allows_witness form w) f ∙ ap (λ v. allows_witness form v p') e
+
+pub allows-none : (form : Template) (w : List (List ℕ)) (r : Bool) → (r ≡ true → w ≡ []) → (w ≡ [] → r ≡ true) → r ≡ allows_witness form w None
+allows-none form [] r empty none = none refl
+allows-none form (item ∷ items) false empty none = refl
+allows-none form (item ∷ items) true empty none = cc (empty refl)
+
+pub hashes_script-other : (form : Template) → (form ≡ ScriptHash → ⊥) → hashes_script form ≡ false
+hashes_script-other ScriptHash other = absurd (other refl)
+hashes_script-other _ other = refl

@@ -1,0 +1,13 @@
+use Rattle.std.proofs.Common.{◌∙◌, true, Some}
+use Rattle.gate_script.specs.Sigops.{sigops_of}
+use Rattle.gate_script.specs.declared.templates.Template.TheVariants.{ScriptHash}
+use Rattle.gate_inputs.specs.Answers.{answers_by}
+use Rattle.gate_inputs.proofs.Forms.{same_answers, leb-capped, cost-capped, allows-same}
+use Rattle.gate_inputs.proofs.judging.under_script_hash.Goals as goal
+
+pub returns : goal.returns
+unfolding answers_by
+returns c =
+    let program = c.witness_program-program.ensures in
+    let light = leb-capped (sigops_of true c.args.redeem.now) c.sigops-operations.result c.sigops-operations.ensures.exact in
+    same_answers light (c.allows_witness.ensures ∙ allows-same ScriptHash c.as_slice.ensures program) (c.cost.ensures ∙ cost-capped c.args.input.now (Some c.args.redeem.now) c.sigops-operations.result c.sigops-operations.ensures.exact program)

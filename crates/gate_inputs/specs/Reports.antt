@@ -1,0 +1,121 @@
+-- What policy says of an input that spends a coin (Bitcoin Core 22.0: `AreInputsStandard`, `IsWitnessStandard` and
+-- `GetTransactionSigOpCost`).
+use Rattle.std.specs.Prelude.{ℕ, ◌+◌, ◌*◌, ◌-◌, Bool, true, false, not, ◌&&◌, ◌||◌, ◌==◌, nat_le, bit_and, if◌then◌else◌, List, [], ◌∷◌, length, take, slice_get, Option, Some, None, option_and_then}
+use Rattle.std.specs.List.{list_all}
+use Rattle.std.specs.Option.{option_map_or}
+use Rattle.gate_tx.specs.declared.transaction.TxIn.{TxIn}
+use Rattle.gate_tx.specs.declared.coin.Coin.{Coin}
+use Rattle.gate_script.specs.declared.templates.Template.{Template}
+use Rattle.gate_script.specs.declared.templates.Template.TheVariants.{ScriptHash, Taproot, WitnessUnknown, Nonstandard}
+use Rattle.gate_script.specs.Pushes.{is_push_only, push_stack_of}
+use Rattle.gate_script.specs.Sigops.{sigops_of}
+use Rattle.gate_script.specs.Templates.{template_of}
+use Rattle.gate_script.specs.Witness.{witness_program_of}
+
+-- the last item
+abbrev pub last_of : {A : Type 0} → List A → Option A
+last_of xs = slice_get xs (length xs - 1)
+
+-- what is made of the last item and those before it, or of none
+unfoldable pub from_last : {A B : Type 0} → B → (A → List A → B) → List A → B
+from_last none some xs = option_map_or (λ x. some x (take (length xs - 1) xs)) (last_of xs) none
+
+abbrev pub hashes_script : Template → Bool
+hashes_script ScriptHash = true
+hashes_script _ = false
+
+abbrev pub is_taproot : Template → Bool
+is_taproot Taproot = true
+is_taproot _ = false
+
+-- the redeem script under a script hash: the last item that the input's script pushes (BIP 16)
+unfoldable pub redeem_of : List ℕ → Option (List ℕ)
+redeem_of script = option_and_then last_of (push_stack_of script)
+
+-- ---- standard
+
+-- a redeem script of at most 15 signature operations
+abbrev pub is_light : List ℕ → Bool
+is_light redeem = nat_le (sigops_of true redeem) 15
+
+abbrev pub is_standard_by : Template → Option (List ℕ) → Bool
+is_standard_by Nonstandard redeem = false
+is_standard_by WitnessUnknown redeem = false
+is_standard_by ScriptHash redeem = option_map_or is_light redeem false
+is_standard_by _ redeem = true
+
+unfoldable pub is_standard_spend : TxIn → Coin → Bool
+is_standard_spend input coin = is_standard_by (template_of coin.script) (redeem_of input.script)
+
+-- ---- the witness
+
+-- the witness program that a spend meets: the coin's script, or under a script hash the redeem script (BIP 141)
+abbrev pub program_by : Template → Option (List ℕ) → List ℕ → Option (ℕ × List ℕ)
+program_by form redeem script = option_and_then witness_program_of (if hashes_script form then redeem else Some script)
+
+abbrev pub are_small : List (List ℕ) → Bool
+are_small items = list_all (λ item. nat_le (length item) 80) items
+
+-- a witness script of at most 3,600 bytes behind at most 100 items of at most 80 bytes
+abbrev pub allows_behind : List ℕ → List (List ℕ) → Bool
+allows_behind script items = nat_le (length script) 3600 && nat_le (length items) 100 && are_small items
+
+abbrev pub allows_script : List (List ℕ) → Bool
+allows_script witness = from_last true allows_behind witness
+
+-- what ends a Taproot witness of two items or more: no annex, and where it is a control block of leaf version 0xc0,
+-- the items before the leaf script have at most 80 bytes (BIP 341, BIP 342)
+abbrev pub allows_control : List ℕ → List (List ℕ) → Bool
+allows_control [] items = false
+allows_control (first ∷ _) items = not (first == 0x50) && (not (bit_and first 0xfe == 0xc0) || are_small items)
+
+abbrev pub allows_taproot : List (List ℕ) → Bool
+allows_taproot witness = from_last true (λ control before. from_last true (λ script items. allows_control control items) before) witness
+
+abbrev pub allows_program : Template → List (List ℕ) → ℕ → ℕ → Bool
+allows_program form witness version size =
+    if version == 0 && size == 32 then allows_script witness
+    else if is_taproot form then allows_taproot witness
+    else true
+
+abbrev pub allows_witness : Template → List (List ℕ) → Option (ℕ × List ℕ) → Bool
+allows_witness form [] program = true
+allows_witness form (item ∷ items) program = option_map_or (λ p. allows_program form (item ∷ items) p.0 (length p.1)) program false
+
+unfoldable pub is_witness_standard : TxIn → Coin → Bool
+is_witness_standard input coin =
+    let form = template_of coin.script in
+    allows_witness form input.witness (program_by form (redeem_of input.script) coin.script)
+
+-- ---- the cost of its signature operations
+
+-- the redeem script that counts: that of an input that only pushes
+abbrev pub counted_redeem : Template → List ℕ → Option (List ℕ)
+counted_redeem form script = if hashes_script form && is_push_only script then redeem_of script else None
+
+-- what a witness script counts, the last item
+abbrev pub script_cost : List (List ℕ) → ℕ
+script_cost witness = option_map_or (sigops_of true) (last_of witness) 0
+
+-- 1 for a key hash, what the witness script counts for a script hash
+abbrev pub program_cost : List (List ℕ) → ℕ → ℕ → ℕ
+program_cost witness version size =
+    if version == 0 && size == 20 then 1
+    else if version == 0 && size == 32 then script_cost witness
+    else 0
+
+abbrev pub witness_cost : List (List ℕ) → Option (ℕ × List ℕ) → ℕ
+witness_cost witness program = option_map_or (λ p. program_cost witness p.0 (length p.1)) program 0
+
+-- 4 for each operation of the input's script and of the redeem script, and what the witness program costs
+abbrev pub cost_by : TxIn → Option (List ℕ) → Option (ℕ × List ℕ) → ℕ
+cost_by input redeem program =
+    4 * sigops_of false input.script
+    + 4 * option_map_or (sigops_of true) redeem 0
+    + witness_cost input.witness program
+
+unfoldable pub sigop_cost_of : TxIn → Coin → ℕ
+sigop_cost_of input coin =
+    let form = template_of coin.script in
+    let redeem = counted_redeem form input.script in
+    cost_by input redeem (program_by form redeem coin.script)

@@ -1,0 +1,131 @@
+ghost use Rattle.std.specs.Prelude.{◌≡◌, ◌-◌, ◌+◌, ◌*◌, ◌^◌, [], false, IfOk, None, Some, min};
+ghost use Rattle.std.specs.Option.{option_map};
+ghost use Rattle.gate_inputs.specs.Reports.{hashes_script, is_standard_by, redeem_of, script_cost, program_cost, witness_cost};
+ghost use Rattle.gate_inputs.specs.Answers.{answers_of, answers_by};
+ghost use Rattle.gate_script.specs.declared.templates.Template.TheVariants.{ScriptHash};
+ghost use Rattle.gate_script.specs.Sigops.{sigops_of};
+
+use crate::answer::Answers;
+use crate::witness::allows_witness;
+use gate_bytes::{Kept, Memory};
+use gate_script::{Template, push_stack, sigops, template, witness_program};
+use gate_tx::{Coin, TxIn};
+use std::alloc::Global;
+
+/// The most signature operations of a redeem script.
+const MOST_REDEEM_SIGOPS: u64 = 15;
+
+/// What each signature operation outside a witness costs (BIP 141).
+const WITNESS_SCALE: u64 = 4;
+
+/// The answers for an input and the coin that it spends. The pushes of the input's script are read
+/// where the coin is locked by a script hash, and once for all three.
+pub fn answers(alloc: Global, input: &TxIn, coin: &Coin) -> Result<Answers, Memory>
+    ensures { IfOk result (λ a. a ≡ answers_of input.now coin.now) }
+{
+    let script = coin.script.as_slice();
+    let form = template(script);
+    let redeem = match form {
+        Template::ScriptHash => redeem_script(alloc, input.script.as_slice())?,
+        _ => return Ok(direct(input, form, script)),
+    };
+    match redeem {
+        Some(redeem) => Ok(under_script_hash(input, redeem.as_slice())),
+        None => Ok(without_redeem_script(input)),
+    }
+}
+
+/// The last item that the script pushes.
+fn redeem_script(alloc: Global, script: &[u8]) -> Result<Option<Kept<u8>>, Memory>
+    ensures { IfOk result (λ redeem. redeem ≡ redeem_of script.now) }
+{
+    match push_stack(alloc, script)? {
+        Some(stack) => {
+            let mut items = stack.into_vec();
+            Ok(items.pop())
+        }
+        None => Ok(None),
+    }
+}
+
+/// The answers for a coin of a template other than a script hash.
+fn direct(input: &TxIn, form: Template, script: &[u8]) -> Answers
+    requires { hashes_script form ≡ false }
+    ensures { result ≡ answers_by form input.now None script.now }
+{
+    let program = witness_program(script);
+    Answers {
+        standard: is_relayed(form),
+        witness_standard: allows_witness(form, input.witness.as_slice(), program),
+        sigop_cost: cost(input, 0, program),
+    }
+}
+
+/// The answers under a script hash, where the input's script pushes this redeem script.
+fn under_script_hash(input: &TxIn, redeem: &[u8]) -> Answers
+    ensures { result ≡ answers_by ScriptHash input.now (Some redeem.now) [] }
+{
+    let program = witness_program(redeem);
+    let operations = sigops(redeem, true);
+    Answers {
+        standard: operations <= MOST_REDEEM_SIGOPS,
+        witness_standard: allows_witness(Template::ScriptHash, input.witness.as_slice(), program),
+        sigop_cost: cost(input, operations, program),
+    }
+}
+
+/// The answers under a script hash, where it pushes none.
+fn without_redeem_script(input: &TxIn) -> Answers
+    ensures { result ≡ answers_by ScriptHash input.now None [] }
+{
+    Answers {
+        standard: false,
+        witness_standard: input.witness.is_empty(),
+        sigop_cost: cost(input, 0, None),
+    }
+}
+
+/// Whether policy relays spends of that template, which for a script hash the redeem script decides.
+fn is_relayed(form: Template) -> bool
+    ensures { result ≡ is_standard_by form None }
+{
+    !matches!(
+        form,
+        Template::Nonstandard | Template::WitnessUnknown | Template::ScriptHash
+    )
+}
+
+/// What the input's script, so many operations of a redeem script, and the witness program cost.
+fn cost(input: &TxIn, redeem: u64, program: Option<(u8, &[u8])>) -> u64
+    ensures { result ≡ min (4 * sigops_of false input.now.script + 4 * redeem + witness_cost input.now.witness (option_map (λ p. (p.0, p.1.now)) program.entry)) (2 ^ 64 - 1) }
+{
+    let legacy = sigops(input.script.as_slice(), false).saturating_add(redeem);
+    let scaled = legacy.saturating_mul(WITNESS_SCALE);
+    match program {
+        Some((version, program)) => scaled.saturating_add(program_cost(
+            input.witness.as_slice(),
+            version,
+            program.len(),
+        )),
+        None => scaled,
+    }
+}
+
+fn program_cost(witness: &[Kept<u8>], version: u8, size: usize) -> u64
+    ensures { result ≡ min (program_cost witness.now version size) (2 ^ 64 - 1) }
+{
+    match (version, size) {
+        (0, 20) => 1,
+        (0, 32) => script_cost(witness),
+        _ => 0,
+    }
+}
+
+fn script_cost(witness: &[Kept<u8>]) -> u64
+    ensures { result ≡ min (script_cost witness.now) (2 ^ 64 - 1) }
+{
+    match witness.last() {
+        Some(script) => sigops(script.as_slice(), true),
+        None => 0,
+    }
+}

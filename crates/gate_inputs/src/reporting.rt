@@ -1,0 +1,81 @@
+ghost use Rattle.std.specs.Prelude.{◌≡◌, ◌-◌, ◌^◌, IfOk, min};
+
+use crate::answer::Answers;
+use crate::judging::answers;
+use crate::piece::Piece;
+use gate_bytes::{Copied, Memory};
+use std::alloc::Global;
+use std::marker::Model;
+
+/// The answers for a piece. Only `report` and copies of its reports make one: contracts see it as
+/// its piece, which says what the answers are.
+#[derive(Debug, Drop)]
+pub struct InputReport {
+    piece: Piece,
+    answers: Answers,
+}
+
+impl Model for InputReport {
+    ghost use Rattle.gate_inputs.specs.declared.piece.Piece.{Piece};
+    ghost use Rattle.gate_inputs.specs.Answers.{answers_of};
+    ghost use Rattle.std.specs.Prelude.{◌≡◌};
+
+    ghost Value = { Piece };
+
+    ghost view = { λ r. r.piece };
+
+    ghost invariant = { λ r. r.answers ≡ answers_of r.piece.input r.piece.coin };
+}
+
+impl InputReport {
+    ghost use Rattle.gate_inputs.specs.Reports.{is_standard_spend, is_witness_standard, sigop_cost_of};
+    ghost use Rattle.gate_inputs.specs.Answers.{answers_of};
+
+    pub fn piece(&self) -> &Piece
+        ensures { result.now ≡ self.now }
+    {
+        &self.piece
+    }
+
+    pub fn answers(&self) -> Answers
+        ensures { result ≡ answers_of self.now.input self.now.coin }
+    {
+        self.answers
+    }
+
+    pub fn standard(&self) -> bool
+        ensures { result ≡ is_standard_spend self.now.input self.now.coin }
+    {
+        self.answers.standard
+    }
+
+    pub fn witness_standard(&self) -> bool
+        ensures { result ≡ is_witness_standard self.now.input self.now.coin }
+    {
+        self.answers.witness_standard
+    }
+
+    /// At most 2^64 - 1, which less than 2^50 bytes don't reach.
+    pub fn sigop_cost(&self) -> u64
+        ensures { result ≡ min (sigop_cost_of self.now.input self.now.coin) (2 ^ 64 - 1) }
+    {
+        self.answers.sigop_cost
+    }
+}
+
+/// The report of a piece.
+pub fn report(alloc: Global, piece: Piece) -> Result<InputReport, Memory>
+    ensures { IfOk result (λ r. r ≡ piece) }
+{
+    let answers = answers(alloc, &piece.input, &piece.coin)?;
+    Ok(InputReport { piece, answers })
+}
+
+impl Copied for InputReport {
+    fn copy(&self, alloc: Global) -> Result<InputReport, Memory> {
+        Ok(InputReport {
+            piece: self.piece.copy(alloc)?,
+            answers: self.answers,
+        })
+    }
+}

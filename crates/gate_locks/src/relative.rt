@@ -1,0 +1,63 @@
+ghost use Rattle.std.specs.Prelude.{◌≡◌, ◌≤◌, ◌+◌, length, All};
+ghost use Rattle.gate_chain.specs.Times.{tip_of};
+ghost use Rattle.gate_locks.specs.Locks.{median_at, is_lock_met_by, sequence_locks_met_by};
+
+use gate_chain::Chain;
+use gate_tx::Transaction;
+
+/// The bit of a sequence that says that there is no relative lock (Bitcoin Core's `SEQUENCE_LOCKTIME_DISABLE_FLAG`).
+const DISABLED: u32 = 1 << 31;
+
+/// The bit that says that a lock is by time (`SEQUENCE_LOCKTIME_TYPE_FLAG`).
+const BY_TIME: u32 = 1 << 22;
+
+/// The bits of a lock's length (`SEQUENCE_LOCKTIME_MASK`).
+const SPAN: u32 = 0xffff;
+
+/// The unit of a lock by time, in seconds.
+const SECONDS: u64 = 512;
+
+/// Whether the relative lock of each input is met in the next block (BIP 68). The heights are those of the inputs' coins,
+/// one for each input; a coin of an unconfirmed transaction stands at the height of the next block.
+#[tactic(auto, unfolding(crate::specs::Locks::sequence_locks_met_by))]
+pub fn sequence_locks_met(tx: &Transaction, heights: &[u32], chain: &Chain) -> bool
+    requires one_each { length heights.now ≡ length tx.now.inputs }
+    requires within { All (λ h. h ≤ tip_of chain.now + 1) heights.now }
+    ensures { result ≡ sequence_locks_met_by tx.now heights.now chain.now }
+{
+    if tx.version().cast_unsigned() < 2 {
+        return true;
+    }
+    for (input, height) in tx.inputs().iter().zip(heights) {
+        if !is_lock_met(input.sequence, *height, chain) {
+            return false;
+        }
+    }
+    true
+}
+
+#[tactic(auto, unfolding(crate::specs::Locks::is_lock_met_by))]
+fn is_lock_met(sequence: u32, height: u32, chain: &Chain) -> bool
+    requires { height ≤ tip_of chain.now + 1 }
+    ensures { result ≡ is_lock_met_by chain.now sequence height }
+{
+    if sequence & DISABLED != 0 {
+        return true;
+    }
+    let tip = chain.tip();
+    let span = sequence & SPAN;
+    if sequence & BY_TIME == 0 {
+        return height + span <= tip + 1;
+    }
+    let start = u64::from(median_at(chain, height.saturating_sub(1)));
+    let now = u64::from(median_at(chain, tip));
+    start + SECONDS * u64::from(span) <= now
+}
+
+/// The median time past of a height up to the tip.
+fn median_at(chain: &Chain, height: u32) -> u32
+    requires { height ≤ tip_of chain.now }
+    ensures { result ≡ median_at chain.now height }
+{
+    chain.mtp(height).unwrap()
+}

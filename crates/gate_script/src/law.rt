@@ -1,0 +1,14 @@
+ghost use Rattle.gate_script.specs.Laws.{SpellingsAreRead, ScriptsAreSpelled, FramesArePatterns};
+
+/// That instructions spelled one after another are read as they are, and that a script whose last
+/// push isn't cut is what its instructions spell.
+pub fn spellings_are_read()
+    ensures read { SpellingsAreRead }
+    ensures spelled { ScriptsAreSpelled }
+{}
+
+/// That the test of a template's fixed bytes and length is met just by the scripts that have those
+/// bytes in front and at the end, and so many between.
+pub fn frames_are_patterns()
+    ensures { FramesArePatterns }
+{}
