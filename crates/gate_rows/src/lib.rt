@@ -1,0 +1,15 @@
+//! Worked rows as tests: the words of a command line and what the program reads go through the two functions that do
+//! its whole work, and what is written and the status are compared. The main clause is that of [`outcome`].
+#![tactic(auto)]
+
+#[cfg(test)]
+mod locking;
+mod program;
+#[cfg(test)]
+mod row;
+#[cfg(test)]
+mod spending;
+#[cfg(test)]
+mod standardness;
+
+pub use program::outcome;

@@ -1,0 +1,34 @@
+ghost use Rattle.std.specs.Prelude.{◌≡◌, ◌≤◌, IfOk};
+
+use gate_prog::{ArgsFault, LaneFault, read_args, run_job};
+use std::alloc::Global;
+
+/// What the program writes to standard output for these words, parted by spaces, and this input, and its status. Help is
+/// what it writes; a fault of usage writes nothing here and has status 2.
+pub fn outcome(alloc: Global, words: &str, input: &str) -> Result<(u8, Vec<u8>), LaneFault>
+    ensures status { IfOk result (λ done. done.0 ≤ 2) }
+{
+    let mut parts = Vec::new(alloc);
+    for word in words.split(' ') {
+        if parts.push(word).is_err() {
+            return Err(LaneFault::Memory);
+        }
+    }
+    let mut written = Vec::new(alloc);
+    let job = match read_args(alloc, parts.as_slice()) {
+        Ok(job) => job,
+        Err(ArgsFault::Help(text)) => {
+            return match written.extend_from_slice(text.as_bytes()) {
+                Ok(()) => Ok((0, written)),
+                Err(_) => Err(LaneFault::Memory),
+            };
+        }
+        Err(ArgsFault::Usage(_)) => return Ok((2, written)),
+        Err(ArgsFault::Memory) => return Err(LaneFault::Memory),
+    };
+    let mut reader = input.as_bytes();
+    match run_job(alloc, &job, &mut reader, &mut written) {
+        Ok(status) => Ok((status, written)),
+        Err(fault) => Err(fault),
+    }
+}
