@@ -5,18 +5,17 @@ use Rattle.gate_tx.specs.Tx.{Tx}
 use Rattle.gate_tx.specs.Ids.{txid_of, wtxid_of, id_text}
 use Rattle.gate_tx.specs.Sizes.{weight_of}
 use Rattle.gate_standard.specs.Denials.{rule_of, token_of}
-use Rattle.gate_standard.specs.Order.{Rule, first_failing}
-use Rattle.gate_standard.specs.Rules.{transaction_rules, standard_rules}
+use Rattle.gate_standard.specs.Order.{first_failing}
+use Rattle.gate_admit.specs.Rules.{alone_rules}
 use Rattle.gate_standard.specs.declared.Denial.{Denial}
 use Rattle.gate_standard.specs.declared.Denial.TheVariants.{Decode}
 
--- the rules on a transaction by itself
-abbrev pub check_rules : Tx → List Rule
-check_rules tx = transaction_rules tx ++ standard_rules tx
-
 -- `TXID WTXID WEIGHT`
+abbrev pub ids_line : List ℕ → List ℕ → ℕ → List ℕ
+ids_line txid wtxid weight = id_text txid ++ (codes " " ++ (id_text wtxid ++ (codes " " ++ decimal weight)))
+
 abbrev pub id_line : Tx → List ℕ
-id_line tx = id_text (txid_of tx) ++ (codes " " ++ (id_text (wtxid_of tx) ++ (codes " " ++ decimal (weight_of tx))))
+id_line tx = ids_line (txid_of tx) (wtxid_of tx) (weight_of tx)
 
 -- `denied RULE TOKEN`
 abbrev pub denied_line : Denial → List ℕ
@@ -33,8 +32,8 @@ verdict_status (Some denial) = 1
 -- of what spells no transaction, and of a transaction
 abbrev pub check_lines : Option Tx → List (List ℕ)
 check_lines None = denied_line Decode ∷ []
-check_lines (Some tx) = id_line tx ∷ verdict_line (first_failing (check_rules tx)) ∷ []
+check_lines (Some tx) = id_line tx ∷ verdict_line (first_failing (alone_rules tx)) ∷ []
 
 abbrev pub check_status : Option Tx → ℕ
 check_status None = 1
-check_status (Some tx) = verdict_status (first_failing (check_rules tx))
+check_status (Some tx) = verdict_status (first_failing (alone_rules tx))

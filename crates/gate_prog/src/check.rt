@@ -1,14 +1,14 @@
 //! The check of one transaction by itself.
-ghost use Rattle.std.specs.Prelude.{◌≡◌, ◌++◌, ◌∷◌, [], IfOk, string_bytes};
-ghost use Rattle.gate_standard.specs.Order.{first_failing};
-ghost use Rattle.gate_prog.specs.Checks.{check_lines, check_status, check_rules, denied_line, id_line, verdict_line, verdict_status};
+ghost use Rattle.std.specs.Prelude.{◌≡◌, IfOk, string_bytes};
+ghost use Rattle.gate_prog.specs.Checks.{check_lines, check_status, denied_line, ids_line, verdict_line, verdict_status};
 ghost use Rattle.gate_prog.specs.EventLines.{prepared_of};
 ghost use Rattle.gate_prog.specs.Lines.{unlines};
 
 use crate::event_line::prepared;
+use gate_admit::Prepared;
 use gate_bytes::Memory;
-use gate_standard::{Denial, check_transaction, is_standard};
-use gate_tx::Transaction;
+use gate_standard::Denial;
+use gate_tx::{Txid, Wtxid};
 use std::alloc::Global;
 
 /// What a check prints, and the status that follows it.
@@ -24,57 +24,52 @@ pub(crate) fn check_hex(alloc: Global, hex: &str) -> Result<Checked, Memory>
     ensures status { IfOk result (λ checked. checked.status ≡ check_status (prepared_of hex.now)) }
 {
     let prepared = prepared(alloc, hex)?;
-    match prepared.transaction() {
-        Some(tx) => check(alloc, tx),
-        None => {
-            let line = denial_text(alloc, Denial::Decode)?;
-            Ok(Checked {
-                text: format!(in alloc; "{line}\n")?,
-                status: 1,
-            })
-        }
-    }
+    check(alloc, &prepared)
 }
 
-fn check(alloc: Global, tx: &Transaction) -> Result<Checked, Memory>
-    ensures text { IfOk result (λ checked. string_bytes checked.text ≡ id_line tx.now ++ (10 ∷ (verdict_line (first_failing (check_rules tx.now)) ++ (10 ∷ [])))) }
-    ensures status { IfOk result (λ checked. checked.status ≡ verdict_status (first_failing (check_rules tx.now))) }
+fn check(alloc: Global, prepared: &Prepared) -> Result<Checked, Memory>
+    ensures text { IfOk result (λ checked. string_bytes checked.text ≡ unlines (check_lines prepared.now)) }
+    ensures status { IfOk result (λ checked. checked.status ≡ check_status prepared.now) }
 {
-    let ids = ids_text(alloc, tx)?;
-    match first_denial(alloc, tx)? {
-        Some(denial) => {
-            let verdict = denial_text(alloc, denial)?;
-            Ok(Checked {
-                text: format!(in alloc; "{ids}\n{verdict}\n")?,
-                status: 1,
-            })
-        }
-        None => Ok(Checked {
-            text: format!(in alloc; "{ids}\nstandard\n")?,
-            status: 0,
-        }),
-    }
-}
-
-/// The first rule that fails of all those on a transaction by itself.
-#[tactic(auto, using(gate_standard::proofs::OrderLemmas::first_failing_append))]
-fn first_denial(alloc: Global, tx: &Transaction) -> Result<Option<Denial>, Memory>
-    ensures { IfOk result (λ found. found ≡ first_failing (check_rules tx.now)) }
-{
-    if let Some(denial) = check_transaction(alloc, tx)? {
-        return Ok(Some(denial));
-    }
-    Ok(is_standard(tx))
+    let verdict = verdict_text(alloc, prepared.denial())?;
+    let status = verdict_status(prepared.denial());
+    let (Some(tx), Some(txid), Some(wtxid)) = (
+        prepared.transaction(),
+        prepared.txid(),
+        prepared.wtxid(),
+    ) else {
+        let text = format!(in alloc; "{verdict}\n")?;
+        return Ok(Checked { text, status });
+    };
+    let ids = ids_text(alloc, &txid, &wtxid, tx.weight())?;
+    let text = format!(in alloc; "{ids}\n{verdict}\n")?;
+    Ok(Checked { text, status })
 }
 
 /// `TXID WTXID WEIGHT`
-fn ids_text(alloc: Global, tx: &Transaction) -> Result<String, Memory>
-    ensures { IfOk result (λ text. string_bytes text ≡ id_line tx.now) }
+fn ids_text(alloc: Global, txid: &Txid, wtxid: &Wtxid, weight: usize) -> Result<String, Memory>
+    ensures { IfOk result (λ text. string_bytes text ≡ ids_line txid.now wtxid.now weight) }
 {
-    let txid = tx.txid(alloc)?;
-    let wtxid = tx.wtxid(alloc)?;
-    let weight = tx.weight();
     Ok(format!(in alloc; "{txid} {wtxid} {weight}")?)
+}
+
+/// `standard`, or the line of the denial.
+fn verdict_text(alloc: Global, denial: Option<Denial>) -> Result<String, Memory>
+    ensures { IfOk result (λ text. string_bytes text ≡ verdict_line denial) }
+{
+    match denial {
+        Some(denial) => denial_text(alloc, denial),
+        None => Ok(String::from_str(alloc, "standard")?),
+    }
+}
+
+fn verdict_status(denial: Option<Denial>) -> u8
+    ensures { result ≡ verdict_status denial }
+{
+    match denial {
+        Some(_) => 1,
+        None => 0,
+    }
 }
 
 /// `denied RULE TOKEN`
