@@ -6,6 +6,8 @@
 mod locking;
 mod program;
 #[cfg(test)]
+mod repeating;
+#[cfg(test)]
 mod row;
 #[cfg(test)]
 mod spending;
