@@ -50,11 +50,11 @@ AllPairs-append R (x ∷ xs) ys h k across =
 
 -- ---- rules
 
-none_fails-append : (xs ys : List Rule) → NoneFails (xs ++ ys) → NoneFails xs × NoneFails ys
+pub none_fails-append : (xs ys : List Rule) → NoneFails (xs ++ ys) → NoneFails xs × NoneFails ys
 none_fails-append [] ys h = (tt, h)
 none_fails-append (x ∷ xs) ys h = let w = none_fails-append xs ys h.1 in ((h.0, w.0), w.1)
 
-none_fails : (rules : List Rule) → first_failing rules ≡ None → NoneFails rules
+pub none_fails : (rules : List Rule) → first_failing rules ≡ None → NoneFails rules
 none_fails rules h = subst (DecidesRules rules) h (first_failing_decides rules)
 
 -- ---- outpoints and ids

@@ -4,3 +4,4 @@ pub mod Valuing
 mod Examples
 pub mod Conflicting
 pub mod Submitting
+pub mod Conserving

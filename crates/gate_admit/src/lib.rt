@@ -9,7 +9,6 @@ mod conflicts;
 mod entry;
 mod floor;
 mod grant;
-mod identified;
 mod judging;
 mod law;
 mod locking;
@@ -27,10 +26,10 @@ pub use gate_chain::{Chain, OpenFault, OpeningCoin};
 pub use gate_inputs::{InputReport, Piece, report};
 pub use grant::Grant;
 pub use judging::judge;
-pub use law::{decisions_follow_the_order, pools_stay_good};
+pub use law::{decisions_follow_the_order, grants_conserve, pools_stay_good};
 pub use pool::Pool;
 pub use prepared::Prepared;
-pub use submission::submit;
+pub use submission::{Coming, plan_submission, submit};
 pub use verdicts::{Verdict, VerdictRow, Verdicts};
 
 #[cfg(test)]

@@ -5,6 +5,8 @@ pub mod Texts
 pub mod World
 pub mod Access
 pub mod Steps
+pub mod Quiet
+pub mod Planning
 pub mod Good
 pub mod Runs
 pub mod Examples

@@ -8,6 +8,7 @@ mod address;
 mod event;
 mod laws;
 mod opening;
+mod parts;
 mod refusal;
 mod reply;
 mod session;

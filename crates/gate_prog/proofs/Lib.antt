@@ -13,3 +13,4 @@ pub mod Steps
 pub mod Heard
 pub mod GateRuns
 pub mod LedLanes
+pub mod JobRunning

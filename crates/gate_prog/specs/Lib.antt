@@ -15,3 +15,4 @@ pub mod Openings
 pub mod Checks
 pub mod Jobs
 pub mod LaneRuns
+pub mod JobRuns

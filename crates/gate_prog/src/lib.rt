@@ -25,7 +25,7 @@ pub use args::{ArgsFault, read_args};
 pub use fault::LaneFault;
 pub use job::{Job, run_job};
 pub use lane::run_lane;
-pub use laws::lanes_are_runs;
+pub use laws::{gate_runs_are_runs, lanes_are_runs};
 pub use line::{MAX_LINE, MAX_LINES};
 pub use number::{MAX_NUMBER, numbers_are_decimal};
 pub use opening::read_opening;

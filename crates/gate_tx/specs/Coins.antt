@@ -1,12 +1,17 @@
 -- Outpoints, and scripts that nothing can spend.
 use Rattle.std.specs.Prelude.{ℕ, ◌==◌, ◌&&◌, ◌||◌, nat_lt, Bool, false, List, [], ◌∷◌, length}
-use Rattle.std.specs.List.{list_all}
+use Rattle.std.specs.List.{list_all, list_any}
 use Rattle.std.specs.Str.{bytes_eq}
 use Rattle.gate_tx.specs.declared.transaction.OutPoint.{OutPoint}
+use Rattle.gate_tx.specs.declared.transaction.TxIn.{TxIn}
 
 -- whether two outpoints are the same
 abbrev pub point_eq : OutPoint → OutPoint → Bool
 point_eq a b = bytes_eq a.txid b.txid && (a.index == b.index)
+
+-- one of the inputs spends the outpoint
+abbrev pub spends : List TxIn → OutPoint → Bool
+spends inputs point = list_any (λ (i : TxIn). point_eq i.prevout point) inputs
 
 -- the prevout of a coinbase: a hash of zeros and the greatest index
 abbrev pub is_null : OutPoint → Bool
