@@ -1,4 +1,4 @@
-ghost use Rattle.gate_tx.specs.Laws.{EachHasOneText, EachTextIsOfOne, TextsStandApart, TextsAreReadBack, DecodedIsSpelled, CutsAreShort, MoreIsTrailing, LongIsTooLarge, EmptyWitnessesAreRefused, IdsAreReadBack};
+ghost use Rattle.gate_tx.specs.Laws.{EachHasOneText, EachTextIsOfOne, TextsStandApart, StrippedFormsStandApart, StrippedFormsSpendTheSame, TextsAreReadBack, DecodedIsSpelled, CutsAreShort, MoreIsTrailing, LongIsTooLarge, EmptyWitnessesAreRefused, IdsAreReadBack};
 
 /// That a transaction has one text and a text is of one transaction, and that no text begins a
 /// different text.
@@ -6,6 +6,13 @@ pub fn texts_stand_apart()
     ensures one { EachHasOneText }
     ensures of_one { EachTextIsOfOne }
     ensures apart { TextsStandApart }
+{}
+
+/// That two transactions have the same form without witnesses just where they are the same but for
+/// their witnesses, and that they then spend the same outpoints in the same order.
+pub fn stripped_forms_stand_apart()
+    ensures apart { StrippedFormsStandApart }
+    ensures spend { StrippedFormsSpendTheSame }
 {}
 
 /// That the text of a transaction reads back as it, and that bytes read as a transaction just
