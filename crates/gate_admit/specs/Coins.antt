@@ -1,6 +1,5 @@
 -- The coin view: which coin an outpoint is for a transaction that is judged over a chain and a pool.
-use Rattle.std.specs.Prelude.{Bool, List, Option}
-use Rattle.std.specs.Prelude.{is_none}
+use Rattle.std.specs.Prelude.{Bool, List, Option, is_none}
 use Rattle.std.specs.Option.{option_to_list}
 use Rattle.std.specs.List.{list_any, flat_map}
 use Rattle.gate_tx.specs.declared.Coin.{Coin}
@@ -8,7 +7,7 @@ use Rattle.gate_tx.specs.declared.OutPoint.{OutPoint}
 use Rattle.gate_tx.specs.declared.TxIn.{TxIn}
 use Rattle.gate_chain.specs.History.{History}
 use Rattle.gate_chain.specs.Coins.{coin_of}
-use Rattle.gate_admit.specs.Pool.{Admitted}
+use Rattle.gate_pool.specs.Pool.{Admitted}
 
 -- the unspent coin of the chain; an output of the pool is none yet
 abbrev pub view_coin : History → List Admitted → OutPoint → Option Coin

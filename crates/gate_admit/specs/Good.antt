@@ -1,16 +1,22 @@
 -- What holds of a pool over its chain at every moment, and of transactions whose ids tell them apart.
-use Rattle.std.specs.Prelude.{◌≡◌, ◌≢◌, false, List, IsSome}
-use Rattle.std.specs.List.{All, AllPairs, Contains}
+use Rattle.std.specs.Prelude.{◌≡◌, ◌≢◌, ℕ, Bool, false, List, Option, Some, None, IsSome}
+use Rattle.std.specs.List.{All, AllPairs, Contains, list_any, flat_map}
+use Rattle.std.specs.Str.{bytes_eq}
 use Rattle.gate_tx.specs.declared.OutPoint.{OutPoint}
 use Rattle.gate_tx.specs.Tx.{Tx}
 use Rattle.gate_tx.specs.Text.{stripped}
 use Rattle.gate_tx.specs.Ids.{txid_of, wtxid_of}
+use Rattle.gate_chain.specs.declared.Block.{Block}
 use Rattle.gate_chain.specs.History.{History}
-use Rattle.gate_chain.specs.Coins.{opened_with_of}
-use Rattle.gate_admit.specs.Pool.{Admitted, spent_by}
+use Rattle.gate_chain.specs.Coins.{is_known_txid}
+use Rattle.gate_pool.specs.Pool.{Admitted, spent_by}
 use Rattle.gate_admit.specs.Coins.{view_coin}
 
-pub record IsGood (chain : History) (entries : List Admitted) : Type 0 where
+-- what a pool may hold, in virtual bytes; entries are not trimmed to it yet, so nothing below asks for it
+pub record Limits : Type 0 where
+  pub budget : ℕ
+
+pub record IsGood (limits : Limits) (chain : History) (entries : List Admitted) : Type 0 where
   -- no two entries share an id
   pub txids : AllPairs (λ (a : Admitted) (b : Admitted). txid_of a.tx ≢ txid_of b.tx) entries
   pub wtxids : AllPairs (λ (a : Admitted) (b : Admitted). wtxid_of a.tx ≢ wtxid_of b.tx) entries
@@ -18,9 +24,18 @@ pub record IsGood (chain : History) (entries : List Admitted) : Type 0 where
   pub spends : AllPairs (λ (p : OutPoint) (q : OutPoint). p ≢ q) (spent_by entries)
   -- each outpoint that is spent has a coin
   pub coins : All (λ (p : OutPoint). IsSome (view_coin chain entries p)) (spent_by entries)
-  -- no entry has the txid of a coin that the chain was opened with
-  pub fresh : All (λ (e : Admitted). opened_with_of chain (txid_of e.tx) ≡ false) entries
+  -- no entry has the txid of a coin that the chain was opened with, or of a connected block's transaction
+  pub fresh : All (λ (e : Admitted). is_known_txid chain (txid_of e.tx) ≡ false) entries
+
+-- the transactions of the connected blocks, in their order
+abbrev pub connected_transactions : History → List Tx
+connected_transactions chain = flat_map (λ (b : Block). b.transactions) chain.blocks
 
 -- no two transactions with different forms without witnesses share a txid
 abbrev pub AreApart : List Tx → Type 0
 AreApart txs = (a b : Tx) → Contains txs a → Contains txs b → txid_of a ≡ txid_of b → stripped a ≡ stripped b
+
+-- no connected block has a transaction of the submission's txid
+abbrev pub IsUnconnected : History → Option Tx → Type 0
+IsUnconnected chain None = Unit {0}
+IsUnconnected chain (Some tx) = list_any (λ (t : Tx). bytes_eq (txid_of t) (txid_of tx)) (connected_transactions chain) ≡ false

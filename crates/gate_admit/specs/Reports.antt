@@ -1,29 +1,27 @@
 -- The reports on the inputs of a transaction (A31 to A33), its size with the cost of its signature operations, and the
 -- verdicts on its inputs (A43 to A45).
-use Rattle.std.specs.Prelude.{ℕ, ◌+◌, ◌-◌, ◌*◌, ◌/◌, ◌^◌, ◌==◌, ◌&&◌, nat_lt, max, min, not, Bool, true, false, find, map, zip, sum_by, List, [], ◌∷◌, ◌++◌, Option, Some, None}
+use Rattle.std.specs.Prelude.{ℕ, ◌+◌, ◌-◌, ◌*◌, ◌/◌, ◌^◌, nat_lt, max, min, not, Bool, true, false, map, zip, sum_by, List, [], ◌∷◌, ◌++◌, Option, Some, None}
 use Rattle.std.specs.List.{list_all}
-use Rattle.std.specs.Option.{option_map, option_or}
-use Rattle.std.specs.Str.{bytes_eq}
 use Rattle.gate_tx.specs.declared.Coin.{Coin}
 use Rattle.gate_tx.specs.declared.TxIn.{TxIn}
 use Rattle.gate_tx.specs.declared.TxOut.{TxOut}
 use Rattle.gate_tx.specs.Sizes.{weight_of}
 use Rattle.gate_tx.specs.Tx.{Tx}
 use Rattle.gate_script.specs.Sigops.{sigops_of}
+use Rattle.gate_standard.specs.declared.Denial.{Denial}
 use Rattle.gate_standard.specs.declared.Denial.TheVariants.{NonstandardInputs, WitnessNonstandard, TooManySigops, VerdictMissing, SoftVerdict, HardVerdict}
-use Rattle.gate_standard.specs.Order.{Rule}
+use Rattle.gate_bytes.specs.Order.{Rule}
 use Rattle.gate_inputs.specs.declared.Answers.{Answers}
 use Rattle.gate_inputs.specs.Answers.{answers_of}
 use Rattle.gate_admit.specs.declared.verdicts.Verdict.{Verdict}
 use Rattle.gate_admit.specs.declared.verdicts.Verdict.TheVariants.{Soft, Hard}
-use Rattle.gate_admit.specs.declared.verdicts.VerdictRow.{VerdictRow}
-use Rattle.gate_admit.specs.declared.verdicts.Verdicts.{Verdicts}
+use Rattle.gate_admit.specs.Verdicts.{VerdictTable, verdict_of}
 
 -- ---- A31 to A33
 
 -- what is reported of each input with its coin
 abbrev pub reported : List TxIn → List Coin → List Answers
-reported inputs coins = map (λ (p : TxIn × Coin). answers_of p.0 p.1) (zip inputs coins)
+reported inputs coins = map (λ (p : TxIn × Coin). answers_of p.0 p.1.script) (zip inputs coins)
 
 -- what the script of an output counts, inaccurately; at most 2^64 - 1, which no transaction reaches
 abbrev pub output_sigops : TxOut → ℕ
@@ -33,7 +31,7 @@ output_sigops output = min (sigops_of false output.script) (2 ^ 64 - 1)
 abbrev pub sigop_cost : List Answers → List TxOut → ℕ
 sigop_cost answers outputs = sum_by (λ (a : Answers). a.sigop_cost) answers + 4 * sum_by output_sigops outputs
 
-unfoldable pub report_rules : List Answers → Tx → List Rule
+unfoldable pub report_rules : List Answers → Tx → List (Rule Denial)
 report_rules answers tx =
     (NonstandardInputs, not (list_all (λ (a : Answers). a.standard) answers))
     ∷ (WitnessNonstandard, not (list_all (λ (a : Answers). a.witness_standard) answers))
@@ -45,14 +43,6 @@ abbrev pub vsize_of : ℕ → Tx → ℕ
 vsize_of cost tx = (max (weight_of tx) (20 * cost) + 3) / 4
 
 -- ---- A43 to A45
-
--- the first row on an input
-abbrev pub row_on : List VerdictRow → List ℕ → ℕ → Option VerdictRow
-row_on rows wtxid input = find (λ (row : VerdictRow). bytes_eq row.wtxid wtxid && (row.input == input)) rows
-
--- the verdict on an input: that of its first row, else the one for all others
-abbrev pub verdict_of : Verdicts → List ℕ → ℕ → Option Verdict
-verdict_of verdicts wtxid input = option_or (option_map (λ (row : VerdictRow). row.verdict) (row_on verdicts.rows wtxid input)) verdicts.other
 
 abbrev pub is_missing : Option Verdict → Bool
 is_missing None = true
@@ -66,10 +56,10 @@ abbrev pub is_hard : Option Verdict → Bool
 is_hard (Some Hard) = true
 is_hard other = false
 
-unfoldable pub rules_of_verdict : Option Verdict → List Rule
+unfoldable pub rules_of_verdict : Option Verdict → List (Rule Denial)
 rules_of_verdict verdict = (VerdictMissing, is_missing verdict) ∷ (SoftVerdict, is_soft verdict) ∷ (HardVerdict, is_hard verdict) ∷ []
 
 -- input by input, the first at this index
-unfoldable pub verdict_rules : Verdicts → List ℕ → ℕ → List TxIn → List Rule
+unfoldable pub verdict_rules : VerdictTable → List ℕ → ℕ → List TxIn → List (Rule Denial)
 verdict_rules verdicts wtxid index [] = []
 verdict_rules verdicts wtxid index (input ∷ inputs) = rules_of_verdict (verdict_of verdicts wtxid index) ++ verdict_rules verdicts wtxid (index + 1) inputs

@@ -1,12 +1,13 @@
 -- A submission: the decision, and what the pool and its floor are after it.
-use Rattle.std.specs.Prelude.{ℕ, List, [], ◌∷◌, ◌++◌, Option, Some, None, Result, Ok, Err}
+use Rattle.std.specs.Prelude.{ℕ, List, Option, Some, None, Result, Ok, Err}
 use Rattle.gate_tx.specs.Tx.{Tx}
 use Rattle.gate_standard.specs.declared.Denial.{Denial}
-use Rattle.gate_chain.specs.History.{History}
+use Rattle.gate_pool.specs.Pool.{Admitted}
+use Rattle.gate_pool.specs.Family.{entered}
+use Rattle.gate_admit.specs.declared.attempt.Attempt.TheVariants.{First}
 use Rattle.gate_admit.specs.declared.grant.Grant.{Grant}
-use Rattle.gate_admit.specs.declared.verdicts.Verdicts.{Verdicts}
-use Rattle.gate_admit.specs.Pool.{Admitted}
 use Rattle.gate_admit.specs.Rules.{decision_of}
+use Rattle.gate_admit.specs.Standing.{Standing}
 
 pub record Submitted : Type 0 where
   pub decision : Result Grant Denial
@@ -17,14 +18,15 @@ pub record Submitted : Type 0 where
 abbrev pub admitted : Tx → Grant → ℕ → Admitted
 admitted tx grant now = record { tx = tx; fee = grant.fee; vsize = grant.vsize; time = now }
 
--- the entries after a decision: a granted transaction stands at the end
-abbrev pub entered : List Admitted → Result Grant Denial → Option Tx → ℕ → List Admitted
-entered entries (Err denial) tx now = entries
-entered entries (Ok grant) None now = entries
-entered entries (Ok grant) (Some tx) now = entries ++ admitted tx grant now ∷ []
+-- the entries after a decision: what a granted transaction replaces goes with all that is below it, and the transaction
+-- stands at the end
+abbrev pub entries_after : List Admitted → Result Grant Denial → Option Tx → ℕ → List Admitted
+entries_after entries (Err denial) tx now = entries
+entries_after entries (Ok grant) None now = entries
+entries_after entries (Ok grant) (Some tx) now = entered entries (admitted tx grant now)
 
 -- the submission at this second, with this budget of virtual bytes
-unfoldable pub submit_of : History → List Admitted → ℕ → Option Tx → Verdicts → ℕ → ℕ → Submitted
-submit_of chain entries floor tx verdicts now budget =
-    let decision = decision_of chain entries floor tx verdicts in
-    record { decision = decision; entries = entered entries decision tx now; floor = floor }
+unfoldable pub submit_of : Standing → Option Tx → ℕ → ℕ → Submitted
+submit_of over tx now budget =
+    let decision = decision_of First over tx in
+    record { decision = decision; entries = entries_after over.entries decision tx now; floor = over.floor }

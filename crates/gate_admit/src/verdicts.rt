@@ -1,8 +1,12 @@
 //! Verdicts on scripts, handed in by whoever runs them.
+ghost use Rattle.std.specs.Prelude.{◌≡◌, ◌++◌, ◌∷◌, [], None, Some, not, IfOk, OnErr, if◌then◌else◌};
 
-use gate_bytes::{Copied, Kept, Memory};
+use gate_bytes::Memory;
 use gate_tx::Wtxid;
+use indexmap::IndexMap;
 use std::alloc::Global;
+use std::hash::BuildHasher;
+use std::marker::Model;
 
 /// What a script interpreter found of an input.
 #[derive(Clone, Copy, Debug, PartialEq, Eq)]
@@ -23,51 +27,85 @@ pub struct VerdictRow {
     pub verdict: Verdict,
 }
 
-/// Verdicts by transaction and input, and one for every other pair.
-#[derive(Debug, Drop, PartialEq, Eq)]
-pub struct Verdicts {
-    /// Of several rows on one input the first counts.
-    pub rows: Kept<VerdictRow>,
-    /// What is answered for an input without a row.
-    pub other: Option<Verdict>,
+/// An input of a transaction.
+#[derive(Clone, Copy, Debug, PartialEq, Eq, Hash)]
+struct Subject {
+    wtxid: Wtxid,
+    input: u32,
 }
 
-impl Copied for VerdictRow {
-    fn copy(&self, _alloc: Global) -> Result<VerdictRow, Memory> {
-        Ok(*self)
-    }
+/// Verdicts by transaction and input, and one for every other pair: contracts see the rows in the order in which they were
+/// added, no two on one input, and the verdict for the rest.
+#[derive(Drop)]
+pub struct Verdicts<S: BuildHasher + Copy> {
+    verdicts: IndexMap<Subject, Verdict, S>,
+    other: Option<Verdict>,
 }
 
-impl Copied for Verdicts {
-    fn copy(&self, alloc: Global) -> Result<Verdicts, Memory> {
-        Ok(Verdicts {
-            rows: self.rows.copy(alloc)?,
-            other: self.other,
-        })
-    }
+impl<S: BuildHasher + Copy> Model for Verdicts<S> {
+    ghost use Rattle.gate_admit.specs.Verdicts.{VerdictTable};
+    ghost use Rattle.gate_admit.specs.VerdictMap.{rows_of};
+
+    ghost Value = { VerdictTable };
+
+    ghost view = { λ v. record { rows = rows_of v.verdicts.entries; other = v.other } };
 }
 
-impl Verdicts {
-    ghost use Rattle.std.specs.Prelude.{◌≡◌};
-    ghost use Rattle.std.specs.Option.{option_copied};
-    ghost use Rattle.gate_admit.specs.Reports.{row_on, verdict_of};
+impl<S: BuildHasher + Copy> Verdicts<S> {
+    ghost use Rattle.std.specs.Prelude.{◌≡◌, ◌++◌, ◌∷◌, [], None, Some, not, IfOk, OnErr, if◌then◌else◌};
+    ghost use Rattle.gate_admit.specs.Verdicts.{has_row_on, verdict_of};
 
-    /// The first row on an input.
-    fn row(&self, wtxid: &Wtxid, input: u32) -> Option<&VerdictRow>
-        ensures { option_copied result ≡ row_on self.now.rows wtxid.now input }
+    /// No rows, and no verdict for the rest.
+    pub fn new(alloc: Global, hasher: S) -> Verdicts<S>
+        ensures { result ≡ record { rows = []; other = None } }
     {
-        self.rows
-            .as_slice()
-            .iter()
-            .find(|row| row.wtxid == *wtxid && row.input == input)
+        Verdicts {
+            verdicts: IndexMap::with_hasher(alloc, hasher),
+            other: None,
+        }
     }
 
-    /// The verdict on an input: that of its first row, else the one for all others.
+    /// Adds a row, or answers that there is one on its input.
+    pub fn add(&mut self, row: VerdictRow) -> Result<bool, Memory>
+        ensures added { IfOk result (λ added. added ≡ not (has_row_on self.old.rows row.wtxid row.input)) }
+        ensures rows { IfOk result (λ added. self.new ≡ record self.old { rows = if added then self.old.rows ++ row ∷ [] else self.old.rows }) }
+        ensures err { OnErr result (self.new ≡ self.old) }
+    {
+        let subject = Subject {
+            wtxid: row.wtxid,
+            input: row.input,
+        };
+        if self.verdicts.contains_key(&subject) {
+            return Ok(false);
+        }
+        self.verdicts.insert(subject, row.verdict)?;
+        Ok(true)
+    }
+
+    /// Answers with a verdict for every pair without a row.
+    pub fn answer_others(&mut self, verdict: Verdict)
+        ensures { self.new ≡ record self.old { other = Some verdict } }
+    {
+        self.other = Some(verdict);
+    }
+
+    /// What is answered for a pair without a row.
+    pub fn other(&self) -> Option<Verdict>
+        ensures { result ≡ self.now.other }
+    {
+        self.other
+    }
+
+    /// The verdict on an input: that of its row, else the one for all others.
     pub fn on(&self, wtxid: &Wtxid, input: u32) -> Option<Verdict>
         ensures { result ≡ verdict_of self.now wtxid.now input }
     {
-        match self.row(wtxid, input) {
-            Some(row) => Some(row.verdict),
+        let subject = Subject {
+            wtxid: *wtxid,
+            input,
+        };
+        match self.verdicts.get(&subject) {
+            Some(verdict) => Some(*verdict),
             None => self.other,
         }
     }

@@ -1,0 +1,42 @@
+-- What a grant says of a transaction: its inputs are live, and value is conserved.
+use Rattle.std.specs.Prelude.{◌≡◌, ◌≢◌, ℕ, ◌+◌, ◌≤◌, true, false, List, IsSome}
+use Rattle.std.specs.List.{All, AllPairs}
+use Rattle.gate_tx.specs.declared.Coin.{Coin}
+use Rattle.gate_tx.specs.declared.OutPoint.{OutPoint}
+use Rattle.gate_tx.specs.Ids.{txid_of, wtxid_of}
+use Rattle.gate_tx.specs.Money.{max_money}
+use Rattle.gate_tx.specs.Tx.{Tx}
+use Rattle.gate_standard.specs.Amounts.{required_fee}
+use Rattle.gate_chain.specs.Coins.{opened_with_of}
+use Rattle.gate_chain.specs.Times.{tip_of}
+use Rattle.gate_locks.specs.Finality.{is_final_at}
+use Rattle.gate_locks.specs.Locks.{median_at, sequence_locks_met_by}
+use Rattle.gate_pool.specs.Pool.{Admitted, spends_of, spent_by}
+use Rattle.gate_admit.specs.declared.grant.Grant.{Grant}
+use Rattle.gate_admit.specs.Coins.{view_coin, coins_of}
+use Rattle.gate_admit.specs.Rules.{coins_value, heights_of, is_immature, min_relay_rate, outputs_value}
+use Rattle.gate_admit.specs.Standing.{Standing}
+
+pub record IsGrantable (over : Standing) (tx : Tx) : Type 0 where
+  -- no entry has one of its ids
+  pub txid : All (λ (e : Admitted). txid_of e.tx ≢ txid_of tx) over.entries
+  pub wtxid : All (λ (e : Admitted). wtxid_of e.tx ≢ wtxid_of tx) over.entries
+  -- no entry spends an outpoint that it spends, and it spends none twice
+  pub unspent : All (λ (p : OutPoint). All (λ (q : OutPoint). p ≢ q) (spends_of tx)) (spent_by over.entries)
+  pub single : AllPairs (λ (p : OutPoint) (q : OutPoint). p ≢ q) (spends_of tx)
+  -- each outpoint that it spends has a coin, no coin of a coinbase is too young, and its locks are met
+  pub coins : All (λ (p : OutPoint). IsSome (view_coin over.chain over.entries p)) (spends_of tx)
+  pub mature : All (λ (c : Coin). is_immature (tip_of over.chain + 1) c ≡ false) (coins_of over.chain over.entries tx.inputs)
+  pub final : is_final_at tx (tip_of over.chain + 1) (median_at over.chain (tip_of over.chain)) ≡ true
+  pub unlocked : sequence_locks_met_by tx (heights_of (coins_of over.chain over.entries tx.inputs)) over.chain ≡ true
+  -- no coin that the chain was opened with came from a transaction of its txid
+  pub fresh : opened_with_of over.chain (txid_of tx) ≡ false
+
+-- what its coins hold is what its outputs hold and the fee, and the fee is an amount that there can be
+pub record Conserves (over : Standing) (tx : Tx) (grant : Grant) : Type 0 where
+  pub balanced : coins_value (coins_of over.chain over.entries tx.inputs) ≡ outputs_value tx + grant.fee
+  pub money : grant.fee ≤ max_money
+
+-- the fee pays for the size at the rate that is asked of every transaction
+abbrev pub PaysItsSize : Grant → Type 0
+PaysItsSize grant = required_fee min_relay_rate grant.vsize ≤ grant.fee
