@@ -7,7 +7,6 @@ use Rattle.std.proofs.lemmas.Bool.{cond-false}
 use Rattle.std.proofs.lemmas.Bool.Decides.{nat_tests}
 use Rattle.gate_script.specs.Witness.{witness_program_of}
 use Rattle.gate_tx.specs.declared.transaction.TxIn.{TxIn}
-use Rattle.gate_tx.specs.declared.coin.Coin.{Coin}
 use Rattle.gate_script.specs.Templates.{template_of}
 use Rattle.gate_script.specs.declared.templates.Template.{Template}
 use Rattle.gate_script.specs.declared.templates.Template.TheVariants.{ScriptHash, WitnessV0Key, WitnessV0Script, Taproot, WitnessUnknown, NullData, Key, KeyHash, Multisig, Nonstandard}
@@ -27,14 +26,14 @@ answers_at form input script = record {
   sigop_cost = min (cost_by input (counted_redeem form input.script) (program_by form (counted_redeem form input.script) script)) (2 ^ 64 - 1);
 }
 
-answers_of-at : (form : Template) (input : TxIn) (coin : Coin) → template_of coin.script ≡ form → answers_of input coin ≡ answers_at form input coin.script
+answers_of-at : (form : Template) (input : TxIn) (script : List ℕ) → template_of script ≡ form → answers_of input script ≡ answers_at form input script
 unfolding answers_of is_standard_spend is_witness_standard sigop_cost_of
-answers_of-at form input coin is = ap (λ f. answers_at f input coin.script) is
+answers_of-at form input script is = ap (λ f. answers_at f input script) is
 
-pub answers_of-script_hash : (input : TxIn) (coin : Coin) → template_of coin.script ≡ ScriptHash → answers_of input coin ≡ answers_by ScriptHash input (redeem_of input.script) []
+pub answers_of-script_hash : (input : TxIn) (script : List ℕ) → template_of script ≡ ScriptHash → answers_of input script ≡ answers_by ScriptHash input (redeem_of input.script) []
 unfolding answers_by
-answers_of-script_hash input coin is =
-    answers_of-at ScriptHash input coin is
+answers_of-script_hash input script is =
+    answers_of-at ScriptHash input script is
     ∙ ap (λ redeem. let made : Answers = record { standard = is_standard_by ScriptHash (redeem_of input.script); witness_standard = allows_witness ScriptHash input.witness (program_by ScriptHash (redeem_of input.script) []); sigop_cost = min (cost_by input redeem (program_by ScriptHash redeem [])) (2 ^ 64 - 1) } in made) (counted_redeem-script_hash input.script)
 
 answers_at-direct : (form : Template) (input : TxIn) (script : List ℕ) → hashes_script form ≡ false → answers_at form input script ≡ answers_by form input None script
@@ -50,8 +49,8 @@ answers_at-direct KeyHash input script other = refl
 answers_at-direct (Multisig required keys) input script other = refl
 answers_at-direct Nonstandard input script other = refl
 
-pub answers_of-direct : (form : Template) (input : TxIn) (coin : Coin) → template_of coin.script ≡ form → hashes_script form ≡ false → answers_of input coin ≡ answers_by form input None coin.script
-answers_of-direct form input coin is other = answers_of-at form input coin is ∙ answers_at-direct form input coin.script other
+pub answers_of-direct : (form : Template) (input : TxIn) (script : List ℕ) → template_of script ≡ form → hashes_script form ≡ false → answers_of input script ≡ answers_by form input None script
+answers_of-direct form input script is other = answers_of-at form input script is ∙ answers_at-direct form input script other
 
 pub same_answers : {s s' w w' : Bool} {k k' : ℕ} → s ≡ s' → w ≡ w' → k ≡ k' → made s w k ≡ made s' w' k'
 same_answers p q r = cc

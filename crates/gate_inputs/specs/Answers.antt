@@ -1,16 +1,16 @@
 -- The three answers as they are kept: the cost is at most the greatest number of 64 bits.
 use Rattle.std.specs.Prelude.{ℕ, ◌-◌, ◌^◌, List, Option, min}
 use Rattle.gate_tx.specs.declared.transaction.TxIn.{TxIn}
-use Rattle.gate_tx.specs.declared.coin.Coin.{Coin}
 use Rattle.gate_inputs.specs.declared.answer.Answers.{Answers}
 use Rattle.gate_script.specs.declared.templates.Template.{Template}
 use Rattle.gate_inputs.specs.Reports.{is_standard_by, is_standard_spend, program_by, allows_witness, is_witness_standard, cost_by, sigop_cost_of}
 
-unfoldable pub answers_of : TxIn → Coin → Answers
-answers_of input coin = record {
-  standard = is_standard_spend input coin;
-  witness_standard = is_witness_standard input coin;
-  sigop_cost = min (sigop_cost_of input coin) (2 ^ 64 - 1);
+-- of an input that spends a coin of this script
+unfoldable pub answers_of : TxIn → List ℕ → Answers
+answers_of input script = record {
+  standard = is_standard_spend input script;
+  witness_standard = is_witness_standard input script;
+  sigop_cost = min (sigop_cost_of input script) (2 ^ 64 - 1);
 }
 
 -- the same from the coin's template, the redeem script under a script hash, and the coin's script otherwise

@@ -1,10 +1,9 @@
--- What policy says of an input that spends a coin (Bitcoin Core 22.0: `AreInputsStandard`, `IsWitnessStandard` and
+-- What policy says of an input that spends a coin of a script (Bitcoin Core 22.0: `AreInputsStandard`, `IsWitnessStandard` and
 -- `GetTransactionSigOpCost`).
 use Rattle.std.specs.Prelude.{ℕ, ◌+◌, ◌*◌, ◌-◌, Bool, true, false, not, ◌&&◌, ◌||◌, ◌==◌, nat_le, bit_and, if◌then◌else◌, List, [], ◌∷◌, length, take, slice_get, Option, Some, None, option_and_then}
 use Rattle.std.specs.List.{list_all}
 use Rattle.std.specs.Option.{option_map_or}
 use Rattle.gate_tx.specs.declared.transaction.TxIn.{TxIn}
-use Rattle.gate_tx.specs.declared.coin.Coin.{Coin}
 use Rattle.gate_script.specs.declared.templates.Template.{Template}
 use Rattle.gate_script.specs.declared.templates.Template.TheVariants.{ScriptHash, Taproot, WitnessUnknown, Nonstandard}
 use Rattle.gate_script.specs.Pushes.{is_push_only, push_stack_of}
@@ -44,8 +43,8 @@ is_standard_by WitnessUnknown redeem = false
 is_standard_by ScriptHash redeem = option_map_or is_light redeem false
 is_standard_by _ redeem = true
 
-unfoldable pub is_standard_spend : TxIn → Coin → Bool
-is_standard_spend input coin = is_standard_by (template_of coin.script) (redeem_of input.script)
+unfoldable pub is_standard_spend : TxIn → List ℕ → Bool
+is_standard_spend input script = is_standard_by (template_of script) (redeem_of input.script)
 
 -- ---- the witness
 
@@ -82,10 +81,10 @@ abbrev pub allows_witness : Template → List (List ℕ) → Option (ℕ × List
 allows_witness form [] program = true
 allows_witness form (item ∷ items) program = option_map_or (λ p. allows_program form (item ∷ items) p.0 (length p.1)) program false
 
-unfoldable pub is_witness_standard : TxIn → Coin → Bool
-is_witness_standard input coin =
-    let form = template_of coin.script in
-    allows_witness form input.witness (program_by form (redeem_of input.script) coin.script)
+unfoldable pub is_witness_standard : TxIn → List ℕ → Bool
+is_witness_standard input script =
+    let form = template_of script in
+    allows_witness form input.witness (program_by form (redeem_of input.script) script)
 
 -- ---- the cost of its signature operations
 
@@ -114,8 +113,8 @@ cost_by input redeem program =
     + 4 * option_map_or (sigops_of true) redeem 0
     + witness_cost input.witness program
 
-unfoldable pub sigop_cost_of : TxIn → Coin → ℕ
-sigop_cost_of input coin =
-    let form = template_of coin.script in
+unfoldable pub sigop_cost_of : TxIn → List ℕ → ℕ
+sigop_cost_of input script =
+    let form = template_of script in
     let redeem = counted_redeem form input.script in
-    cost_by input redeem (program_by form redeem coin.script)
+    cost_by input redeem (program_by form redeem script)

@@ -9,7 +9,7 @@ use crate::answer::Answers;
 use crate::witness::allows_witness;
 use gate_bytes::{Kept, Memory};
 use gate_script::{Template, push_stack, sigops, template, witness_program};
-use gate_tx::{Coin, TxIn};
+use gate_tx::TxIn;
 use std::alloc::Global;
 
 /// The most signature operations of a redeem script.
@@ -18,12 +18,11 @@ const MOST_REDEEM_SIGOPS: u64 = 15;
 /// What each signature operation outside a witness costs (BIP 141).
 const WITNESS_SCALE: u64 = 4;
 
-/// The answers for an input and the coin that it spends. The pushes of the input's script are read
-/// where the coin is locked by a script hash, and once for all three.
-pub fn answers(alloc: Global, input: &TxIn, coin: &Coin) -> Result<Answers, Memory>
-    ensures { IfOk result (λ a. a ≡ answers_of input.now coin.now) }
+/// The answers for an input and the script of the coin that it spends. The pushes of the input's
+/// script are read where the coin is locked by a script hash, and once for all three.
+pub fn answers(alloc: Global, input: &TxIn, script: &[u8]) -> Result<Answers, Memory>
+    ensures { IfOk result (λ a. a ≡ answers_of input.now script.now) }
 {
-    let script = coin.script.as_slice();
     let form = template(script);
     let redeem = match form {
         Template::ScriptHash => redeem_script(alloc, input.script.as_slice())?,

@@ -24,7 +24,7 @@ impl Model for InputReport {
 
     ghost view = { λ r. r.piece };
 
-    ghost invariant = { λ r. r.answers ≡ answers_of r.piece.input r.piece.coin };
+    ghost invariant = { λ r. r.answers ≡ answers_of r.piece.input r.piece.coin.script };
 }
 
 impl InputReport {
@@ -38,26 +38,26 @@ impl InputReport {
     }
 
     pub fn answers(&self) -> Answers
-        ensures { result ≡ answers_of self.now.input self.now.coin }
+        ensures { result ≡ answers_of self.now.input self.now.coin.script }
     {
         self.answers
     }
 
     pub fn standard(&self) -> bool
-        ensures { result ≡ is_standard_spend self.now.input self.now.coin }
+        ensures { result ≡ is_standard_spend self.now.input self.now.coin.script }
     {
         self.answers.standard
     }
 
     pub fn witness_standard(&self) -> bool
-        ensures { result ≡ is_witness_standard self.now.input self.now.coin }
+        ensures { result ≡ is_witness_standard self.now.input self.now.coin.script }
     {
         self.answers.witness_standard
     }
 
     /// At most 2^64 - 1, which less than 2^50 bytes don't reach.
     pub fn sigop_cost(&self) -> u64
-        ensures { result ≡ min (sigop_cost_of self.now.input self.now.coin) (2 ^ 64 - 1) }
+        ensures { result ≡ min (sigop_cost_of self.now.input self.now.coin.script) (2 ^ 64 - 1) }
     {
         self.answers.sigop_cost
     }
@@ -67,7 +67,7 @@ impl InputReport {
 pub fn report(alloc: Global, piece: Piece) -> Result<InputReport, Memory>
     ensures { IfOk result (λ r. r ≡ piece) }
 {
-    let answers = answers(alloc, &piece.input, &piece.coin)?;
+    let answers = answers(alloc, &piece.input, piece.coin.script.as_slice())?;
     Ok(InputReport { piece, answers })
 }
 

@@ -9,8 +9,9 @@ use Rattle.std.specs.Cmp.Lexicographic.{texts_ties}
 use Rattle.gate_tx.specs.declared.transaction.OutPoint.{OutPoint}
 use Rattle.gate_tx.specs.declared.transaction.TxIn.{TxIn}
 use Rattle.gate_tx.specs.contracts.transaction.OutPointOrd.TheImpl as outpoint_ord
-use Rattle.gate_tx.specs.Coins.{point_eq}
-use Rattle.gate_standard.specs.Rules.{spends, spends_twice}
+use Rattle.gate_tx.specs.Coins.{point_eq, spends}
+use Rattle.gate_tx.proofs.Points.{spends-by}
+use Rattle.gate_standard.specs.Rules.{spends_twice}
 
 -- the order that a set of outpoints keeps
 abbrev pub order : OutPoint → OutPoint → Ordering
@@ -27,13 +28,17 @@ mixed false true true b = refl
 mixed false true false b = refl
 mixed false false a b = refl
 
+-- an input spends the outpoint, asked the other way round
+abbrev spends_by : OutPoint → List TxIn → Bool
+spends_by point inputs = list_any (λ (i : TxIn). point_eq point i.prevout) inputs
+
 pub met_grows : (had has : OutPoint → Bool) (point : OutPoint) → ((q : OutPoint) → has q ≡ cond (point_eq point q) true (had q))
-    → (inputs : List TxIn) → list_any (λ input. has input.prevout) inputs ≡ (list_any (λ input. had input.prevout) inputs || spends inputs point)
+    → (inputs : List TxIn) → list_any (λ input. has input.prevout) inputs ≡ (list_any (λ input. had input.prevout) inputs || spends_by point inputs)
 met_grows had has point h [] = refl
 met_grows had has point h (input ∷ inputs) =
     let here = h input.prevout in
     let after = met_grows had has point h inputs in
-    let both = mixed (had input.prevout) (point_eq point input.prevout) (list_any (λ i. had i.prevout) inputs) (spends inputs point) in cc
+    let both = mixed (had input.prevout) (point_eq point input.prevout) (list_any (λ i. had i.prevout) inputs) (spends_by point inputs) in cc
 
 -- what is still to be found after these were spent: one of them again, or two alike among the rest
 abbrev pub repeats_after : BTreeSet OutPoint → List TxIn → Bool
@@ -59,6 +64,7 @@ pub repeats_after_new : (had has : BTreeSet OutPoint) (input : TxIn) (inputs : L
     → Updates order had has input.prevout true → repeats_after had (input ∷ inputs) ≡ repeats_after has inputs
 repeats_after_new had has input inputs new h =
     regrouped _ (list_any (λ i. contains order had i.prevout) inputs) (spends inputs input.prevout) (spends_twice inputs) new
+    ∙ ap (λ met. (list_any (λ i. contains order had i.prevout) inputs || met) || spends_twice inputs) (sym (spends-by input.prevout inputs))
     ∙ ap (λ met. met || spends_twice inputs) (sym (met_grows (contains order had) (contains order has) input.prevout
     (λ q. h.0 q ∙ ap (λ at. cond at true (contains order had q)) (order_ties input.prevout q)) inputs))
 

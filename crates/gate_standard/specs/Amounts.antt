@@ -1,14 +1,5 @@
--- Amounts in satoshi, sizes in virtual bytes, and rates in satoshi per 1,000 virtual bytes.
-use Rattle.std.specs.Prelude.{ℕ, ◌*◌, ◌/◌, ℤ, pos, negsuc, nat_lt, ◌==◌, ◌&&◌, if◌then◌else◌}
-
--- no amount is above this
-abbrev pub max_money : ℕ
-max_money = 2_100_000_000_000_000
-
--- the amount that a value is, which isn't negative
-abbrev pub amount : ℤ → ℕ
-amount (pos n) = n
-amount (negsuc n) = 0
+-- Fees in satoshi, sizes in virtual bytes, and rates in satoshi per 1,000 virtual bytes.
+use Rattle.std.specs.Prelude.{ℕ, ◌*◌, ◌/◌, nat_lt, ◌==◌, ◌&&◌, if◌then◌else◌}
 
 -- the fee of a size at a rate: rounded down, and 1 where that is 0 and both are positive
 unfoldable pub required_fee : ℕ → ℕ → ℕ

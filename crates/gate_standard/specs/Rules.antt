@@ -3,34 +3,30 @@ use Rattle.std.specs.Prelude.{ℕ, ◌+◌, ◌*◌, nat_lt, ◌==◌, ◌&&◌,
 use Rattle.std.specs.Int.{is_negative}
 use Rattle.std.specs.Ordering.{int_eq}
 use Rattle.std.specs.List.{list_any, count_by, flat_map}
-use Rattle.gate_tx.specs.declared.transaction.OutPoint.{OutPoint}
+use Rattle.gate_bytes.specs.Order.{Rule}
 use Rattle.gate_tx.specs.declared.transaction.TxIn.{TxIn}
 use Rattle.gate_tx.specs.declared.transaction.TxOut.{TxOut}
 use Rattle.gate_tx.specs.Tx.{Tx}
-use Rattle.gate_tx.specs.Coins.{point_eq, is_null}
+use Rattle.gate_tx.specs.Coins.{is_null, spends}
+use Rattle.gate_tx.specs.Money.{max_money, amount_or_zero}
 use Rattle.gate_tx.specs.Sizes.{stripped_size_of, weight_of}
 use Rattle.gate_script.specs.Pushes.{is_push_only}
+use Rattle.gate_standard.specs.declared.denial.Denial.{Denial}
 use Rattle.gate_standard.specs.declared.denial.Denial.TheVariants.{VinEmpty, VoutEmpty, Oversize, VoutNegative, VoutTooLarge, TotalTooLarge, InputsDuplicate, CoinbaseLength, PrevoutNull, Coinbase, Version, TxSize, ScriptSigSize, ScriptSigNotPushOnly, ScriptPubKey, Dust, MultiOpReturn, TxSizeSmall}
-use Rattle.gate_standard.specs.Amounts.{max_money, amount}
-use Rattle.gate_standard.specs.Order.{Rule}
 use Rattle.gate_standard.specs.Outputs.{is_standard_output, is_dust, carries_data}
 
 -- a value after values of this sum
-abbrev pub rules_of_value : ℕ → ℤ → List Rule
+abbrev pub rules_of_value : ℕ → ℤ → List (Rule Denial)
 rules_of_value sum value =
     (VoutNegative, is_negative value)
-    ∷ (VoutTooLarge, nat_lt max_money (amount value))
-    ∷ (TotalTooLarge, nat_lt max_money (sum + amount value))
+    ∷ (VoutTooLarge, nat_lt max_money (amount_or_zero value))
+    ∷ (TotalTooLarge, nat_lt max_money (sum + amount_or_zero value))
     ∷ []
 
 -- the value of each output in turn, after values of this sum
-abbrev pub value_rules : ℕ → List TxOut → List Rule
-value_rules sum [] = []
-value_rules sum (output ∷ outputs) = rules_of_value sum output.value ++ value_rules (sum + amount output.value) outputs
-
--- an input spends the outpoint
-abbrev pub spends : List TxIn → OutPoint → Bool
-spends inputs point = list_any (λ input. point_eq point input.prevout) inputs
+abbrev pub output_value_rules : ℕ → List TxOut → List (Rule Denial)
+output_value_rules sum [] = []
+output_value_rules sum (output ∷ outputs) = rules_of_value sum output.value ++ output_value_rules (sum + amount_or_zero output.value) outputs
 
 -- two inputs spend one outpoint
 abbrev pub spends_twice : List TxIn → Bool
@@ -51,7 +47,7 @@ is_coinbase (input ∷ other ∷ inputs) = false
 abbrev pub is_outside_coinbase : TxIn → Bool
 is_outside_coinbase input = nat_lt (length input.script) 2 || nat_lt 100 (length input.script)
 
-abbrev pub coinbase_rules : List TxIn → List Rule
+abbrev pub coinbase_rules : List TxIn → List (Rule Denial)
 coinbase_rules inputs =
     (CoinbaseLength, is_coinbase inputs && list_any is_outside_coinbase inputs)
     ∷ (PrevoutNull, not (is_coinbase inputs) && spends_null inputs)
@@ -59,20 +55,20 @@ coinbase_rules inputs =
     ∷ []
 
 -- the rules of every transaction, also of one in a block, and that a coinbase is not relayed (A2 to A11)
-unfoldable pub transaction_rules : Tx → List Rule
+unfoldable pub transaction_rules : Tx → List (Rule Denial)
 transaction_rules tx =
     (VinEmpty, length tx.inputs == 0)
     ∷ (VoutEmpty, length tx.outputs == 0)
     ∷ (Oversize, nat_lt 4_000_000 (stripped_size_of tx * 4))
-    ∷ (value_rules 0 tx.outputs ++ ((InputsDuplicate, spends_twice tx.inputs) ∷ coinbase_rules tx.inputs))
+    ∷ (output_value_rules 0 tx.outputs ++ ((InputsDuplicate, spends_twice tx.inputs) ∷ coinbase_rules tx.inputs))
 
-abbrev pub rules_of_input : TxIn → List Rule
+abbrev pub rules_of_input : TxIn → List (Rule Denial)
 rules_of_input input =
     (ScriptSigSize, nat_lt 1650 (length input.script))
     ∷ (ScriptSigNotPushOnly, not (is_push_only input.script))
     ∷ []
 
-abbrev pub rules_of_output : TxOut → List Rule
+abbrev pub rules_of_output : TxOut → List (Rule Denial)
 rules_of_output output =
     (ScriptPubKey, not (is_standard_output output))
     ∷ (Dust, is_dust output)
@@ -82,14 +78,14 @@ abbrev pub is_version : ℤ → Bool
 is_version version = int_eq version (pos 1) || int_eq version (pos 2)
 
 -- of the outputs together, and of the size
-abbrev pub rules_of_whole : Tx → List Rule
+abbrev pub rules_of_whole : Tx → List (Rule Denial)
 rules_of_whole tx =
     (MultiOpReturn, nat_lt 1 (count_by carries_data tx.outputs))
     ∷ (TxSizeSmall, nat_lt (stripped_size_of tx) 82)
     ∷ []
 
 -- the rules of policy on a transaction, which one in a block may break (A12 to A19)
-unfoldable pub standard_rules : Tx → List Rule
+unfoldable pub standard_rules : Tx → List (Rule Denial)
 standard_rules tx =
     (Version, not (is_version tx.version))
     ∷ (TxSize, nat_lt 400_000 (weight_of tx))

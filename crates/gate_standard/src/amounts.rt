@@ -1,9 +1,6 @@
-//! Fees, sizes and rates.
+//! Fees and rates of sizes.
 ghost use Rattle.std.specs.Prelude.{◌≡◌, ◌<◌};
 ghost use Rattle.gate_standard.specs.Amounts.{required_fee, feerate};
-
-/// The most satoshi that there can be (Bitcoin Core's `MAX_MONEY`).
-pub const MAX_MONEY: u64 = 2_100_000_000_000_000;
 
 /// The fee in satoshi of `size` virtual bytes at a rate in satoshi per 1,000 virtual bytes
 /// (Bitcoin Core 22.0's `CFeeRate::GetFee`).

@@ -1,12 +1,12 @@
 //! What every transaction must meet before it is looked at further.
 ghost use Rattle.std.specs.Prelude.{◌≡◌, ◌+◌, ◌≤◌, None, Some, IfOk, IfErr, OnOk};
-ghost use Rattle.gate_standard.specs.Order.{first_failing};
-ghost use Rattle.gate_standard.specs.Amounts.{max_money, amount};
-ghost use Rattle.gate_standard.specs.Rules.{rules_of_value, value_rules, spends_twice, spends_null, is_coinbase, coinbase_rules, transaction_rules};
+ghost use Rattle.gate_bytes.specs.Order.{first_failing};
+ghost use Rattle.gate_tx.specs.Money.{max_money, amount_or_zero};
+ghost use Rattle.gate_standard.specs.Rules.{rules_of_value, output_value_rules, spends_twice, spends_null, is_coinbase, coinbase_rules, transaction_rules};
 
-use crate::{Denial, MAX_MONEY};
+use crate::Denial;
 use gate_bytes::Memory;
-use gate_tx::{Transaction, TxIn, TxOut};
+use gate_tx::{MAX_MONEY, Transaction, TxIn, TxOut};
 use std::alloc::Global;
 use std::collections::BTreeSet;
 
@@ -16,7 +16,7 @@ const MAX_WEIGHT: usize = 4_000_000;
 /// The sum with this value, unless a rule fails.
 fn add_value(sum: u64, value: i64) -> Result<u64, Denial>
     requires { sum ≤ max_money }
-    ensures ok { IfOk result (λ next. next ≡ sum + amount value) }
+    ensures ok { IfOk result (λ next. next ≡ sum + amount_or_zero value) }
     ensures small { IfOk result (λ next. next ≤ max_money) }
     ensures passes { OnOk result (first_failing (rules_of_value sum value) ≡ None) }
     ensures err { IfErr result (λ denial. first_failing (rules_of_value sum value) ≡ Some denial) }
@@ -35,7 +35,7 @@ fn add_value(sum: u64, value: i64) -> Result<u64, Denial>
 }
 
 fn check_values(outputs: &[TxOut]) -> Option<Denial>
-    ensures { result ≡ first_failing (value_rules 0 outputs.now) }
+    ensures { result ≡ first_failing (output_value_rules 0 outputs.now) }
 {
     let mut sum = 0;
     for output in outputs {
@@ -90,7 +90,7 @@ fn check_coinbase(inputs: &[TxIn]) -> Option<Denial>
 
 /// The first rule that fails of those that every transaction meets: A2 to A11 (Bitcoin Core 22.0's
 /// `CheckTransaction`, and that a coinbase is never relayed).
-#[tactic(auto, using(crate::proofs::OrderLemmas::first_failing_append), unfolding(crate::specs::Rules::transaction_rules))]
+#[tactic(auto, using(gate_bytes::proofs::OrderLemmas::first_failing_append), unfolding(crate::specs::Rules::transaction_rules))]
 pub fn check_transaction(alloc: Global, tx: &Transaction) -> Result<Option<Denial>, Memory>
     ensures { IfOk result (λ found. found ≡ first_failing (transaction_rules tx.now)) }
 {

@@ -2,7 +2,7 @@
 ghost use Rattle.std.specs.Prelude.{◌≡◌, ◌∷◌, [], None, Some};
 ghost use Rattle.gate_standard.specs.declared.denial.Denial.TheVariants as denials;
 ghost use Rattle.gate_standard.specs.Amounts.{required_fee, feerate};
-ghost use Rattle.gate_standard.specs.Order.{first_failing};
+ghost use Rattle.gate_bytes.specs.Order.{first_failing};
 ghost use Rattle.gate_standard.specs.Outputs.{dust_threshold_of};
 ghost use Rattle.gate_standard.specs.Rules.{transaction_rules, standard_rules};
 ghost use Rattle.gate_standard.specs.Examples.{spending, from_nothing, pays, makes, to_key_hash, to_script_hash, to_witness_key, to_witness_script};

@@ -11,9 +11,10 @@ mod order;
 mod outputs;
 mod standard;
 
-pub use amounts::{MAX_MONEY, fee_at, rate_of};
+pub use amounts::{fee_at, rate_of};
 pub use check::check_transaction;
 pub use denial::Denial;
+pub use gate_tx::MAX_MONEY;
 pub use order::the_order;
 pub use outputs::dust_threshold;
 pub use standard::is_standard;

@@ -1,7 +1,7 @@
 //! What is relayed by default.
 ghost use Rattle.std.specs.Prelude.{◌≡◌, None, Some, IfOk, IfErr, OnOk};
 ghost use Rattle.std.specs.List.{flat_map, count_by};
-ghost use Rattle.gate_standard.specs.Order.{first_failing};
+ghost use Rattle.gate_bytes.specs.Order.{first_failing};
 ghost use Rattle.gate_standard.specs.Outputs.{carries_data};
 ghost use Rattle.gate_standard.specs.Rules.{rules_of_input, rules_of_output, standard_rules};
 
@@ -71,7 +71,7 @@ fn check_outputs(outputs: &[TxOut]) -> Result<usize, Denial>
 
 /// The first rule that fails of those of policy on a transaction alone: A12 to A19 (Bitcoin Core
 /// 22.0's `IsStandardTx`, and its least size).
-#[tactic(auto, using(crate::proofs::OrderLemmas::first_failing_append), unfolding(crate::specs::Rules::standard_rules))]
+#[tactic(auto, using(gate_bytes::proofs::OrderLemmas::first_failing_append), unfolding(crate::specs::Rules::standard_rules))]
 pub fn is_standard(tx: &Transaction) -> Option<Denial>
     ensures { result ≡ first_failing (standard_rules tx.now) }
 {

@@ -8,18 +8,18 @@ use Rattle.gate_inputs.proofs.judging.answers.Goals as goal
 
 pub returns-in_default : goal.returns-in_default
 returns-in_default c =
-    let is = ap template_of (sym c.as_slice-script.ensures) ∙ sym c.template-form.ensures in
+    let is = sym c.template-form.ensures in
     let other : hashes_script c.template-form.result ≡ false = hashes_script-other c.template-form.result c.in_default.not-ScriptHash in
-    c.direct.ensures ∙ ap (answers_by c.template-form.result c.args.input.now None) c.as_slice-script.ensures ∙ sym (answers_of-direct c.template-form.result c.args.input.now c.args.coin.now is other)
+    c.direct.ensures ∙ sym (answers_of-direct c.template-form.result c.args.input.now c.args.script.now is other)
 
 pub returns-in-Some : goal.returns-in-Some
 returns-in-Some c =
-    let is = ap template_of (sym c.as_slice-script.ensures) ∙ sym c.template-form.ensures ∙ c.in-ScriptHash.is in
+    let is = sym c.template-form.ensures ∙ c.in-ScriptHash.is in
     let redeem = ap Some c.as_slice-in-Some.ensures ∙ sym c.in-Some.is ∙ c.in_ok-redeem-in-ScriptHash.ensures ∙ ap redeem_of c.as_slice.ensures in
-    c.under_script_hash.ensures ∙ ap (λ r. answers_by ScriptHash c.args.input.now r []) redeem ∙ sym (answers_of-script_hash c.args.input.now c.args.coin.now is)
+    c.under_script_hash.ensures ∙ ap (λ r. answers_by ScriptHash c.args.input.now r []) redeem ∙ sym (answers_of-script_hash c.args.input.now c.args.script.now is)
 
 pub returns-in-None : goal.returns-in-None
 returns-in-None c =
-    let is = ap template_of (sym c.as_slice-script.ensures) ∙ sym c.template-form.ensures ∙ c.in-ScriptHash.is in
+    let is = sym c.template-form.ensures ∙ c.in-ScriptHash.is in
     let redeem = sym c.in-None.is ∙ c.in_ok-redeem-in-ScriptHash.ensures ∙ ap redeem_of c.as_slice.ensures in
-    c.without_redeem_script.ensures ∙ ap (λ r. answers_by ScriptHash c.args.input.now r []) redeem ∙ sym (answers_of-script_hash c.args.input.now c.args.coin.now is)
+    c.without_redeem_script.ensures ∙ ap (λ r. answers_by ScriptHash c.args.input.now r []) redeem ∙ sym (answers_of-script_hash c.args.input.now c.args.script.now is)

@@ -1,6 +1,6 @@
 use Rattle.std.proofs.Common.{◌≡◌, drop}
 use Rattle.std.specs.List.{flat_map}
-use Rattle.gate_standard.specs.Order.{first_failing}
+use Rattle.gate_bytes.specs.Order.{first_failing}
 use Rattle.gate_standard.specs.Rules.{rules_of_input}
 use Rattle.gate_standard.proofs.standard.check_inputs.Given as goal
 

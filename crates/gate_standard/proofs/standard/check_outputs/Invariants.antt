@@ -1,6 +1,6 @@
 use Rattle.std.proofs.Common.{◌≡◌, ◌≤◌, drop, take}
 use Rattle.std.specs.List.{flat_map, count_by}
-use Rattle.gate_standard.specs.Order.{first_failing}
+use Rattle.gate_bytes.specs.Order.{first_failing}
 use Rattle.gate_standard.specs.Outputs.{carries_data}
 use Rattle.gate_standard.specs.Rules.{rules_of_output}
 use Rattle.gate_standard.proofs.standard.check_outputs.Given as goal

@@ -6,4 +6,4 @@ use Rattle.gate_inputs.proofs.reporting.InputReport.sigop_cost.Goals as goal
 
 pub returns : goal.returns
 unfolding answers_of
-returns c = ap (λ (a : Answers). a.sigop_cost) c.self.invariant ∙ ap (λ (p : Piece). (answers_of p.input p.coin).sigop_cost) c.self.view_is
+returns c = ap (λ (a : Answers). a.sigop_cost) c.self.invariant ∙ ap (λ (p : Piece). (answers_of p.input p.coin.script).sigop_cost) c.self.view_is

@@ -6,4 +6,4 @@ use Rattle.gate_inputs.proofs.reporting.InputReport.standard.Goals as goal
 
 pub returns : goal.returns
 unfolding answers_of
-returns c = ap (λ (a : Answers). a.standard) c.self.invariant ∙ ap (λ (p : Piece). (answers_of p.input p.coin).standard) c.self.view_is
+returns c = ap (λ (a : Answers). a.standard) c.self.invariant ∙ ap (λ (p : Piece). (answers_of p.input p.coin.script).standard) c.self.view_is

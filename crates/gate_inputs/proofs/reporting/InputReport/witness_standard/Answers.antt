@@ -6,4 +6,4 @@ use Rattle.gate_inputs.proofs.reporting.InputReport.witness_standard.Goals as go
 
 pub returns : goal.returns
 unfolding answers_of
-returns c = ap (λ (a : Answers). a.witness_standard) c.self.invariant ∙ ap (λ (p : Piece). (answers_of p.input p.coin).witness_standard) c.self.view_is
+returns c = ap (λ (a : Answers). a.witness_standard) c.self.invariant ∙ ap (λ (p : Piece). (answers_of p.input p.coin.script).witness_standard) c.self.view_is
