@@ -102,7 +102,7 @@ length-stripped t =
     let whole = lengths3 (little_bytes 4 (cast_unsigned w32 t.version)) (listed input t.inputs) (listed output t.outputs) (little_bytes 4 t.locktime) in
     omega (arith, whole, length-bytes_low_first 0 4 (cast_unsigned w32 t.version), length-bytes_low_first 0 4 t.locktime)
 
-length-flagged : (t : Tx) → length (flagged t) ≡ stripped_lists t.inputs t.outputs + (2 + length (flat_map witness t.inputs))
+pub length-flagged : (t : Tx) → length (flagged t) ≡ stripped_lists t.inputs t.outputs + (2 + length (flat_map witness t.inputs))
 length-flagged t =
     let whole = lengths5 (little_bytes 4 (cast_unsigned w32 t.version)) (listed input t.inputs) (listed output t.outputs) (flat_map witness t.inputs) (little_bytes 4 t.locktime) in
     omega (arith, whole, length-bytes_low_first 0 4 (cast_unsigned w32 t.version), length-bytes_low_first 0 4 t.locktime)
