@@ -5,8 +5,9 @@ use Rattle.std.specs.Option.{option_copied}
 use Rattle.std.specs.List.{list_any}
 use Rattle.gate_tx.specs.declared.TxIn.{TxIn}
 use Rattle.gate_tx.specs.Tx.{Tx}
-use Rattle.gate_admit.specs.Pool.{Admitted, spends, spender_of}
-use Rattle.gate_admit.specs.Rules.{is_conflict}
+use Rattle.gate_tx.specs.Coins.{spends}
+use Rattle.gate_pool.specs.Pool.{Admitted, spender_of}
+use Rattle.gate_pool.specs.Family.{is_conflict}
 
 pub is_some-option_copied : {X : Type 0} (r : Option (Bor X)) → is_some (option_copied r) ≡ is_some r
 is_some-option_copied None = refl
@@ -46,7 +47,7 @@ list_any-agree p q h (x ∷ xs) = ap (λ b. b || list_any p xs) (h x) ∙ ap (λ
 -- an input is spent by an entry exactly where an entry is a conflict
 pub any-spender : (entries : List Admitted) (tx : Tx) → list_any (λ (i : TxIn). is_some (spender_of entries i.prevout)) tx.inputs ≡ list_any (is_conflict tx) entries
 any-spender entries tx =
-    list_any-agree (λ (i : TxIn). is_some (spender_of entries i.prevout)) (λ (i : TxIn). list_any (λ (e : Admitted). spends e.tx i.prevout) entries) (λ i. is_some-find (λ (e : Admitted). spends e.tx i.prevout) entries) tx.inputs
-    ∙ any_exchange (λ (i : TxIn) (e : Admitted). spends e.tx i.prevout) tx.inputs entries
+    list_any-agree (λ (i : TxIn). is_some (spender_of entries i.prevout)) (λ (i : TxIn). list_any (λ (e : Admitted). spends e.tx.inputs i.prevout) entries) (λ i. is_some-find (λ (e : Admitted). spends e.tx.inputs i.prevout) entries) tx.inputs
+    ∙ any_exchange (λ (i : TxIn) (e : Admitted). spends e.tx.inputs i.prevout) tx.inputs entries
 
 pub ruleset found_lemmas = (is_some-option_copied)

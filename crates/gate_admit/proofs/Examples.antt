@@ -8,15 +8,15 @@ use Rattle.gate_tx.specs.Ids.{txid_of, wtxid_of}
 use Rattle.gate_tx.specs.Sizes.{weight_of}
 use Rattle.gate_standard.specs.declared.Denial.TheVariants.{MempoolConflict, MinRelayFee, PrematureSpend, VerdictMissing}
 use Rattle.gate_standard.specs.Amounts.{required_fee}
-use Rattle.gate_standard.specs.Order.{first_failing}
+use Rattle.gate_bytes.specs.Order.{first_failing}
 use Rattle.gate_chain.specs.History.{History}
 use Rattle.gate_chain.specs.Coins.{coin_of}
 use Rattle.gate_admit.specs.declared.verdicts.Verdict.TheVariants.{Good, Hard}
-use Rattle.gate_admit.specs.declared.verdicts.Verdicts.{Verdicts}
-use Rattle.gate_admit.specs.Pool.{Admitted}
+use Rattle.gate_pool.specs.Pool.{Admitted}
+use Rattle.gate_admit.specs.Verdicts.{VerdictTable, verdict_of}
 use Rattle.gate_admit.specs.Coins.{coins_of}
-use Rattle.gate_admit.specs.Reports.{vsize_of, verdict_of, rules_of_verdict, verdict_rules}
-use Rattle.gate_admit.specs.Rules.{pool_rules, is_immature, value_rules, fee_rules}
+use Rattle.gate_admit.specs.Reports.{vsize_of, rules_of_verdict, verdict_rules}
+use Rattle.gate_admit.specs.Rules.{pool_rules, is_immature, coin_value_rules, fee_rules}
 
 -- a script of version 0 with a key hash
 abbrev to_key : List ℕ
@@ -55,8 +55,8 @@ underpaid : first_failing (fee_rules 0 109 110) ≡ Some MinRelayFee
 unfolding fee_rules required_fee
 underpaid = refl
 
-coin_found : first_failing (value_rules 101 0 (coins_of chain [] (paying 99890).inputs)) ≡ None
-unfolding coin_of value_rules
+coin_found : first_failing (coin_value_rules 101 0 (coins_of chain [] (paying 99890).inputs)) ≡ None
+unfolding coin_of coin_value_rules
 coin_found = refl
 
 abbrev first_entry : Admitted
@@ -74,12 +74,12 @@ coinbase_at height = record { value = pos 100000; script = to_key; height = heig
 mature : is_immature 101 (coinbase_at 1) ≡ false
 mature = refl
 
-immature : first_failing (value_rules 101 0 (coinbase_at 2 ∷ [])) ≡ Some PrematureSpend
-unfolding value_rules
+immature : first_failing (coin_value_rules 101 0 (coinbase_at 2 ∷ [])) ≡ Some PrematureSpend
+unfolding coin_value_rules
 immature = refl
 
 -- of two rows on an input the first counts, and an input without one has no verdict
-abbrev two_rows : Verdicts
+abbrev two_rows : VerdictTable
 two_rows = record {
   rows = record { wtxid = 7 ∷ []; input = 0; verdict = Good } ∷ record { wtxid = 7 ∷ []; input = 0; verdict = Hard } ∷ [];
   other = None;

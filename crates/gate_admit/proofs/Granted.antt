@@ -1,75 +1,55 @@
--- What a grant says of a transaction, and that its entry keeps a pool good.
-use Rattle.std.proofs.Common.{◌≡◌, ◌≢◌, ℕ, suc, Bool, true, false, List, [], ◌∷◌, ◌++◌, get_or, Option, Some, None, refl, sym, ap, ◌∙◌, subst, arith, append-nil}
-use Rattle.std.specs.Prelude.{map, is_some, is_none, IsSome}
+-- What a grant says of a transaction: its inputs are live, value is conserved, and an entry holds its numbers.
+use Rattle.std.proofs.Common.{◌≡◌, ◌≢◌, ◌≤◌, ◌+◌, ◌*◌, ◌/◌, ℕ, suc, Bool, true, false, not, List, [], ◌∷◌, ◌++◌, get_or, Option, Some, None, Result, Ok, Err, refl, sym, ap, ◌∙◌, subst, arith}
+use Rattle.std.specs.Prelude.{◌-◌, map, max, is_some, is_none, IsSome, flat_map}
 use Rattle.std.specs.Str.{bytes_eq}
 use Rattle.std.specs.List.{All, AllPairs, list_any}
-use Rattle.std.proofs.lemmas.Bool.{true≢false, false_from_ne_true, or_parts}
+use Rattle.std.proofs.lemmas.Bool.{true≢false, or_parts, ltb-false}
 use Rattle.std.proofs.lemmas.Slice.Eq.{bytes_eq-Decides}
-use Rattle.std.proofs.lemmas.Grind.{flat_map-append}
 use Rattle.std.proofs.lemmas.List.Elements.{All-nil, All-cons, All-tail, All-append, All-map, All-weaker}
-use Rattle.std.proofs.lemmas.List.Folds.{list_any_at}
 use Rattle.std.proofs.lemmas.List.Kept.{AllPairs-cons}
+use Rattle.std.proofs.Math.Nat.{add-sub_of_le}
+use Rattle.gate_bytes.specs.Order.{Rule, first_failing, NoneFails}
+use Rattle.gate_bytes.proofs.OrderLemmas.{none_fails-append}
+use Rattle.gate_tx.specs.declared.Coin.{Coin}
 use Rattle.gate_tx.specs.declared.OutPoint.{OutPoint}
 use Rattle.gate_tx.specs.declared.TxIn.{TxIn}
-use Rattle.gate_tx.specs.Coins.{point_eq}
+use Rattle.gate_tx.specs.Coins.{point_eq, spends}
 use Rattle.gate_tx.specs.Equality.{out_point_decides}
 use Rattle.gate_tx.specs.Ids.{txid_of, wtxid_of}
+use Rattle.gate_tx.specs.Money.{max_money, amount_or_zero}
+use Rattle.gate_tx.specs.Sizes.{weight_of, stripped_size_of}
+use Rattle.gate_tx.specs.Text.{stripped, text}
 use Rattle.gate_tx.specs.Tx.{Tx}
 use Rattle.gate_standard.specs.declared.Denial.{Denial}
-use Rattle.gate_standard.specs.Order.{Rule, NoneFails, first_failing, Decides as DecidesRules}
-use Rattle.gate_standard.specs.Rules.{transaction_rules, standard_rules, value_rules, spends_twice, spends as spends_among}
-use Rattle.gate_standard.proofs.OrderLemmas.{first_failing_decides}
-use Rattle.gate_chain.specs.History.{History}
+use Rattle.gate_standard.specs.Amounts.{required_fee}
+use Rattle.gate_standard.specs.Rules.{transaction_rules, standard_rules, output_value_rules, spends_twice, rules_of_input, rules_of_output, rules_of_whole}
 use Rattle.gate_chain.specs.Coins.{opened_with_of}
+use Rattle.gate_chain.specs.Times.{tip_of}
+use Rattle.gate_pool.specs.Pool.{Admitted, spends_of, spent_by}
+use Rattle.gate_pool.specs.Family.{is_conflict}
+use Rattle.gate_admit.specs.declared.attempt.Attempt.{Attempt}
+use Rattle.gate_admit.specs.declared.attempt.Attempt.TheVariants.{First}
 use Rattle.gate_admit.specs.declared.grant.Grant.{Grant}
-use Rattle.gate_admit.specs.declared.verdicts.Verdicts.{Verdicts}
-use Rattle.gate_admit.specs.Pool.{Admitted, spends_of, spent_by, spends}
-use Rattle.gate_admit.specs.Coins.{view_coin}
-use Rattle.gate_admit.specs.Rules.{is_conflict, alone_rules, final_rules, pool_rules, coin_rules, admission_rules, grant_of, denied_or, decision_of}
-use Rattle.gate_admit.specs.Submission.{Submitted, admitted, entered, submit_of}
-use Rattle.gate_admit.specs.Good.{IsGood}
+use Rattle.gate_admit.specs.Bounds.{FitsEntry, FitsAnEntry}
+use Rattle.gate_admit.specs.Coins.{view_coin, coins_of}
+use Rattle.gate_admit.specs.Granting.{IsGrantable, Conserves, PaysItsSize}
+use Rattle.gate_admit.specs.Reports.{reported, report_rules, sigop_cost, vsize_of}
+use Rattle.gate_admit.specs.Rules.{alone_rules, final_rules, pool_rules, coin_rules, lock_rules, is_immature, rules_of_coin, coin_value_rules, balance_rules, fee_rules, payment_rules, admission_rules, grant_of, denied_or, decision_of, coins_value, outputs_value, min_relay_rate}
+use Rattle.gate_admit.specs.Standing.{Standing}
 use Rattle.gate_admit.proofs.Conflicting.{is_some-find}
-
--- ---- lists
-
-none_pass : {X : Type 0} (p : X → Bool) (xs : List X) → list_any p xs ≡ false → All (λ x. p x ≡ false) xs
-none_pass p xs h = λ k d l. false_from_ne_true _ (λ t. true≢false (sym (list_any_at p xs k d l t) ∙ h))
-
-AllPairs-nil : {X : Type 0} (R : X → X → Type 0) → AllPairs R []
-AllPairs-nil R = λ i j d l m. absurd (omega arith)
-
-AllPairs-one : {X : Type 0} (R : X → X → Type 0) (x : X) → AllPairs R (x ∷ [])
-AllPairs-one R x = AllPairs-cons R x [] (All-nil (R x)) (AllPairs-nil R)
-
-AllPairs-append : {X : Type 0} (R : X → X → Type 0) (xs ys : List X) → AllPairs R xs → AllPairs R ys → All (λ x. All (R x) ys) xs → AllPairs R (xs ++ ys)
-AllPairs-append R [] ys h k across = k
-AllPairs-append R (x ∷ xs) ys h k across =
-    AllPairs-cons R x (xs ++ ys)
-    (All-append (R x) xs ys (λ n d l. h 0 (suc n) d (omega arith) (omega arith)) (λ n d l. across 0 x (omega arith) n d l))
-    (AllPairs-append R xs ys (λ i j d l m. h (suc i) (suc j) d (omega arith) (omega arith)) k (λ n d l. across (suc n) d (omega arith)))
-
--- ---- rules
-
-pub none_fails-append : (xs ys : List Rule) → NoneFails (xs ++ ys) → NoneFails xs × NoneFails ys
-none_fails-append [] ys h = (tt, h)
-none_fails-append (x ∷ xs) ys h = let w = none_fails-append xs ys h.1 in ((h.0, w.0), w.1)
-
-pub none_fails : (rules : List Rule) → first_failing rules ≡ None → NoneFails rules
-none_fails rules h = subst (DecidesRules rules) h (first_failing_decides rules)
+use Rattle.gate_admit.proofs.Lists.{none_pass, AllPairs-nil}
+use Rattle.gate_admit.proofs.Passing.{Passes, passes}
 
 -- ---- outpoints and ids
 
-abbrev Differ : OutPoint → OutPoint → Type 0
+abbrev pub Differ : OutPoint → OutPoint → Type 0
 Differ p q = p ≢ q
-
-abbrev DifferByTxid : Admitted → Admitted → Type 0
-DifferByTxid a b = txid_of a.tx ≢ txid_of b.tx
-
-abbrev DifferByWtxid : Admitted → Admitted → Type 0
-DifferByWtxid a b = wtxid_of a.tx ≢ wtxid_of b.tx
 
 points_differ : (p q : OutPoint) → point_eq p q ≡ false → p ≢ q
 points_differ p q h = λ e. true≢false (sym ((out_point_decides p q).1 e) ∙ h)
+
+points_differ_back : (p q : OutPoint) → point_eq q p ≡ false → p ≢ q
+points_differ_back p q h = λ e. points_differ q p h (sym e)
 
 ids_differ : (a b : List ℕ) → bytes_eq a b ≡ false → a ≢ b
 ids_differ a b h = λ e. true≢false (sym ((bytes_eq-Decides a b).1 e) ∙ h)
@@ -78,11 +58,11 @@ ids_differ a b h = λ e. true≢false (sym ((bytes_eq-Decides a b).1 e) ∙ h)
 spends_once : (inputs : List TxIn) → spends_twice inputs ≡ false → AllPairs Differ (map (λ (i : TxIn). i.prevout) inputs)
 spends_once [] h = AllPairs-nil Differ
 spends_once (i ∷ inputs) h =
-    let parts = or_parts (spends_among inputs i.prevout) (spends_twice inputs) h in
+    let parts = or_parts (spends inputs i.prevout) (spends_twice inputs) h in
     AllPairs-cons Differ i.prevout (map (λ (j : TxIn). j.prevout) inputs)
     (All-map (λ (q : OutPoint). i.prevout ≢ q) (λ (j : TxIn). j.prevout) inputs
-    (All-weaker (λ (j : TxIn). point_eq i.prevout j.prevout ≡ false) (λ (j : TxIn). i.prevout ≢ j.prevout) (λ j. points_differ i.prevout j.prevout) inputs
-    (none_pass (λ (j : TxIn). point_eq i.prevout j.prevout) inputs parts.0)))
+    (All-weaker (λ (j : TxIn). point_eq j.prevout i.prevout ≡ false) (λ (j : TxIn). i.prevout ≢ j.prevout) (λ j. points_differ_back i.prevout j.prevout) inputs
+    (none_pass (λ (j : TxIn). point_eq j.prevout i.prevout) inputs parts.0)))
     (spends_once inputs parts.1)
 
 -- an entry that is no conflict spends nothing that the transaction does
@@ -93,7 +73,7 @@ no_conflict tx e h =
     All-map (λ (q : OutPoint). (get_or e.tx.inputs k d).prevout ≢ q) (λ (i : TxIn). i.prevout) tx.inputs
     (λ n c m. points_differ (get_or e.tx.inputs k d).prevout (get_or tx.inputs n c).prevout
     (none_pass (λ (j : TxIn). point_eq j.prevout (get_or tx.inputs n c).prevout) e.tx.inputs
-    (none_pass (λ (i : TxIn). spends e.tx i.prevout) tx.inputs h n c m) k d l)))
+    (none_pass (λ (i : TxIn). spends e.tx.inputs i.prevout) tx.inputs h n c m) k d l)))
 
 no_conflicts : (tx : Tx) (entries : List Admitted) → All (λ (e : Admitted). is_conflict tx e ≡ false) entries → All (λ (p : OutPoint). All (λ (q : OutPoint). p ≢ q) (spends_of tx)) (spent_by entries)
 no_conflicts tx [] h = All-nil (λ (p : OutPoint). All (λ (q : OutPoint). p ≢ q) (spends_of tx))
@@ -102,99 +82,139 @@ no_conflicts tx (e ∷ entries) h =
     (no_conflict tx e (h 0 e (omega arith)))
     (no_conflicts tx entries (All-tail (λ (e : Admitted). is_conflict tx e ≡ false) e entries h))
 
--- ---- what the rules grant
-
--- what a good pool asks of a transaction that enters
-pub record IsGrantable (chain : History) (entries : List Admitted) (tx : Tx) : Type 0 where
-  pub txid : All (λ (e : Admitted). txid_of e.tx ≢ txid_of tx) entries
-  pub wtxid : All (λ (e : Admitted). wtxid_of e.tx ≢ wtxid_of tx) entries
-  pub unspent : All (λ (p : OutPoint). All (λ (q : OutPoint). p ≢ q) (spends_of tx)) (spent_by entries)
-  pub single : AllPairs Differ (spends_of tx)
-  pub coins : All (λ (p : OutPoint). IsSome (view_coin chain entries p)) (spends_of tx)
-  pub fresh : opened_with_of chain (txid_of tx) ≡ false
+-- ---- live inputs
 
 some_from_not_none : {X : Type 0} (o : Option X) → is_none o ≡ false → is_some o ≡ true
 some_from_not_none None h = sym h
 some_from_not_none (Some x) h = refl
 
+true_from_not : (b : Bool) → not b ≡ false → b ≡ true
+true_from_not true h = refl
+true_from_not false h = sym h
+
 each_once : (tx : Tx) → NoneFails (alone_rules tx) → spends_twice tx.inputs ≡ false
 unfolding alone_rules transaction_rules
 each_once tx h =
     let every = (none_fails-append (transaction_rules tx) (standard_rules tx) h).0 in
-    (none_fails-append (value_rules 0 tx.outputs) _ every.1.1.1).1.0
+    (none_fails-append (output_value_rules 0 tx.outputs) _ every.1.1.1).1.0
 
-grantable : (chain : History) (entries : List Admitted) (tx : Tx) → spends_twice tx.inputs ≡ false → NoneFails (pool_rules entries tx) → NoneFails (coin_rules chain entries tx) → IsGrantable chain entries tx
-unfolding pool_rules coin_rules
-grantable chain entries tx once pool coin =
+each_mature : (next_height sum : ℕ) (coins : List Coin) → NoneFails (coin_value_rules next_height sum coins) → All (λ (c : Coin). is_immature next_height c ≡ false) coins
+unfolding coin_value_rules
+each_mature next_height sum [] h = All-nil (λ (c : Coin). is_immature next_height c ≡ false)
+each_mature next_height sum (coin ∷ coins) h =
+    let parts = none_fails-append (rules_of_coin next_height sum coin) (coin_value_rules next_height (sum + amount_or_zero coin.value) coins) h in
+    All-cons (λ (c : Coin). is_immature next_height c ≡ false) coin coins parts.0.0 (each_mature next_height (sum + amount_or_zero coin.value) coins parts.1)
+
+-- no entry passes the tests of the pool's rules
+unpooled : (entries : List Admitted) (tx : Tx) → NoneFails (pool_rules entries tx)
+    → (list_any (λ (e : Admitted). bytes_eq (txid_of e.tx) (txid_of tx)) entries ≡ false) × (list_any (λ (e : Admitted). bytes_eq (wtxid_of e.tx) (wtxid_of tx)) entries ≡ false) × (list_any (is_conflict tx) entries ≡ false)
+unfolding pool_rules
+unpooled entries tx h = (
+  sym (is_some-find (λ (e : Admitted). bytes_eq (txid_of e.tx) (txid_of tx)) entries) ∙ h.1.0,
+  sym (is_some-find (λ (e : Admitted). bytes_eq (wtxid_of e.tx) (wtxid_of tx)) entries) ∙ h.0,
+  h.1.1.0,
+)
+
+-- no entry is a direct conflict of a transaction that passes
+pub no_entry_conflicts : (attempt : Attempt) (over : Standing) (tx : Tx) → first_failing (admission_rules attempt over tx) ≡ None → list_any (is_conflict tx) over.entries ≡ false
+no_entry_conflicts attempt over tx h = (unpooled over.entries tx (passes attempt over tx h).pool).2
+
+live : (attempt : Attempt) (over : Standing) (tx : Tx) → Passes attempt over tx → IsGrantable over tx
+unfolding final_rules coin_rules lock_rules
+live attempt over tx p =
+    let fresh = unpooled over.entries tx p.pool in
     record {
-      txid = All-weaker (λ (e : Admitted). bytes_eq (txid_of e.tx) (txid_of tx) ≡ false) (λ (e : Admitted). txid_of e.tx ≢ txid_of tx) (λ e. ids_differ (txid_of e.tx) (txid_of tx)) entries
-          (none_pass (λ (e : Admitted). bytes_eq (txid_of e.tx) (txid_of tx)) entries (sym (is_some-find (λ (e : Admitted). bytes_eq (txid_of e.tx) (txid_of tx)) entries) ∙ pool.1.0));
-      wtxid = All-weaker (λ (e : Admitted). bytes_eq (wtxid_of e.tx) (wtxid_of tx) ≡ false) (λ (e : Admitted). wtxid_of e.tx ≢ wtxid_of tx) (λ e. ids_differ (wtxid_of e.tx) (wtxid_of tx)) entries
-          (none_pass (λ (e : Admitted). bytes_eq (wtxid_of e.tx) (wtxid_of tx)) entries (sym (is_some-find (λ (e : Admitted). bytes_eq (wtxid_of e.tx) (wtxid_of tx)) entries) ∙ pool.0));
-      unspent = no_conflicts tx entries (none_pass (is_conflict tx) entries pool.1.1.0);
-      single = spends_once tx.inputs once;
-      coins = All-map (λ (p : OutPoint). IsSome (view_coin chain entries p)) (λ (i : TxIn). i.prevout) tx.inputs
-          (λ k d l. some_from_not_none _ (none_pass (λ (i : TxIn). is_none (view_coin chain entries i.prevout)) tx.inputs coin.1.0 k d l));
-      fresh = (or_parts _ _ coin.0).1;
+      txid = All-weaker (λ (e : Admitted). bytes_eq (txid_of e.tx) (txid_of tx) ≡ false) (λ (e : Admitted). txid_of e.tx ≢ txid_of tx) (λ e. ids_differ (txid_of e.tx) (txid_of tx)) over.entries
+          (none_pass (λ (e : Admitted). bytes_eq (txid_of e.tx) (txid_of tx)) over.entries fresh.0);
+      wtxid = All-weaker (λ (e : Admitted). bytes_eq (wtxid_of e.tx) (wtxid_of tx) ≡ false) (λ (e : Admitted). wtxid_of e.tx ≢ wtxid_of tx) (λ e. ids_differ (wtxid_of e.tx) (wtxid_of tx)) over.entries
+          (none_pass (λ (e : Admitted). bytes_eq (wtxid_of e.tx) (wtxid_of tx)) over.entries fresh.1);
+      unspent = no_conflicts tx over.entries (none_pass (is_conflict tx) over.entries fresh.2);
+      single = spends_once tx.inputs (each_once tx p.alone);
+      coins = All-map (λ (q : OutPoint). IsSome (view_coin over.chain over.entries q)) (λ (i : TxIn). i.prevout) tx.inputs
+          (λ k d l. some_from_not_none _ (none_pass (λ (i : TxIn). is_none (view_coin over.chain over.entries i.prevout)) tx.inputs p.coin.1.0 k d l));
+      mature = each_mature (tip_of over.chain + 1) 0 (coins_of over.chain over.entries tx.inputs) p.value;
+      final = true_from_not _ p.final.0;
+      unlocked = true_from_not _ p.lock.0;
+      fresh = (or_parts _ _ p.coin.0).1;
     }
 
-rules_grant : (chain : History) (entries : List Admitted) (floor : ℕ) (tx : Tx) (verdicts : Verdicts) → first_failing (admission_rules chain entries floor tx verdicts) ≡ None → IsGrantable chain entries tx
-unfolding admission_rules
-rules_grant chain entries floor tx verdicts h =
-    let all = none_fails-append (alone_rules tx) _ (none_fails _ h) in
-    let final = none_fails-append (final_rules chain tx) _ all.1 in
-    let pool = none_fails-append (pool_rules entries tx) _ final.1 in
-    let coin = none_fails-append (coin_rules chain entries tx) _ pool.1 in
-    grantable chain entries tx (each_once tx all.0) pool.0 coin.0
+pub rules_grant : (attempt : Attempt) (over : Standing) (tx : Tx) → first_failing (admission_rules attempt over tx) ≡ None → IsGrantable over tx
+rules_grant attempt over tx h = live attempt over tx (passes attempt over tx h)
 
--- ---- entry
+-- ---- value
 
-spent_by-push : (entries : List Admitted) (e : Admitted) → spent_by (entries ++ e ∷ []) ≡ spent_by entries ++ spends_of e.tx
-spent_by-push entries e = flat_map-append (λ (e : Admitted). spends_of e.tx) entries (e ∷ []) ∙ ap (λ l. spent_by entries ++ l) (append-nil (spends_of e.tx))
+pub granted : (found : Option Denial) (made grant : Grant) → denied_or found made ≡ Ok grant → (found ≡ None) × (made ≡ grant)
+granted None made grant h = (λ _. None, cc)
+granted (Some denial) made grant h = cc
 
-one : {X : Type 0} (P : X → Type 0) (x : X) → P x → All P (x ∷ [])
-one P x h = All-cons P x [] h (All-nil P)
+balanced : (paid_in paid_out : ℕ) → NoneFails (balance_rules paid_in paid_out) → (paid_in ≡ paid_out + (paid_in - paid_out)) × (paid_in - paid_out ≤ max_money)
+unfolding balance_rules
+balanced paid_in paid_out h = (sym (add-sub_of_le (ltb-false _ _ h.0)), ltb-false _ _ h.1.0)
 
--- a coin of the chain is one whatever the pool
-pub push_good : (chain : History) (entries : List Admitted) (e : Admitted) → IsGood chain entries → IsGrantable chain entries e.tx → IsGood chain (entries ++ e ∷ [])
-push_good chain entries e h k =
-    record {
-      txids = AllPairs-append DifferByTxid entries (e ∷ []) h.txids
-          (AllPairs-one DifferByTxid e)
-          (λ n d l. one (λ (b : Admitted). txid_of (get_or entries n d).tx ≢ txid_of b.tx) e (k.txid n d l));
-      wtxids = AllPairs-append DifferByWtxid entries (e ∷ []) h.wtxids
-          (AllPairs-one DifferByWtxid e)
-          (λ n d l. one (λ (b : Admitted). wtxid_of (get_or entries n d).tx ≢ wtxid_of b.tx) e (k.wtxid n d l));
-      spends = subst (AllPairs Differ) (sym (spent_by-push entries e))
-          (AllPairs-append Differ (spent_by entries) (spends_of e.tx) h.spends k.single k.unspent);
-      coins = subst (All (λ (p : OutPoint). IsSome (view_coin chain (entries ++ e ∷ []) p))) (sym (spent_by-push entries e))
-          (All-append (λ (p : OutPoint). IsSome (view_coin chain (entries ++ e ∷ []) p)) (spent_by entries) (spends_of e.tx) h.coins k.coins);
-      fresh = All-append (λ (e : Admitted). opened_with_of chain (txid_of e.tx) ≡ false) entries (e ∷ []) h.fresh (one (λ (e : Admitted). opened_with_of chain (txid_of e.tx) ≡ false) e k.fresh);
-    }
+conserved : (attempt : Attempt) (over : Standing) (tx : Tx) → Passes attempt over tx → Conserves over tx (grant_of over tx)
+unfolding grant_of
+conserved attempt over tx p =
+    let both = balanced (coins_value (coins_of over.chain over.entries tx.inputs)) (outputs_value tx) p.balance in
+    record { balanced = both.0; money = both.1 }
 
-entered_good : (chain : History) (entries : List Admitted) (tx : Tx) (found : Option Denial) (grant : Grant) (now : ℕ) → (found ≡ None → IsGrantable chain entries tx) → IsGood chain entries → IsGood chain (entered entries (denied_or found grant) (Some tx) now)
-entered_good chain entries tx (Some denial) grant now h good = good
-entered_good chain entries tx None grant now h good = push_good chain entries (admitted tx grant now) good (h refl)
+paid : (floor fee vsize : ℕ) → NoneFails (payment_rules First floor fee vsize) → required_fee min_relay_rate vsize ≤ fee
+unfolding fee_rules
+paid floor fee vsize h = ltb-false _ _ h.0
 
--- a submission keeps a pool good
-pub submission_good : (chain : History) (entries : List Admitted) (floor : ℕ) (tx : Option Tx) (verdicts : Verdicts) (now budget : ℕ) → IsGood chain entries → IsGood chain (submit_of chain entries floor tx verdicts now budget).entries
-unfolding submit_of decision_of
-submission_good chain entries floor None verdicts now budget good = good
-submission_good chain entries floor (Some tx) verdicts now budget good =
-    entered_good chain entries tx (first_failing (admission_rules chain entries floor tx verdicts)) (grant_of chain entries tx) now (rules_grant chain entries floor tx verdicts) good
+pays : (over : Standing) (tx : Tx) → Passes First over tx → PaysItsSize (grant_of over tx)
+unfolding grant_of
+pays over tx p = paid over.floor _ _ p.payment
 
-pub kept_good : (chain : History) (entries : List Admitted) (floor : ℕ) (tx : Option Tx) (verdicts : Verdicts) (now budget : ℕ) (after : Submitted)
-    → submit_of chain entries floor tx verdicts now budget ≡ after → IsGood chain entries → IsGood chain after.entries
-kept_good chain entries floor tx verdicts now budget after is good =
-    subst (λ (s : Submitted). IsGood chain s.entries) is (submission_good chain entries floor tx verdicts now budget good)
+-- ---- sizes
 
--- a pool without entries is good
-pub empty_good : (chain : History) → IsGood chain []
-empty_good chain =
-    record {
-      txids = AllPairs-nil DifferByTxid;
-      wtxids = AllPairs-nil DifferByWtxid;
-      spends = AllPairs-nil Differ;
-      coins = All-nil (λ (p : OutPoint). IsSome (view_coin chain [] p));
-      fresh = All-nil (λ (e : Admitted). opened_with_of chain (txid_of e.tx) ≡ false);
-    }
+quarter : (weight cost : ℕ) → 1 ≤ weight → weight ≤ 400000 → cost ≤ 16000 → (1 ≤ (max weight (20 * cost) + 3) / 4) × ((max weight (20 * cost) + 3) / 4 ≤ 10000000)
+quarter weight cost some few low = (omega arith, omega arith)
+
+weighs : (tx : Tx) → 82 ≤ stripped_size_of tx → 1 ≤ weight_of tx
+unfolding weight_of stripped_size_of
+weighs tx h = omega arith
+
+sized : (tx : Tx) → NoneFails (alone_rules tx) → (1 ≤ weight_of tx) × (weight_of tx ≤ 400000)
+unfolding alone_rules standard_rules
+sized tx h =
+    let policy = (none_fails-append (transaction_rules tx) _ h).1 in
+    let whole = (none_fails-append (flat_map rules_of_output tx.outputs) _ (none_fails-append (flat_map rules_of_input tx.inputs) _ policy.1.1).1).1 in
+    (weighs tx (ltb-false _ _ whole.1.0), ltb-false _ _ policy.1.0)
+
+cheap : (attempt : Attempt) (over : Standing) (tx : Tx) → Passes attempt over tx → sigop_cost (reported tx.inputs (coins_of over.chain over.entries tx.inputs)) tx.outputs ≤ 16000
+unfolding report_rules
+cheap attempt over tx p = ltb-false _ _ p.report.1.1.0
+
+held : (attempt : Attempt) (over : Standing) (tx : Tx) → Passes attempt over tx → FitsEntry (grant_of over tx).fee (grant_of over tx).vsize
+unfolding grant_of
+held attempt over tx p =
+    let size = sized tx p.alone in
+    let both = quarter (weight_of tx) (sigop_cost (reported tx.inputs (coins_of over.chain over.entries tx.inputs)) tx.outputs) size.0 size.1 (cheap attempt over tx p) in
+    record { fee_in_range = (balanced (coins_value (coins_of over.chain over.entries tx.inputs)) (outputs_value tx) p.balance).1; some = both.0; few = both.1 }
+
+fits_by : (found : Option Denial) (grant : Grant) → (found ≡ None → FitsEntry grant.fee grant.vsize) → FitsAnEntry (denied_or found grant)
+fits_by None grant h = h refl
+fits_by (Some denial) grant h = tt
+
+-- ---- of decisions
+
+pub decided_live : (attempt : Attempt) (over : Standing) (tx : Tx) (grant : Grant) → decision_of attempt over (Some tx) ≡ Ok grant → IsGrantable over tx
+unfolding decision_of
+decided_live attempt over tx grant h = rules_grant attempt over tx (granted (first_failing (admission_rules attempt over tx)) (grant_of over tx) grant h).0
+
+pub decided_conserve : (attempt : Attempt) (over : Standing) (tx : Tx) (grant : Grant) → decision_of attempt over (Some tx) ≡ Ok grant → Conserves over tx grant
+unfolding decision_of
+decided_conserve attempt over tx grant h =
+    let both = granted (first_failing (admission_rules attempt over tx)) (grant_of over tx) grant h in
+    subst (Conserves over tx) both.1 (conserved attempt over tx (passes attempt over tx both.0))
+
+pub decided_pay : (over : Standing) (tx : Tx) (grant : Grant) → decision_of First over (Some tx) ≡ Ok grant → PaysItsSize grant
+unfolding decision_of
+decided_pay over tx grant h =
+    let both = granted (first_failing (admission_rules First over tx)) (grant_of over tx) grant h in
+    subst PaysItsSize both.1 (pays over tx (passes First over tx both.0))
+
+pub decided_fit : (attempt : Attempt) (over : Standing) (tx : Option Tx) → FitsAnEntry (decision_of attempt over tx)
+unfolding decision_of
+decided_fit attempt over None = tt
+decided_fit attempt over (Some tx) = fits_by (first_failing (admission_rules attempt over tx)) (grant_of over tx) (λ h. held attempt over tx (passes attempt over tx h))

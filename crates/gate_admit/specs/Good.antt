@@ -1,14 +1,13 @@
 -- What holds of a pool over its chain at every moment, and of transactions whose ids tell them apart.
 use Rattle.std.specs.Prelude.{◌≡◌, ◌≢◌, ℕ, Bool, false, List, Option, Some, None, IsSome}
 use Rattle.std.specs.List.{All, AllPairs, Contains, list_any, flat_map}
-use Rattle.std.specs.Str.{bytes_eq}
 use Rattle.gate_tx.specs.declared.OutPoint.{OutPoint}
 use Rattle.gate_tx.specs.Tx.{Tx}
 use Rattle.gate_tx.specs.Text.{stripped}
 use Rattle.gate_tx.specs.Ids.{txid_of, wtxid_of}
 use Rattle.gate_chain.specs.declared.Block.{Block}
 use Rattle.gate_chain.specs.History.{History}
-use Rattle.gate_chain.specs.Coins.{is_known_txid}
+use Rattle.gate_chain.specs.Coins.{has_transaction, is_known_txid}
 use Rattle.gate_pool.specs.Pool.{Admitted, spent_by}
 use Rattle.gate_admit.specs.Coins.{view_coin}
 
@@ -38,4 +37,4 @@ AreApart txs = (a b : Tx) → Contains txs a → Contains txs b → txid_of a �
 -- no connected block has a transaction of the submission's txid
 abbrev pub IsUnconnected : History → Option Tx → Type 0
 IsUnconnected chain None = Unit {0}
-IsUnconnected chain (Some tx) = list_any (λ (t : Tx). bytes_eq (txid_of t) (txid_of tx)) (connected_transactions chain) ≡ false
+IsUnconnected chain (Some tx) = list_any (has_transaction (txid_of tx)) chain.blocks ≡ false

@@ -18,7 +18,8 @@ use Rattle.gate_chain.specs.Times.{tip_of}
 use Rattle.gate_locks.specs.Finality.{is_final_at}
 use Rattle.gate_locks.specs.Locks.{median_at, sequence_locks_met_by}
 use Rattle.gate_admit.specs.declared.grant.Grant.{Grant}
-use Rattle.gate_pool.specs.Pool.{Admitted, is_conflict, entry_by_txid, entry_by_wtxid}
+use Rattle.gate_pool.specs.Pool.{Admitted, entry_by_txid, entry_by_wtxid}
+use Rattle.gate_pool.specs.Family.{is_conflict}
 use Rattle.gate_admit.specs.declared.attempt.Attempt.{Attempt}
 use Rattle.gate_admit.specs.declared.attempt.Attempt.TheVariants.{First, Again}
 use Rattle.gate_admit.specs.Standing.{Standing}

@@ -1,6 +1,6 @@
 //! Locks: A20, and A26.
 ghost use Rattle.std.specs.Prelude.{◌≡◌, ◌≤◌, ◌+◌, IfOk, length, map, All};
-ghost use Rattle.gate_standard.specs.Order.{first_failing};
+ghost use Rattle.gate_bytes.specs.Order.{first_failing};
 ghost use Rattle.gate_chain.specs.Times.{tip_of};
 ghost use Rattle.gate_locks.specs.Locks.{median_at};
 ghost use Rattle.gate_admit.specs.Rules.{final_rules, lock_rules, heights_of};
@@ -12,9 +12,10 @@ use gate_locks::{is_final, sequence_locks_met};
 use gate_standard::Denial;
 use gate_tx::Transaction;
 use std::alloc::Global;
+use std::hash::BuildHasher;
 
 /// The median time past of the tip.
-fn tip_median(chain: &Chain) -> u32
+fn tip_median<S: BuildHasher + Copy + Drop>(chain: &Chain<S>) -> u32
     ensures { result ≡ median_at chain.now (tip_of chain.now) }
 {
     chain.mtp(chain.tip()).unwrap()
@@ -22,7 +23,10 @@ fn tip_median(chain: &Chain) -> u32
 
 /// A20, where it fails.
 #[tactic(auto, unfolding(crate::specs::Rules::final_rules))]
-pub(crate) fn check_final(chain: &Chain, tx: &Transaction) -> Option<Denial>
+pub(crate) fn check_final<S: BuildHasher + Copy + Drop>(
+    chain: &Chain<S>,
+    tx: &Transaction,
+) -> Option<Denial>
     ensures { result ≡ first_failing (final_rules chain.now tx.now) }
 {
     if is_final(tx, chain.tip() + 1, tip_median(chain)) {
@@ -37,16 +41,16 @@ fn heights_of(alloc: Global, coins: &[LentCoin<'_>]) -> Result<Vec<u32>, Memory>
 {
     let mut heights = Vec::with_capacity(alloc, coins.len())?;
     for coin in coins {
-        heights.push(coin.coin().height)?;
+        heights.push(coin.height())?;
     }
     Ok(heights)
 }
 
 /// A26, where it fails.
 #[tactic(auto, unfolding(crate::specs::Rules::lock_rules))]
-pub(crate) fn check_locks(
+pub(crate) fn check_locks<S: BuildHasher + Copy + Drop>(
     alloc: Global,
-    chain: &Chain,
+    chain: &Chain<S>,
     coins: &[LentCoin<'_>],
     tx: &Transaction,
 ) -> Result<Option<Denial>, Memory>

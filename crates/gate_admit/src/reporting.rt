@@ -1,7 +1,7 @@
 //! The reports on the inputs: A31 to A33.
 ghost use Rattle.std.specs.Prelude.{◌≡◌, ◌≤◌, ◌<◌, ◌+◌, ◌^◌, Some, None, IsTrue, IfOk, IfErr, OnOk, length};
 ghost use Rattle.std.specs.List.{list_all};
-ghost use Rattle.gate_standard.specs.Order.{first_failing};
+ghost use Rattle.gate_bytes.specs.Order.{first_failing};
 ghost use Rattle.gate_inputs.specs.Answers.{answers_of};
 ghost use Rattle.gate_admit.specs.Reports.{reported, output_sigops, sigop_cost, report_rules};
 
@@ -16,11 +16,21 @@ use std::alloc::Global;
 /// The most that signature operations cost (Bitcoin Core's `MAX_STANDARD_TX_SIGOPS_COST`).
 const MAX_SIGOP_COST: u128 = 16_000;
 
+/// Whether the lent coin is equal to this one.
+fn is_coin(coin: &Coin, lent: &LentCoin<'_>) -> bool
+    ensures { IsTrue result → coin.now ≡ lent.now }
+{
+    coin.value == lent.value()
+        && coin.script.as_slice() == lent.script()
+        && coin.height == lent.height()
+        && coin.coinbase == lent.is_coinbase()
+}
+
 /// Whether the piece is of this input and coin.
-fn is_of(piece: &Piece, input: &TxIn, coin: &Coin) -> bool
+fn is_of(piece: &Piece, input: &TxIn, coin: &LentCoin<'_>) -> bool
     ensures { IsTrue result → (piece.now.input ≡ input.now) × (piece.now.coin ≡ coin.now) }
 {
-    is_same(&piece.input, input) && is_same(&piece.coin, coin)
+    is_same(&piece.input, input) && is_coin(&piece.coin, coin)
 }
 
 /// What is reported of an input and its coin, by the report where it is of these.
@@ -28,16 +38,16 @@ fn answers_by(
     alloc: Global,
     report: Option<&InputReport>,
     input: &TxIn,
-    coin: &Coin,
+    coin: &LentCoin<'_>,
 ) -> Result<Answers, Memory>
-    ensures { IfOk result (λ found. found ≡ answers_of input.now coin.now) }
+    ensures { IfOk result (λ found. found ≡ answers_of input.now coin.now.script) }
 {
     if let Some(report) = report {
         if is_of(report.piece(), input, coin) {
             return Ok(report.answers());
         }
     }
-    answers(alloc, input, coin)
+    answers(alloc, input, coin.script())
 }
 
 /// What is reported of each input.
@@ -54,7 +64,7 @@ pub(crate) fn reported(
     let mut found = Vec::with_capacity(alloc, inputs.len())?;
     for place in 0..inputs.len() {
         let coin = &coins[place];
-        found.push(answers_by(alloc, reports.get(place), &inputs[place], coin.coin())?)?;
+        found.push(answers_by(alloc, reports.get(place), &inputs[place], coin)?)?;
     }
     Ok(found)
 }

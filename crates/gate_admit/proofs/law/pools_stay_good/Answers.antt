@@ -1,4 +1,4 @@
-use Rattle.gate_admit.proofs.Granted.{empty_good, submission_good}
+use Rattle.gate_admit.proofs.Entering.{empty_good, submission_good}
 use Rattle.gate_admit.proofs.law.pools_stay_good.Goals as goal
 
 pub returns : goal.returns

@@ -1,6 +1,6 @@
 use Rattle.std.proofs.Common.{ap, sym, ◌∙◌}
 use Rattle.gate_tx.specs.declared.Coin.{Coin}
-use Rattle.gate_standard.specs.Order.{first_failing}
+use Rattle.gate_bytes.specs.Order.{first_failing}
 use Rattle.gate_admit.specs.Rules.{rules_of_coin}
 use Rattle.gate_admit.proofs.Valuing.{coin_fails}
 use Rattle.gate_admit.proofs.paying.check_coins_paid.Goals as goal

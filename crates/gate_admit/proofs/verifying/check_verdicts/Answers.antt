@@ -2,13 +2,13 @@ use Rattle.std.proofs.Common.{◌≡◌, ◌∙◌, ap, sym, Some, None, List, �
 use Rattle.gate_tx.specs.declared.TxIn.{TxIn}
 use Rattle.gate_tx.specs.Tx.{Tx}
 use Rattle.gate_tx.specs.Ids.{wtxid_of}
-use Rattle.gate_standard.specs.Order.{first_failing}
+use Rattle.gate_bytes.specs.Order.{first_failing}
 use Rattle.gate_admit.specs.Reports.{rules_of_verdict, verdict_of, verdict_rules}
 use Rattle.gate_admit.proofs.Valuing.{verdict_fails, verdict_passes}
 use Rattle.gate_admit.proofs.verifying.check_verdicts.Goals as goal
 
 pub returns-in-Some : goal.returns-in-Some
-returns-in-Some c =
+returns-in-Some g c =
     let v = c.args.verdicts.now in
     let w = c.wtxid-wtxid.result in
     let xs = c.inputs-input-items.result.now in
@@ -21,7 +21,7 @@ returns-in-Some c =
     ∙ ap (λ (is : List TxIn). first_failing (verdict_rules v (wtxid_of c.args.tx.now) 0 is)) (c.inputs-input-items.ensures ∙ ap (λ (t : Tx). t.inputs) c.transaction-transaction.ensures)
 
 pub loop-input-preserved : goal.loop-input-preserved
-loop-input-preserved c =
+loop-input-preserved g c =
     let v = c.args.verdicts.now in
     let w = c.wtxid-wtxid.result in
     let xs = c.inputs-input-items.result.now in
