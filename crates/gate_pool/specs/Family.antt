@@ -1,0 +1,49 @@
+-- The families of a pool's entries, and what takes the place of what.
+use Rattle.std.specs.Prelude.{ℕ, Bool, ◌&&◌, not, List, [], ◌∷◌, ◌++◌, map, filter}
+use Rattle.std.specs.List.{list_any}
+use Rattle.gate_tx.specs.declared.TxIn.{TxIn}
+use Rattle.gate_tx.specs.Tx.{Tx}
+use Rattle.gate_tx.specs.Ids.{txid_of}
+use Rattle.gate_tx.specs.Coins.{spends}
+use Rattle.gate_graph.specs.Family.{Node, steps_of, reaches}
+use Rattle.gate_pool.specs.Pool.{Admitted}
+
+-- an entry as a node: its parents are the transactions whose outputs it spends, in the pool or not
+abbrev pub node_of : Admitted → Node
+node_of e = record { id = txid_of e.tx; size = e.vsize; fee = e.fee; parents = map (λ (i : TxIn). i.prevout.txid) e.tx.inputs }
+
+-- the steps 'an input of b names a's txid', each as the pair of a's txid and b's
+unfoldable pub steps : List Admitted → List (List ℕ × List ℕ)
+steps entries = steps_of (map node_of entries)
+
+-- the entries from which a chain of steps leads to an id, its own among them, in order of admission
+abbrev pub ancestors_of : List Admitted → List ℕ → List Admitted
+ancestors_of entries txid = filter (λ e. reaches (steps entries) (txid_of e.tx) txid) entries
+
+-- the entries to which a chain of steps leads from an id, its own among them, in order of admission
+abbrev pub descendants_of : List Admitted → List ℕ → List Admitted
+descendants_of entries txid = filter (λ e. reaches (steps entries) txid (txid_of e.tx)) entries
+
+-- the entries that are left without an id and all that is below it
+abbrev pub without_family : List Admitted → List ℕ → List Admitted
+without_family entries txid = filter (λ e. not (reaches (steps entries) txid (txid_of e.tx))) entries
+
+-- an entry passes the test itself, or is below one that does
+abbrev pub is_below_some : (Admitted → Bool) → List Admitted → Admitted → Bool
+is_below_some test entries e = list_any (λ a. test a && reaches (steps entries) (txid_of a.tx) (txid_of e.tx)) entries
+
+-- the entries that are left without those that pass a test and all that is below them
+abbrev pub without_below : (Admitted → Bool) → List Admitted → List Admitted
+without_below test entries = filter (λ e. not (is_below_some test entries e)) entries
+
+-- an entry spends an outpoint that one of the inputs spends
+abbrev pub spends_one_of : List TxIn → Admitted → Bool
+spends_one_of inputs e = list_any (λ (i : TxIn). spends e.tx.inputs i.prevout) inputs
+
+-- an entry spends an outpoint that a transaction spends
+abbrev pub is_conflict : Tx → Admitted → Bool
+is_conflict tx e = spends_one_of tx.inputs e
+
+-- an entry enters: what conflicts with it goes out, with all that is below, and it stands at the end
+abbrev pub entered : List Admitted → Admitted → List Admitted
+entered entries e = without_below (is_conflict e.tx) entries ++ e ∷ []

@@ -1,0 +1,5 @@
+pub mod Pool
+pub mod Family
+pub mod Distinct
+pub mod Walk
+pub mod Keeping

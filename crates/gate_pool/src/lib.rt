@@ -1,0 +1,16 @@
+//! The pool: the transactions that wait for a block, found by id, by witness id and by what they spend.
+//!
+//! The main clauses are those of `Pool::reserve` and `Pool::replace`: memory is taken beforehand, and then an entry takes
+//! the place of all that conflicts with it, and of all that is below that, without memory.
+#![tactic(auto)]
+
+mod bounds;
+mod entry;
+mod family;
+mod pool;
+mod slots;
+mod view;
+
+pub use entry::{Entry, LARGEST_VSIZE};
+pub use pool::Pool;
+pub use view::PoolView;

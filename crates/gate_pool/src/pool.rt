@@ -1,0 +1,162 @@
+ghost use Rattle.std.specs.Prelude.{◌≡◌, ◌<◌, None, [], length, IfOk, OnOk};
+ghost use Rattle.std.specs.Option.{option_copied};
+ghost use Rattle.gate_tx.specs.Ids.{txid_of, wtxid_of};
+ghost use Rattle.gate_pool.specs.Pool.{entry_by_txid, entry_by_wtxid, spender_of, listing_of, size_of};
+ghost use Rattle.gate_pool.specs.Family.{without_family, entered};
+ghost use Rattle.gate_pool.specs.Distinct.{AreDistinct};
+
+use crate::bounds::note;
+use crate::entry::Entry;
+use crate::family::{take_conflicts, take_out};
+use crate::slots::Slots;
+use crate::view::PoolView;
+use gate_bytes::{Kept, Memory};
+use gate_tx::{OutPoint, Txid, Wtxid};
+use indexmap::IndexMap;
+use std::alloc::Global;
+use std::hash::BuildHasher;
+use std::marker::Model;
+
+/// The transactions that wait for a block, in order of admission.
+#[derive(Drop)]
+pub struct Pool<S: BuildHasher + Copy + Drop> {
+    slots: Slots<S>,
+    /// Of each transaction, an index that no spent one exceeds.
+    bounds: IndexMap<Txid, u32, S>,
+    /// Room for the ids of a family.
+    found: Vec<Txid>,
+    room: usize,
+}
+
+impl<S: BuildHasher + Copy + Drop> Model for Pool<S> {
+    ghost use Rattle.std.specs.Str.{bytes_eq};
+    ghost use Rattle.std.specs.Vec.{vec_capacity};
+    ghost use Rattle.indexmap.specs.IndexMap.{get, spare};
+    ghost use Rattle.gate_pool.specs.Pool.{Pooled};
+    ghost use Rattle.gate_pool.specs.Keeping.{IsReady};
+
+    ghost Value = { Pooled };
+
+    ghost view = { λ p. record { entries = p.slots.entries; room = p.room } };
+
+    ghost invariant = { λ p. IsReady p.slots.entries (get bytes_eq p.bounds) (vec_capacity p.found) (spare p.bounds) p.slots.room p.room };
+}
+
+impl<S: BuildHasher + Copy + Drop> Pool<S> {
+    /// A pool without entries, which hashes by what is handed in.
+    pub fn new(alloc: Global, hasher: S) -> Result<Pool<S>, Memory>
+        ensures { IfOk result (λ pool. pool.entries ≡ []) }
+    {
+        let found = Vec::with_capacity(alloc, 1)?;
+        Ok(Pool {
+            slots: Slots::new(alloc, hasher),
+            bounds: IndexMap::with_hasher(alloc, hasher),
+            found,
+            room: 0,
+        })
+    }
+
+    pub fn entry(&self, txid: &Txid) -> Option<&Entry>
+        ensures { option_copied result ≡ entry_by_txid self.now.entries txid.now }
+    {
+        self.slots.entry(txid)
+    }
+
+    pub fn by_wtxid(&self, wtxid: &Wtxid) -> Option<&Entry>
+        ensures { option_copied result ≡ entry_by_wtxid self.now.entries wtxid.now }
+    {
+        self.slots.by_wtxid(wtxid)
+    }
+
+    /// The entry that spends an output.
+    pub fn spender(&self, point: &OutPoint) -> Option<&Entry>
+        ensures { option_copied result ≡ spender_of self.now.entries point.now }
+    {
+        self.slots.spender(point)
+    }
+
+    pub fn count(&self) -> usize
+        ensures { result ≡ length self.now.entries }
+    {
+        self.slots.count()
+    }
+
+    /// In virtual bytes.
+    pub fn size(&self) -> u128
+        ensures { result ≡ size_of self.now.entries }
+    {
+        self.slots.size()
+    }
+
+    /// The txids, in order of admission.
+    pub fn listing(&self, alloc: Global) -> Result<Kept<Txid>, Memory>
+        ensures { IfOk result (λ txids. txids ≡ listing_of self.now.entries) }
+    {
+        self.slots.listing(alloc)
+    }
+
+    /// That no two entries share an id or spend one outpoint: it does nothing.
+    pub fn tells_distinct(&self)
+        ensures { AreDistinct self.now.entries }
+    {
+        self.slots.tells_distinct();
+    }
+
+    /// Takes the memory for an entry of this many inputs.
+    pub fn reserve(&mut self, inputs: usize) -> Result<(), Memory>
+        ensures entries { self.new.entries ≡ self.old.entries }
+        ensures room { OnOk result (inputs < self.new.room) }
+    {
+        self.room = 0;
+        let Some(room) = inputs.checked_add(1) else {
+            return Err(Memory);
+        };
+        let Some(places) = self.slots.count().checked_add(2) else {
+            return Err(Memory);
+        };
+        self.found.reserve(places)?;
+        self.bounds.reserve(inputs)?;
+        self.slots.reserve(inputs)?;
+        self.room = room;
+        Ok(())
+    }
+
+    /// Puts an entry at the end, in the place of all that conflicts with it and of all that is below that. It takes no
+    /// memory, and uses up the room that was taken.
+    pub fn replace(&mut self, entry: Entry)
+        requires room { length entry.tx.inputs < self.old.room }
+        requires txid { entry_by_txid self.old.entries (txid_of entry.tx) ≡ None }
+        requires wtxid { entry_by_wtxid self.old.entries (wtxid_of entry.tx) ≡ None }
+        ensures { self.new.entries ≡ entered self.old.entries entry }
+    {
+        self.room = 0;
+        let inputs = entry.transaction().inputs();
+        take_conflicts(&mut self.slots, &mut self.found, &self.bounds, inputs);
+        note(&mut self.bounds, inputs);
+        self.slots.put(entry);
+    }
+
+    /// Takes out the entry of an id and all that is below the id. It takes no memory, and gives up the room that was taken.
+    pub fn take_family(&mut self, txid: &Txid)
+        ensures { self.new.entries ≡ without_family self.old.entries txid.now }
+    {
+        self.room = 0;
+        take_out(&mut self.slots, &mut self.found, &self.bounds, txid);
+    }
+}
+
+impl<S: BuildHasher + Copy + Drop> PoolView for Pool<S> {
+    ghost entries = { λ pool. pool.entries };
+
+    fn entry(&self, txid: &Txid) -> Option<&Entry> {
+        self.slots.entry(txid)
+    }
+
+    fn by_wtxid(&self, wtxid: &Wtxid) -> Option<&Entry> {
+        self.slots.by_wtxid(wtxid)
+    }
+
+    fn spender(&self, point: &OutPoint) -> Option<&Entry> {
+        self.slots.spender(point)
+    }
+}
