@@ -1,12 +1,14 @@
 -- A granted transaction that enters keeps a pool good.
 use Rattle.std.proofs.Common.{◌≡◌, ◌≢◌, ◌||◌, ℕ, Bool, true, false, List, [], ◌∷◌, ◌++◌, get_or, Option, Some, None, refl, sym, ap, ◌∙◌, subst, arith, append-nil}
-use Rattle.std.specs.Prelude.{find, is_some, IsSome}
+use Rattle.std.specs.Option.{option_to_list}
+use Rattle.std.specs.Prelude.{find, is_some, IsSome, IfSome}
 use Rattle.std.specs.List.{All, AllPairs, list_any}
 use Rattle.std.proofs.lemmas.Grind.{flat_map-append}
 use Rattle.std.proofs.lemmas.List.Elements.{All-nil, All-append}
 use Rattle.gate_bytes.specs.Order.{first_failing}
 use Rattle.gate_tx.specs.declared.OutPoint.{OutPoint}
 use Rattle.gate_tx.specs.Ids.{txid_of, wtxid_of}
+use Rattle.gate_tx.specs.Text.{IsTx}
 use Rattle.gate_tx.specs.Tx.{Tx}
 use Rattle.gate_standard.specs.declared.Denial.{Denial}
 use Rattle.gate_chain.specs.Coins.{has_txid, has_transaction, is_known_txid, opened_with_of}
@@ -17,13 +19,14 @@ use Rattle.gate_pool.proofs.Removals.{without_below-none}
 use Rattle.gate_admit.specs.declared.attempt.Attempt.TheVariants.{First}
 use Rattle.gate_admit.specs.declared.grant.Grant.{Grant}
 use Rattle.gate_admit.specs.Coins.{view_coin}
-use Rattle.gate_admit.specs.Good.{Limits, IsGood, IsUnconnected}
+use Rattle.gate_admit.specs.Good.{Limits, IsGood, IsSettled, IsUnconnected, AreApart, connected_transactions}
 use Rattle.gate_admit.specs.Granting.{IsGrantable}
 use Rattle.gate_admit.specs.Rules.{admission_rules, grant_of, denied_or, decision_of}
 use Rattle.gate_admit.specs.Standing.{Standing}
 use Rattle.gate_admit.specs.Submission.{Submitted, admitted, entries_after, submit_of}
 use Rattle.gate_admit.proofs.Conflicting.{is_some-find}
 use Rattle.gate_admit.proofs.Granted.{Differ, no_entry_conflicts, rules_grant}
+use Rattle.gate_admit.proofs.Unconnected.{unconnected}
 use Rattle.gate_admit.proofs.Lists.{AllPairs-nil, AllPairs-one, AllPairs-append, All-one}
 
 abbrev DifferByTxid : Admitted → Admitted → Type 0
@@ -72,24 +75,45 @@ push_good limits over e h k new =
     }
 
 entered_good : (limits : Limits) (over : Standing) (tx : Tx) (found : Option Denial) (grant : Grant) (now : ℕ)
-    → (found ≡ None → IsGrantable over tx × (list_any (is_conflict tx) over.entries ≡ false)) → list_any (has_transaction (txid_of tx)) over.chain.blocks ≡ false
+    → (found ≡ None → IsGrantable over tx × (list_any (is_conflict tx) over.entries ≡ false) × IsUnconnected over.chain (Some tx))
     → IsGood limits over.chain over.entries → IsGood limits over.chain (entries_after over.entries (denied_or found grant) (Some tx) now)
-entered_good limits over tx (Some denial) grant now h new good = good
-entered_good limits over tx None grant now h new good =
-    let both = h refl in
-    subst (IsGood limits over.chain) (sym (entered_last over.entries (admitted tx grant now) both.1)) (push_good limits over (admitted tx grant now) good both.0 new)
+entered_good limits over tx (Some denial) grant now h good = good
+entered_good limits over tx None grant now h good =
+    let all = h refl in
+    subst (IsGood limits over.chain) (sym (entered_last over.entries (admitted tx grant now) all.1)) (push_good limits over (admitted tx grant now) good all.0 all.2)
+
+-- what is granted is in no connected block
+abbrev pub StaysUnconnected : Standing → Option Tx → Type 0
+StaysUnconnected over None = Unit {0}
+StaysUnconnected over (Some tx) = first_failing (admission_rules First over tx) ≡ None → IsUnconnected over.chain (Some tx)
 
 -- a submission keeps a pool good
-pub submission_good : (limits : Limits) (over : Standing) (tx : Option Tx) (now budget : ℕ) → IsUnconnected over.chain tx → IsGood limits over.chain over.entries → IsGood limits over.chain (submit_of over tx now budget).entries
+submission_good : (limits : Limits) (over : Standing) (tx : Option Tx) (now budget : ℕ) → StaysUnconnected over tx → IsGood limits over.chain over.entries → IsGood limits over.chain (submit_of over tx now budget).entries
 unfolding submit_of decision_of
 submission_good limits over None now budget new good = good
 submission_good limits over (Some tx) now budget new good =
-    entered_good limits over tx (first_failing (admission_rules First over tx)) (grant_of over tx) now (λ h. (rules_grant First over tx h, no_entry_conflicts First over tx h)) new good
+    entered_good limits over tx (first_failing (admission_rules First over tx)) (grant_of over tx) now (λ h. (rules_grant First over tx h, no_entry_conflicts First over tx h, new h)) good
+
+stays_if_unconnected : (over : Standing) (tx : Option Tx) → IsUnconnected over.chain tx → StaysUnconnected over tx
+stays_if_unconnected over None new = tt
+stays_if_unconnected over (Some tx) new = λ h. new
+
+pub unconnected_good : (limits : Limits) (over : Standing) (tx : Option Tx) (now budget : ℕ) → IsUnconnected over.chain tx → IsGood limits over.chain over.entries → IsGood limits over.chain (submit_of over tx now budget).entries
+unconnected_good limits over tx now budget new good = submission_good limits over tx now budget (stays_if_unconnected over tx new) good
+
+stays_if_apart : (over : Standing) (tx : Option Tx) → IsSettled over.chain → IfSome tx IsTx → AreApart (option_to_list tx ++ connected_transactions over.chain) → StaysUnconnected over tx
+stays_if_apart over None settled is_tx apart = tt
+stays_if_apart over (Some tx) settled is_tx apart = unconnected First over tx settled is_tx apart
+
+pub apart_good : (limits : Limits) (over : Standing) (tx : Option Tx) (now budget : ℕ) → IsSettled over.chain → IfSome tx IsTx → AreApart (option_to_list tx ++ connected_transactions over.chain)
+    → IsGood limits over.chain over.entries → IsGood limits over.chain (submit_of over tx now budget).entries
+apart_good limits over tx now budget settled is_tx apart good = submission_good limits over tx now budget (stays_if_apart over tx settled is_tx apart) good
 
 pub kept_good : (limits : Limits) (over : Standing) (tx : Option Tx) (now budget : ℕ) (after : Submitted)
-    → submit_of over tx now budget ≡ after → IsUnconnected over.chain tx → IsGood limits over.chain over.entries → IsGood limits over.chain after.entries
-kept_good limits over tx now budget after is new good =
-    subst (λ (s : Submitted). IsGood limits over.chain s.entries) is (submission_good limits over tx now budget new good)
+    → submit_of over tx now budget ≡ after → IsSettled over.chain → IfSome tx IsTx → AreApart (option_to_list tx ++ connected_transactions over.chain)
+    → IsGood limits over.chain over.entries → IsGood limits over.chain after.entries
+kept_good limits over tx now budget after is settled is_tx apart good =
+    subst (λ (s : Submitted). IsGood limits over.chain s.entries) is (apart_good limits over tx now budget settled is_tx apart good)
 
 -- a pool without entries is good
 pub empty_good : (limits : Limits) (chain : History) → IsGood limits chain []

@@ -1,6 +1,6 @@
 -- What a grant says of a transaction: its inputs are live, value is conserved, and an entry holds its numbers.
 use Rattle.std.proofs.Common.{◌≡◌, ◌≢◌, ◌≤◌, ◌+◌, ◌*◌, ◌/◌, ℕ, suc, Bool, true, false, not, List, [], ◌∷◌, ◌++◌, get_or, Option, Some, None, Result, Ok, Err, refl, sym, ap, ◌∙◌, subst, arith}
-use Rattle.std.specs.Prelude.{◌-◌, map, max, is_some, is_none, IsSome, flat_map}
+use Rattle.std.specs.Prelude.{◌-◌, map, max, is_some, is_none, IsSome, IfSome, IfOk, OnOk, flat_map}
 use Rattle.std.specs.Str.{bytes_eq}
 use Rattle.std.specs.List.{All, AllPairs, list_any}
 use Rattle.std.proofs.lemmas.Bool.{true≢false, or_parts, ltb-false}
@@ -10,6 +10,7 @@ use Rattle.std.proofs.lemmas.List.Kept.{AllPairs-cons}
 use Rattle.std.proofs.Math.Nat.{add-sub_of_le}
 use Rattle.gate_bytes.specs.Order.{Rule, first_failing, NoneFails}
 use Rattle.gate_bytes.proofs.OrderLemmas.{none_fails-append}
+use Rattle.gate_bytes.specs.declared.Memory.{Memory}
 use Rattle.gate_tx.specs.declared.Coin.{Coin}
 use Rattle.gate_tx.specs.declared.OutPoint.{OutPoint}
 use Rattle.gate_tx.specs.declared.TxIn.{TxIn}
@@ -25,7 +26,7 @@ use Rattle.gate_standard.specs.Amounts.{required_fee}
 use Rattle.gate_standard.specs.Rules.{transaction_rules, standard_rules, output_value_rules, spends_twice, rules_of_input, rules_of_output, rules_of_whole}
 use Rattle.gate_chain.specs.Coins.{opened_with_of}
 use Rattle.gate_chain.specs.Times.{tip_of}
-use Rattle.gate_pool.specs.Pool.{Admitted, spends_of, spent_by}
+use Rattle.gate_pool.specs.Pool.{Admitted, spends_of, spent_by, entry_by_txid, entry_by_wtxid}
 use Rattle.gate_pool.specs.Family.{is_conflict}
 use Rattle.gate_admit.specs.declared.attempt.Attempt.{Attempt}
 use Rattle.gate_admit.specs.declared.attempt.Attempt.TheVariants.{First}
@@ -218,3 +219,32 @@ pub decided_fit : (attempt : Attempt) (over : Standing) (tx : Option Tx) → Fit
 unfolding decision_of
 decided_fit attempt over None = tt
 decided_fit attempt over (Some tx) = fits_by (first_failing (admission_rules attempt over tx)) (grant_of over tx) (λ h. held attempt over tx (passes attempt over tx h))
+
+-- ---- of what a call answers
+
+pub found_live : (attempt : Attempt) (over : Standing) (tx : Option Tx) (decision : Result Grant Denial) → decision ≡ decision_of attempt over tx → OnOk decision (IfSome tx (IsGrantable over))
+found_live attempt over None (Ok grant) h = tt
+found_live attempt over (Some tx) (Ok grant) h = decided_live attempt over tx grant (sym h)
+found_live attempt over tx (Err denial) h = tt
+
+pub found_fit : (attempt : Attempt) (over : Standing) (tx : Option Tx) (decision : Result Grant Denial) → decision ≡ decision_of attempt over tx → FitsAnEntry decision
+found_fit attempt over tx decision h = subst FitsAnEntry (sym h) (decided_fit attempt over tx)
+
+-- no entry has one of the ids of what is granted
+none_found : {X : Type 0} (o : Option X) → is_some o ≡ false → o ≡ None
+none_found None h = refl
+none_found (Some x) h = cc
+
+pub granted_absent : (attempt : Attempt) (over : Standing) (tx : Tx) (grant : Grant) → Ok grant ≡ decision_of attempt over (Some tx) → (entry_by_txid over.entries (txid_of tx) ≡ None) × (entry_by_wtxid over.entries (wtxid_of tx) ≡ None)
+unfolding decision_of pool_rules
+granted_absent attempt over tx grant h =
+    let pool = (passes attempt over tx (granted (first_failing (admission_rules attempt over tx)) (grant_of over tx) grant (sym h)).0).pool in
+    (none_found (entry_by_txid over.entries (txid_of tx)) pool.1.0, none_found (entry_by_wtxid over.entries (wtxid_of tx)) pool.0)
+
+pub answers_live : (attempt : Attempt) (over : Standing) (tx : Option Tx) (r : Result (Result Grant Denial) Memory) → IfOk r (λ decision. decision ≡ decision_of attempt over tx) → IfOk r (λ decision. OnOk decision (IfSome tx (IsGrantable over)))
+answers_live attempt over tx (Ok decision) h = found_live attempt over tx decision h
+answers_live attempt over tx (Err e) h = tt
+
+pub answers_fit : (attempt : Attempt) (over : Standing) (tx : Option Tx) (r : Result (Result Grant Denial) Memory) → IfOk r (λ decision. decision ≡ decision_of attempt over tx) → IfOk r FitsAnEntry
+answers_fit attempt over tx (Ok decision) h = found_fit attempt over tx decision h
+answers_fit attempt over tx (Err e) h = tt

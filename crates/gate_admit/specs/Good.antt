@@ -1,10 +1,11 @@
 -- What holds of a pool over its chain at every moment, and of transactions whose ids tell them apart.
-use Rattle.std.specs.Prelude.{◌≡◌, ◌≢◌, ℕ, Bool, false, List, Option, Some, None, IsSome}
+use Rattle.std.specs.Prelude.{◌≡◌, ◌≢◌, ℕ, Bool, true, false, List, [], ◌∷◌, Option, Some, None, IsSome}
 use Rattle.std.specs.List.{All, AllPairs, Contains, list_any, flat_map}
 use Rattle.gate_tx.specs.declared.OutPoint.{OutPoint}
 use Rattle.gate_tx.specs.Tx.{Tx}
-use Rattle.gate_tx.specs.Text.{stripped}
+use Rattle.gate_tx.specs.Text.{IsTx, stripped}
 use Rattle.gate_tx.specs.Ids.{txid_of, wtxid_of}
+use Rattle.gate_standard.specs.Rules.{is_coinbase}
 use Rattle.gate_chain.specs.declared.Block.{Block}
 use Rattle.gate_chain.specs.History.{History}
 use Rattle.gate_chain.specs.Coins.{has_transaction, is_known_txid}
@@ -33,6 +34,16 @@ connected_transactions chain = flat_map (λ (b : Block). b.transactions) chain.b
 -- no two transactions with different forms without witnesses share a txid
 abbrev pub AreApart : List Tx → Type 0
 AreApart txs = (a b : Tx) → Contains txs a → Contains txs b → txid_of a ≡ txid_of b → stripped a ≡ stripped b
+
+-- the first transaction of a block is a coinbase
+abbrev pub begins_with_coinbase : List Tx → Bool
+begins_with_coinbase [] = false
+begins_with_coinbase (tx ∷ txs) = is_coinbase tx.inputs
+
+-- each connected block begins with a coinbase, and its transactions have a text
+pub record IsSettled (chain : History) : Type 0 where
+  pub coinbases : (b : Block) → Contains chain.blocks b → begins_with_coinbase b.transactions ≡ true
+  pub spelled : (tx : Tx) → Contains (connected_transactions chain) tx → IsTx tx
 
 -- no connected block has a transaction of the submission's txid
 abbrev pub IsUnconnected : History → Option Tx → Type 0

@@ -11,7 +11,7 @@ pub record VerdictTable : Type 0 where
 
 -- whether a row is on this input of the transaction with this wtxid
 abbrev pub is_row_on : List ℕ → ℕ → VerdictRow → Bool
-is_row_on wtxid input row = bytes_eq row.wtxid wtxid && (row.input == input)
+is_row_on wtxid input row = bytes_eq wtxid row.wtxid && (input == row.input)
 
 -- the first row on an input
 abbrev pub row_on : List VerdictRow → List ℕ → ℕ → Option VerdictRow

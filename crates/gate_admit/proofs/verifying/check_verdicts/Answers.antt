@@ -3,7 +3,8 @@ use Rattle.gate_tx.specs.declared.TxIn.{TxIn}
 use Rattle.gate_tx.specs.Tx.{Tx}
 use Rattle.gate_tx.specs.Ids.{wtxid_of}
 use Rattle.gate_bytes.specs.Order.{first_failing}
-use Rattle.gate_admit.specs.Reports.{rules_of_verdict, verdict_of, verdict_rules}
+use Rattle.gate_admit.specs.Reports.{rules_of_verdict, verdict_rules}
+use Rattle.gate_admit.specs.Verdicts.{verdict_of}
 use Rattle.gate_admit.proofs.Valuing.{verdict_fails, verdict_passes}
 use Rattle.gate_admit.proofs.verifying.check_verdicts.Goals as goal
 
