@@ -1,5 +1,6 @@
 pub mod Instructions
 pub mod Laws
+pub mod Opcodes
 pub mod Pushes
 pub mod Sigops
 pub mod Templates
