@@ -86,7 +86,8 @@ fn is_standard_script_path(control: &[u8], items: &[Kept<u8>]) -> bool
 {
     match control {
         [] => false,
-        [first, ..] => *first != ANNEX && (*first & LEAF_MASK != LEAF_VERSION || are_at_most_80_bytes(items)),
+        [first, ..] => *first != ANNEX
+            && (*first & LEAF_MASK != LEAF_VERSION || are_at_most_80_bytes(items)),
     }
 }
 
