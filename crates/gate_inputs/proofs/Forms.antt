@@ -11,8 +11,9 @@ use Rattle.gate_script.specs.Templates.{template_of}
 use Rattle.gate_script.specs.declared.templates.Template.{Template}
 use Rattle.gate_script.specs.declared.templates.Template.TheVariants.{ScriptHash, WitnessV0Key, WitnessV0Script, Taproot, WitnessUnknown, NullData, Key, KeyHash, Multisig, Nonstandard}
 use Rattle.gate_inputs.specs.declared.answer.Answers.{Answers}
-use Rattle.gate_inputs.specs.Answers.{answers_of, answers_by}
-use Rattle.gate_inputs.specs.Reports.{hashes_script, redeem_of, counted_redeem, is_standard_by, is_standard_spend, program_by, allows_witness, is_witness_standard, witness_cost, cost_by, sigop_cost_of}
+use Rattle.gate_inputs.specs.Answers.{answers_of}
+use Rattle.gate_inputs.specs.Internal.{answers_by}
+use Rattle.gate_inputs.specs.Reports.{is_pay_to_script_hash, redeem_of, counted_redeem, is_standard_by, is_standard_spend, program_by, allows_witness, is_witness_standard, witness_cost, cost_by, sigop_cost_of}
 use Rattle.gate_inputs.proofs.Redeeming.{counted_redeem-script_hash}
 
 abbrev pub made : Bool → Bool → ℕ → Answers
@@ -36,7 +37,7 @@ answers_of-script_hash input script is =
     answers_of-at ScriptHash input script is
     ∙ ap (λ redeem. let made : Answers = record { standard = is_standard_by ScriptHash (redeem_of input.script); witness_standard = allows_witness ScriptHash input.witness (program_by ScriptHash (redeem_of input.script) []); sigop_cost = min (cost_by input redeem (program_by ScriptHash redeem [])) (2 ^ 64 - 1) } in made) (counted_redeem-script_hash input.script)
 
-answers_at-direct : (form : Template) (input : TxIn) (script : List ℕ) → hashes_script form ≡ false → answers_at form input script ≡ answers_by form input None script
+answers_at-direct : (form : Template) (input : TxIn) (script : List ℕ) → is_pay_to_script_hash form ≡ false → answers_at form input script ≡ answers_by form input None script
 unfolding answers_by
 answers_at-direct ScriptHash input script other = absurd (cc)
 answers_at-direct WitnessV0Key input script other = refl
@@ -49,15 +50,15 @@ answers_at-direct KeyHash input script other = refl
 answers_at-direct (Multisig required keys) input script other = refl
 answers_at-direct Nonstandard input script other = refl
 
-pub answers_of-direct : (form : Template) (input : TxIn) (script : List ℕ) → template_of script ≡ form → hashes_script form ≡ false → answers_of input script ≡ answers_by form input None script
+pub answers_of-direct : (form : Template) (input : TxIn) (script : List ℕ) → template_of script ≡ form → is_pay_to_script_hash form ≡ false → answers_of input script ≡ answers_by form input None script
 answers_of-direct form input script is other = answers_of-at form input script is ∙ answers_at-direct form input script other
 
 pub same_answers : {s s' w w' : Bool} {k k' : ℕ} → s ≡ s' → w ≡ w' → k ≡ k' → made s w k ≡ made s' w' k'
 same_answers p q r = cc
 
 -- the program of a coin that isn't locked by a script hash
-pub program_by-direct : (form : Template) (script : List ℕ) → hashes_script form ≡ false → program_by form None script ≡ witness_program_of script
-program_by-direct form script other = ap (option_and_then witness_program_of) (cond-false (hashes_script form) None (Some script) other)
+pub program_by-direct : (form : Template) (script : List ℕ) → is_pay_to_script_hash form ≡ false → program_by form None script ≡ witness_program_of script
+program_by-direct form script other = ap (option_and_then witness_program_of) (cond-false (is_pay_to_script_hash form) None (Some script) other)
 
 -- a count that is capped at the greatest number of 64 bits, in a test and in a sum
 pub leb-capped : (n r : ℕ) → r ≡ min n (2 ^ 64 - 1) → leb r 15 ≡ leb n 15
@@ -80,6 +81,6 @@ allows-none form [] r empty none = none refl
 allows-none form (item ∷ items) false empty none = refl
 allows-none form (item ∷ items) true empty none = cc (empty refl)
 
-pub hashes_script-other : (form : Template) → (form ≡ ScriptHash → ⊥) → hashes_script form ≡ false
-hashes_script-other ScriptHash other = absurd (other refl)
-hashes_script-other _ other = refl
+pub is_pay_to_script_hash-other : (form : Template) → (form ≡ ScriptHash → ⊥) → is_pay_to_script_hash form ≡ false
+is_pay_to_script_hash-other ScriptHash other = absurd (other refl)
+is_pay_to_script_hash-other _ other = refl

@@ -1,3 +1,4 @@
 pub mod Answers
 pub mod Equality
+pub mod Internal
 pub mod Reports

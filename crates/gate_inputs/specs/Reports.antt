@@ -1,5 +1,6 @@
 -- What policy says of an input that spends a coin of a script (Bitcoin Core 22.0: `AreInputsStandard`, `IsWitnessStandard` and
--- `GetTransactionSigOpCost`).
+-- `GetTransactionSigOpCost`). Core's `AreInputsStandard` also fails on an input script over 10,000 bytes (MAX_SCRIPT_SIZE),
+-- which A14 keeps away from these.
 use Rattle.std.specs.Prelude.{ℕ, ◌+◌, ◌*◌, ◌-◌, Bool, true, false, not, ◌&&◌, ◌||◌, ◌==◌, nat_le, bit_and, if◌then◌else◌, List, [], ◌∷◌, length, take, slice_get, Option, Some, None, option_and_then}
 use Rattle.std.specs.List.{list_all}
 use Rattle.std.specs.Option.{option_map_or}
@@ -19,9 +20,9 @@ last_of xs = slice_get xs (length xs - 1)
 unfoldable pub from_last : {A B : Type 0} → B → (A → List A → B) → List A → B
 from_last none some xs = option_map_or (λ x. some x (take (length xs - 1) xs)) (last_of xs) none
 
-abbrev pub hashes_script : Template → Bool
-hashes_script ScriptHash = true
-hashes_script _ = false
+abbrev pub is_pay_to_script_hash : Template → Bool
+is_pay_to_script_hash ScriptHash = true
+is_pay_to_script_hash _ = false
 
 abbrev pub is_taproot : Template → Bool
 is_taproot Taproot = true
@@ -33,14 +34,14 @@ redeem_of script = option_and_then last_of (push_stack_of script)
 
 -- ---- standard
 
--- a redeem script of at most 15 signature operations
-abbrev pub is_light : List ℕ → Bool
-is_light redeem = nat_le (sigops_of true redeem) 15
+-- a redeem script of at most 15 signature operations (MAX_P2SH_SIGOPS)
+abbrev pub has_few_sigops : List ℕ → Bool
+has_few_sigops redeem = nat_le (sigops_of true redeem) 15
 
 abbrev pub is_standard_by : Template → Option (List ℕ) → Bool
 is_standard_by Nonstandard redeem = false
 is_standard_by WitnessUnknown redeem = false
-is_standard_by ScriptHash redeem = option_map_or is_light redeem false
+is_standard_by ScriptHash redeem = option_map_or has_few_sigops redeem false
 is_standard_by _ redeem = true
 
 unfoldable pub is_standard_spend : TxIn → List ℕ → Bool
@@ -50,30 +51,32 @@ is_standard_spend input script = is_standard_by (template_of script) (redeem_of 
 
 -- the witness program that a spend meets: the coin's script, or under a script hash the redeem script (BIP 141)
 abbrev pub program_by : Template → Option (List ℕ) → List ℕ → Option (ℕ × List ℕ)
-program_by form redeem script = option_and_then witness_program_of (if hashes_script form then redeem else Some script)
+program_by form redeem script = option_and_then witness_program_of (if is_pay_to_script_hash form then redeem else Some script)
 
-abbrev pub are_small : List (List ℕ) → Bool
-are_small items = list_all (λ item. nat_le (length item) 80) items
+-- MAX_STANDARD_P2WSH_STACK_ITEM_SIZE, and MAX_STANDARD_TAPSCRIPT_STACK_ITEM_SIZE
+abbrev pub are_at_most_80_bytes : List (List ℕ) → Bool
+are_at_most_80_bytes items = list_all (λ item. nat_le (length item) 80) items
 
--- a witness script of at most 3,600 bytes behind at most 100 items of at most 80 bytes
-abbrev pub allows_behind : List ℕ → List (List ℕ) → Bool
-allows_behind script items = nat_le (length script) 3600 && nat_le (length items) 100 && are_small items
+-- a witness script of at most 3,600 bytes (MAX_STANDARD_P2WSH_SCRIPT_SIZE) behind at most 100 items
+-- (MAX_STANDARD_P2WSH_STACK_ITEMS) of at most 80 bytes
+abbrev pub is_standard_p2wsh_stack : List ℕ → List (List ℕ) → Bool
+is_standard_p2wsh_stack script items = nat_le (length script) 3600 && nat_le (length items) 100 && are_at_most_80_bytes items
 
-abbrev pub allows_script : List (List ℕ) → Bool
-allows_script witness = from_last true allows_behind witness
+abbrev pub is_standard_p2wsh : List (List ℕ) → Bool
+is_standard_p2wsh witness = from_last true is_standard_p2wsh_stack witness
 
 -- what ends a Taproot witness of two items or more: no annex, and where it is a control block of leaf version 0xc0,
 -- the items before the leaf script have at most 80 bytes (BIP 341, BIP 342)
-abbrev pub allows_control : List ℕ → List (List ℕ) → Bool
-allows_control [] items = false
-allows_control (first ∷ _) items = not (first == 0x50) && (not (bit_and first 0xfe == 0xc0) || are_small items)
+abbrev pub is_standard_script_path : List ℕ → List (List ℕ) → Bool
+is_standard_script_path [] items = false
+is_standard_script_path (first ∷ _) items = not (first == 0x50) && (not (bit_and first 0xfe == 0xc0) || are_at_most_80_bytes items)
 
 abbrev pub allows_taproot : List (List ℕ) → Bool
-allows_taproot witness = from_last true (λ control before. from_last true (λ script items. allows_control control items) before) witness
+allows_taproot witness = from_last true (λ control before. from_last true (λ script items. is_standard_script_path control items) before) witness
 
 abbrev pub allows_program : Template → List (List ℕ) → ℕ → ℕ → Bool
 allows_program form witness version size =
-    if version == 0 && size == 32 then allows_script witness
+    if version == 0 && size == 32 then is_standard_p2wsh witness
     else if is_taproot form then allows_taproot witness
     else true
 
@@ -90,7 +93,7 @@ is_witness_standard input script =
 
 -- the redeem script that counts: that of an input that only pushes
 abbrev pub counted_redeem : Template → List ℕ → Option (List ℕ)
-counted_redeem form script = if hashes_script form && is_push_only script then redeem_of script else None
+counted_redeem form script = if is_pay_to_script_hash form && is_push_only script then redeem_of script else None
 
 -- what a witness script counts, the last item
 abbrev pub script_cost : List (List ℕ) → ℕ

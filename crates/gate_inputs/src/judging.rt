@@ -1,7 +1,8 @@
 ghost use Rattle.std.specs.Prelude.{◌≡◌, ◌-◌, ◌+◌, ◌*◌, ◌^◌, [], false, IfOk, None, Some, min};
 ghost use Rattle.std.specs.Option.{option_map};
-ghost use Rattle.gate_inputs.specs.Reports.{hashes_script, is_standard_by, redeem_of, script_cost, program_cost, witness_cost};
-ghost use Rattle.gate_inputs.specs.Answers.{answers_of, answers_by};
+ghost use Rattle.gate_inputs.specs.Reports.{is_pay_to_script_hash, is_standard_by, redeem_of, script_cost, program_cost, witness_cost};
+ghost use Rattle.gate_inputs.specs.Answers.{answers_of};
+ghost use Rattle.gate_inputs.specs.Internal.{answers_by};
 ghost use Rattle.gate_script.specs.declared.templates.Template.TheVariants.{ScriptHash};
 ghost use Rattle.gate_script.specs.Sigops.{sigops_of};
 
@@ -12,10 +13,10 @@ use gate_script::{Template, push_stack, sigops, template, witness_program};
 use gate_tx::TxIn;
 use std::alloc::Global;
 
-/// The most signature operations of a redeem script.
+/// The most signature operations of a redeem script (Bitcoin Core's `MAX_P2SH_SIGOPS`).
 const MOST_REDEEM_SIGOPS: u64 = 15;
 
-/// What each signature operation outside a witness costs (BIP 141).
+/// What each signature operation outside a witness costs (BIP 141; `WITNESS_SCALE_FACTOR`).
 const WITNESS_SCALE: u64 = 4;
 
 /// The answers for an input and the script of the coin that it spends. The pushes of the input's
@@ -49,7 +50,7 @@ fn redeem_script(alloc: Global, script: &[u8]) -> Result<Option<Kept<u8>>, Memor
 
 /// The answers for a coin of a template other than a script hash.
 fn direct(input: &TxIn, form: Template, script: &[u8]) -> Answers
-    requires { hashes_script form ≡ false }
+    requires { is_pay_to_script_hash form ≡ false }
     ensures { result ≡ answers_by form input.now None script.now }
 {
     let program = witness_program(script);

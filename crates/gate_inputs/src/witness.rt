@@ -1,17 +1,19 @@
 ghost use Rattle.std.specs.Prelude.{◌≡◌};
 ghost use Rattle.std.specs.Option.{option_map};
-ghost use Rattle.gate_inputs.specs.Reports.{allows_behind, allows_script, allows_control, allows_taproot, allows_program, allows_witness, are_small};
+ghost use Rattle.gate_inputs.specs.Reports.{is_standard_p2wsh_stack, is_standard_p2wsh, is_standard_script_path, allows_taproot, allows_program, allows_witness, are_at_most_80_bytes};
 
 use gate_bytes::Kept;
 use gate_script::Template;
 
-/// The longest witness script under a version 0 program, in bytes.
+/// The longest witness script under a version 0 program, in bytes (Bitcoin Core's
+/// `MAX_STANDARD_P2WSH_SCRIPT_SIZE`).
 const LONGEST_SCRIPT: usize = 3600;
 
-/// The most items before it.
+/// The most items before it (`MAX_STANDARD_P2WSH_STACK_ITEMS`).
 const MOST_ITEMS: usize = 100;
 
-/// The longest of these items, and of those before a Taproot leaf script.
+/// The longest of these items (`MAX_STANDARD_P2WSH_STACK_ITEM_SIZE`), and of those before a Taproot
+/// leaf script (`MAX_STANDARD_TAPSCRIPT_STACK_ITEM_SIZE`).
 const LONGEST_ITEM: usize = 80;
 
 /// What an annex begins with (BIP 341).
@@ -43,7 +45,7 @@ fn allows_program(form: Template, witness: &[Kept<u8>], version: u8, size: usize
     ensures { result ≡ allows_program form witness.now version size }
 {
     if version == 0 && size == 32 {
-        allows_script(witness)
+        is_standard_p2wsh(witness)
     } else if form == Template::Taproot {
         allows_taproot(witness)
     } else {
@@ -51,20 +53,20 @@ fn allows_program(form: Template, witness: &[Kept<u8>], version: u8, size: usize
     }
 }
 
-fn allows_script(witness: &[Kept<u8>]) -> bool
-    ensures { result ≡ allows_script witness.now }
+fn is_standard_p2wsh(witness: &[Kept<u8>]) -> bool
+    ensures { result ≡ is_standard_p2wsh witness.now }
 {
     match witness.split_last() {
-        Some((script, items)) => allows_behind(script.as_slice(), items),
+        Some((script, items)) => is_standard_p2wsh_stack(script.as_slice(), items),
         None => true,
     }
 }
 
 /// Whether that is a witness script with items before it.
-fn allows_behind(script: &[u8], items: &[Kept<u8>]) -> bool
-    ensures { result ≡ allows_behind script.now items.now }
+fn is_standard_p2wsh_stack(script: &[u8], items: &[Kept<u8>]) -> bool
+    ensures { result ≡ is_standard_p2wsh_stack script.now items.now }
 {
-    script.len() <= LONGEST_SCRIPT && items.len() <= MOST_ITEMS && are_small(items)
+    script.len() <= LONGEST_SCRIPT && items.len() <= MOST_ITEMS && are_at_most_80_bytes(items)
 }
 
 fn allows_taproot(witness: &[Kept<u8>]) -> bool
@@ -76,20 +78,21 @@ fn allows_taproot(witness: &[Kept<u8>]) -> bool
     let Some((_script, items)) = items.split_last() else {
         return true;
     };
-    allows_control(control.as_slice(), items)
+    is_standard_script_path(control.as_slice(), items)
 }
 
-fn allows_control(control: &[u8], items: &[Kept<u8>]) -> bool
-    ensures { result ≡ allows_control control.now items.now }
+fn is_standard_script_path(control: &[u8], items: &[Kept<u8>]) -> bool
+    ensures { result ≡ is_standard_script_path control.now items.now }
 {
     match control {
         [] => false,
-        [first, ..] => *first != ANNEX && (*first & LEAF_MASK != LEAF_VERSION || are_small(items)),
+        [first, ..] => *first != ANNEX
+            && (*first & LEAF_MASK != LEAF_VERSION || are_at_most_80_bytes(items)),
     }
 }
 
-fn are_small(items: &[Kept<u8>]) -> bool
-    ensures { result ≡ are_small items.now }
+fn are_at_most_80_bytes(items: &[Kept<u8>]) -> bool
+    ensures { result ≡ are_at_most_80_bytes items.now }
 {
     items.iter().all(|item| item.len() <= LONGEST_ITEM)
 }

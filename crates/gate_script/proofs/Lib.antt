@@ -4,3 +4,5 @@ pub mod StackItems
 pub mod Operations
 pub mod Spelling
 pub mod Patterns
+pub mod PaidKeys
+pub mod Multisigs

@@ -4,11 +4,11 @@ use Rattle.std.specs.List.{flat_map, AllByRecursion}
 use Rattle.byteorder.specs.Endian.{little_bytes}
 use Rattle.gate_bytes.specs.Reading.{IsBytes}
 use Rattle.gate_script.specs.Templates.{frames}
-use Rattle.gate_script.specs.Instructions.{Instruction, Push, Truncated, Plain, is_push, prefix_size, instructions}
+use Rattle.gate_script.specs.Instructions.{Instruction, Push, Truncated, Plain, is_push, length_size, instructions}
 
 -- the opcode, the bytes that say how many are pushed, and these
 abbrev pub spelled : Instruction → List ℕ
-spelled (Push opcode bytes) = opcode ∷ (little_bytes (prefix_size opcode) (length bytes) ++ bytes)
+spelled (Push opcode bytes) = opcode ∷ (little_bytes (length_size opcode) (length bytes) ++ bytes)
 spelled (Plain opcode) = opcode ∷ []
 spelled (Truncated opcode) = opcode ∷ []
 
@@ -19,21 +19,21 @@ PushesThatMany opcode count =
     ⊎ (((opcode ≡ 0x4c) × (count < 2 ^ 8)) ⊎ (((opcode ≡ 0x4d) × (count < 2 ^ 16)) ⊎ ((opcode ≡ 0x4e) × (count < 2 ^ 32))))
 
 -- an instruction that a script can hold whole
-abbrev pub IsWhole : Instruction → Type 0
-IsWhole (Push opcode bytes) = PushesThatMany opcode (length bytes)
-IsWhole (Plain opcode) = is_push opcode ≡ false
-IsWhole (Truncated opcode) = ⊥
+abbrev pub IsSpellable : Instruction → Type 0
+IsSpellable (Push opcode bytes) = PushesThatMany opcode (length bytes)
+IsSpellable (Plain opcode) = is_push opcode ≡ false
+IsSpellable (Truncated opcode) = ⊥
 
 abbrev pub SpellingsAreRead : Type 0
-SpellingsAreRead = (ops : List Instruction) → AllByRecursion IsWhole ops → instructions (flat_map spelled ops) ≡ ops
+SpellingsAreRead = (ops : List Instruction) → AllByRecursion IsSpellable ops → instructions (flat_map spelled ops) ≡ ops
 
 -- it isn't cut by the end of the script
-abbrev pub IsEntire : Instruction → Type 0
-IsEntire (Truncated opcode) = ⊥
-IsEntire _ = ⊤
+abbrev pub IsUncut : Instruction → Type 0
+IsUncut (Truncated opcode) = ⊥
+IsUncut _ = ⊤
 
 abbrev pub ScriptsAreSpelled : Type 0
-ScriptsAreSpelled = (script : List ℕ) → IsBytes script → AllByRecursion IsEntire (instructions script) → flat_map spelled (instructions script) ≡ script
+ScriptsAreSpelled = (script : List ℕ) → IsBytes script → AllByRecursion IsUncut (instructions script) → flat_map spelled (instructions script) ≡ script
 
 -- the script is `front`, so many bytes and `back`
 abbrev pub IsFramed : List ℕ → ℕ → List ℕ → List ℕ → Type 0

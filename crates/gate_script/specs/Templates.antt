@@ -1,6 +1,8 @@
--- The templates of output scripts, as patterns of bytes on the whole script (Bitcoin Core 22.0, `Solver`).
+-- The templates of output scripts, each over the whole script (Bitcoin Core 22.0, `Solver`): fixed bytes round a hash or
+-- a key, a witness program, and by their instructions NullData and Multisig.
 use Rattle.std.specs.Prelude.{ℕ, ◌+◌, ◌-◌, Bool, false, ◌&&◌, ◌||◌, ◌==◌, nat_eq, nat_lt, nat_le, if◌then◌else◌, List, [], ◌∷◌, length, drop, slice_index, slice_range, Option, Some, None}
 use Rattle.std.specs.List.{starts_with, ends_with, prefix_len}
+use Rattle.gate_script.specs.Opcodes.{OP_1, OP_16, OP_RESERVED, OP_RETURN, OP_DUP, OP_EQUAL, OP_EQUALVERIFY, OP_HASH160, OP_CHECKSIG, OP_CHECKMULTISIG}
 use Rattle.gate_script.specs.Instructions.{Instruction, Push, Plain, instructions}
 use Rattle.gate_script.specs.Pushes.{is_push_only}
 use Rattle.gate_script.specs.Witness.{witness_program_of}
@@ -21,7 +23,7 @@ witness_template version size =
 -- OP_RETURN and a push-only rest
 abbrev pub is_null_data : List ℕ → Bool
 is_null_data [] = false
-is_null_data (first ∷ rest) = first == 0x6a && is_push_only rest
+is_null_data (first ∷ rest) = first == OP_RETURN && is_push_only rest
 
 -- 33 bytes that begin with 2 or 3, or 65 that begin with 4, 6 or 7
 abbrev pub is_public_key : List ℕ → Bool
@@ -32,36 +34,37 @@ is_public_key bytes =
 -- a key pushed by the opcode of its size, and OP_CHECKSIG
 abbrev pub pays_key : List ℕ → Bool
 pays_key script =
-    (frames (33 ∷ []) 33 (0xac ∷ []) script && is_public_key (slice_range script 1 34))
-    || (frames (65 ∷ []) 65 (0xac ∷ []) script && is_public_key (slice_range script 1 66))
+    (frames (33 ∷ []) 33 (OP_CHECKSIG ∷ []) script && is_public_key (slice_range script 1 34))
+    || (frames (65 ∷ []) 65 (OP_CHECKSIG ∷ []) script && is_public_key (slice_range script 1 66))
 
 -- the number that OP_1 to OP_16 stand for
 abbrev pub small_number : Instruction → Option ℕ
-small_number (Plain opcode) = if nat_le 0x51 opcode && nat_le opcode 0x60 then Some (opcode - 0x50) else None
+small_number (Plain opcode) = if nat_le OP_1 opcode && nat_le opcode OP_16 then Some (opcode - OP_RESERVED) else None
 small_number _ = None
 
 abbrev pub pushes_key : Instruction → Bool
 pushes_key (Push opcode bytes) = is_public_key bytes
 pushes_key _ = false
 
--- OP_n for that many keys, OP_CHECKMULTISIG and the end
-abbrev pub closes : ℕ → List Instruction → Bool
-closes keys (Plain count ∷ Plain check ∷ []) = nat_lt 0 keys && nat_le keys 16 && count == 0x50 + keys && check == 0xae
-closes keys _ = false
+-- OP_n for that many keys, OP_CHECKMULTISIG and the end. At most 16 keys is this gate's own choice: Bitcoin Core 22.0 also
+-- takes 17 to 20 (MAX_PUBKEYS_PER_MULTISIG), their number a minimal push, and so lets such a coin be spent.
+abbrev pub ends_multisig : ℕ → List Instruction → Bool
+ends_multisig keys (Plain count ∷ Plain check ∷ []) = nat_lt 0 keys && nat_le keys 16 && count == OP_RESERVED + keys && check == OP_CHECKMULTISIG
+ends_multisig keys _ = false
 
 -- so many signatures of so many keys, where the instructions after the keys close it and the keys are enough
-abbrev pub settled : ℕ → ℕ → List Instruction → Option (ℕ × ℕ)
-settled required keys left = if closes keys left && nat_le required keys then Some (required, keys) else None
+abbrev pub multisig_with : ℕ → ℕ → List Instruction → Option (ℕ × ℕ)
+multisig_with required keys left = if ends_multisig keys left && nat_le required keys then Some (required, keys) else None
 
 -- as many pushes of keys as there are, and their close
-abbrev pub signatures_of : Option ℕ → List Instruction → Option (ℕ × ℕ)
-signatures_of None rest = None
-signatures_of (Some required) rest = settled required (prefix_len pushes_key rest) (drop (prefix_len pushes_key rest) rest)
+abbrev pub multisig_after : Option ℕ → List Instruction → Option (ℕ × ℕ)
+multisig_after None rest = None
+multisig_after (Some required) rest = multisig_with required (prefix_len pushes_key rest) (drop (prefix_len pushes_key rest) rest)
 
 -- OP_m, at least m keys, and their close
 abbrev pub multisig_of : List Instruction → Option (ℕ × ℕ)
 multisig_of [] = None
-multisig_of (first ∷ rest) = signatures_of (small_number first) rest
+multisig_of (first ∷ rest) = multisig_after (small_number first) rest
 
 abbrev pub multisig_or_none : Option (ℕ × ℕ) → Template
 multisig_or_none (Some m) = Multisig m.0 m.1
@@ -72,7 +75,7 @@ abbrev pub plain_template : List ℕ → Template
 plain_template script =
     if is_null_data script then NullData
     else if pays_key script then Key
-    else if frames (0x76 ∷ 0xa9 ∷ 20 ∷ []) 20 (0x88 ∷ 0xac ∷ []) script then KeyHash
+    else if frames (OP_DUP ∷ OP_HASH160 ∷ 20 ∷ []) 20 (OP_EQUALVERIFY ∷ OP_CHECKSIG ∷ []) script then KeyHash
     else multisig_or_none (multisig_of (instructions script))
 
 abbrev pub witness_or : Option (ℕ × List ℕ) → Template → Template
@@ -81,5 +84,5 @@ witness_or None other = other
 
 abbrev pub template_of : List ℕ → Template
 template_of script =
-    if frames (0xa9 ∷ 20 ∷ []) 20 (0x87 ∷ []) script then ScriptHash
+    if frames (OP_HASH160 ∷ 20 ∷ []) 20 (OP_EQUAL ∷ []) script then ScriptHash
     else witness_or (witness_program_of script) (plain_template script)

@@ -1,13 +1,14 @@
 -- Witness programs (BIP 141).
 use Rattle.std.specs.Prelude.{ℕ, ◌-◌, Bool, ◌&&◌, ◌||◌, ◌==◌, nat_le, if◌then◌else◌, List, ◌∷◌, length, Option, Some, None}
+use Rattle.gate_script.specs.Opcodes.{OP_0, OP_1, OP_16, OP_RESERVED}
 
 -- OP_0, or OP_1 to OP_16
 abbrev pub is_version : ℕ → Bool
-is_version opcode = opcode == 0 || (nat_le 0x51 opcode && nat_le opcode 0x60)
+is_version opcode = opcode == OP_0 || (nat_le OP_1 opcode && nat_le opcode OP_16)
 
 -- the number that it stands for
 abbrev pub version_of : ℕ → ℕ
-version_of opcode = if opcode == 0 then 0 else opcode - 0x50
+version_of opcode = if opcode == OP_0 then 0 else opcode - OP_RESERVED
 
 -- a version, and one push of 2 to 40 bytes to the end of the script
 abbrev pub witness_program_of : List ℕ → Option (ℕ × List ℕ)

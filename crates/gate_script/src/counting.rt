@@ -1,5 +1,5 @@
 ghost use Rattle.std.specs.Prelude.{◌≡◌, ◌≤◌, ◌*◌, ◌-◌, ◌^◌, length, min};
-ghost use Rattle.gate_script.specs.Sigops.{sigops_of, checks};
+ghost use Rattle.gate_script.specs.Sigops.{sigops_of, sigops_of_opcode};
 
 use crate::op::{Op, ops};
 use crate::opcode::{
@@ -7,7 +7,8 @@ use crate::opcode::{
     OP_RESERVED,
 };
 
-/// How many signatures a check of several counts for where the number before it isn't read.
+/// How many signatures a check of several counts for where the number before it isn't read (Bitcoin
+/// Core's `MAX_PUBKEYS_PER_MULTISIG`).
 const MOST_KEYS: u64 = 20;
 
 /// How many signature operations the script counts, up to its first truncated push. Where
@@ -19,28 +20,30 @@ pub fn sigops(script: &[u8], accurate: bool) -> u64
     ensures most { result ≤ 20 * length script.now }
 {
     let mut count: u64 = 0;
-    let mut before = OP_0;
+    let mut last_opcode = OP_0;
     for op in ops(script) {
         match op {
-            Op::Push { opcode, .. } => before = opcode,
+            Op::Push { opcode, .. } => last_opcode = opcode,
             Op::Truncated { .. } => break,
             Op::Plain(opcode) => {
-                count = count.saturating_add(checks(accurate, before, opcode));
-                before = opcode;
+                count = count.saturating_add(sigops_of_opcode(accurate, last_opcode, opcode));
+                last_opcode = opcode;
             }
         }
     }
     count
 }
 
-/// How many signatures an opcode checks after the opcode `before`.
-fn checks(accurate: bool, before: u8, opcode: u8) -> u64
-    ensures { result ≡ checks accurate before opcode }
+/// How many signatures an opcode checks after the opcode `last_opcode`.
+fn sigops_of_opcode(accurate: bool, last_opcode: u8, opcode: u8) -> u64
+    ensures { result ≡ sigops_of_opcode accurate last_opcode opcode }
 {
     match opcode {
         OP_CHECKSIG | OP_CHECKSIGVERIFY => 1,
         OP_CHECKMULTISIG | OP_CHECKMULTISIGVERIFY
-            if accurate && OP_1 <= before && before <= OP_16 => { u64::from(before - OP_RESERVED) }
+            if accurate && OP_1 <= last_opcode && last_opcode <= OP_16 => {
+            u64::from(last_opcode - OP_RESERVED)
+        }
         OP_CHECKMULTISIG | OP_CHECKMULTISIGVERIFY => MOST_KEYS,
         _ => 0,
     }

@@ -1,4 +1,5 @@
 ghost use Rattle.gate_script.specs.Laws.{SpellingsAreRead, ScriptsAreSpelled, FramesArePatterns};
+ghost use Rattle.gate_script.specs.Patterns.{ProgramsArePatterns, KeysArePatterns, MultisigsArePatterns};
 
 /// That instructions spelled one after another are read as they are, and that a script whose last
 /// push isn't cut is what its instructions spell.
@@ -11,4 +12,12 @@ pub fn spellings_are_read()
 /// bytes in front and at the end, and so many between.
 pub fn frames_are_patterns()
     ensures { FramesArePatterns }
+{}
+
+/// That a script is a witness program, pays a key or is a multisig just where it has the pattern:
+/// a version and one push, a key and OP_CHECKSIG, or OP_m, keys, OP_n and OP_CHECKMULTISIG.
+pub fn templates_are_patterns()
+    ensures programs { ProgramsArePatterns }
+    ensures keys { KeysArePatterns }
+    ensures multisigs { MultisigsArePatterns }
 {}

@@ -15,7 +15,7 @@ mod templates;
 mod witness;
 
 pub use counting::sigops;
-pub use law::{frames_are_patterns, spellings_are_read};
+pub use law::{frames_are_patterns, spellings_are_read, templates_are_patterns};
 pub use matching::template;
 pub use op::{Op, ops};
 pub use pushes::{is_push_only, push_stack};

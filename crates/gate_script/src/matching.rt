@@ -1,6 +1,6 @@
 ghost use Rattle.std.specs.Prelude.{◌≡◌, ◌∷◌, ◌+◌, ◌^◌, ◌<◌, length};
 ghost use Rattle.gate_script.specs.Instructions.{instruction_of, instructions};
-ghost use Rattle.gate_script.specs.Templates.{template_of, frames, witness_template, is_null_data, pays_key, closes, multisig_of};
+ghost use Rattle.gate_script.specs.Templates.{template_of, frames, witness_template, is_null_data, pays_key, ends_multisig, multisig_of};
 
 use crate::op::{Op, ops};
 use crate::opcode::{
@@ -84,7 +84,7 @@ fn pays_key(script: &[u8]) -> bool
 }
 
 /// How many signatures are required of how many keys: OP_m, the keys, OP_n for their number,
-/// OP_CHECKMULTISIG and the end.
+/// OP_CHECKMULTISIG and the end; at most 16 keys.
 fn multisig(script: &[u8]) -> Option<(u8, u8)>
     ensures { result ≡ multisig_of (instructions script.now) }
 {
@@ -93,7 +93,7 @@ fn multisig(script: &[u8]) -> Option<(u8, u8)>
     let mut keys = 0;
     while let Some(op) = left.next() {
         if !op.pushes_key() {
-            return (closes(keys, &op, left) && required <= keys).then_some((required, keys));
+            return (ends_multisig(keys, &op, left) && required <= keys).then_some((required, keys));
         }
         if keys == 16 {
             return None;
@@ -104,8 +104,8 @@ fn multisig(script: &[u8]) -> Option<(u8, u8)>
 }
 
 /// Whether the instructions are OP_n for that many keys, OP_CHECKMULTISIG and the end.
-fn closes(keys: u8, count: &Op, mut left: Ops<'_>) -> bool
-    ensures { result ≡ closes keys (instruction_of count.now ∷ left.entry) }
+fn ends_multisig(keys: u8, count: &Op, mut left: Ops<'_>) -> bool
+    ensures { result ≡ ends_multisig keys (instruction_of count.now ∷ left.entry) }
 {
     count.small_number() == Some(keys)
         && left.next() == Some(Op::Plain(OP_CHECKMULTISIG))

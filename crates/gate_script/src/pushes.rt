@@ -8,10 +8,10 @@ use crate::opcode::{OP_0, OP_1, OP_1NEGATE, OP_16, OP_RESERVED};
 use gate_bytes::{Kept, Memory};
 use std::alloc::Global;
 
-/// The longest item that a push leaves, in bytes.
+/// The longest item that a push leaves, in bytes (Bitcoin Core's `MAX_SCRIPT_ELEMENT_SIZE`).
 const LONGEST_ITEM: usize = 520;
 
-/// The most items on the stack.
+/// The most items on the stack (Bitcoin Core's `MAX_STACK_SIZE`).
 const MOST_ITEMS: usize = 1000;
 
 /// Whether the script only pushes: no opcode above OP_16, and no truncated push.

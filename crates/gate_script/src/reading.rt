@@ -1,6 +1,6 @@
 ghost use Rattle.std.specs.Prelude.{◌≡◌, ◌<◌, length, IsTrue, IfOk, OnErr};
 ghost use Rattle.std.specs.Iterator.{YieldsFirstBy, item_count};
-ghost use Rattle.gate_script.specs.Instructions.{instruction_of, instructions, is_push, extent, PushesWhole};
+ghost use Rattle.gate_script.specs.Instructions.{instruction_of, instructions, is_push, operand_size, PushesWhole};
 
 use crate::op::Op;
 use crate::opcode::{OP_PUSHDATA1, OP_PUSHDATA2, OP_PUSHDATA4};
@@ -69,7 +69,7 @@ fn next_op<'a>(ahead: &mut Cursor<'a>) -> Option<Op<'a>>
 fn pushed<'a>(opcode: u8, ahead: &mut Cursor<'a>) -> Result<&'a [u8], ByteFault>
     requires { IsTrue (is_push opcode) }
     ensures whole { IfOk result (λ bytes. PushesWhole opcode ahead.old bytes.now ahead.new) }
-    ensures short { OnErr result (length ahead.old < extent opcode ahead.old) }
+    ensures short { OnErr result (length ahead.old < operand_size opcode ahead.old) }
 {
     let count = match opcode {
         OP_PUSHDATA1 => u32::from(ahead.u8()?),

@@ -10,7 +10,7 @@ use Rattle.gate_script.specs.Templates.{template_of}
 use Rattle.gate_script.specs.Witness.{witness_program_of}
 use Rattle.gate_standard.specs.Amounts.{required_fee}
 
--- whether a script of this template and this size is standard: at most 3 keys, at most 83 bytes of data
+-- whether a script of this template and this size is standard: at most 3 keys, at most 83 bytes of data (MAX_OP_RETURN_RELAY)
 abbrev pub is_standard_template : Template → ℕ → Bool
 is_standard_template Nonstandard size = false
 is_standard_template (Multisig required keys) size = nat_le 1 keys && nat_le keys 3
@@ -32,7 +32,7 @@ carries_data output = is_null_data (template_of output.script)
 abbrev pub size_with_spend : TxOut → ℕ
 size_with_spend o = length (output o) + (if is_some (witness_program_of o.script) then 67 else 148)
 
--- the least value with which an output is relayed: the fee of it and of the input that spends it, at 3,000 satoshi per 1,000 bytes
+-- the least value with which an output is relayed: the fee of it and of the input that spends it, at 3,000 satoshi per 1,000 bytes (DUST_RELAY_TX_FEE)
 unfoldable pub dust_threshold_of : TxOut → ℕ
 dust_threshold_of o = if is_unspendable o.script then 0 else required_fee 3000 (size_with_spend o)
 

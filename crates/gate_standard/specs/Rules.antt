@@ -54,7 +54,8 @@ coinbase_rules inputs =
     ∷ (Coinbase, is_coinbase inputs)
     ∷ []
 
--- the rules of every transaction, also of one in a block, and that a coinbase is not relayed (A2 to A11)
+-- the rules of every transaction, also of one in a block, and that a coinbase is not relayed (A2 to A11): 4,000,000 is
+-- MAX_BLOCK_WEIGHT
 unfoldable pub transaction_rules : Tx → List (Rule Denial)
 transaction_rules tx =
     (VinEmpty, length tx.inputs == 0)
@@ -62,6 +63,7 @@ transaction_rules tx =
     ∷ (Oversize, nat_lt 4_000_000 (stripped_size_of tx * 4))
     ∷ (output_value_rules 0 tx.outputs ++ ((InputsDuplicate, spends_twice tx.inputs) ∷ coinbase_rules tx.inputs))
 
+-- 1,650 is MAX_STANDARD_SCRIPTSIG_SIZE
 abbrev pub rules_of_input : TxIn → List (Rule Denial)
 rules_of_input input =
     (ScriptSigSize, nat_lt 1650 (length input.script))
@@ -77,14 +79,14 @@ rules_of_output output =
 abbrev pub is_version : ℤ → Bool
 is_version version = int_eq version (pos 1) || int_eq version (pos 2)
 
--- of the outputs together, and of the size
+-- of the outputs together, and of the size: 82 is MIN_STANDARD_TX_NONWITNESS_SIZE
 abbrev pub rules_of_whole : Tx → List (Rule Denial)
 rules_of_whole tx =
     (MultiOpReturn, nat_lt 1 (count_by carries_data tx.outputs))
     ∷ (TxSizeSmall, nat_lt (stripped_size_of tx) 82)
     ∷ []
 
--- the rules of policy on a transaction, which one in a block may break (A12 to A19)
+-- the rules of policy on a transaction, which one in a block may break (A12 to A19): 400,000 is MAX_STANDARD_TX_WEIGHT
 unfoldable pub standard_rules : Tx → List (Rule Denial)
 standard_rules tx =
     (Version, not (is_version tx.version))

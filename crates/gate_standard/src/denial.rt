@@ -84,9 +84,10 @@ pub enum Denial {
     SpendsConflicting,
     /// A38: it pays no higher rate than what it would replace.
     LowerFeeRate,
-    /// A39: it would replace more than 100 entries.
+    /// A39: the descendant counts of the direct conflicts, themselves included, come to more than 100
+    /// (an entry below two of them counts twice).
     TooManyReplacements,
-    /// A40: it spends an entry that nothing it replaces spends.
+    /// A40: an input's txid is that of a pool transaction, and of no input of a direct conflict.
     AddsUnconfirmed,
     /// A41: the fee is below those that it replaces.
     LowerFee,

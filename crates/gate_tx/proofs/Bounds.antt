@@ -10,9 +10,9 @@ use Rattle.gate_bytes.specs.Compact.{compact, IsCount}
 use Rattle.gate_tx.specs.declared.transaction.TxIn.{TxIn}
 use Rattle.gate_tx.specs.declared.transaction.TxOut.{TxOut}
 use Rattle.gate_tx.specs.Tx.{Tx}
-use Rattle.gate_tx.specs.Text.{string, listed, input, output, witness, is_full, has_witness, stripped, flagged, text, longest, IsInput, IsOutput, IsWitness, IsTx, IsTransaction}
-use Rattle.gate_tx.specs.Sizes.{capped, stripped_lists, witness_lists, stripped_size_of, full_size_of, weight_of}
-use Rattle.gate_tx.specs.Ranges.{IsRangedInput, IsRangedOutput, IsRanged}
+use Rattle.gate_tx.specs.Text.{var_bytes, vector, input, output, witness, is_nonempty, has_witness, stripped, extended, text, longest, IsInput, IsOutput, IsWitness, IsTx, IsTransaction}
+use Rattle.gate_tx.specs.Sizes.{stripped_size_of, full_size_of, weight_of}
+use Rattle.gate_tx.specs.Internal.{capped, stripped_lists, witness_lists, IsRangedInput, IsRangedOutput, IsRanged}
 use Rattle.gate_tx.proofs.Whole.{or_false, is_empty}
 
 -- ---- how long the texts of lists are
@@ -44,19 +44,19 @@ compact-some n =
     let some_two : 0 < length two = some_of (ltb n 65536) (253 ∷ little_bytes 2 n) four (omega arith) some_four in
     some_of (ltb n 253) (n ∷ []) two (omega arith) some_two
 
-string-le : (s : List ℕ) → length s < length (string s)
-string-le s = omega (arith, length-append (compact (length s)) s, compact-some (length s))
+var_bytes-le : (s : List ℕ) → length s < length (var_bytes s)
+var_bytes-le s = omega (arith, length-append (compact (length s)) s, compact-some (length s))
 
-listed-le : {X : Type 0} (text : X → List ℕ) (xs : List X) → length (flat_map text xs) ≤ length (listed text xs)
-listed-le text xs = omega (arith, length-append (compact (length xs)) (flat_map text xs))
+vector-le : {X : Type 0} (text : X → List ℕ) (xs : List X) → length (flat_map text xs) ≤ length (vector text xs)
+vector-le text xs = omega (arith, length-append (compact (length xs)) (flat_map text xs))
 
 -- ---- the parts
 
 input-le : (i : TxIn) → length i.script < length (input i)
-input-le i = simp length-append (omega (arith, string-le i.script))
+input-le i = simp length-append (omega (arith, var_bytes-le i.script))
 
 output-le : (o : TxOut) → length o.script < length (output o)
-output-le o = simp length-append (omega (arith, string-le o.script))
+output-le o = simp length-append (omega (arith, var_bytes-le o.script))
 
 inputs_within : (xs : List TxIn) → length (flat_map input xs) ≤ longest → AllByRecursion IsRangedInput xs → AllByRecursion IsInput xs
 inputs_within xs le all =
@@ -73,19 +73,19 @@ trivially (x ∷ xs) = (tt, trivially xs)
 
 witness_within : (i : TxIn) → length (witness i) ≤ longest → IsWitness i
 witness_within i small =
-    let le = listed-le string i.witness in record {
-      count = omega (arith, items-le string (λ s. omega (arith, string-le s)) i.witness);
-      items = each_within string longest (λ s short _. omega (arith, string-le s)) i.witness (omega arith) (trivially i.witness);
+    let le = vector-le var_bytes i.witness in record {
+      count = omega (arith, items-le var_bytes (λ s. omega (arith, var_bytes-le s)) i.witness);
+      items = each_within var_bytes longest (λ s short _. omega (arith, var_bytes-le s)) i.witness (omega arith) (trivially i.witness);
     }
 
 witnesses_within : (xs : List TxIn) → length (flat_map witness xs) ≤ longest → AllByRecursion IsWitness xs
 witnesses_within xs le = each_within witness longest (λ i small _. witness_within i small) xs le (trivially xs)
 
 -- empty witnesses
-none_full : (xs : List TxIn) → list_any (λ i. is_full i.witness) xs ≡ false → AllByRecursion IsWitness xs
+none_full : (xs : List TxIn) → list_any (λ i. is_nonempty i.witness) xs ≡ false → AllByRecursion IsWitness xs
 none_full [] e = tt
 none_full (i ∷ xs) e =
-    let p = or_false (is_full i.witness) (list_any (λ i. is_full i.witness) xs) e in
+    let p = or_false (is_nonempty i.witness) (list_any (λ i. is_nonempty i.witness) xs) e in
     let bare = is_empty i.witness p.0 in
     (record { count = rw bare (omega arith); items = rw bare tt }, none_full xs p.1)
 
@@ -99,16 +99,16 @@ lengths5 a b c d e = simp length-append (omega arith)
 
 pub length-stripped : (t : Tx) → length (stripped t) ≡ stripped_lists t.inputs t.outputs
 length-stripped t =
-    let whole = lengths3 (little_bytes 4 (cast_unsigned w32 t.version)) (listed input t.inputs) (listed output t.outputs) (little_bytes 4 t.locktime) in
+    let whole = lengths3 (little_bytes 4 (cast_unsigned w32 t.version)) (vector input t.inputs) (vector output t.outputs) (little_bytes 4 t.locktime) in
     omega (arith, whole, length-bytes_low_first 0 4 (cast_unsigned w32 t.version), length-bytes_low_first 0 4 t.locktime)
 
-pub length-flagged : (t : Tx) → length (flagged t) ≡ stripped_lists t.inputs t.outputs + (2 + length (flat_map witness t.inputs))
-length-flagged t =
-    let whole = lengths5 (little_bytes 4 (cast_unsigned w32 t.version)) (listed input t.inputs) (listed output t.outputs) (flat_map witness t.inputs) (little_bytes 4 t.locktime) in
+pub length-extended : (t : Tx) → length (extended t) ≡ stripped_lists t.inputs t.outputs + (2 + length (flat_map witness t.inputs))
+length-extended t =
+    let whole = lengths5 (little_bytes 4 (cast_unsigned w32 t.version)) (vector input t.inputs) (vector output t.outputs) (flat_map witness t.inputs) (little_bytes 4 t.locktime) in
     omega (arith, whole, length-bytes_low_first 0 4 (cast_unsigned w32 t.version), length-bytes_low_first 0 4 t.locktime)
 
-by_witness : (t : Tx) (b : Bool) → length (cond b (flagged t) (stripped t)) ≡ stripped_lists t.inputs t.outputs + cond b (2 + length (flat_map witness t.inputs)) 0
-by_witness t true = length-flagged t
+by_witness : (t : Tx) (b : Bool) → length (cond b (extended t) (stripped t)) ≡ stripped_lists t.inputs t.outputs + cond b (2 + length (flat_map witness t.inputs)) 0
+by_witness t true = length-extended t
 by_witness t false = omega (arith, length-stripped t)
 
 pub length-text : (t : Tx) → length (text t) ≡ stripped_lists t.inputs t.outputs + witness_lists t.inputs
@@ -116,15 +116,15 @@ length-text t = by_witness t (has_witness t)
 
 witnesses_fit : (t : Tx) (b : Bool) → has_witness t ≡ b → length (text t) ≤ longest → AllByRecursion IsWitness t.inputs
 witnesses_fit t true has le =
-    let whole : length (flagged t) ≤ longest = rw has at le in
-    witnesses_within t.inputs (omega (arith, length-flagged t))
+    let whole : length (extended t) ≤ longest = rw has at le in
+    witnesses_within t.inputs (omega (arith, length-extended t))
 witnesses_fit t false has le = none_full t.inputs has
 
 pub is_transaction : (t : Tx) → IsRanged t → (t.inputs ≡ [] → t.outputs ≡ []) → length (text t) ≤ longest → IsTransaction t
 is_transaction t ranged shape le =
     let all = length-text t in
-    let ins = listed-le input t.inputs in
-    let outs = listed-le output t.outputs in
+    let ins = vector-le input t.inputs in
+    let outs = vector-le output t.outputs in
     let few_ins : IsCount (length t.inputs) = omega (arith, items-le input (λ i. omega (arith, input-le i)) t.inputs) in
     let few_outs : IsCount (length t.outputs) = omega (arith, items-le output (λ o. omega (arith, output-le o)) t.outputs) in
     let is : IsTx t = record {

@@ -17,7 +17,7 @@ use Rattle.gate_tx.specs.declared.transaction.OutPoint.{OutPoint}
 use Rattle.gate_tx.specs.declared.transaction.TxIn.{TxIn}
 use Rattle.gate_tx.specs.declared.transaction.TxOut.{TxOut}
 use Rattle.gate_tx.specs.Text.{has_witness, text, longest}
-use Rattle.gate_tx.specs.Reading.{◌>>=◌, lift, string_at, many_at, list_at, point_at, input_at, output_at, witnesses_at, plain_at, flagged_at, empty_at, behind_zero_at, tx_at, all_of}
+use Rattle.gate_tx.specs.Reading.{◌>>=◌, lift, var_bytes_at, many_at, vector_at, point_at, input_at, output_at, witnesses_at, plain_at, extended_at, empty_at, behind_zero_at, tx_at, all_of}
 use Rattle.gate_tx.specs.Laws.{CutsAreShort}
 use Rattle.gate_tx.proofs.Steps.{bind_ok, lift_ok}
 use Rattle.gate_tx.proofs.Whole.{made, finished}
@@ -160,8 +160,8 @@ IsSteadyTx r = IsSteady faults.Short r
 steady_u32 : IsSteadyTx (λ bytes. lift (number_at 4 bytes))
 steady_u32 = steady_lift (number_at 4) (steady_number 4)
 
-steady_string : IsSteadyTx string_at
-unfolding string_at
+steady_string : IsSteadyTx var_bytes_at
+unfolding var_bytes_at
 steady_string = steady_bind (λ bytes. lift (compact_at bytes)) (λ n. lift (bytes_at n.0 n.1)) (steady_lift compact_at steady_compact) (λ n. steady_lift (bytes_at n) (steady_bytes n))
 
 module _ {X : Type 0} (each : Reader TxFault X) (steady : IsSteadyTx each) where
@@ -172,8 +172,8 @@ module _ {X : Type 0} (each : Reader TxFault X) (steady : IsSteadyTx each) where
       steady_bind each (λ x. many_at each n x.1 >>= λ xs. Ok (x.0 ∷ xs.0, xs.1)) steady
       (λ x. steady_bind (many_at each n) (λ xs. Ok (x ∷ xs.0, xs.1)) (steady_many n) (λ xs. steady_ok faults.Short (x ∷ xs)))
 
-  steady_list : IsSteadyTx (list_at each)
-  unfolding list_at
+  steady_list : IsSteadyTx (vector_at each)
+  unfolding vector_at
   steady_list = steady_bind (λ bytes. lift (compact_at bytes)) (λ n. many_at each n.0 n.1) (steady_lift compact_at steady_compact) steady_many
 
 steady_point : IsSteadyTx point_at
@@ -189,8 +189,8 @@ made_in p s n = record { prevout = p; script = s; sequence = n; witness = [] }
 steady_input : IsSteadyTx input_at
 unfolding input_at
 steady_input =
-    steady_bind point_at (λ p. string_at p.1 >>= λ s. lift (number_at 4 s.1) >>= λ n. Ok (made_in p.0 s.0 n.0, n.1)) steady_point
-    (λ p. steady_bind string_at (λ s. lift (number_at 4 s.1) >>= λ n. Ok (made_in p s.0 n.0, n.1)) steady_string
+    steady_bind point_at (λ p. var_bytes_at p.1 >>= λ s. lift (number_at 4 s.1) >>= λ n. Ok (made_in p.0 s.0 n.0, n.1)) steady_point
+    (λ p. steady_bind var_bytes_at (λ s. lift (number_at 4 s.1) >>= λ n. Ok (made_in p s.0 n.0, n.1)) steady_string
     (λ s. steady_bind (λ bytes. lift (number_at 4 bytes)) (λ n. Ok (made_in p s n.0, n.1)) steady_u32
     (λ n. steady_ok faults.Short (made_in p s n))))
 
@@ -200,8 +200,8 @@ made_out v s = record { value = v; script = s }
 steady_output : IsSteadyTx output_at
 unfolding output_at
 steady_output =
-    steady_bind (λ bytes. lift (signed_at w64 8 bytes)) (λ v. string_at v.1 >>= λ s. Ok (made_out v.0 s.0, s.1)) (steady_lift (signed_at w64 8) (steady_signed w64 8))
-    (λ v. steady_bind string_at (λ s. Ok (made_out v s.0, s.1)) steady_string
+    steady_bind (λ bytes. lift (signed_at w64 8 bytes)) (λ v. var_bytes_at v.1 >>= λ s. Ok (made_out v.0 s.0, s.1)) (steady_lift (signed_at w64 8) (steady_signed w64 8))
+    (λ v. steady_bind var_bytes_at (λ s. Ok (made_out v s.0, s.1)) steady_string
     (λ s. steady_ok faults.Short (made_out v s)))
 
 abbrev with_witness : TxIn → List (List ℕ) → TxIn
@@ -211,7 +211,7 @@ steady_witnesses : (ins : List TxIn) → IsSteadyTx (witnesses_at ins)
 unfolding witnesses_at
 steady_witnesses [] = steady_ok faults.Short []
 steady_witnesses (i ∷ ins) =
-    steady_bind (list_at string_at) (λ items. witnesses_at ins items.1 >>= λ signed. Ok (with_witness i items.0 ∷ signed.0, signed.1)) (steady_list string_at steady_string)
+    steady_bind (vector_at var_bytes_at) (λ items. witnesses_at ins items.1 >>= λ signed. Ok (with_witness i items.0 ∷ signed.0, signed.1)) (steady_list var_bytes_at steady_string)
     (λ items. steady_bind (witnesses_at ins) (λ signed. Ok (with_witness i items ∷ signed.0, signed.1)) (steady_witnesses ins)
     (λ signed. steady_ok faults.Short (with_witness i items ∷ signed)))
 
@@ -224,15 +224,15 @@ steady_end v ins outs = steady_bind (λ bytes. lift (number_at 4 bytes)) (λ loc
 steady_plain : (v : ℤ) (count : ℕ) → IsSteadyTx (plain_at v count)
 unfolding plain_at
 steady_plain v count =
-    steady_bind (many_at input_at count) (λ ins. list_at output_at ins.1 >>= λ outs. lift (number_at 4 outs.1) >>= λ lock. Ok (made v ins.0 outs.0 lock.0, lock.1)) (steady_many input_at steady_input count)
-    (λ ins. steady_bind (list_at output_at) (λ outs. lift (number_at 4 outs.1) >>= λ lock. Ok (made v ins outs.0 lock.0, lock.1)) (steady_list output_at steady_output)
+    steady_bind (many_at input_at count) (λ ins. vector_at output_at ins.1 >>= λ outs. lift (number_at 4 outs.1) >>= λ lock. Ok (made v ins.0 outs.0 lock.0, lock.1)) (steady_many input_at steady_input count)
+    (λ ins. steady_bind (vector_at output_at) (λ outs. lift (number_at 4 outs.1) >>= λ lock. Ok (made v ins outs.0 lock.0, lock.1)) (steady_list output_at steady_output)
     (λ outs. steady_end v ins outs))
 
-steady_flagged : (v : ℤ) → IsSteadyTx (flagged_at v)
-unfolding flagged_at
+steady_flagged : (v : ℤ) → IsSteadyTx (extended_at v)
+unfolding extended_at
 steady_flagged v =
-    steady_bind (list_at input_at) (λ ins. list_at output_at ins.1 >>= λ outs. witnesses_at ins.0 outs.1 >>= λ signed. finished v outs.0 signed) (steady_list input_at steady_input)
-    (λ ins. steady_bind (list_at output_at) (λ outs. witnesses_at ins outs.1 >>= λ signed. finished v outs.0 signed) (steady_list output_at steady_output)
+    steady_bind (vector_at input_at) (λ ins. vector_at output_at ins.1 >>= λ outs. witnesses_at ins.0 outs.1 >>= λ signed. finished v outs.0 signed) (steady_list input_at steady_input)
+    (λ ins. steady_bind (vector_at output_at) (λ outs. witnesses_at ins outs.1 >>= λ signed. finished v outs.0 signed) (steady_list output_at steady_output)
     (λ outs. steady_bind (witnesses_at ins) (λ signed. finished v outs signed) (steady_witnesses ins)
     (λ signed. steady_cond faults.Short (has_witness (made v signed outs 0)) (λ bytes. lift (number_at 4 bytes) >>= λ lock. Ok (made v signed outs lock.0, lock.1)) (λ bytes. Err faults.EmptyWitness)
     (steady_end v signed outs) (steady_err faults.Short faults.EmptyWitness))))
@@ -244,9 +244,9 @@ steady_empty v = steady_end v [] []
 steady_behind_zero : (v : ℤ) → IsSteadyTx (behind_zero_at v)
 unfolding behind_zero_at
 steady_behind_zero v =
-    steady_bind (λ bytes. lift (number_at 1 bytes)) (λ flag. cond (eqb flag.0 0) (empty_at v flag.1) (cond (eqb flag.0 1) (flagged_at v flag.1) (Err faults.BadFlag))) (steady_lift (number_at 1) (steady_number 1))
-    (λ flag. steady_cond faults.Short (eqb flag 0) (empty_at v) (λ bytes. cond (eqb flag 1) (flagged_at v bytes) (Err faults.BadFlag)) (steady_empty v)
-    (steady_cond faults.Short (eqb flag 1) (flagged_at v) (λ bytes. Err faults.BadFlag) (steady_flagged v) (steady_err faults.Short faults.BadFlag)))
+    steady_bind (λ bytes. lift (number_at 1 bytes)) (λ flag. cond (eqb flag.0 0) (empty_at v flag.1) (cond (eqb flag.0 1) (extended_at v flag.1) (Err faults.BadFlag))) (steady_lift (number_at 1) (steady_number 1))
+    (λ flag. steady_cond faults.Short (eqb flag 0) (empty_at v) (λ bytes. cond (eqb flag 1) (extended_at v bytes) (Err faults.BadFlag)) (steady_empty v)
+    (steady_cond faults.Short (eqb flag 1) (extended_at v) (λ bytes. Err faults.BadFlag) (steady_flagged v) (steady_err faults.Short faults.BadFlag)))
 
 steady_tx : IsSteadyTx tx_at
 unfolding tx_at

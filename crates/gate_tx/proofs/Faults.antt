@@ -6,8 +6,8 @@ use Rattle.std.proofs.lemmas.Bool.Decides.{nat_tests}
 use Rattle.gate_tx.specs.declared.transaction.TxIn.{TxIn}
 use Rattle.gate_tx.specs.declared.transaction.TxOut.{TxOut}
 use Rattle.gate_tx.specs.declared.fault.TxFault.TheVariants.{EmptyWitness}
-use Rattle.gate_tx.specs.Text.{listed, input, output, witness, has_witness, text, longest, IsOutput, IsTx}
-use Rattle.gate_tx.specs.Reading.{flagged_at, tx_at, all_of, output_at}
+use Rattle.gate_tx.specs.Text.{vector, input, output, witness, has_witness, text, longest, IsOutput, IsTx}
+use Rattle.gate_tx.specs.Reading.{extended_at, tx_at, all_of, output_at}
 use Rattle.gate_tx.specs.Laws.{MoreIsTrailing, LongIsTooLarge, EmptyWitnessesAreRefused, before_locktime}
 use Rattle.gate_tx.proofs.Steps.{list_again}
 use Rattle.gate_tx.proofs.Fields.{outputs_law, witnesses_again}
@@ -28,10 +28,10 @@ more_is_trailing t rest is some le =
     rw (le-ltb longest (length (text t ++ rest)) le, tx_again t rest is) (rw (not_nothing rest some) refl)
 
 flagged_empty : (v : ℤ) (ins : List TxIn) (outs : List TxOut) (lock : ℕ) (rest : List ℕ) → IsTx (made v ins outs lock) → has_witness (made v ins outs lock) ≡ false
-    → flagged_at v (listed input ins ++ (listed output outs ++ (flat_map witness ins ++ rest))) ≡ Err EmptyWitness
-unfolding flagged_at
+    → extended_at v (vector input ins ++ (vector output outs ++ (flat_map witness ins ++ rest))) ≡ Err EmptyWitness
+unfolding extended_at
 flagged_empty v ins outs lock rest is has =
-    let behind = listed output outs ++ (flat_map witness ins ++ rest) in
+    let behind = vector output outs ++ (flat_map witness ins ++ rest) in
     rw (bare_list ins behind is.input_count is.inputs, list_again output_at output IsOutput outputs_law outs (flat_map witness ins ++ rest) is.output_count is.outputs, witnesses_again ins rest is.witnesses) (rw has refl)
 
 regroup : (a b c d rest : List ℕ) → (a ++ (0 ∷ 1 ∷ (b ++ (c ++ d)))) ++ rest ≡ a ++ (0 ∷ 1 ∷ (b ++ (c ++ (d ++ rest))))
@@ -40,8 +40,8 @@ regroup a b c d rest = simp append_assoc
 empty_at : (v : ℤ) (ins : List TxIn) (outs : List TxOut) (lock : ℕ) (rest : List ℕ) → IsTx (made v ins outs lock) → has_witness (made v ins outs lock) ≡ false
     → tx_at (before_locktime (made v ins outs lock) ++ rest) ≡ Err EmptyWitness
 empty_at v ins outs lock rest is has =
-    let behind = listed input ins ++ (listed output outs ++ (flat_map witness ins ++ rest)) in
-    ap tx_at (regroup (version_text v) (listed input ins) (listed output outs) (flat_map witness ins) rest) ∙ tx_zero v (1 ∷ behind) is.version ∙ behind_zero_flagged v behind ∙ flagged_empty v ins outs lock rest is has
+    let behind = vector input ins ++ (vector output outs ++ (flat_map witness ins ++ rest)) in
+    ap tx_at (regroup (version_text v) (vector input ins) (vector output outs) (flat_map witness ins) rest) ∙ tx_zero v (1 ∷ behind) is.version ∙ behind_zero_flagged v behind ∙ flagged_empty v ins outs lock rest is has
 
 pub empty_witnesses_are_refused : EmptyWitnessesAreRefused
 unfolding all_of

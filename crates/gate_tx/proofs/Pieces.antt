@@ -7,10 +7,11 @@ use Rattle.std.proofs.Math.Seq.{take-append_seam, drop-append_seam, drop-append-
 use Rattle.byteorder.specs.Endian.{little_bytes}
 use Rattle.byteorder.specs.Numbers.{length-bytes_low_first}
 use Rattle.gate_tx.specs.Tx.{Tx}
-use Rattle.gate_tx.specs.Text.{listed, input, output, witness, has_witness, stripped, flagged, text, longest, Spells}
-use Rattle.gate_tx.specs.Sizes.{stripped_lists, stripped_size_of, weight_of}
+use Rattle.gate_tx.specs.Text.{vector, input, output, witness, has_witness, stripped, extended, text, longest, Spells}
+use Rattle.gate_tx.specs.Sizes.{stripped_size_of, weight_of}
+use Rattle.gate_tx.specs.Internal.{stripped_lists}
 use Rattle.gate_tx.specs.Ids.{txid_of, wtxid_of}
-use Rattle.gate_tx.proofs.Bounds.{length-stripped, length-flagged, length-text}
+use Rattle.gate_tx.proofs.Bounds.{length-stripped, length-extended, length-text}
 
 abbrev whole : List ℕ → List ℕ → List ℕ → List ℕ → List ℕ
 whole a b w d = a ++ (0 ∷ 1 ∷ (b ++ (w ++ d)))
@@ -42,22 +43,22 @@ abbrev version_of : Tx → List ℕ
 version_of t = little_bytes 4 (cast_unsigned w32 t.version)
 
 abbrev lists : Tx → List ℕ
-lists t = listed input t.inputs ++ listed output t.outputs
+lists t = vector input t.inputs ++ vector output t.outputs
 
-flagged-whole : (t : Tx) → flagged t ≡ whole (version_of t) (lists t) (flat_map witness t.inputs) (little_bytes 4 t.locktime)
-flagged-whole t = ap (λ x. version_of t ++ (0 ∷ 1 ∷ x)) (sym (append_assoc (listed input t.inputs) (listed output t.outputs) (flat_map witness t.inputs ++ little_bytes 4 t.locktime)))
+extended-whole : (t : Tx) → extended t ≡ whole (version_of t) (lists t) (flat_map witness t.inputs) (little_bytes 4 t.locktime)
+extended-whole t = ap (λ x. version_of t ++ (0 ∷ 1 ∷ x)) (sym (append_assoc (vector input t.inputs) (vector output t.outputs) (flat_map witness t.inputs ++ little_bytes 4 t.locktime)))
 
 stripped-parts : (t : Tx) → version_of t ++ (lists t ++ little_bytes 4 t.locktime) ≡ stripped t
-stripped-parts t = ap (λ x. version_of t ++ x) (append_assoc (listed input t.inputs) (listed output t.outputs) (little_bytes 4 t.locktime))
+stripped-parts t = ap (λ x. version_of t ++ x) (append_assoc (vector input t.inputs) (vector output t.outputs) (little_bytes 4 t.locktime))
 
 -- where the lists end, by the stripped size
 lists_end : (t : Tx) → stripped_size_of t - 2 ≡ 6 + length (lists t)
 unfolding stripped_size_of
-lists_end t = omega (arith, length-stripped t, length-append (listed input t.inputs) (listed output t.outputs))
+lists_end t = omega (arith, length-stripped t, length-append (vector input t.inputs) (vector output t.outputs))
 
-pub cut_is_stripped : (t : Tx) (bytes : List ℕ) → bytes ≡ flagged t → cut (stripped_size_of t - 2) (length bytes - 4) bytes ≡ stripped t
+pub cut_is_stripped : (t : Tx) (bytes : List ℕ) → bytes ≡ extended t → cut (stripped_size_of t - 2) (length bytes - 4) bytes ≡ stripped t
 cut_is_stripped t bytes is =
-    let parts = is ∙ flagged-whole t in
+    let parts = is ∙ extended-whole t in
     let w = whole (version_of t) (lists t) (flat_map witness t.inputs) (little_bytes 4 t.locktime) in
     ap (λ n. cut n (length bytes - 4) bytes) (lists_end t)
     ∙ ap (λ x. cut (6 + length (lists t)) (length x - 4) x) parts
@@ -69,14 +70,14 @@ pub record ArePlaces (size whole : ℕ) : Type 0 where
   pub lists : 8 ≤ size
   pub witnesses : size + 2 ≤ whole
 
-pub places : (t : Tx) (bytes : List ℕ) → bytes ≡ flagged t → ArePlaces (stripped_size_of t) (length bytes)
+pub places : (t : Tx) (bytes : List ℕ) → bytes ≡ extended t → ArePlaces (stripped_size_of t) (length bytes)
 unfolding stripped_size_of
-places t bytes is = record { lists = omega (arith, length-stripped t); witnesses = omega (arith, length-stripped t, length-flagged t, ap length is) }
+places t bytes is = record { lists = omega (arith, length-stripped t); witnesses = omega (arith, length-stripped t, length-extended t, ap length is) }
 
 -- ---- by the text
 
-pub text-flagged : (t : Tx) (bytes : List ℕ) (b : Bool) → b ≡ has_witness t → bytes ≡ text t → bytes ≡ cond b (flagged t) (stripped t)
-text-flagged t bytes b is spelled = spelled ∙ ap (λ w. cond w (flagged t) (stripped t)) (sym is)
+pub text-extended : (t : Tx) (bytes : List ℕ) (b : Bool) → b ≡ has_witness t → bytes ≡ text t → bytes ≡ cond b (extended t) (stripped t)
+text-extended t bytes b is spelled = spelled ∙ ap (λ w. cond w (extended t) (stripped t)) (sym is)
 
 pub is_weighed : (t : Tx) (bytes : List ℕ) (size : ℕ) → Spells t bytes → size ≡ stripped_size_of t → (3 * size + length bytes ≡ weight_of t) × (size ≤ length bytes) × (length bytes ≤ longest)
 unfolding stripped_size_of weight_of

@@ -8,8 +8,7 @@ use Rattle.gate_tx.specs.declared.transaction.TxIn.{TxIn}
 use Rattle.gate_tx.specs.declared.transaction.TxOut.{TxOut}
 use Rattle.gate_tx.specs.Tx.{tx_of}
 use Rattle.gate_tx.specs.Text.{text, longest, IsTransaction}
-use Rattle.gate_tx.specs.Sizes.{stripped_lists, witness_lists}
-use Rattle.gate_tx.specs.Ranges.{IsRangedInput, IsRangedOutput}
+use Rattle.gate_tx.specs.Internal.{stripped_lists, witness_lists, IsRangedInput, IsRangedOutput}
 use Rattle.gate_tx.proofs.Bounds.{length-text, is_transaction}
 
 -- what is refused: outputs without inputs, or too long a text

@@ -1,6 +1,6 @@
 ghost use Rattle.std.specs.Prelude.{◌≡◌, ◌≤◌, ◌++◌, length, take, drop, slice_range};
 ghost use Rattle.sha2.specs.Sha256.{sha256};
-ghost use Rattle.gate_tx.specs.Text.{stripped, flagged, text};
+ghost use Rattle.gate_tx.specs.Text.{stripped, extended, text};
 
 use crate::transaction::Transaction;
 use sha2::{Digest, Sha256};
@@ -29,7 +29,7 @@ pub(crate) fn hash_of_stripped(transaction: &Transaction, bytes: &[u8], hash: [u
 /// The hash of the form without witnesses, from the form with flag 1: of the bytes of its version,
 /// of the lists behind marker and flag, and of the locktime behind the witnesses.
 fn hash_without_witnesses(transaction: &Transaction, bytes: &[u8]) -> [u8; 32]
-    requires { bytes.now ≡ flagged transaction.now }
+    requires { bytes.now ≡ extended transaction.now }
     ensures { result ≡ sha256 (sha256 (stripped transaction.now)) }
 {
     let lists_end = transaction.stripped_size() - 2;

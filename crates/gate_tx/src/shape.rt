@@ -1,7 +1,6 @@
 ghost use Rattle.std.specs.Prelude.{◌≡◌, ◌↔◌, ◌⊎◌, ◌≢◌, ◌+◌, ◌<◌, [], length, IsTrue, IsErr, IfOk, IfErr};
 ghost use Rattle.std.specs.List.{AllByRecursion};
-ghost use Rattle.gate_tx.specs.Sizes.{stripped_lists, witness_lists};
-ghost use Rattle.gate_tx.specs.Ranges.{IsRangedInput, IsRangedOutput};
+ghost use Rattle.gate_tx.specs.Internal.{stripped_lists, witness_lists, IsRangedInput, IsRangedOutput};
 ghost use Rattle.gate_tx.specs.Tx.{Tx, tx_of};
 ghost use Rattle.gate_tx.specs.Text.{text, longest};
 

@@ -2,9 +2,8 @@ ghost use Rattle.std.specs.Prelude.{◌≡◌, ◌++◌, List, ℕ, OnOk, length
 ghost use Rattle.std.specs.List.{flat_map, AllByRecursion};
 ghost use Rattle.std.specs.Int.{w64, cast_unsigned};
 ghost use Rattle.byteorder.specs.Endian.{little_bytes};
-ghost use Rattle.gate_tx.specs.Text.{string, listed, input, output, witness};
-ghost use Rattle.gate_tx.specs.Sizes.{capped};
-ghost use Rattle.gate_tx.specs.Ranges.{IsRangedInput, IsRangedOutput};
+ghost use Rattle.gate_tx.specs.Text.{var_bytes, vector, input, output, witness};
+ghost use Rattle.gate_tx.specs.Internal.{capped, IsRangedInput, IsRangedOutput};
 
 use crate::transaction::{TxIn, TxOut};
 use gate_bytes::{Kept, Memory, compact_size, put_compact};
@@ -26,7 +25,7 @@ pub(crate) trait Written {
 }
 
 impl Written for Kept<u8> {
-    ghost text_of = { string };
+    ghost text_of = { var_bytes };
 
     ghost IsRangedPart = { λ _. Unit {0} };
 
@@ -87,7 +86,7 @@ fn put_i64(value: i64, out: &mut Vec<u8>) -> Result<(), Memory>
 }
 
 pub(crate) fn put_list<T: Written>(items: &[T], out: &mut Vec<u8>) -> Result<(), Memory>
-    ensures { OnOk result (out.new.items ≡ out.old.items ++ listed T.text_of items.now) }
+    ensures { OnOk result (out.new.items ≡ out.old.items ++ vector T.text_of items.now) }
 {
     put_compact(out, items.len() as u64)?;
     for item in items {
@@ -106,7 +105,7 @@ pub(crate) fn put_witnesses(inputs: &[TxIn], out: &mut Vec<u8>) -> Result<(), Me
 }
 
 pub(crate) fn list_size<T: Written>(items: &[T]) -> usize
-    ensures size { result ≡ capped (length (listed T.text_of items.now)) }
+    ensures size { result ≡ capped (length (vector T.text_of items.now)) }
     ensures ranged { AllByRecursion T.IsRangedPart items.now }
 {
     let mut size = compact_size(items.len() as u64);

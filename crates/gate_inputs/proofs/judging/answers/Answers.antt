@@ -1,15 +1,15 @@
 use Rattle.std.proofs.Common.{◌≡◌, ◌∙◌, [], Some, None, ap, false, sym}
 use Rattle.gate_script.specs.Templates.{template_of}
 use Rattle.gate_script.specs.declared.templates.Template.TheVariants.{ScriptHash}
-use Rattle.gate_inputs.specs.Answers.{answers_by}
-use Rattle.gate_inputs.specs.Reports.{hashes_script, redeem_of}
-use Rattle.gate_inputs.proofs.Forms.{answers_of-script_hash, answers_of-direct, hashes_script-other}
+use Rattle.gate_inputs.specs.Internal.{answers_by}
+use Rattle.gate_inputs.specs.Reports.{is_pay_to_script_hash, redeem_of}
+use Rattle.gate_inputs.proofs.Forms.{answers_of-script_hash, answers_of-direct, is_pay_to_script_hash-other}
 use Rattle.gate_inputs.proofs.judging.answers.Goals as goal
 
 pub returns-in_default : goal.returns-in_default
 returns-in_default c =
     let is = sym c.template-form.ensures in
-    let other : hashes_script c.template-form.result ≡ false = hashes_script-other c.template-form.result c.in_default.not-ScriptHash in
+    let other : is_pay_to_script_hash c.template-form.result ≡ false = is_pay_to_script_hash-other c.template-form.result c.in_default.not-ScriptHash in
     c.direct.ensures ∙ sym (answers_of-direct c.template-form.result c.args.input.now c.args.script.now is other)
 
 pub returns-in-Some : goal.returns-in-Some

@@ -1,5 +1,5 @@
 use Rattle.std.proofs.Common.{◌∙◌, None, refl, sym}
-use Rattle.gate_inputs.specs.Answers.{answers_by}
+use Rattle.gate_inputs.specs.Internal.{answers_by}
 use Rattle.gate_inputs.proofs.Forms.{same_answers, program_by-direct, cost-capped, allows-same}
 use Rattle.gate_inputs.proofs.judging.direct.Goals as goal
 

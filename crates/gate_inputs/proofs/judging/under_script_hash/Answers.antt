@@ -1,7 +1,7 @@
 use Rattle.std.proofs.Common.{◌∙◌, true, Some}
 use Rattle.gate_script.specs.Sigops.{sigops_of}
 use Rattle.gate_script.specs.declared.templates.Template.TheVariants.{ScriptHash}
-use Rattle.gate_inputs.specs.Answers.{answers_by}
+use Rattle.gate_inputs.specs.Internal.{answers_by}
 use Rattle.gate_inputs.proofs.Forms.{same_answers, leb-capped, cost-capped, allows-same}
 use Rattle.gate_inputs.proofs.judging.under_script_hash.Goals as goal
 

@@ -1,6 +1,6 @@
 use Rattle.std.proofs.Common.{◌∙◌, None, refl}
 use Rattle.gate_script.specs.declared.templates.Template.TheVariants.{ScriptHash}
-use Rattle.gate_inputs.specs.Answers.{answers_by}
+use Rattle.gate_inputs.specs.Internal.{answers_by}
 use Rattle.gate_inputs.proofs.Forms.{same_answers, cost-capped, allows-none}
 use Rattle.gate_inputs.proofs.judging.without_redeem_script.Goals as goal
 

@@ -1,7 +1,7 @@
 use Rattle.std.proofs.Common.{◌≡◌, ◌+◌, length, take}
 use Rattle.std.specs.List.{flat_map, AllByRecursion}
 use Rattle.gate_bytes.specs.Compact.{compact}
-use Rattle.gate_tx.specs.Sizes.{capped}
+use Rattle.gate_tx.specs.Internal.{capped}
 use Rattle.gate_tx.proofs.written.list_size.Given as goal
 
 abbrev pub invariant-loop-item : goal.invariant-loop-item

@@ -1,7 +1,7 @@
 use Rattle.std.proofs.Common.{◌≡◌, length, take}
 use Rattle.std.specs.List.{flat_map}
 use Rattle.gate_tx.specs.Text.{witness}
-use Rattle.gate_tx.specs.Sizes.{capped}
+use Rattle.gate_tx.specs.Internal.{capped}
 use Rattle.gate_tx.proofs.written.witness_size.Given as goal
 
 abbrev pub invariant-loop-input : goal.invariant-loop-input

@@ -1,0 +1,14 @@
+-- Steps between the code and the definitions, which clauses of private functions alone name.
+use Rattle.std.specs.Prelude.{ℕ, ◌-◌, ◌^◌, List, Option, min}
+use Rattle.gate_tx.specs.declared.transaction.TxIn.{TxIn}
+use Rattle.gate_script.specs.declared.templates.Template.{Template}
+use Rattle.gate_inputs.specs.declared.answer.Answers.{Answers}
+use Rattle.gate_inputs.specs.Reports.{is_standard_by, program_by, allows_witness, cost_by}
+
+-- the answers from the coin's template, the redeem script under a script hash, and the coin's script otherwise
+unfoldable pub answers_by : Template → TxIn → Option (List ℕ) → List ℕ → Answers
+answers_by form input redeem script = record {
+  standard = is_standard_by form redeem;
+  witness_standard = allows_witness form input.witness (program_by form redeem script);
+  sigop_cost = min (cost_by input redeem (program_by form redeem script)) (2 ^ 64 - 1);
+}
