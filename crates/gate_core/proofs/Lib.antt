@@ -1,6 +1,9 @@
+mod ClosedSessions
+mod Denials
 mod Dotted
 pub mod Keeping
 mod Listings
-mod Order
+mod Names
 mod Peers
 pub mod Running
+mod Separate

@@ -1,5 +1,6 @@
 -- What the listings of a run are.
 use Rattle.std.proofs.Common.{◌≡◌, ℕ, zero, suc, List, [], ◌∷◌, Option, Some, None, Result, Ok, Err}
+use Rattle.gate_bytes.specs.Order.{first_failing}
 use Rattle.gate_tx.specs.Tx.{Tx}
 use Rattle.gate_standard.specs.declared.Denial.{Denial}
 use Rattle.gate_admit.specs.declared.Grant.{Grant}
@@ -11,8 +12,9 @@ use Rattle.gate_core.specs.declared.refusal.Refusal.{Refusal}
 use Rattle.gate_core.specs.declared.reply.Reply.{Reply}
 use Rattle.gate_core.specs.declared.reply.Reply.TheVariants.{Listing}
 use Rattle.gate_core.specs.World.{World}
-use Rattle.gate_core.specs.Access.{first_refusal, peer_rules}
-use Rattle.gate_core.specs.Steps.{decided, served, answered, step_of}
+use Rattle.gate_core.specs.Access.{entering_rules, session_rules, submission_rules, listing_rules}
+use Rattle.gate_core.specs.PeerSteps.{decided, answered, entered, left, submitted, listed}
+use Rattle.gate_core.specs.Steps.{step_of}
 use Rattle.gate_core.specs.Runs.{ListsThePool}
 
 decided_lists : (w : World) (peer : ℕ) (transaction : Option Tx) (decision : Result Grant Denial) (txids : List (List ℕ)) → (decided w peer transaction decision).0 ≡ Listing txids → ⊥
@@ -20,21 +22,23 @@ decided_lists w peer None decision txids h = cc
 decided_lists w peer (Some tx) (Ok grant) txids h = cc
 decided_lists w peer (Some tx) (Err denial) txids h = cc
 
-served_lists : (w : World) (event : Event) (txids : List (List ℕ)) → (served w event).0 ≡ Listing txids → txids ≡ listing_of w.pool
-served_lists w (Enter peer address) txids h = cc
-served_lists w (Leave peer) txids h = cc
-served_lists w (Submit peer now transaction) txids h =
+submitted_lists : (w : World) (peer now : ℕ) (transaction : Option Tx) (txids : List (List ℕ)) → (submitted w peer now transaction).0 ≡ Listing txids → txids ≡ listing_of w.pool
+submitted_lists w peer now transaction txids h =
     let s = submit_of w.chain w.pool w.floor transaction w.verdicts now w.budget in
     absurd (decided_lists (record w { pool = s.entries; floor = s.floor }) peer transaction s.decision txids h)
-served_lists w (Mempool peer) txids h = cc
 
-answered_lists : (w : World) (event : Event) (refusal : Option Refusal) (txids : List (List ℕ)) → (answered w event refusal).0 ≡ Listing txids → txids ≡ listing_of w.pool
-answered_lists w event (Some refusal) txids h = cc
-answered_lists w event None txids h = served_lists w event txids h
+answered_lists : (w : World) (peer : ℕ) (served : Reply × World) (refusal : Option Refusal) (txids : List (List ℕ))
+    → (served.0 ≡ Listing txids → txids ≡ listing_of w.pool) → (answered w peer served refusal).0 ≡ Listing txids → txids ≡ listing_of w.pool
+answered_lists w peer served (Some refusal) txids done h = cc
+answered_lists w peer served None txids done h = done h
 
 step_lists : (w : World) (event : Event) (txids : List (List ℕ)) → (step_of w event).0 ≡ Listing txids → txids ≡ listing_of w.pool
 unfolding step_of
-step_lists w event txids h = answered_lists w event (first_refusal (peer_rules w event)) txids h
+step_lists w (Enter peer address) txids h = answered_lists w peer (entered w peer address) (first_failing (entering_rules w.sessions peer)) txids (λ k. cc) h
+step_lists w (Leave peer) txids h = answered_lists w peer (left w peer) (first_failing (session_rules w.sessions peer)) txids (λ k. cc) h
+step_lists w (Submit peer now transaction) txids h =
+    answered_lists w peer (submitted w peer now transaction) (first_failing (submission_rules w peer transaction)) txids (submitted_lists w peer now transaction txids) h
+step_lists w (Mempool peer) txids h = answered_lists w peer (listed w) (first_failing (listing_rules w peer)) txids (λ k. cc) h
 
 some_is : (reply other : Reply) → Some reply ≡ Some other → reply ≡ other
 some_is reply other h = cc

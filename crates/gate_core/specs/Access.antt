@@ -1,6 +1,7 @@
--- Access: the rules on an event's peer in the written order, and the refusal of the first that fails.
-use Rattle.std.specs.Prelude.{◌≡◌, ℕ, Bool, true, false, not, is_some, is_none, if◌then◌else◌, List, [], ◌∷◌, ◌++◌, Option, Some, None}
+-- Access: the rules on an event's caller in the written order, of which the first that fails is the refusal.
+use Rattle.std.specs.Prelude.{ℕ, Bool, true, false, not, is_some, is_none, List, [], ◌∷◌, ◌++◌, Option}
 use Rattle.std.specs.Option.{option_map_or}
+use Rattle.gate_bytes.specs.Order.{Rule, first_failing, IsFirstOf}
 use Rattle.gate_tx.specs.Tx.{Tx}
 use Rattle.gate_tx.specs.Ids.{wtxid_of}
 use Rattle.gate_standard.specs.declared.Denial.TheVariants.{Decode}
@@ -12,15 +13,6 @@ use Rattle.gate_core.specs.declared.refusal.Refusal.TheVariants.{PeerUnknown, Pe
 use Rattle.gate_core.specs.Sessions.{Session, session_of}
 use Rattle.gate_core.specs.World.{World}
 
--- a rule: its refusal, and whether the rule fails
-abbrev pub PeerRule : Type 0
-PeerRule = Refusal × Bool
-
--- the refusal of the first rule that fails, or none
-abbrev pub first_refusal : List PeerRule → Option Refusal
-first_refusal [] = None
-first_refusal (rule ∷ rules) = if rule.1 then Some rule.0 else first_refusal rules
-
 abbrev pub is_known : List Session → ℕ → Bool
 is_known sessions peer = is_some (session_of sessions peer)
 
@@ -31,31 +23,25 @@ is_closed sessions peer = option_map_or (λ (s : Session). not s.is_open) (sessi
 abbrev pub is_pooled : List Admitted → Option Tx → Bool
 is_pooled pool transaction = option_map_or (λ (tx : Tx). is_some (entry_by_wtxid pool (wtxid_of tx))) transaction false
 
+abbrev pub entering_rules : List Session → ℕ → List (Rule Refusal)
+entering_rules sessions peer = (PeerKnown, is_known sessions peer) ∷ []
+
 -- every event of a peer but its entering needs an open session
-abbrev pub session_rules : List Session → ℕ → List PeerRule
+abbrev pub session_rules : List Session → ℕ → List (Rule Refusal)
 session_rules sessions peer = (PeerUnknown, not (is_known sessions peer)) ∷ (PeerClosed, is_closed sessions peer) ∷ []
 
-abbrev pub submission_rules : World → ℕ → Option Tx → List PeerRule
+abbrev pub submission_rules : World → ℕ → Option Tx → List (Rule Refusal)
 submission_rules w peer transaction = session_rules w.sessions peer ++ (Admission Decode, is_none transaction) ∷ (AlreadyInMempool, is_pooled w.pool transaction) ∷ []
 
-abbrev pub listing_rules : World → ℕ → List PeerRule
+abbrev pub listing_rules : World → ℕ → List (Rule Refusal)
 listing_rules w peer = session_rules w.sessions peer ++ (MempoolNoBloom, not w.bloom) ∷ []
 
-abbrev pub peer_rules : World → Event → List PeerRule
-peer_rules w (Enter peer address) = (PeerKnown, is_known w.sessions peer) ∷ []
-peer_rules w (Leave peer) = session_rules w.sessions peer
-peer_rules w (Submit peer now transaction) = submission_rules w peer transaction
-peer_rules w (Mempool peer) = listing_rules w peer
-
-abbrev pub NoneFails : List PeerRule → Type 0
-NoneFails [] = Unit {0}
-NoneFails (rule ∷ rules) = (rule.1 ≡ false) × NoneFails rules
-
--- what a refusal, or none, says of the rules
-abbrev pub Refuses : List PeerRule → Option Refusal → Type 0
-Refuses rules None = NoneFails rules
-Refuses rules (Some refusal) = (before : List PeerRule) × (after : List PeerRule) × (rules ≡ before ++ ((refusal, true) ∷ after)) × NoneFails before
+abbrev pub caller_rules : World → Event → List (Rule Refusal)
+caller_rules w (Enter peer address) = entering_rules w.sessions peer
+caller_rules w (Leave peer) = session_rules w.sessions peer
+caller_rules w (Submit peer now transaction) = submission_rules w peer transaction
+caller_rules w (Mempool peer) = listing_rules w peer
 
 -- a refusal names a rule that fails, with none failing before it; without one no rule fails
 abbrev pub AccessFollowsTheOrder : Type 0
-AccessFollowsTheOrder = (w : World) (event : Event) → Refuses (peer_rules w event) (first_refusal (peer_rules w event))
+AccessFollowsTheOrder = (w : World) (event : Event) → IsFirstOf (caller_rules w event) (first_failing (caller_rules w event))

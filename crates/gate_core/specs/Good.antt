@@ -1,7 +1,9 @@
 -- What holds of every state, and the premise that transactions are told apart by their ids.
 use Rattle.std.specs.Prelude.{◌≡◌, List, [], ◌++◌, map}
 use Rattle.std.specs.Option.{option_to_list}
+use Rattle.std.specs.List.{flat_map}
 use Rattle.gate_tx.specs.Tx.{Tx}
+use Rattle.gate_chain.specs.declared.block.Block.{Block}
 use Rattle.gate_admit.specs.Pool.{Admitted}
 use Rattle.gate_admit.specs.Good.{IsGood, AreApart}
 use Rattle.gate_core.specs.declared.event.Event.{Event}
@@ -14,9 +16,9 @@ use Rattle.gate_core.specs.Steps.{step_of}
 abbrev pub IsGoodWorld : World → Type 0
 IsGoodWorld w = IsGood w.chain w.pool
 
--- the transactions of a state, and of an event
+-- the transactions of a state, those of the connected blocks and those of the pool, and of an event
 abbrev pub transactions_in : World → List Tx
-transactions_in w = map (λ (e : Admitted). e.tx) w.pool
+transactions_in w = flat_map (λ (b : Block). b.transactions) w.chain.blocks ++ map (λ (e : Admitted). e.tx) w.pool
 
 abbrev pub transactions_of : Event → List Tx
 transactions_of (Enter peer address) = []

@@ -1,12 +1,16 @@
 pub mod Addresses
+pub mod Permissions
 pub mod Sessions
+pub mod Callers
 pub mod Refusals
 pub mod Texts
 pub mod World
 pub mod Access
+pub mod PeerSteps
 pub mod Steps
 pub mod Quiet
 pub mod Planning
 pub mod Good
 pub mod Runs
+pub mod SessionLaws
 pub mod Examples

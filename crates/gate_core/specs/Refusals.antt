@@ -7,6 +7,7 @@ use Rattle.gate_core.specs.declared.refusal.Then.{Then}
 use Rattle.gate_core.specs.declared.refusal.Then.TheVariants.{Keep, Close, Relay}
 use Rattle.gate_core.specs.declared.refusal.Refusal.{Refusal}
 use Rattle.gate_core.specs.declared.refusal.Refusal.TheVariants.{PeerUnknown, PeerClosed, PeerKnown, AlreadyInMempool, MempoolNoBloom, Admission}
+use Rattle.gate_core.specs.Permissions.{Permissions}
 
 abbrev pub rule_text : Refusal → List ℕ
 rule_text PeerUnknown = codes "P1"
@@ -28,14 +29,18 @@ refusal_token (Admission denial) = token_of denial
 abbrev pub is_closing : ℕ → Bool
 is_closing rule = is_in_range 2 11 rule || (is_in_range 28 30 rule || (rule == 37 || rule == 45))
 
--- what follows for the session
-abbrev pub then_of : Refusal → Then
-then_of PeerUnknown = Keep
-then_of PeerClosed = Keep
-then_of PeerKnown = Keep
-then_of AlreadyInMempool = Keep
-then_of MempoolNoBloom = Close
-then_of (Admission denial) = if is_closing (rule_of denial) then Close else Keep
+-- no refusal closes the session of a peer with noban
+abbrev pub closing : Permissions → Then
+closing flags = if flags.noban then Keep else Close
+
+-- what follows for the session of a peer with these flags
+abbrev pub then_of : Permissions → Refusal → Then
+then_of flags PeerUnknown = Keep
+then_of flags PeerClosed = Keep
+then_of flags PeerKnown = Keep
+then_of flags AlreadyInMempool = if flags.forcerelay then Relay else Keep
+then_of flags MempoolNoBloom = closing flags
+then_of flags (Admission denial) = if is_closing (rule_of denial) then closing flags else Keep
 
 abbrev pub then_text : Then → List ℕ
 then_text Keep = codes "keep"

@@ -46,8 +46,6 @@ abbrev pub ListsThePool : World → List Event → Type 0
 ListsThePool w events =
     (k : ℕ) (txids : List (List ℕ)) → slice_get (run_of w events).0 k ≡ Some (Listing txids) → txids ≡ listing_of (run_of w (take k events)).1.pool
 
--- so it is after any events that are apart, from any opening
+-- so it is after any events, from any opening
 abbrev pub RunsKeepThePoolSound : Type 0
-RunsKeepThePoolSound =
-    (o : Opening) (events : List Event) → AreApart (flat_map transactions_of events)
-    → SpendsOnce (run_of (opened_world o) events).1.pool × ListsThePool (opened_world o) events
+RunsKeepThePoolSound = (o : Opening) (events : List Event) → SpendsOnce (run_of (opened_world o) events).1.pool × ListsThePool (opened_world o) events

@@ -6,7 +6,11 @@ use Rattle.gate_tx.specs.Ids.{id_text}
 use Rattle.gate_core.specs.declared.refusal.Refusal.{Refusal}
 use Rattle.gate_core.specs.declared.reply.Reply.{Reply}
 use Rattle.gate_core.specs.declared.reply.Reply.TheVariants.{Entered, Left, Admitted, Listing, Denied}
+use Rattle.gate_core.specs.Permissions.{Permissions, permissions_text}
 use Rattle.gate_core.specs.Refusals.{rule_text, refusal_token, then_text}
+
+abbrev pub entered_text : Permissions → List ℕ
+entered_text flags = codes "entered " ++ permissions_text flags
 
 abbrev pub admitted_text : List ℕ → ℕ → ℕ → ℕ → List ℕ
 admitted_text txid fee vsize replaced =
@@ -20,7 +24,7 @@ abbrev pub denied_text : Refusal → List ℕ → List ℕ
 denied_text refusal then = codes "denied " ++ (rule_text refusal ++ (codes " " ++ (then ++ (codes " " ++ refusal_token refusal))))
 
 abbrev pub reply_text : Reply → List ℕ
-reply_text Entered = codes "entered none"
+reply_text (Entered flags) = entered_text flags
 reply_text Left = codes "left"
 reply_text (Admitted txid fee vsize replaced) = admitted_text txid fee vsize replaced
 reply_text (Listing txids) = listing_text txids

@@ -3,6 +3,7 @@ use Rattle.std.specs.Prelude.{ℕ, Bool, List, []}
 use Rattle.gate_chain.specs.History.{History, opened}
 use Rattle.gate_admit.specs.declared.Verdicts.{Verdicts}
 use Rattle.gate_admit.specs.Pool.{Admitted}
+use Rattle.gate_core.specs.Permissions.{Permissions, no_permissions}
 use Rattle.gate_core.specs.Sessions.{Session}
 use Rattle.gate_core.specs.declared.opening.Opening.{Opening}
 
@@ -14,6 +15,10 @@ pub record World : Type 0 where
   pub budget : ℕ
   pub verdicts : Verdicts
   pub bloom : Bool
+
+-- the flags of a peer that enters from this address: there is no whitelist that could give any
+abbrev pub flags_at : World → List ℕ → Permissions
+flags_at w address = no_permissions
 
 -- the state of an opening: no entries, no floor, no peers
 abbrev pub opened_world : Opening → World

@@ -2,6 +2,7 @@
 ghost use Rattle.std.specs.Prelude.{◌≡◌};
 
 use crate::address::Address;
+use crate::caller::Caller;
 use gate_admit::Prepared;
 use gate_bytes::{Copied, Memory};
 use std::alloc::Global;
@@ -31,17 +32,17 @@ pub enum Event {
 }
 
 impl Event {
-    ghost use Rattle.gate_core.specs.Steps.{peer_of};
+    ghost use Rattle.gate_core.specs.Callers.{caller_of};
 
-    /// The number of the peer that makes it.
-    pub fn peer(&self) -> u64
-        ensures { result ≡ peer_of self.now }
+    /// Who makes it.
+    pub fn caller(&self) -> Caller
+        ensures { result ≡ caller_of self.now }
     {
         match self {
-            Event::Enter { peer, .. } => *peer,
-            Event::Leave { peer } => *peer,
-            Event::Tx { peer, .. } => *peer,
-            Event::Mempool { peer } => *peer,
+            Event::Enter { peer, .. } => Caller::Peer(*peer),
+            Event::Leave { peer } => Caller::Peer(*peer),
+            Event::Tx { peer, .. } => Caller::Peer(*peer),
+            Event::Mempool { peer } => Caller::Peer(*peer),
         }
     }
 }

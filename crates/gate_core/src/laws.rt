@@ -2,13 +2,14 @@
 ghost use Rattle.gate_core.specs.Addresses.{AddressesAreDotted};
 ghost use Rattle.gate_core.specs.Access.{AccessFollowsTheOrder};
 ghost use Rattle.gate_core.specs.Runs.{RunsKeepThePoolSound, StepsGiveTheRun};
+ghost use Rattle.gate_core.specs.SessionLaws.{ClosedStaysClosed, DenialsLeaveThePool, PeersAreSeparate};
 
 /// A text spells an address just where it is what is printed for it.
 pub fn addresses_are_dotted()
     ensures { AddressesAreDotted }
 {}
 
-/// The refusal of an event names a rule on its peer that fails, with none failing before it in the written order, and an
+/// The refusal of an event names a rule on its caller that fails, with none failing before it in the written order, and an
 /// event that is not refused fails none.
 pub fn access_follows_the_order()
     ensures { AccessFollowsTheOrder }
@@ -20,7 +21,23 @@ pub fn steps_give_the_run()
     ensures { StepsGiveTheRun }
 {}
 
-/// After any events that are apart, from any opening, no outpoint is spent by two entries of the pool, and every
+/// A session that is closed is the same after any events, and each event of its peer among them is answered by P2,
+/// entering by P3.
+pub fn closed_stays_closed()
+    ensures { ClosedStaysClosed }
+{}
+
+/// No event of a peer changes another peer's session, or makes one.
+pub fn peers_are_separate()
+    ensures { PeersAreSeparate }
+{}
+
+/// Events that are denied leave the chain, the pool and its floor as they were.
+pub fn denials_leave_the_pool()
+    ensures { DenialsLeaveThePool }
+{}
+
+/// After any events, from any opening, no outpoint is spent by two entries of the pool, and every
 /// listing among the replies has exactly the txids of the pool at that point, in order of admission.
 pub fn runs_keep_the_pool_sound()
     ensures { RunsKeepThePoolSound }

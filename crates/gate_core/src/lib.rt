@@ -5,21 +5,26 @@
 #![tactic(auto)]
 
 mod address;
+mod caller;
 mod event;
 mod laws;
 mod opening;
 mod parts;
+mod permissions;
 mod refusal;
 mod reply;
 mod session;
 mod state;
 
 pub use address::Address;
+pub use caller::Caller;
 pub use event::Event;
 pub use laws::{
-    access_follows_the_order, addresses_are_dotted, runs_keep_the_pool_sound, steps_give_the_run,
+    access_follows_the_order, addresses_are_dotted, closed_stays_closed, denials_leave_the_pool,
+    peers_are_separate, runs_keep_the_pool_sound, steps_give_the_run,
 };
 pub use opening::Opening;
+pub use permissions::Permissions;
 pub use refusal::{Refusal, Then};
 pub use reply::Reply;
 pub use state::{State, StepFault};

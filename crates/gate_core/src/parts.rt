@@ -1,13 +1,17 @@
 //! What a state is made of, and its step in two: a plan that takes all memory and changes nothing, and its change.
-ghost use Rattle.std.specs.Prelude.{◌≡◌, IfOk, None};
-ghost use Rattle.gate_core.specs.World.{World};
-ghost use Rattle.gate_core.specs.Access.{first_refusal, listing_rules, peer_rules, submission_rules};
-ghost use Rattle.gate_core.specs.Steps.{refused, served, step_of};
+ghost use Rattle.std.specs.Prelude.{◌≡◌, IfOk};
+ghost use Rattle.gate_bytes.specs.Order.{first_failing};
+ghost use Rattle.gate_core.specs.World.{flags_at};
+ghost use Rattle.gate_core.specs.Access.{entering_rules, listing_rules, session_rules, submission_rules};
+ghost use Rattle.gate_core.specs.PeerSteps.{entered, left, listed, peer_step, refused, submitted};
+ghost use Rattle.gate_core.specs.Steps.{step_of};
 ghost use Rattle.gate_core.specs.declared.parts.Parts.{Parts as Made};
 ghost use Rattle.gate_core.specs.Quiet.{HasList};
 ghost use Rattle.gate_core.specs.Planning.{Fits, Plans, after, world_of};
 
+use crate::address::Address;
 use crate::event::Event;
+use crate::permissions::Permissions;
 use crate::refusal::{Refusal, Then};
 use crate::reply::Reply;
 use crate::session::Sessions;
@@ -20,15 +24,9 @@ use std::alloc::Global;
 #[derive(Drop)]
 pub(crate) enum Change {
     Nothing,
-    Enter {
-        peer: u64,
-    },
-    Close {
-        peer: u64,
-    },
-    Admit {
-        entry: Entry,
-    },
+    Enter { peer: u64, flags: Permissions },
+    Close { peer: u64 },
+    Admit { entry: Entry },
 }
 
 /// The reply to an event, and what it changes.
@@ -50,55 +48,104 @@ pub(crate) struct Parts {
     pub(crate) bloom: bool,
 }
 
-/// A refusal, which closes the peer's session where that follows.
-fn refusing(peer: u64, refusal: Refusal) -> Plan
-    ensures reply { (w : World) → (result.reply, after result.change w) ≡ refused w peer refusal }
-    ensures quiet { HasList result.reply → result.change ≡ Change.Nothing }
-    ensures fits { (p : Made) → Fits result.change p }
-{
-    let then = refusal.then();
-    let reply = Reply::Denied { refusal, then };
-    match then {
-        Then::Close => Plan {
-            reply,
-            change: Change::Close { peer },
-        },
-        Then::Keep => Plan {
-            reply,
-            change: Change::Nothing,
-        },
-        Then::Relay => Plan {
-            reply,
-            change: Change::Nothing,
-        },
-    }
-}
-
 impl Parts {
-    /// The refusal of the first rule on the event's peer that fails.
-    fn refusal(&self, event: &Event) -> Option<Refusal>
-        ensures { result ≡ first_refusal (peer_rules (world_of self.now) event.now) }
+    /// The flags of a peer that enters from this address: there is no whitelist that could give any.
+    fn flags_at(&self, address: &Address) -> Permissions
+        ensures { result ≡ flags_at (world_of self.now) address.now }
     {
-        match event {
-            Event::Enter { peer, .. } => {
-                if self.sessions.is_known(*peer) {
-                    Some(Refusal::PeerKnown)
-                } else {
-                    None
-                }
-            }
-            Event::Leave { peer } => self.sessions.refusal(*peer),
-            Event::Tx {
-                peer,
-                transaction,
-                ..
-            } => self.refusal_of_tx(*peer, transaction),
-            Event::Mempool { peer } => self.refusal_of_mempool(*peer),
+        let _address = address;
+        Permissions::none()
+    }
+
+    /// A refusal to a peer, which closes the peer's session where that follows.
+    fn refusing(&self, peer: u64, refusal: Refusal) -> Plan
+        ensures reply { Plans (world_of self.now) (refused (world_of self.now) peer refusal) result }
+        ensures fits { (p : Made) → Fits result.change p }
+        ensures quiet { HasList result.reply → result.change ≡ Change.Nothing }
+    {
+        let then = refusal.then(&self.sessions.flags(peer));
+        let reply = Reply::Denied { refusal, then };
+        match then {
+            Then::Close => Plan {
+                reply,
+                change: Change::Close { peer },
+            },
+            Then::Keep => Plan {
+                reply,
+                change: Change::Nothing,
+            },
+            Then::Relay => Plan {
+                reply,
+                change: Change::Nothing,
+            },
         }
     }
 
-    fn refusal_of_tx(&self, peer: u64, transaction: &Prepared) -> Option<Refusal>
-        ensures { result ≡ first_refusal (submission_rules (world_of self.now) peer transaction.now) }
+    fn entering(&mut self, peer: u64, address: &Address) -> Result<Plan, Memory>
+        ensures ok { IfOk result (Plans (world_of self.old) (peer_step (world_of self.old) peer (entering_rules self.old.sessions.all peer) (entered (world_of self.old) peer address.now))) }
+        ensures fits { IfOk result (λ plan. Fits plan.change self.new) }
+        ensures quiet { IfOk result (λ plan. HasList plan.reply → plan.change ≡ Change.Nothing) }
+        ensures same { world_of self.new ≡ world_of self.old }
+    {
+        if self.sessions.is_known(peer) {
+            return Ok(self.refusing(peer, Refusal::PeerKnown));
+        }
+        self.sessions.reserve()?;
+        let flags = self.flags_at(address);
+        Ok(Plan {
+            reply: Reply::Entered { flags },
+            change: Change::Enter { peer, flags },
+        })
+    }
+
+    fn leaving(&self, peer: u64) -> Plan
+        ensures plans { Plans (world_of self.now) (peer_step (world_of self.now) peer (session_rules self.now.sessions.all peer) (left (world_of self.now) peer)) result }
+        ensures fits { (p : Made) → Fits result.change p }
+        ensures quiet { HasList result.reply → result.change ≡ Change.Nothing }
+    {
+        match self.sessions.refusal(peer) {
+            Some(refusal) => self.refusing(peer, refusal),
+            None => Plan {
+                reply: Reply::Left,
+                change: Change::Close { peer },
+            },
+        }
+    }
+
+    fn listing(&self, alloc: Global, peer: u64) -> Result<Plan, Memory>
+        ensures ok { IfOk result (Plans (world_of self.now) (peer_step (world_of self.now) peer (listing_rules (world_of self.now) peer) (listed (world_of self.now)))) }
+        ensures fits { IfOk result (λ plan. (p : Made) → Fits plan.change p) }
+        ensures quiet { IfOk result (λ plan. HasList plan.reply → plan.change ≡ Change.Nothing) }
+    {
+        match self.refusal_of_listing(peer) {
+            Some(refusal) => Ok(self.refusing(peer, refusal)),
+            None => Ok(Plan {
+                reply: Reply::Listing(self.pool.listing(alloc)?),
+                change: Change::Nothing,
+            }),
+        }
+    }
+
+    fn submission(
+        &mut self,
+        alloc: Global,
+        peer: u64,
+        now: u64,
+        transaction: &Prepared,
+    ) -> Result<Plan, Memory>
+        ensures ok { IfOk result (Plans (world_of self.old) (peer_step (world_of self.old) peer (submission_rules (world_of self.old) peer transaction.now) (submitted (world_of self.old) peer now transaction.now))) }
+        ensures fits { IfOk result (λ plan. Fits plan.change self.new) }
+        ensures quiet { IfOk result (λ plan. HasList plan.reply → plan.change ≡ Change.Nothing) }
+        ensures same { world_of self.new ≡ world_of self.old }
+    {
+        match self.refusal_of_submission(peer, transaction) {
+            Some(refusal) => Ok(self.refusing(peer, refusal)),
+            None => self.submit(alloc, peer, now, transaction),
+        }
+    }
+
+    fn refusal_of_submission(&self, peer: u64, transaction: &Prepared) -> Option<Refusal>
+        ensures { result ≡ first_failing (submission_rules (world_of self.now) peer transaction.now) }
     {
         if let Some(refusal) = self.sessions.refusal(peer) {
             return Some(refusal);
@@ -112,8 +159,8 @@ impl Parts {
         None
     }
 
-    fn refusal_of_mempool(&self, peer: u64) -> Option<Refusal>
-        ensures { result ≡ first_refusal (listing_rules (world_of self.now) peer) }
+    fn refusal_of_listing(&self, peer: u64) -> Option<Refusal>
+        ensures { result ≡ first_failing (listing_rules (world_of self.now) peer) }
     {
         if let Some(refusal) = self.sessions.refusal(peer) {
             return Some(refusal);
@@ -124,38 +171,6 @@ impl Parts {
         None
     }
 
-    /// Plans the answer to an event that no rule on its peer refuses.
-    fn serve(&mut self, alloc: Global, event: &Event) -> Result<Plan, Memory>
-        requires { first_refusal (peer_rules (world_of self.old) event.now) ≡ None }
-        ensures ok { IfOk result (λ plan. (plan.reply, after plan.change (world_of self.old)) ≡ served (world_of self.old) event.now) }
-        ensures fits { IfOk result (λ plan. Fits plan.change self.new) }
-        ensures quiet { IfOk result (λ plan. HasList plan.reply → plan.change ≡ Change.Nothing) }
-        ensures same { world_of self.new ≡ world_of self.old }
-    {
-        match event {
-            Event::Enter { peer, .. } => {
-                self.sessions.reserve()?;
-                Ok(Plan {
-                    reply: Reply::Entered,
-                    change: Change::Enter { peer: *peer },
-                })
-            }
-            Event::Leave { peer } => Ok(Plan {
-                reply: Reply::Left,
-                change: Change::Close { peer: *peer },
-            }),
-            Event::Tx {
-                peer,
-                now,
-                transaction,
-            } => self.submit(alloc, *peer, *now, transaction),
-            Event::Mempool { .. } => Ok(Plan {
-                reply: Reply::Listing(self.pool.listing(alloc)?),
-                change: Change::Nothing,
-            }),
-        }
-    }
-
     #[tactic(auto, using(gate_admit::proofs::Submitting::planned_nothing))]
     fn submit(
         &mut self,
@@ -164,13 +179,13 @@ impl Parts {
         now: u64,
         transaction: &Prepared,
     ) -> Result<Plan, Memory>
-        ensures ok { IfOk result (λ plan. (plan.reply, after plan.change (world_of self.old)) ≡ served (world_of self.old) (Event.Tx peer now transaction.now)) }
+        ensures ok { IfOk result (Plans (world_of self.old) (submitted (world_of self.old) peer now transaction.now)) }
         ensures fits { IfOk result (λ plan. Fits plan.change self.new) }
         ensures quiet { IfOk result (λ plan. HasList plan.reply → plan.change ≡ Change.Nothing) }
         ensures same { world_of self.new ≡ world_of self.old }
     {
         let Some(txid) = transaction.txid() else {
-            return Ok(refusing(peer, Refusal::Admission(Denial::Decode)));
+            return Ok(self.refusing(peer, Refusal::Admission(Denial::Decode)));
         };
         let decision = plan_submission(
             alloc,
@@ -195,21 +210,27 @@ impl Parts {
                     change: Change::Admit { entry },
                 })
             }
-            Err(denial) => Ok(refusing(peer, Refusal::Admission(denial))),
+            Err(denial) => Ok(self.refusing(peer, Refusal::Admission(denial))),
         }
     }
 
     /// The reply to an event, and what it will change: the memory for that is taken, and nothing changes yet.
     #[tactic(auto, unfolding(crate::specs::Steps::step_of))]
     pub(crate) fn plan(&mut self, alloc: Global, event: &Event) -> Result<Plan, Memory>
-        ensures ok { IfOk result (Plans (world_of self.old) event.now) }
+        ensures ok { IfOk result (Plans (world_of self.old) (step_of (world_of self.old) event.now)) }
         ensures fits { IfOk result (λ plan. Fits plan.change self.new) }
         ensures quiet { IfOk result (λ plan. HasList plan.reply → plan.change ≡ Change.Nothing) }
         ensures same { world_of self.new ≡ world_of self.old }
     {
-        match self.refusal(event) {
-            Some(refusal) => Ok(refusing(event.peer(), refusal)),
-            None => self.serve(alloc, event),
+        match event {
+            Event::Enter { peer, address } => self.entering(*peer, address),
+            Event::Leave { peer } => Ok(self.leaving(*peer)),
+            Event::Tx {
+                peer,
+                now,
+                transaction,
+            } => self.submission(alloc, *peer, *now, transaction),
+            Event::Mempool { peer } => self.listing(alloc, *peer),
         }
     }
 
@@ -220,7 +241,7 @@ impl Parts {
     {
         match change {
             Change::Nothing => (),
-            Change::Enter { peer } => self.sessions.enter(peer),
+            Change::Enter { peer, flags } => self.sessions.enter(peer, flags),
             Change::Close { peer } => self.sessions.close(peer),
             Change::Admit { entry } => self.pool.admit(entry),
         }

@@ -1,7 +1,8 @@
 //! Why an event is refused, and what follows for the session.
 ghost use Rattle.std.specs.Prelude.{◌≡◌, Some};
-ghost use Rattle.gate_core.specs.Refusals.{rule_text, refusal_token, then_of, then_text};
+ghost use Rattle.gate_core.specs.Refusals.{closing, rule_text, refusal_token, then_of, then_text};
 
+use crate::permissions::Permissions;
 use gate_standard::Denial;
 use std::fmt;
 
@@ -12,11 +13,22 @@ pub enum Then {
     Keep,
     /// The session is closed.
     Close,
-    /// The session goes on, and what is in the pool already is relayed again.
+    /// The session goes on, and the transaction that is in the pool already is relayed again.
     Relay,
 }
 
 impl Then {
+    /// What a refusal that closes does to the session of a peer with these flags.
+    fn closing(flags: &Permissions) -> Then
+        ensures { result ≡ closing flags.now }
+    {
+        if flags.noban() {
+            Then::Keep
+        } else {
+            Then::Close
+        }
+    }
+
     pub fn as_str(&self) -> &'static str
         ensures { result.now ≡ then_text self.now }
     {
@@ -60,14 +72,15 @@ impl Refusal {
         }
     }
 
-    /// What follows for the session.
-    pub fn then(&self) -> Then
-        ensures { result ≡ then_of self.now }
+    /// What follows for the session of a peer with these flags.
+    pub fn then(&self, flags: &Permissions) -> Then
+        ensures { result ≡ then_of flags.now self.now }
     {
         match self {
-            Refusal::MempoolNoBloom => Then::Close,
+            Refusal::AlreadyInMempool if flags.forcerelay() => Then::Relay,
+            Refusal::MempoolNoBloom => Then::closing(flags),
             Refusal::Admission(denial) => match denial.rule() {
-                2..=11 | 28..=30 | 37 | 45 => Then::Close,
+                2..=11 | 28..=30 | 37 | 45 => Then::closing(flags),
                 _ => Then::Keep,
             },
             _ => Then::Keep,

@@ -1,5 +1,5 @@
 //! Worked sessions: a chain of 101 blocks with one coin of 100,000 satoshi.
-ghost use Rattle.gate_core.specs.Examples.{SmallSteps};
+ghost use Rattle.gate_core.specs.Examples.{PermittedSteps, SmallSteps};
 
 use super::*;
 use gate_admit::{OpenFault, OpeningCoin, Prepared, Verdict, Verdicts};
@@ -163,26 +163,6 @@ fn refusals_that_close(rt: HostRuntime) -> Result<(), Fail> {
 }
 
 #[test]
-fn what_follows_refusals(rt: HostRuntime) {
-    for (denial, want) in [
-        (Denial::Decode, Then::Keep),
-        (Denial::VinEmpty, Then::Close),
-        (Denial::Coinbase, Then::Close),
-        (Denial::Version, Then::Keep),
-        (Denial::PrematureSpend, Then::Keep),
-        (Denial::InputValues, Then::Close),
-        (Denial::FeeOutOfRange, Then::Close),
-        (Denial::NonstandardInputs, Then::Keep),
-        (Denial::SpendsConflicting, Then::Close),
-        (Denial::SoftVerdict, Then::Keep),
-        (Denial::HardVerdict, Then::Close),
-        (Denial::MempoolFull, Then::Keep),
-    ] {
-        assert_eq!(rt; Refusal::Admission(denial).then(), want, "after {denial}");
-    }
-}
-
-#[test]
 fn addresses_in_text(rt: HostRuntime) {
     for text in ["0.0.0.0", "10.1.2.3", "192.0.2.1", "255.255.255.255"] {
         assert!(rt; Address::parse(text).is_some(), "{text}");
@@ -218,29 +198,25 @@ fn opening_faults(rt: HostRuntime) -> Result<(), Fail> {
 }
 
 #[test]
-fn copied_events(rt: HostRuntime) -> Result<(), Fail> {
+fn copies(rt: HostRuntime) -> Result<(), Fail> {
     let alloc = rt.alloc();
     let bytes = spend(alloc, 99_890)?;
     let submit = event(alloc, 7, Asked::Submit(bytes.as_slice()))?;
-    assert_eq!(rt; submit.peer(), 7);
+    assert!(rt; submit.caller() == Caller::Peer(7));
     assert!(rt; submit.copy(alloc)? == submit);
     assert!(rt; submit != event(alloc, 7, Asked::Leave)?);
-    Ok(())
-}
-
-#[test]
-fn copied_replies(rt: HostRuntime) -> Result<(), Fail> {
-    let alloc = rt.alloc();
-    let txid = Txid::new([7; 32]);
-    let listing = Reply::Listing(Kept::from_vec(Vec::from_slice(alloc, &[txid])?));
+    let listing = Reply::Listing(Kept::from_vec(Vec::from_slice(alloc, &[Txid::new([7; 32])])?));
     assert!(rt; listing.copy(alloc)? == listing);
     assert!(rt; listing != Reply::Left);
+    let flags = Permissions::none();
+    assert!(rt; Reply::Entered { flags }.copy(alloc)? == Reply::Entered { flags });
     Ok(())
 }
 
-/// The definition of the step on small states, by computation.
+/// The definitions at small values, by computation.
 fn small_steps()
-    ensures { SmallSteps }
+    ensures small { SmallSteps }
+    ensures permitted { PermittedSteps }
 {}
 
 #[test]

@@ -5,4 +5,4 @@ use Rattle.gate_core.proofs.Running.{run_good}
 use Rattle.gate_core.proofs.laws.runs_keep_the_pool_sound.Goals as goal
 
 pub returns : goal.returns
-returns c = λ o events apart. ((run_good events (opened_world o) (opened_good o)).spends, lists_the_pool events (opened_world o))
+returns c = λ o events. ((run_good events (opened_world o) (opened_good o)).spends, lists_the_pool events (opened_world o))

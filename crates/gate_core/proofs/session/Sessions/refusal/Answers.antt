@@ -1,17 +1,18 @@
-use Rattle.std.proofs.Common.{Bool, None, Some, true, false, sym, ap, ◌∙◌}
+use Rattle.std.proofs.Common.{Bool, not, if◌then◌else◌, None, Some, sym, ap, ◌∙◌}
 use Rattle.std.specs.Option.{option_copied}
+use Rattle.gate_core.specs.declared.refusal.Refusal.TheVariants.{PeerClosed}
 use Rattle.gate_core.proofs.Peers.{rules-shown}
 use Rattle.gate_core.proofs.session.Sessions.refusal.Goals as goal
 
-pub returns-in-None : goal.returns-in-None
-returns-in-None c = rw (← c.self.view_is) (rules-shown c.self.inside.peers.entries c.args.peer None (sym (ap option_copied c.in-None.is) ∙ c.get.ensures.value))
+pub returns-in_default : goal.returns-in_default
+returns-in_default c = rw (← c.self.view_is) (rules-shown c.self.inside.peers.entries c.args.peer None (sym (ap option_copied c.in_default.is) ∙ c.get.ensures.value))
 
-pub returns-in-Some-true : goal.returns-in-Some-true
-returns-in-Some-true c =
-    let found = sym (ap (λ (b : Bool). Some b) c.in-Some-true.field-0-test) ∙ (sym (ap option_copied c.in-Some-true.is) ∙ c.get.ensures.value) in
-    rw (← c.self.view_is) (rules-shown c.self.inside.peers.entries c.args.peer (Some true) found)
+pub returns-then-seat : goal.returns-then-seat
+returns-then-seat c =
+    sym (ap (λ (b : Bool). if not b then Some PeerClosed else None) c.if-seat.true)
+    ∙ rw (← c.self.view_is) (rules-shown c.self.inside.peers.entries c.args.peer (Some c.in-Some.seat.now) (sym (ap option_copied c.in-Some.is) ∙ c.get.ensures.value))
 
-pub returns-in-Some-false : goal.returns-in-Some-false
-returns-in-Some-false c =
-    let found = sym (ap (λ (b : Bool). Some b) c.in-Some-false.field-0-test) ∙ (sym (ap option_copied c.in-Some-false.is) ∙ c.get.ensures.value) in
-    rw (← c.self.view_is) (rules-shown c.self.inside.peers.entries c.args.peer (Some false) found)
+pub returns-else-seat : goal.returns-else-seat
+returns-else-seat c =
+    sym (ap (λ (b : Bool). if not b then Some PeerClosed else None) c.if-seat.false)
+    ∙ rw (← c.self.view_is) (rules-shown c.self.inside.peers.entries c.args.peer (Some c.in-Some.seat.now) (sym (ap option_copied c.in-Some.is) ∙ c.get.ensures.value))

@@ -1,0 +1,55 @@
+-- What denied events leave.
+use Rattle.std.proofs.Common.{◌≡◌, ℕ, List, [], ◌∷◌, All, Option, Some, None, Result, Ok, Err, refl, ◌∙◌}
+use Rattle.std.proofs.lemmas.List.Elements.{All-head, All-tail}
+use Rattle.gate_bytes.specs.Order.{first_failing}
+use Rattle.gate_tx.specs.Tx.{Tx}
+use Rattle.gate_standard.specs.declared.Denial.{Denial}
+use Rattle.gate_admit.specs.declared.Grant.{Grant}
+use Rattle.gate_admit.specs.Rules.{decision_of}
+use Rattle.gate_admit.specs.Submission.{entered as entries_of, submit_of}
+use Rattle.gate_core.specs.declared.event.Event.{Event}
+use Rattle.gate_core.specs.declared.event.Event.TheVariants.{Enter, Leave, Tx as Submit, Mempool}
+use Rattle.gate_core.specs.declared.refusal.Refusal.{Refusal}
+use Rattle.gate_core.specs.declared.reply.Reply.{Reply}
+use Rattle.gate_core.specs.World.{World}
+use Rattle.gate_core.specs.Access.{entering_rules, session_rules, submission_rules, listing_rules}
+use Rattle.gate_core.specs.PeerSteps.{concluded, answered, entered, left, submitted, listed}
+use Rattle.gate_core.specs.Steps.{step_of}
+use Rattle.gate_core.specs.Runs.{run_of}
+use Rattle.gate_core.specs.SessionLaws.{IsDenied}
+
+-- chain, pool and floor are those of another state
+abbrev pub IsAsIn : World → World → Type 0
+IsAsIn w v = (v.chain ≡ w.chain) × (v.pool ≡ w.pool) × (v.floor ≡ w.floor)
+
+concluded_denied : (w : World) (peer now : ℕ) (transaction : Option Tx) (decision : Result Grant Denial)
+    → IsDenied (concluded w peer transaction (record { decision = decision; entries = entries_of w.pool decision transaction now; floor = w.floor })).0
+    → IsAsIn w (concluded w peer transaction (record { decision = decision; entries = entries_of w.pool decision transaction now; floor = w.floor })).1
+concluded_denied w peer now None (Ok grant) h = (refl, refl, refl)
+concluded_denied w peer now None (Err denial) h = (refl, refl, refl)
+concluded_denied w peer now (Some tx) (Ok grant) h = absurd h
+concluded_denied w peer now (Some tx) (Err denial) h = (refl, refl, refl)
+
+submitted_denied : (w : World) (peer now : ℕ) (transaction : Option Tx) → IsDenied (submitted w peer now transaction).0 → IsAsIn w (submitted w peer now transaction).1
+unfolding submit_of
+submitted_denied w peer now transaction h = concluded_denied w peer now transaction (decision_of w.chain w.pool w.floor transaction w.verdicts) h
+
+answered_denied : (w : World) (peer : ℕ) (served : Reply × World) (refusal : Option Refusal) → (IsDenied served.0 → IsAsIn w served.1)
+    → IsDenied (answered w peer served refusal).0 → IsAsIn w (answered w peer served refusal).1
+answered_denied w peer served (Some refusal) done h = (refl, refl, refl)
+answered_denied w peer served None done h = done h
+
+step_denied : (w : World) (event : Event) → IsDenied (step_of w event).0 → IsAsIn w (step_of w event).1
+unfolding step_of
+step_denied w (Enter peer address) h = answered_denied w peer (entered w peer address) (first_failing (entering_rules w.sessions peer)) (λ k. absurd k) h
+step_denied w (Leave peer) h = answered_denied w peer (left w peer) (first_failing (session_rules w.sessions peer)) (λ k. absurd k) h
+step_denied w (Submit peer now transaction) h =
+    answered_denied w peer (submitted w peer now transaction) (first_failing (submission_rules w peer transaction)) (submitted_denied w peer now transaction) h
+step_denied w (Mempool peer) h = answered_denied w peer (listed w) (first_failing (listing_rules w peer)) (λ k. absurd k) h
+
+pub run_denied : (events : List Event) (w : World) → All IsDenied (run_of w events).0 → IsAsIn w (run_of w events).1
+run_denied [] w h = (refl, refl, refl)
+run_denied (event ∷ events) w h =
+    let first = step_denied w event (All-head IsDenied (step_of w event).0 (run_of (step_of w event).1 events).0 h) in
+    let rest = run_denied events (step_of w event).1 (All-tail IsDenied (step_of w event).0 (run_of (step_of w event).1 events).0 h) in
+    (rest.0 ∙ first.0, rest.1 ∙ first.1, rest.2 ∙ first.2)

@@ -1,0 +1,64 @@
+-- What each event of a peer gives: the reply, and the state after it.
+use Rattle.std.specs.Prelude.{ℕ, true, List, [], ◌∷◌, ◌++◌, Option, Some, None, Result, Ok, Err}
+use Rattle.gate_bytes.specs.Order.{Rule, first_failing}
+use Rattle.gate_tx.specs.Tx.{Tx}
+use Rattle.gate_tx.specs.Ids.{txid_of}
+use Rattle.gate_standard.specs.declared.Denial.{Denial}
+use Rattle.gate_standard.specs.declared.Denial.TheVariants.{Decode}
+use Rattle.gate_admit.specs.declared.Grant.{Grant}
+use Rattle.gate_admit.specs.Pool.{listing_of}
+use Rattle.gate_admit.specs.Submission.{Submitted, submit_of}
+use Rattle.gate_core.specs.declared.refusal.Then.{Then}
+use Rattle.gate_core.specs.declared.refusal.Then.TheVariants.{Keep, Close, Relay}
+use Rattle.gate_core.specs.declared.refusal.Refusal.{Refusal}
+use Rattle.gate_core.specs.declared.refusal.Refusal.TheVariants.{Admission}
+use Rattle.gate_core.specs.declared.reply.Reply.{Reply}
+use Rattle.gate_core.specs.declared.reply.Reply.TheVariants.{Entered, Left, Admitted, Listing, Denied}
+use Rattle.gate_core.specs.Permissions.{Permissions}
+use Rattle.gate_core.specs.Refusals.{then_of}
+use Rattle.gate_core.specs.Sessions.{Session, session, flags_in, closed}
+use Rattle.gate_core.specs.World.{World, flags_at}
+
+-- the sessions after what follows a refusal
+abbrev pub sessions_after : Then → List Session → ℕ → List Session
+sessions_after Keep sessions peer = sessions
+sessions_after Close sessions peer = closed sessions peer
+sessions_after Relay sessions peer = sessions
+
+abbrev pub denied : World → ℕ → Refusal → Then → Reply × World
+denied w peer refusal then = (Denied refusal then, record w { sessions = sessions_after then w.sessions peer })
+
+abbrev pub refused : World → ℕ → Refusal → Reply × World
+refused w peer refusal = denied w peer refusal (then_of (flags_in w.sessions peer) refusal)
+
+abbrev pub answered : World → ℕ → Reply × World → Option Refusal → Reply × World
+answered w peer served (Some refusal) = refused w peer refusal
+answered w peer served None = served
+
+-- an event of a peer: the rules on it, and what it gives where none of them fails
+abbrev pub peer_step : World → ℕ → List (Rule Refusal) → Reply × World → Reply × World
+peer_step w peer rules served = answered w peer served (first_failing rules)
+
+abbrev pub seated : World → ℕ → Permissions → Reply × World
+seated w peer flags = (Entered flags, record w { sessions = w.sessions ++ session peer true flags ∷ [] })
+
+abbrev pub entered : World → ℕ → List ℕ → Reply × World
+entered w peer address = seated w peer (flags_at w address)
+
+abbrev pub left : World → ℕ → Reply × World
+left w peer = (Left, record w { sessions = closed w.sessions peer })
+
+-- the reply to a submission that was decided so
+abbrev pub decided : World → ℕ → Option Tx → Result Grant Denial → Reply × World
+decided w peer None decision = refused w peer (Admission Decode)
+decided w peer (Some tx) (Ok grant) = (Admitted (txid_of tx) grant.fee grant.vsize grant.replaced, w)
+decided w peer (Some tx) (Err denial) = refused w peer (Admission denial)
+
+abbrev pub concluded : World → ℕ → Option Tx → Submitted → Reply × World
+concluded w peer transaction s = decided (record w { pool = s.entries; floor = s.floor }) peer transaction s.decision
+
+abbrev pub submitted : World → ℕ → ℕ → Option Tx → Reply × World
+submitted w peer now transaction = concluded w peer transaction (submit_of w.chain w.pool w.floor transaction w.verdicts now w.budget)
+
+abbrev pub listed : World → Reply × World
+listed w = (Listing (listing_of w.pool), w)
