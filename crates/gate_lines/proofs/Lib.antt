@@ -1,0 +1,6 @@
+pub mod LineLemmas
+pub mod LineLists
+pub mod TextLines
+pub mod PartLemmas
+pub mod NumberParts
+pub mod Decimals

@@ -1,0 +1,6 @@
+pub mod Lines
+pub mod Parts
+pub mod Reading
+pub mod Writing
+pub mod Words
+pub mod Numbers

@@ -1,0 +1,31 @@
+-- What reading a line takes from the known bytes of a reader.
+use Rattle.std.specs.Prelude.{◌≡◌, ℕ, ◌+◌, ◌<◌, ◌≤◌, Bool, true, false, List, [], ◌∷◌, ◌++◌, length, Option, OnSome, Result, Ok, Err}
+use Rattle.std.specs.Io.KnownBytes.{Consumes, IsAtEnd}
+use Rattle.gate_lines.specs.declared.fault.LaneFault.{LaneFault}
+use Rattle.gate_lines.specs.declared.fault.LaneFault.TheVariants as faults
+use Rattle.gate_lines.specs.declared.line.Found.{Found}
+use Rattle.gate_lines.specs.declared.line.Found.TheVariants.{Whole, Rest, End, TooLong}
+use Rattle.gate_lines.specs.Lines.{LacksNewline, line_limit}
+
+-- a piece of a line was read, with no newline in it
+abbrev pub PieceRead : Option (List ℕ) → Option (List ℕ) → Type 0
+PieceRead old new = (piece : List ℕ) × Consumes old new piece × LacksNewline piece
+
+abbrev pub LineRead : Option (List ℕ) → Option (List ℕ) → List ℕ → Result Found LaneFault → Type 0
+LineRead old new line (Ok Whole) = Consumes old new (line ++ 10 ∷ []) × LacksNewline line × (length line ≤ line_limit)
+LineRead old new line (Ok Rest) = Consumes old new line × OnSome old (IsAtEnd new) × LacksNewline line × (length line ≤ line_limit) × (0 < length line)
+LineRead old new line (Ok End) = Consumes old new [] × OnSome old (IsAtEnd new)
+LineRead old new line (Ok TooLong) = (long : List ℕ) × Consumes old new long × LacksNewline long × (length long ≡ line_limit + 1)
+-- the reader failed, and what it gave of the line before is kept
+LineRead old new line (Err faults.Read) = Consumes old new line × LacksNewline line
+-- memory ran out for more of the line, and what was taken is kept
+LineRead old new line (Err faults.Memory) = Consumes old new line × LacksNewline line
+LineRead old new line (Err faults.Write) = ⊥
+
+-- whether the input ends, and what was taken to tell
+abbrev pub EndTold : Option (List ℕ) → Option (List ℕ) → Result Bool LaneFault → Type 0
+EndTold old new (Ok true) = Consumes old new [] × OnSome old (IsAtEnd new)
+EndTold old new (Ok false) = (byte : ℕ) × Consumes old new (byte ∷ [])
+EndTold old new (Err faults.Read) = Consumes old new []
+EndTold old new (Err faults.Memory) = Consumes old new []
+EndTold old new (Err faults.Write) = ⊥

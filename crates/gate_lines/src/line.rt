@@ -1,0 +1,73 @@
+//! Lines from a reader.
+//!
+//! A line ends at a newline and nowhere else, so a carriage return is a byte of its line.
+ghost use Rattle.std.specs.Prelude.{◌≡◌, ◌≢◌, ◌≤◌, length, true, IfErr};
+ghost use Rattle.gate_lines.specs.Lines.{is_skipped, line_limit};
+ghost use Rattle.gate_lines.specs.Reading.{EndTold, LineRead};
+
+use crate::fault::LaneFault;
+use crate::part::Part;
+use crate::source::Source;
+
+/// The most bytes that a line may have, its newline not counted.
+pub const MAX_LINE: usize = 16_777_216;
+
+/// The most lines that one reader may give.
+pub const MAX_LINES: u64 = 1_000_000;
+
+/// What stands at the reader's place.
+#[derive(Clone, Copy, Debug, PartialEq, Eq)]
+pub enum Found {
+    /// A line with its newline.
+    Whole,
+    /// What is left after the last newline: it isn't empty.
+    Rest,
+    /// Nothing: the input ends here.
+    End,
+    /// More bytes than a line may have.
+    TooLong,
+}
+
+/// Reads the next line into `line`, without its newline, and never keeps more than `MAX_LINE` bytes of it.
+///
+/// After a fault `line` holds the bytes that were taken. Of a line that is too long one byte more than the limit is taken.
+pub fn next_line<R: Source>(reader: &mut R, line: &mut Vec<u8>) -> Result<Found, LaneFault>
+    ensures read { LineRead (R.remaining reader.old) (R.remaining reader.new) line.new.items result }
+    ensures kept { length line.new.items ≤ line_limit }
+    ensures steady { R.steady ≡ true → IfErr result (λ fault. fault ≢ LaneFault.Read) }
+{
+    line.clear();
+    loop {
+        match reader.take_part(line, MAX_LINE - line.len())? {
+            Part::Newline => return Ok(Found::Whole),
+            Part::More => {}
+            Part::TooLong => return Ok(Found::TooLong),
+            Part::End => return Ok(if line.is_empty() {
+                Found::End
+            } else {
+                Found::Rest
+            }),
+        }
+    }
+}
+
+/// Whether the input ends here. Where it doesn't, one byte of it is taken.
+pub fn has_ended<R: Source>(reader: &mut R, line: &mut Vec<u8>) -> Result<bool, LaneFault>
+    ensures told { EndTold (R.remaining reader.old) (R.remaining reader.new) result }
+    ensures steady { R.steady ≡ true → IfErr result (λ fault. fault ≢ LaneFault.Read) }
+{
+    match reader.take_part(line, 0)? {
+        Part::End => Ok(true),
+        _ => Ok(false),
+    }
+}
+
+/// Whether a line asks for nothing: an empty line, or a comment.
+pub fn asks_nothing(line: &[u8]) -> bool
+    ensures { result ≡ is_skipped line.now }
+{
+    match line {
+        [] => true,
+        [first, ..] => *first == b'#',
+    }
+}

@@ -1,0 +1,67 @@
+//! Readers of lines.
+ghost use Rattle.std.specs.Prelude.{◌≡◌, ◌≢◌, Bool, true, false, IfErr};
+ghost use Rattle.gate_lines.specs.Parts.{PartTaken};
+
+use crate::fault::LaneFault;
+use crate::part::{Part, append_part};
+use memchr::memchr;
+use std::io::{BufRead, BufReader, Read};
+
+/// A reader of lines. One over bytes in memory never fails.
+pub trait Source: BufRead {
+    // Whether no read of this type fails.
+    ghost steady: { Bool };
+
+    /// Whether a whole line waits in memory, so that the next one is there without a wait. It reads nothing.
+    fn has_line(&self) -> bool;
+
+    /// Moves what the reader holds, or else its next bytes, to the end of `line`: up to a newline, which is taken and not
+    /// kept, and at most `room` bytes and one that isn't kept.
+    fn take_part(&mut self, line: &mut Vec<u8>, room: usize) -> Result<Part, LaneFault>
+        ensures taken { PartTaken (Self.remaining self.old) (Self.remaining self.new) line.old.items line.new.items room result }
+        ensures steady { steady ≡ true → IfErr result (λ fault. fault ≢ LaneFault.Read) };
+}
+
+impl Source for &[u8] {
+    ghost steady = { true };
+
+    fn has_line(&self) -> bool {
+        memchr(b'\n', *self).is_some()
+    }
+
+    fn take_part(&mut self, line: &mut Vec<u8>, room: usize) -> Result<Part, LaneFault> {
+        let shown: &[u8] = *self;
+        let (part, taken) = append_part(shown, line, room)?;
+        *self = &shown[taken..];
+        Ok(part)
+    }
+}
+
+/// A reader with a buffer, over one that may fail or wait.
+impl<R: Read> Source for BufReader<R> {
+    ghost steady = { false };
+
+    fn has_line(&self) -> bool {
+        memchr(b'\n', self.buffer()).is_some()
+    }
+
+    fn take_part(&mut self, line: &mut Vec<u8>, room: usize) -> Result<Part, LaneFault> {
+        take_shown(self, line, room)
+    }
+}
+
+/// Takes a part of a line from what a reader shows. A byte is taken only once `line` has it.
+fn take_shown<R: BufRead>(
+    reader: &mut R,
+    line: &mut Vec<u8>,
+    room: usize,
+) -> Result<Part, LaneFault>
+    ensures { PartTaken (R.remaining reader.old) (R.remaining reader.new) line.old.items line.new.items room result }
+{
+    let Ok(shown) = reader.fill_buf() else {
+        return Err(LaneFault::Read);
+    };
+    let (part, taken) = append_part(shown, line, room)?;
+    reader.consume(taken);
+    Ok(part)
+}

@@ -1,0 +1,17 @@
+//! The words of a line, parted by single spaces.
+ghost use Rattle.std.specs.Prelude.{◌≡◌, MatchOption, None, Some};
+ghost use Rattle.gate_lines.specs.Words.{part_of, is_word};
+
+/// What stands before the first space, and what stands after it.
+pub fn next_word(line: &str) -> Option<(&str, &str)>
+    ensures { MatchOption result (part_of line.now ≡ None) (λ p. part_of line.now ≡ Some (p.0.now, p.1.now)) }
+{
+    line.split_once(' ')
+}
+
+/// Whether the text is one word: it isn't empty, and no space is in it.
+pub fn is_one_word(text: &str) -> bool
+    ensures { result ≡ is_word text.now }
+{
+    !text.is_empty() && next_word(text).is_none()
+}
