@@ -1,41 +1,97 @@
 //! The program `gate`: it hands its words, standard input and standard output to `gate_prog`.
+//!
+//! Where it stops before its work is done, standard error has one line that says why.
 #![tactic(auto)]
 
-use gate_prog::{ArgsFault, read_args, run_job};
-use std::io::BufReader;
+use gate_prog::{ArgsFault, LaneFault, read_args, run_job};
+use std::alloc::{AllocError, AllocFailed};
+use std::io::{BufReader, ErrorKind};
 use std::process::ExitCode;
 use std::{env, io};
+use thiserror::Error;
+
+/// Why the program stops.
+#[derive(Clone, Copy, Debug, PartialEq, Eq, Error)]
+enum Fault {
+    #[error("a word of the command line is not UTF-8")]
+    Words,
+    #[error("{0}")]
+    Lane(LaneFault),
+}
+
+impl Fault {
+    fn status(self) -> u8 {
+        match self {
+            Fault::Words => 2,
+            Fault::Lane(_) => 1,
+        }
+    }
+}
+
+impl From<LaneFault> for Fault {
+    fn from(fault: LaneFault) -> Fault {
+        Fault::Lane(fault)
+    }
+}
+
+impl From<AllocError> for Fault {
+    fn from(_error: AllocError) -> Fault {
+        Fault::Lane(LaneFault::Memory)
+    }
+}
+
+impl<T: Drop> From<AllocFailed<T>> for Fault {
+    fn from(_failed: AllocFailed<T>) -> Fault {
+        Fault::Lane(LaneFault::Memory)
+    }
+}
 
 fn main(rt: HostRuntime) -> ExitCode {
     match status(&rt) {
         Ok(status) => ExitCode::from(status),
-        Err(_) => ExitCode::FAILURE,
+        Err(fault) => {
+            // Where standard error takes nothing either, the status alone says it.
+            let _written = eprintln!(rt; "gate: {fault}");
+            ExitCode::from(fault.status())
+        }
     }
 }
 
-fn status(rt: &HostRuntime) -> io::Result<u8> {
+/// The words behind the program's name.
+fn words(rt: &HostRuntime) -> Result<Vec<String>, Fault> {
+    match env::args(rt) {
+        Ok(args) => Ok(args.skip(1).collect(rt.alloc())?),
+        Err(error) => Err(match error.kind() {
+            ErrorKind::InvalidData => Fault::Words,
+            _ => Fault::Lane(LaneFault::Memory),
+        }),
+    }
+}
+
+fn status(rt: &HostRuntime) -> Result<u8, Fault> {
     let alloc = rt.alloc();
-    let args: Vec<String> = env::args(rt)?.collect(alloc)?;
+    let args = words(rt)?;
     let mut words = Vec::new(alloc);
-    for word in args.iter().skip(1) {
+    for word in &args {
         words.push(word.as_str())?;
     }
     let job = match read_args(alloc, words.as_slice()) {
         Ok(job) => job,
-        Err(ArgsFault::Help(text)) => {
-            rt.print(text)?;
-            return Ok(0);
-        }
-        Err(ArgsFault::Usage(text)) => {
-            rt.eprint(text)?;
-            return Ok(2);
-        }
-        Err(ArgsFault::Memory) => return Ok(1),
+        Err(ArgsFault::Help(text)) => return printed(rt.print(text), 0),
+        Err(ArgsFault::Usage(text)) => return printed(rt.eprint(text), 2),
+        Err(ArgsFault::Memory) => return Err(Fault::Lane(LaneFault::Memory)),
     };
-    let mut reader = BufReader::new(alloc, rt.reader())?;
+    let Ok(mut reader) = BufReader::new(alloc, rt.reader()) else {
+        return Err(Fault::Lane(LaneFault::Memory));
+    };
     let mut writer = io::writer(rt);
-    match run_job(alloc, &job, &mut reader, &mut writer) {
-        Ok(status) => Ok(status),
-        Err(_) => Ok(1),
+    Ok(run_job(alloc, &job, &mut reader, &mut writer)?)
+}
+
+/// The status that follows what was printed.
+fn printed(done: io::Result<()>, status: u8) -> Result<u8, Fault> {
+    match done {
+        Ok(()) => Ok(status),
+        Err(_) => Err(Fault::Lane(LaneFault::Write)),
     }
 }

@@ -1,5 +1,7 @@
 -- What the check of a transaction by itself prints, and the status that follows.
-use Rattle.std.specs.Prelude.{ℕ, ◌++◌, List, [], ◌∷◌, codes, Option, Some, None}
+use Rattle.std.specs.Prelude.{ℕ, ◌-◌, ◌++◌, List, [], ◌∷◌, codes, drop, length, take, Option, Some, None}
+use Rattle.std.specs.Char.{is_ascii_whitespace}
+use Rattle.std.specs.List.{prefix_len, suffix_len}
 use Rattle.std.specs.Fmt.{decimal}
 use Rattle.gate_tx.specs.Tx.{Tx}
 use Rattle.gate_tx.specs.Ids.{txid_of, wtxid_of, id_text}
@@ -7,6 +9,8 @@ use Rattle.gate_tx.specs.Sizes.{weight_of}
 use Rattle.gate_standard.specs.Denials.{rule_of, token_of}
 use Rattle.gate_standard.specs.Order.{first_failing}
 use Rattle.gate_admit.specs.Rules.{alone_rules}
+use Rattle.gate_prog.specs.EventLines.{prepared_of}
+use Rattle.gate_prog.specs.Lines.{if_text}
 use Rattle.gate_standard.specs.declared.Denial.{Denial}
 use Rattle.gate_standard.specs.declared.Denial.TheVariants.{Decode}
 
@@ -37,3 +41,19 @@ check_lines (Some tx) = id_line tx ∷ verdict_line (first_failing (alone_rules 
 abbrev pub check_status : Option Tx → ℕ
 check_status None = 1
 check_status (Some tx) = verdict_status (first_failing (alone_rules tx))
+
+-- ---- a check of what an input holds
+
+abbrev pub without_leading : List ℕ → List ℕ
+without_leading text = drop (prefix_len is_ascii_whitespace text) text
+
+abbrev pub without_trailing : List ℕ → List ℕ
+without_trailing text = take (length text - suffix_len is_ascii_whitespace text) text
+
+-- a text without the white space at both ends: spaces, tabs, newlines, form feeds and carriage returns
+abbrev pub trimmed : List ℕ → List ℕ
+trimmed text = without_trailing (without_leading text)
+
+-- the transaction that an input spells
+abbrev pub input_spells : List ℕ → Option Tx
+input_spells input = if_text prepared_of (trimmed input)

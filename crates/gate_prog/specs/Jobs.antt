@@ -10,7 +10,8 @@ use Rattle.gate_prog.specs.declared.job.Job.TheVariants as jobs
 use Rattle.gate_prog.specs.declared.opening_fault.OpeningFault.{OpeningFault}
 use Rattle.gate_prog.specs.declared.opening_fault.OpeningFault.TheVariants as faults
 use Rattle.gate_prog.specs.declared.opening_fault.OpeningToken.{OpeningToken}
-use Rattle.gate_prog.specs.Checks.{check_lines, check_status}
+use Rattle.gate_tx.specs.Tx.{Tx}
+use Rattle.gate_prog.specs.Checks.{check_lines, check_status, input_spells}
 use Rattle.gate_prog.specs.EventLines.{prepared_of}
 use Rattle.gate_prog.specs.Lanes.{Run, LaneUnread, StoppedFrom}
 use Rattle.gate_prog.specs.Lines.{lines_of, unlines}
@@ -41,8 +42,17 @@ TextRan text (Err faults.Memory) before after status = ⊥
 abbrev pub GateRan : Option (List ℕ) → Option (List ℕ) → Option (List ℕ) → ℕ → Type 0
 GateRan input before after status = IfSome input (λ text. TextRan text (spelled text) before after status)
 
+-- the lines of a check
+abbrev pub CheckDone : Option Tx → Option (List ℕ) → Option (List ℕ) → ℕ → Type 0
+CheckDone tx before after status = Appends before after (unlines (check_lines tx)) × (status ≡ check_status tx)
+
+-- `gate check -`: the check of what the input spells
+abbrev pub InputChecked : Option (List ℕ) → Option (List ℕ) → Option (List ℕ) → ℕ → Type 0
+InputChecked input before after status = IfSome input (λ text. CheckDone (input_spells text) before after status)
+
 abbrev pub JobDone : Job → Option (List ℕ) → Option (List ℕ) → Option (List ℕ) → ℕ → Type 0
-JobDone (jobs.Check hex) input before after status = Appends before after (unlines (check_lines (prepared_of hex))) × (status ≡ check_status (prepared_of hex))
+JobDone (jobs.Check hex) input before after status = CheckDone (prepared_of hex) before after status
+JobDone jobs.CheckInput input before after status = InputChecked input before after status
 JobDone jobs.Run input before after status = GateRan input before after status
 
 -- ---- after a fault
@@ -78,8 +88,15 @@ CheckStopped hex before after lane.Read = ⊥
 CheckStopped hex before after lane.Write = PartWritten before after (unlines (check_lines (prepared_of hex)))
 CheckStopped hex before after lane.Memory = Appends before after []
 
+-- the input is read before anything is written, and the lines are written at once
+abbrev pub InputCheckStopped : Option (List ℕ) → Option (List ℕ) → Option (List ℕ) → LaneFault → Type 0
+InputCheckStopped input before after lane.Read = Appends before after []
+InputCheckStopped input before after lane.Write = IfSome input (λ text. PartWritten before after (unlines (check_lines (input_spells text))))
+InputCheckStopped input before after lane.Memory = Appends before after []
+
 abbrev pub JobStopped : Job → Option (List ℕ) → Option (List ℕ) → Option (List ℕ) → Option (List ℕ) → LaneFault → Type 0
 JobStopped (jobs.Check hex) input rest before after fault = CheckStopped hex before after fault
+JobStopped jobs.CheckInput input rest before after fault = InputCheckStopped input before after fault
 JobStopped jobs.Run input rest before after fault = GateStopped input rest before after fault
 
 -- writing the line of an opening's fault stopped

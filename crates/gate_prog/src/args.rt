@@ -6,10 +6,13 @@ use gate_bytes::Text;
 use std::alloc::{AllocError, Global};
 use thiserror::Error;
 
+/// The number that `gate --version` prints. It stands here and nowhere else.
+pub const VERSION: &str = "0.1.0";
+
 /// Why the words of the command line name no job.
 #[derive(Debug, Drop, Error)]
 pub enum ArgsFault {
-    /// The words ask for help: the text is for standard output, and the status 0.
+    /// The words ask for help or for the version: the text is for standard output, and the status 0.
     #[error("{0}")]
     Help(String),
     /// A fault of usage: the text is for standard error, and the status 2.
@@ -27,25 +30,28 @@ impl From<AllocError> for ArgsFault {
 
 /// The commands of the program, each with an example.
 fn gate_command<'a>(alloc: Global) -> Result<Command<'a>, AllocError> {
-    let hex = Arg::new(alloc, "HEX")
-        .required(true)
-        .help("A transaction in hexadecimal digits of either case");
+    let hex = Arg::new(alloc, "HEX").required(true).help(
+        "A transaction in hexadecimal digits of either case; `-` takes them from standard input",
+    );
     let check = Command::new(alloc, "check")
         .about(
             "Checks one transaction by itself: prints its ids and weight, and then `standard` or the first rule that fails",
         )
-        .after_help("Example: gate check 01000000000000000000")
+        .after_help(
+            "Examples:\n  gate check 01000000000000000000\n  gate check - < examples/payment.hex",
+        )
         .arg(hex)?;
     let run = Command::new(alloc, "run")
         .about(
             "Opens a gate from standard input, and answers the events behind its line `---`, a line each",
         )
-        .after_help("Example: gate run < examples/first-path.txt");
+        .after_help("Examples:\n  gate run < examples/first-path.txt");
     Command::new(alloc, "gate")
         .about("The admission gate of a Bitcoin node's mempool")
         .after_help(
-            "Examples:\n  gate check 01000000000000000000\n  gate run < examples/first-path.txt",
+            "Examples:\n  gate run < examples/first-path.txt\n  gate check 01000000000000000000\n  gate check - < examples/payment.hex",
         )
+        .version(VERSION)
         .no_binary_name(true)
         .bin_name("gate")?
         .subcommand_required(true)
@@ -69,6 +75,7 @@ fn job_of(alloc: Global, matches: &ArgMatches<'_>) -> Result<Job, ArgsFault> {
         return Ok(Job::Run);
     }
     match rest.get_str("HEX") {
+        Some("-") => Ok(Job::CheckInput),
         Some(hex) => {
             let hex = String::from_str(alloc, hex)?;
             Ok(Job::Check(Text::from_string(hex)))
@@ -87,7 +94,7 @@ fn fault_of(alloc: Global, error: &clap::Error) -> ArgsFault {
         return ArgsFault::Memory;
     };
     match error.kind() {
-        ErrorKind::DisplayHelp => ArgsFault::Help(text),
+        ErrorKind::DisplayHelp | ErrorKind::DisplayVersion => ArgsFault::Help(text),
         ErrorKind::OutOfMemory => ArgsFault::Memory,
         _ => ArgsFault::Usage(text),
     }

@@ -1,15 +1,17 @@
 //! The check of one transaction by itself.
-ghost use Rattle.std.specs.Prelude.{◌≡◌, IfOk, string_bytes};
-ghost use Rattle.gate_prog.specs.Checks.{check_lines, check_status, denied_line, ids_line, verdict_line, verdict_status};
+ghost use Rattle.std.specs.Prelude.{◌≡◌, ◌≢◌, IfErr, IfOk, IfSome, string_bytes};
+ghost use Rattle.gate_prog.specs.Checks.{check_lines, check_status, denied_line, ids_line, input_spells, trimmed, verdict_line, verdict_status};
 ghost use Rattle.gate_prog.specs.EventLines.{prepared_of};
 ghost use Rattle.gate_prog.specs.Lines.{unlines};
 
 use crate::event_line::prepared;
+use crate::fault::LaneFault;
 use gate_admit::Prepared;
 use gate_bytes::Memory;
 use gate_standard::Denial;
 use gate_tx::{Txid, Wtxid};
 use std::alloc::Global;
+use std::io::{ErrorKind, Read};
 
 /// What a check prints, and the status that follows it.
 #[derive(Debug, Drop)]
@@ -25,6 +27,44 @@ pub(crate) fn check_hex(alloc: Global, hex: &str) -> Result<Checked, Memory>
 {
     let prepared = prepared(alloc, hex)?;
     check(alloc, &prepared)
+}
+
+/// Checks the transaction that the digits of an input spell. The input is read to its end.
+pub(crate) fn check_input<R: Read>(alloc: Global, reader: &mut R) -> Result<Checked, LaneFault>
+    ensures text { IfOk result (λ checked. IfSome (R.remaining reader.old) (λ input. string_bytes checked.text ≡ unlines (check_lines (input_spells input)))) }
+    ensures status { IfOk result (λ checked. IfSome (R.remaining reader.old) (λ input. checked.status ≡ check_status (input_spells input))) }
+    ensures kind { IfErr result (λ fault. fault ≢ LaneFault.Write) }
+{
+    let mut input = Vec::new(alloc);
+    if let Err(error) = reader.read_to_end(&mut input) {
+        return Err(match error.kind() {
+            ErrorKind::OutOfMemory => LaneFault::Memory,
+            _ => LaneFault::Read,
+        });
+    }
+    let Ok(prepared) = prepared_input(alloc, input.as_slice()) else {
+        return Err(LaneFault::Memory);
+    };
+    match check(alloc, &prepared) {
+        Ok(checked) => Ok(checked),
+        Err(_) => Err(LaneFault::Memory),
+    }
+}
+
+/// The transaction that an input spells, without the white space around it.
+fn prepared_input(alloc: Global, input: &[u8]) -> Result<Prepared, Memory>
+    ensures { IfOk result (λ prepared. prepared ≡ input_spells input.now) }
+{
+    match std::str::from_utf8(trim(input)) {
+        Ok(hex) => prepared(alloc, hex),
+        Err(_) => Ok(Prepared::undecodable()),
+    }
+}
+
+fn trim(text: &[u8]) -> &[u8]
+    ensures { result.now ≡ trimmed text.now }
+{
+    text.trim_ascii()
 }
 
 fn check(alloc: Global, prepared: &Prepared) -> Result<Checked, Memory>

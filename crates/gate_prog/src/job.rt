@@ -1,8 +1,8 @@
 //! The jobs of the command line.
 ghost use Rattle.std.specs.Prelude.{◌≡◌, ◌++◌, ◌∷◌, [], None, IfOk, IfErr};
-ghost use Rattle.gate_prog.specs.Jobs.{JobDone, JobStopped, FaultPrinted, RefusalStopped, GateRan, GateStopped, CheckStopped, opening_line};
+ghost use Rattle.gate_prog.specs.Jobs.{JobDone, JobStopped, CheckStopped, FaultPrinted, InputCheckStopped, InputChecked, RefusalStopped, GateRan, GateStopped, opening_line};
 
-use crate::check::check_hex;
+use crate::check::{check_hex, check_input};
 use crate::fault::LaneFault;
 use crate::lane::run_lane;
 use crate::opening::read_opening;
@@ -17,6 +17,8 @@ use std::io::{Read, Write};
 pub enum Job {
     /// Checks one transaction in hex by itself.
     Check(Text),
+    /// The same, of the digits that the input holds.
+    CheckInput,
     /// Opens a gate from the input, and answers its events.
     Run,
 }
@@ -33,6 +35,7 @@ pub fn run_job<R: Read, W: Write>(
 {
     match job {
         Job::Check(hex) => run_check(alloc, hex.as_str(), writer),
+        Job::CheckInput => run_check_input(alloc, reader, writer),
         Job::Run => run_gate(alloc, reader, writer),
     }
 }
@@ -44,6 +47,25 @@ fn run_check<W: Write>(alloc: Global, hex: &str, writer: &mut W) -> Result<u8, L
 {
     let Ok(checked) = check_hex(alloc, hex) else {
         return Err(LaneFault::Memory);
+    };
+    match write_text(writer, checked.text.as_bytes()) {
+        Ok(()) => Ok(checked.status),
+        Err(fault) => Err(fault),
+    }
+}
+
+/// The lines of a check of what the input holds, in one write.
+fn run_check_input<R: Read, W: Write>(
+    alloc: Global,
+    reader: &mut R,
+    writer: &mut W,
+) -> Result<u8, LaneFault>
+    ensures done { IfOk result (λ status. InputChecked (R.remaining reader.old) (W.contents writer.old) (W.contents writer.new) status) }
+    ensures stopped { IfErr result (λ fault. InputCheckStopped (R.remaining reader.old) (W.contents writer.old) (W.contents writer.new) fault) }
+{
+    let checked = match check_input(alloc, reader) {
+        Ok(checked) => checked,
+        Err(fault) => return Err(fault),
     };
     match write_text(writer, checked.text.as_bytes()) {
         Ok(()) => Ok(checked.status),

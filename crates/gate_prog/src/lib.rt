@@ -21,7 +21,7 @@ mod times;
 mod verdict_rows;
 mod word;
 
-pub use args::{ArgsFault, read_args};
+pub use args::{ArgsFault, VERSION, read_args};
 pub use fault::LaneFault;
 pub use job::{Job, run_job};
 pub use lane::run_lane;
