@@ -88,20 +88,20 @@ StaysUnconnected over None = Unit {0}
 StaysUnconnected over (Some tx) = first_failing (admission_rules First over tx) ≡ None → IsUnconnected over.chain (Some tx)
 
 -- a submission keeps a pool good
-submission_good : (limits : Limits) (over : Standing) (tx : Option Tx) (now budget : ℕ) → StaysUnconnected over tx → IsGood limits over.chain over.entries → IsGood limits over.chain (submit_of over tx now budget).entries
+pub submission_good : (limits : Limits) (over : Standing) (tx : Option Tx) (now budget : ℕ) → StaysUnconnected over tx → IsGood limits over.chain over.entries → IsGood limits over.chain (submit_of over tx now budget).entries
 unfolding submit_of decision_of
 submission_good limits over None now budget new good = good
 submission_good limits over (Some tx) now budget new good =
     entered_good limits over tx (first_failing (admission_rules First over tx)) (grant_of over tx) now (λ h. (rules_grant First over tx h, no_entry_conflicts First over tx h, new h)) good
 
-stays_if_unconnected : (over : Standing) (tx : Option Tx) → IsUnconnected over.chain tx → StaysUnconnected over tx
+pub stays_if_unconnected : (over : Standing) (tx : Option Tx) → IsUnconnected over.chain tx → StaysUnconnected over tx
 stays_if_unconnected over None new = tt
 stays_if_unconnected over (Some tx) new = λ h. new
 
 pub unconnected_good : (limits : Limits) (over : Standing) (tx : Option Tx) (now budget : ℕ) → IsUnconnected over.chain tx → IsGood limits over.chain over.entries → IsGood limits over.chain (submit_of over tx now budget).entries
 unconnected_good limits over tx now budget new good = submission_good limits over tx now budget (stays_if_unconnected over tx new) good
 
-stays_if_apart : (over : Standing) (tx : Option Tx) → IsSettled over.chain → IfSome tx IsTx → AreApart (option_to_list tx ++ connected_transactions over.chain) → StaysUnconnected over tx
+pub stays_if_apart : (over : Standing) (tx : Option Tx) → IsSettled over.chain → IfSome tx IsTx → AreApart (option_to_list tx ++ connected_transactions over.chain) → StaysUnconnected over tx
 stays_if_apart over None settled is_tx apart = tt
 stays_if_apart over (Some tx) settled is_tx apart = unconnected First over tx settled is_tx apart
 

@@ -81,7 +81,7 @@ fn sigop_cost(tx: &Transaction, answers: &[Answers]) -> u128
     requires { length answers.now ≡ length tx.now.inputs }
     ensures { result ≡ sigop_cost answers.now tx.now.outputs }
 {
-    tx.is();
+    tx.tells_invariant();
     let mut cost: u128 = 0;
     for answer in answers {
         cost += u128::from(answer.sigop_cost);

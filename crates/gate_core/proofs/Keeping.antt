@@ -1,68 +1,148 @@
 -- A step keeps the pool good, and brings in no transaction but its event's.
-use Rattle.std.proofs.Common.{ℕ, List, [], ◌∷◌, ◌++◌, map, Contains, ⊎_elim, Option, Some, None, Result, Ok, Err, subst, rules}
-use Rattle.std.specs.List.{flat_map}
+use Rattle.std.proofs.Common.{◌≡◌, ℕ, Bool, true, false, cond, not, List, [], ◌∷◌, ◌++◌, map, filter, Contains, ⊎_elim, Option, Some, None, Result, Ok, Err, refl, sym, ap, subst, arith}
 use Rattle.std.specs.Option.{option_to_list}
+use Rattle.std.specs.List.{list_any}
 use Rattle.std.proofs.lemmas.List.Elements.{Contains-append_left, Contains-append_right, Contains-append_cases}
 use Rattle.std.proofs.lemmas.List.{map-append}
 use Rattle.gate_bytes.specs.Order.{first_failing}
+use Rattle.gate_tx.specs.Ids.{txid_of}
 use Rattle.gate_tx.specs.Tx.{Tx}
 use Rattle.gate_standard.specs.declared.Denial.{Denial}
+use Rattle.gate_chain.specs.Coins.{has_transaction}
 use Rattle.gate_chain.specs.History.{History}
-use Rattle.gate_chain.specs.declared.block.Block.{Block}
+use Rattle.gate_graph.proofs.Members.{Contains-cons_cases, Contains-head, Contains-rest}
+use Rattle.gate_pool.specs.Pool.{Admitted}
+use Rattle.gate_pool.specs.Family.{is_below_some, is_conflict, without_below}
+use Rattle.gate_admit.specs.declared.Attempt.TheVariants.{First}
 use Rattle.gate_admit.specs.declared.Grant.{Grant}
-use Rattle.gate_admit.specs.declared.Verdicts.{Verdicts}
-use Rattle.gate_admit.specs.Pool.{Admitted}
+use Rattle.gate_admit.specs.Good.{IsGood, IsSettled, IsUnconnected, AreApart, connected_transactions}
 use Rattle.gate_admit.specs.Rules.{decision_of}
-use Rattle.gate_admit.specs.Submission.{admitted, entered as entries_of, submit_of}
-use Rattle.gate_admit.proofs.Granted.{submission_good}
+use Rattle.gate_admit.specs.Standing.{Standing}
+use Rattle.gate_admit.specs.Submission.{admitted, entries_after, submit_of}
+use Rattle.gate_admit.proofs.Entering.{StaysUnconnected, empty_good, stays_if_apart, stays_if_unconnected, submission_good}
 use Rattle.gate_core.specs.declared.event.Event.{Event}
 use Rattle.gate_core.specs.declared.event.Event.TheVariants.{Enter, Leave, Tx as Submit, Mempool}
-use Rattle.gate_core.specs.declared.opening.Opening.{Opening}
+use Rattle.gate_core.specs.Opening.{Start}
 use Rattle.gate_core.specs.declared.refusal.Refusal.{Refusal}
 use Rattle.gate_core.specs.declared.reply.Reply.{Reply}
-use Rattle.gate_core.specs.World.{World, opened_world}
+use Rattle.gate_core.specs.World.{World, opened_world, standing_of}
 use Rattle.gate_core.specs.Access.{entering_rules, session_rules, submission_rules, listing_rules}
 use Rattle.gate_core.specs.PeerSteps.{decided, answered, entered, left, submitted, listed}
 use Rattle.gate_core.specs.Steps.{step_of}
-use Rattle.gate_core.specs.Good.{IsGoodWorld, transactions_in, transactions_of}
+use Rattle.gate_core.specs.Good.{IsApartFrom, IsGoodWorld, IsSpelled, limits_of, transactions_in, transactions_of}
+
+same_good : (w v : World) → v.chain ≡ w.chain → v.pool ≡ w.pool → v.budget ≡ w.budget → IsGoodWorld w → IsGoodWorld v
+same_good w v c p b good = record {
+  chain = subst IsSettled (sym c) good.chain;
+  pool = subst (λ (k : ℕ). IsGood (record { budget = k }) v.chain v.pool) (sym b) (subst (λ (h : History). IsGood (limits_of w) h v.pool) (sym c) (subst (IsGood (limits_of w) w.chain) (sym p) good.pool));
+}
+
+-- what enters by an event is in no connected block
+abbrev pub StaysApart : World → Event → Type 0
+StaysApart w (Enter peer address) = Unit {0}
+StaysApart w (Leave peer) = Unit {0}
+StaysApart w (Submit peer now transaction) = StaysUnconnected (standing_of w) transaction
+StaysApart w (Mempool peer) = Unit {0}
 
 decided_good : (w : World) (peer : ℕ) (transaction : Option Tx) (decision : Result Grant Denial) → IsGoodWorld w → IsGoodWorld (decided w peer transaction decision).1
-decided_good w peer None decision good = good
+decided_good w peer None decision good = same_good w _ refl refl refl good
 decided_good w peer (Some tx) (Ok grant) good = good
-decided_good w peer (Some tx) (Err denial) good = good
+decided_good w peer (Some tx) (Err denial) good = same_good w _ refl refl refl good
 
-submitted_good : (w : World) (peer now : ℕ) (transaction : Option Tx) → IsGoodWorld w → IsGoodWorld (submitted w peer now transaction).1
-submitted_good w peer now transaction good =
-    let s = submit_of w.chain w.pool w.floor transaction w.verdicts now w.budget in
+submitted_good : (w : World) (peer now : ℕ) (transaction : Option Tx) → StaysUnconnected (standing_of w) transaction → IsGoodWorld w → IsGoodWorld (submitted w peer now transaction).1
+submitted_good w peer now transaction new good =
+    let s = submit_of (standing_of w) transaction now w.budget in
     decided_good (record w { pool = s.entries; floor = s.floor }) peer transaction s.decision
-    (submission_good w.chain w.pool w.floor transaction w.verdicts now w.budget good)
+    (record { chain = good.chain; pool = submission_good (limits_of w) (standing_of w) transaction now w.budget new good.pool })
 
 answered_good : (w : World) (peer : ℕ) (served : Reply × World) (refusal : Option Refusal) → IsGoodWorld w → IsGoodWorld served.1 → IsGoodWorld (answered w peer served refusal).1
-answered_good w peer served (Some refusal) good done = good
+answered_good w peer served (Some refusal) good done = same_good w _ refl refl refl good
 answered_good w peer served None good done = done
 
-pub opened_good : (o : Opening) → IsGoodWorld (opened_world o)
-opened_good o = search rules
+pub opened_good : (o : Start) → IsGoodWorld (opened_world o)
+opened_good o = record {
+  chain = record { coinbases = λ b h. absurd (omega arith); spelled = λ tx h. absurd (omega arith) };
+  pool = empty_good (limits_of (opened_world o)) (opened_world o).chain;
+}
 
-pub step_good : (w : World) (event : Event) → IsGoodWorld w → IsGoodWorld (step_of w event).1
+pub step_good : (w : World) (event : Event) → StaysApart w event → IsGoodWorld w → IsGoodWorld (step_of w event).1
 unfolding step_of
-step_good w (Enter peer address) good = answered_good w peer (entered w peer address) (first_failing (entering_rules w.sessions peer)) good good
-step_good w (Leave peer) good = answered_good w peer (left w peer) (first_failing (session_rules w.sessions peer)) good good
-step_good w (Submit peer now transaction) good =
-    answered_good w peer (submitted w peer now transaction) (first_failing (submission_rules w peer transaction)) good (submitted_good w peer now transaction good)
-step_good w (Mempool peer) good = answered_good w peer (listed w) (first_failing (listing_rules w peer)) good good
+step_good w (Enter peer address) new good = answered_good w peer (entered w peer address) (first_failing (entering_rules w.sessions peer)) good (same_good w _ refl refl refl good)
+step_good w (Leave peer) new good = answered_good w peer (left w peer) (first_failing (session_rules w.sessions peer)) good (same_good w _ refl refl refl good)
+step_good w (Submit peer now transaction) new good =
+    answered_good w peer (submitted w peer now transaction) (first_failing (submission_rules w peer transaction)) good (submitted_good w peer now transaction new good)
+step_good w (Mempool peer) new good = answered_good w peer (listed w) (first_failing (listing_rules w peer)) good good
+
+-- a part of what is apart is
+pub apart_part : (part whole : List Tx) → ((tx : Tx) → Contains part tx → Contains whole tx) → AreApart whole → AreApart part
+apart_part part whole within apart = λ a b here there. apart a b (within a here) (within b there)
+
+-- where transactions are told apart by their ids
+pub apart_stays : (w : World) (event : Event) → IsSettled w.chain → IsSpelled event → IsApartFrom w event → StaysApart w event
+apart_stays w (Enter peer address) settled spelled apart = tt
+apart_stays w (Leave peer) settled spelled apart = tt
+apart_stays w (Submit peer now transaction) settled spelled apart =
+    let blocks = connected_transactions w.chain in
+    let entries = map (λ (e : Admitted). e.tx) w.pool in
+    let more = option_to_list transaction in
+    stays_if_apart (standing_of w) transaction settled spelled
+    (apart_part (more ++ blocks) ((blocks ++ entries) ++ more)
+    (λ tx h. ⊎_elim (λ k. Contains-append_right (blocks ++ entries) more tx k) (λ k. Contains-append_left (blocks ++ entries) more tx (Contains-append_left blocks entries tx k)) (Contains-append_cases more blocks tx h))
+    apart)
+apart_stays w (Mempool peer) settled spelled apart = tt
+
+no_blocks : (w : World) (transaction : Option Tx) → w.chain.blocks ≡ [] → IsUnconnected w.chain transaction
+no_blocks w None h = tt
+no_blocks w (Some tx) h = ap (list_any (has_transaction (txid_of tx))) h
+
+-- where no block is connected
+pub opened_stays : (w : World) (event : Event) → w.chain.blocks ≡ [] → StaysApart w event
+opened_stays w (Enter peer address) h = tt
+opened_stays w (Leave peer) h = tt
+opened_stays w (Submit peer now transaction) h = stays_if_unconnected (standing_of w) transaction (no_blocks w transaction h)
+opened_stays w (Mempool peer) h = tt
+
+decided_chain : (w : World) (peer : ℕ) (transaction : Option Tx) (decision : Result Grant Denial) → (decided w peer transaction decision).1.chain ≡ w.chain
+decided_chain w peer None decision = refl
+decided_chain w peer (Some tx) (Ok grant) = refl
+decided_chain w peer (Some tx) (Err denial) = refl
+
+answered_chain : (w : World) (peer : ℕ) (served : Reply × World) (refusal : Option Refusal) → served.1.chain ≡ w.chain → (answered w peer served refusal).1.chain ≡ w.chain
+answered_chain w peer served (Some refusal) h = refl
+answered_chain w peer served None h = h
+
+-- no event changes the chain yet
+pub step_chain : (w : World) (event : Event) → (step_of w event).1.chain ≡ w.chain
+unfolding step_of
+step_chain w (Enter peer address) = answered_chain w peer (entered w peer address) (first_failing (entering_rules w.sessions peer)) refl
+step_chain w (Leave peer) = answered_chain w peer (left w peer) (first_failing (session_rules w.sessions peer)) refl
+step_chain w (Submit peer now transaction) =
+    let s = submit_of (standing_of w) transaction now w.budget in
+    answered_chain w peer (submitted w peer now transaction) (first_failing (submission_rules w peer transaction)) (decided_chain (record w { pool = s.entries; floor = s.floor }) peer transaction s.decision)
+step_chain w (Mempool peer) = answered_chain w peer (listed w) (first_failing (listing_rules w peer)) refl
+
+Contains-map_filter : {X Y : Type 0} (f : X → Y) (p : X → Bool) (xs : List X) (y : Y) → Contains (map f (filter p xs)) y → Contains (map f xs) y
+Contains-map_filter f p [] y h = h
+Contains-map_filter {X} {Y} f p (x ∷ xs) y h = go (p x) h
+  where
+    go : (b : Bool) → Contains (map f (cond b (x ∷ filter p xs) (filter p xs))) y → Contains (f x ∷ map f xs) y
+    go true k = ⊎_elim (λ (e : f x ≡ y). subst (λ (z : Y). Contains (f x ∷ map f xs) z) e (Contains-head (f x) (map f xs))) (λ c. Contains-rest (f x) (map f xs) y (Contains-map_filter f p xs y c)) (Contains-cons_cases (f x) (map f (filter p xs)) y k)
+    go false k = Contains-rest (f x) (map f xs) y (Contains-map_filter f p xs y k)
 
 entered_from : (entries : List Admitted) (decision : Result Grant Denial) (transaction : Option Tx) (now : ℕ) (tx : Tx)
-    → Contains (map (λ (e : Admitted). e.tx) (entries_of entries decision transaction now)) tx → Contains (map (λ (e : Admitted). e.tx) entries ++ option_to_list transaction) tx
+    → Contains (map (λ (e : Admitted). e.tx) (entries_after entries decision transaction now)) tx → Contains (map (λ (e : Admitted). e.tx) entries ++ option_to_list transaction) tx
 entered_from entries (Err denial) transaction now tx h = Contains-append_left _ _ tx h
 entered_from entries (Ok grant) None now tx h = Contains-append_left _ _ tx h
 entered_from entries (Ok grant) (Some other) now tx h =
-    subst (λ l. Contains l tx) (map-append (λ (e : Admitted). e.tx) entries (admitted other grant now ∷ [])) h
+    let stays = without_below (is_conflict other) entries in
+    ⊎_elim (λ k. Contains-append_left _ _ tx (Contains-map_filter (λ (e : Admitted). e.tx) (λ e. not (is_below_some (is_conflict other) entries e)) entries tx k))
+    (λ k. Contains-append_right _ _ tx k)
+    (Contains-append_cases (map (λ (e : Admitted). e.tx) stays) (other ∷ []) tx (subst (λ l. Contains l tx) (map-append (λ (e : Admitted). e.tx) stays (admitted other grant now ∷ [])) h))
 
-submission_from : (chain : History) (entries : List Admitted) (floor : ℕ) (transaction : Option Tx) (verdicts : Verdicts) (now budget : ℕ) (tx : Tx)
-    → Contains (map (λ (e : Admitted). e.tx) (submit_of chain entries floor transaction verdicts now budget).entries) tx → Contains (map (λ (e : Admitted). e.tx) entries ++ option_to_list transaction) tx
+submission_from : (over : Standing) (transaction : Option Tx) (now budget : ℕ) (tx : Tx)
+    → Contains (map (λ (e : Admitted). e.tx) (submit_of over transaction now budget).entries) tx → Contains (map (λ (e : Admitted). e.tx) over.entries ++ option_to_list transaction) tx
 unfolding submit_of
-submission_from chain entries floor transaction verdicts now budget tx h = entered_from entries (decision_of chain entries floor transaction verdicts) transaction now tx h
+submission_from over transaction now budget tx h = entered_from over.entries (decision_of First over transaction) transaction now tx h
 
 -- what comes from behind a list that stays
 behind : (stays new old more : List Tx) (tx : Tx) → (Contains new tx → Contains (old ++ more) tx) → Contains (stays ++ new) tx → Contains ((stays ++ old) ++ more) tx
@@ -78,9 +158,9 @@ decided_from w peer (Some other) (Err denial) tx h = h
 
 submitted_from : (w : World) (peer now : ℕ) (transaction : Option Tx) (tx : Tx) → Contains (transactions_in (submitted w peer now transaction).1) tx → Contains (transactions_in w ++ option_to_list transaction) tx
 submitted_from w peer now transaction tx h =
-    let s = submit_of w.chain w.pool w.floor transaction w.verdicts now w.budget in
-    behind (flat_map (λ (b : Block). b.transactions) w.chain.blocks) (map (λ (e : Admitted). e.tx) s.entries) (map (λ (e : Admitted). e.tx) w.pool) (option_to_list transaction) tx
-    (submission_from w.chain w.pool w.floor transaction w.verdicts now w.budget tx)
+    let s = submit_of (standing_of w) transaction now w.budget in
+    behind (connected_transactions w.chain) (map (λ (e : Admitted). e.tx) s.entries) (map (λ (e : Admitted). e.tx) w.pool) (option_to_list transaction) tx
+    (submission_from (standing_of w) transaction now w.budget tx)
     (decided_from (record w { pool = s.entries; floor = s.floor }) peer transaction s.decision tx h)
 
 answered_from : (w : World) (peer : ℕ) (served : Reply × World) (refusal : Option Refusal) (more : List Tx) (tx : Tx)

@@ -4,7 +4,7 @@ use Rattle.gate_bytes.specs.Order.{first_failing}
 use Rattle.gate_tx.specs.Tx.{Tx}
 use Rattle.gate_standard.specs.declared.Denial.{Denial}
 use Rattle.gate_admit.specs.declared.Grant.{Grant}
-use Rattle.gate_admit.specs.Pool.{listing_of}
+use Rattle.gate_pool.specs.Pool.{listing_of}
 use Rattle.gate_admit.specs.Submission.{submit_of}
 use Rattle.gate_core.specs.declared.event.Event.{Event}
 use Rattle.gate_core.specs.declared.event.Event.TheVariants.{Enter, Leave, Tx as Submit, Mempool}

@@ -3,6 +3,7 @@ use Rattle.std.proofs.Common.{◌≡◌, List, [], ◌∷◌, ◌++◌, Contains
 use Rattle.std.specs.List.{flat_map}
 use Rattle.std.proofs.lemmas.List.Elements.{Contains-append_left, Contains-append_right, Contains-append_cases}
 use Rattle.gate_tx.specs.Tx.{Tx}
+use Rattle.gate_chain.specs.History.{History}
 use Rattle.gate_admit.specs.Good.{AreApart}
 use Rattle.gate_core.specs.declared.event.Event.{Event}
 use Rattle.gate_core.specs.declared.reply.Reply.{Reply}
@@ -10,11 +11,7 @@ use Rattle.gate_core.specs.World.{World}
 use Rattle.gate_core.specs.Steps.{step_of}
 use Rattle.gate_core.specs.Good.{IsGoodWorld, IsApartFrom, transactions_in, transactions_of}
 use Rattle.gate_core.specs.Runs.{run_of, IsRunApart, LeadsTo}
-use Rattle.gate_core.proofs.Keeping.{step_good, step_from}
-
--- a part of what is apart is
-apart_part : (part whole : List Tx) → ((tx : Tx) → Contains part tx → Contains whole tx) → AreApart whole → AreApart part
-apart_part part whole within apart = λ a b here there. apart a b (within a here) (within b there)
+use Rattle.gate_core.proofs.Keeping.{apart_part, opened_stays, step_chain, step_good, step_from}
 
 in_first : (a b c : List Tx) (tx : Tx) → Contains (a ++ b) tx → Contains (a ++ (b ++ c)) tx
 in_first a b c tx h = subst (λ l. Contains l tx) (append_assoc a b c) (Contains-append_left (a ++ b) c tx h)
@@ -34,9 +31,11 @@ apart_rest w event events apart =
     apart_part (transactions_in (step_of w event).1 ++ flat_map transactions_of events) (transactions_in w ++ (transactions_of event ++ flat_map transactions_of events))
     (λ tx. in_rest (transactions_in w) (transactions_of event) (flat_map transactions_of events) (transactions_in (step_of w event).1) tx (step_from w event tx)) apart
 
-pub run_good : (events : List Event) (w : World) → IsGoodWorld w → IsGoodWorld (run_of w events).1
-run_good [] w good = good
-run_good (event ∷ events) w good = run_good events (step_of w event).1 (step_good w event good)
+-- where no block is connected
+pub run_good : (events : List Event) (w : World) → w.chain.blocks ≡ [] → IsGoodWorld w → IsGoodWorld (run_of w events).1
+run_good [] w unconnected good = good
+run_good (event ∷ events) w unconnected good =
+    run_good events (step_of w event).1 (ap (λ (h : History). h.blocks) (step_chain w event) ∙ unconnected) (step_good w event (opened_stays w event unconnected) good)
 
 pub steps_give_the_run : (w : World) (events : List Event) (replies : List Reply) (end : World) → IsGoodWorld w → IsRunApart w events → LeadsTo w events replies end
     → ((replies, end) ≡ run_of w events) × IsGoodWorld end

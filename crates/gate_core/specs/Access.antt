@@ -5,7 +5,7 @@ use Rattle.gate_bytes.specs.Order.{Rule, first_failing, IsFirstOf}
 use Rattle.gate_tx.specs.Tx.{Tx}
 use Rattle.gate_tx.specs.Ids.{wtxid_of}
 use Rattle.gate_standard.specs.declared.Denial.TheVariants.{Decode}
-use Rattle.gate_admit.specs.Pool.{Admitted, entry_by_wtxid}
+use Rattle.gate_pool.specs.Pool.{Admitted, entry_by_wtxid}
 use Rattle.gate_core.specs.declared.event.Event.{Event}
 use Rattle.gate_core.specs.declared.event.Event.TheVariants.{Enter, Leave, Tx as Submit, Mempool}
 use Rattle.gate_core.specs.declared.refusal.Refusal.{Refusal}

@@ -4,6 +4,7 @@ pub mod Sessions
 pub mod Callers
 pub mod Refusals
 pub mod Texts
+pub mod Opening
 pub mod World
 pub mod Access
 pub mod PeerSteps

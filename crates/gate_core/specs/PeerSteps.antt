@@ -6,7 +6,7 @@ use Rattle.gate_tx.specs.Ids.{txid_of}
 use Rattle.gate_standard.specs.declared.Denial.{Denial}
 use Rattle.gate_standard.specs.declared.Denial.TheVariants.{Decode}
 use Rattle.gate_admit.specs.declared.Grant.{Grant}
-use Rattle.gate_admit.specs.Pool.{listing_of}
+use Rattle.gate_pool.specs.Pool.{listing_of}
 use Rattle.gate_admit.specs.Submission.{Submitted, submit_of}
 use Rattle.gate_core.specs.declared.refusal.Then.{Then}
 use Rattle.gate_core.specs.declared.refusal.Then.TheVariants.{Keep, Close, Relay}
@@ -17,7 +17,7 @@ use Rattle.gate_core.specs.declared.reply.Reply.TheVariants.{Entered, Left, Admi
 use Rattle.gate_core.specs.Permissions.{Permissions}
 use Rattle.gate_core.specs.Refusals.{then_of}
 use Rattle.gate_core.specs.Sessions.{Session, session, flags_in, closed}
-use Rattle.gate_core.specs.World.{World, flags_at}
+use Rattle.gate_core.specs.World.{World, flags_at, standing_of}
 
 -- the sessions after what follows a refusal
 abbrev pub sessions_after : Then → List Session → ℕ → List Session
@@ -58,7 +58,7 @@ abbrev pub concluded : World → ℕ → Option Tx → Submitted → Reply × Wo
 concluded w peer transaction s = decided (record w { pool = s.entries; floor = s.floor }) peer transaction s.decision
 
 abbrev pub submitted : World → ℕ → ℕ → Option Tx → Reply × World
-submitted w peer now transaction = concluded w peer transaction (submit_of w.chain w.pool w.floor transaction w.verdicts now w.budget)
+submitted w peer now transaction = concluded w peer transaction (submit_of (standing_of w) transaction now w.budget)
 
 abbrev pub listed : World → Reply × World
 listed w = (Listing (listing_of w.pool), w)

@@ -2,10 +2,10 @@
 use Rattle.std.specs.Prelude.{◌≡◌, ◌≢◌, ℕ, List, [], ◌∷◌, ◌++◌, take, slice_get, Some}
 use Rattle.std.specs.List.{flat_map, AllPairs}
 use Rattle.gate_tx.specs.declared.OutPoint.{OutPoint}
-use Rattle.gate_admit.specs.Pool.{Admitted, spent_by, listing_of}
+use Rattle.gate_pool.specs.Pool.{Admitted, spent_by, listing_of}
 use Rattle.gate_admit.specs.Good.{AreApart}
 use Rattle.gate_core.specs.declared.event.Event.{Event}
-use Rattle.gate_core.specs.declared.opening.Opening.{Opening}
+use Rattle.gate_core.specs.Opening.{Start}
 use Rattle.gate_core.specs.declared.reply.Reply.{Reply}
 use Rattle.gate_core.specs.declared.reply.Reply.TheVariants.{Listing}
 use Rattle.gate_core.specs.World.{World, opened_world}
@@ -48,4 +48,4 @@ ListsThePool w events =
 
 -- so it is after any events, from any opening
 abbrev pub RunsKeepThePoolSound : Type 0
-RunsKeepThePoolSound = (o : Opening) (events : List Event) → SpendsOnce (run_of (opened_world o) events).1.pool × ListsThePool (opened_world o) events
+RunsKeepThePoolSound = (o : Start) (events : List Event) → SpendsOnce (run_of (opened_world o) events).1.pool × ListsThePool (opened_world o) events

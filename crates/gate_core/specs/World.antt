@@ -1,11 +1,12 @@
 -- What a state is: the chain, the pool over it with its floor, the sessions of peers, and the settings.
 use Rattle.std.specs.Prelude.{ℕ, Bool, List, []}
 use Rattle.gate_chain.specs.History.{History, opened}
-use Rattle.gate_admit.specs.declared.Verdicts.{Verdicts}
-use Rattle.gate_admit.specs.Pool.{Admitted}
+use Rattle.gate_admit.specs.Standing.{Standing, standing}
+use Rattle.gate_admit.specs.Verdicts.{VerdictTable}
+use Rattle.gate_pool.specs.Pool.{Admitted}
 use Rattle.gate_core.specs.Permissions.{Permissions, no_permissions}
 use Rattle.gate_core.specs.Sessions.{Session}
-use Rattle.gate_core.specs.declared.opening.Opening.{Opening}
+use Rattle.gate_core.specs.Opening.{Start}
 
 pub record World : Type 0 where
   pub chain : History
@@ -13,15 +14,19 @@ pub record World : Type 0 where
   pub floor : ℕ
   pub sessions : List Session
   pub budget : ℕ
-  pub verdicts : Verdicts
+  pub verdicts : VerdictTable
   pub bloom : Bool
+
+-- what submissions are judged over
+abbrev pub standing_of : World → Standing
+standing_of w = standing w.chain w.pool w.floor w.verdicts
 
 -- the flags of a peer that enters from this address: there is no whitelist that could give any
 abbrev pub flags_at : World → List ℕ → Permissions
 flags_at w address = no_permissions
 
 -- the state of an opening: no entries, no floor, no peers
-abbrev pub opened_world : Opening → World
+abbrev pub opened_world : Start → World
 opened_world o = record {
   chain = opened o.coins o.times;
   pool = [];

@@ -47,6 +47,19 @@ impl Event {
     }
 }
 
+impl Event {
+    ghost use Rattle.gate_core.specs.Good.{IsSpelled};
+
+    /// That its transaction has a text: it does nothing.
+    pub(crate) fn tells_spelled(&self)
+        ensures { IsSpelled self.now }
+    {
+        if let Event::Tx { transaction, .. } = self {
+            transaction.tells_spelled();
+        }
+    }
+}
+
 impl Copied for Event {
     fn copy(&self, alloc: Global) -> Result<Event, Memory> {
         match self {

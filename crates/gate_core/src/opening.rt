@@ -1,16 +1,26 @@
 //! What a gate is opened with.
 use gate_admit::{OpeningCoin, Verdicts};
 use gate_bytes::Kept;
+use std::hash::BuildHasher;
+use std::marker::Model;
 
 /// The coins and block times of the chain, the verdicts on scripts, and the settings.
-#[derive(Debug, Drop)]
-pub struct Opening {
+#[derive(Drop)]
+pub struct Opening<S: BuildHasher + Copy + Drop> {
     /// The most virtual bytes that the pool may hold.
     pub budget: u64,
     pub coins: Kept<OpeningCoin>,
     /// The times of the blocks in seconds, from height 0 on.
     pub times: Kept<u32>,
-    pub verdicts: Verdicts,
+    pub verdicts: Verdicts<S>,
     /// Whether bloom filters are on, so that every peer may ask for a listing.
     pub bloom: bool,
+}
+
+impl<S: BuildHasher + Copy + Drop> Model for Opening<S> {
+    ghost use Rattle.gate_core.specs.Opening.{Start};
+
+    ghost Value = { Start };
+
+    ghost view = { λ o. record { budget = o.budget; coins = o.coins; times = o.times; verdicts = o.verdicts; bloom = o.bloom } };
 }

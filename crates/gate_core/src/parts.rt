@@ -5,7 +5,8 @@ ghost use Rattle.gate_core.specs.World.{flags_at};
 ghost use Rattle.gate_core.specs.Access.{entering_rules, listing_rules, session_rules, submission_rules};
 ghost use Rattle.gate_core.specs.PeerSteps.{entered, left, listed, peer_step, refused, submitted};
 ghost use Rattle.gate_core.specs.Steps.{step_of};
-ghost use Rattle.gate_core.specs.declared.parts.Parts.{Parts as Made};
+ghost use Rattle.gate_pool.specs.Pool.{Pooled};
+ghost use Rattle.gate_core.specs.Sessions.{Seated};
 ghost use Rattle.gate_core.specs.Quiet.{HasList};
 ghost use Rattle.gate_core.specs.Planning.{Fits, Plans, after, world_of};
 
@@ -19,6 +20,7 @@ use gate_admit::{Chain, Coming, Entry, Floor, Pool, Prepared, Verdicts, plan_sub
 use gate_bytes::Memory;
 use gate_standard::Denial;
 use std::alloc::Global;
+use std::hash::BuildHasher;
 
 /// What a step changes.
 #[derive(Drop)]
@@ -38,17 +40,17 @@ pub(crate) struct Plan {
 
 /// The chain, the pool with its floor, the sessions and the settings.
 #[derive(Drop)]
-pub(crate) struct Parts {
-    pub(crate) chain: Chain,
-    pub(crate) pool: Pool,
+pub(crate) struct Parts<S: BuildHasher + Copy + Drop> {
+    pub(crate) chain: Chain<S>,
+    pub(crate) pool: Pool<S>,
     pub(crate) floor: Floor,
     pub(crate) sessions: Sessions,
     pub(crate) budget: u64,
-    pub(crate) verdicts: Verdicts,
+    pub(crate) verdicts: Verdicts<S>,
     pub(crate) bloom: bool,
 }
 
-impl Parts {
+impl<S: BuildHasher + Copy + Drop> Parts<S> {
     /// The flags of a peer that enters from this address: there is no whitelist that could give any.
     fn flags_at(&self, address: &Address) -> Permissions
         ensures { result ≡ flags_at (world_of self.now) address.now }
@@ -60,7 +62,7 @@ impl Parts {
     /// A refusal to a peer, which closes the peer's session where that follows.
     fn refusing(&self, peer: u64, refusal: Refusal) -> Plan
         ensures reply { Plans (world_of self.now) (refused (world_of self.now) peer refusal) result }
-        ensures fits { (p : Made) → Fits result.change p }
+        ensures fits { (sessions : Seated) (pool : Pooled) → Fits result.change sessions pool }
         ensures quiet { HasList result.reply → result.change ≡ Change.Nothing }
     {
         let then = refusal.then(&self.sessions.flags(peer));
@@ -83,7 +85,7 @@ impl Parts {
 
     fn entering(&mut self, peer: u64, address: &Address) -> Result<Plan, Memory>
         ensures ok { IfOk result (Plans (world_of self.old) (peer_step (world_of self.old) peer (entering_rules self.old.sessions.all peer) (entered (world_of self.old) peer address.now))) }
-        ensures fits { IfOk result (λ plan. Fits plan.change self.new) }
+        ensures fits { IfOk result (λ plan. Fits plan.change self.new.sessions self.new.pool) }
         ensures quiet { IfOk result (λ plan. HasList plan.reply → plan.change ≡ Change.Nothing) }
         ensures same { world_of self.new ≡ world_of self.old }
     {
@@ -100,7 +102,7 @@ impl Parts {
 
     fn leaving(&self, peer: u64) -> Plan
         ensures plans { Plans (world_of self.now) (peer_step (world_of self.now) peer (session_rules self.now.sessions.all peer) (left (world_of self.now) peer)) result }
-        ensures fits { (p : Made) → Fits result.change p }
+        ensures fits { (sessions : Seated) (pool : Pooled) → Fits result.change sessions pool }
         ensures quiet { HasList result.reply → result.change ≡ Change.Nothing }
     {
         match self.sessions.refusal(peer) {
@@ -114,7 +116,7 @@ impl Parts {
 
     fn listing(&self, alloc: Global, peer: u64) -> Result<Plan, Memory>
         ensures ok { IfOk result (Plans (world_of self.now) (peer_step (world_of self.now) peer (listing_rules (world_of self.now) peer) (listed (world_of self.now)))) }
-        ensures fits { IfOk result (λ plan. (p : Made) → Fits plan.change p) }
+        ensures fits { IfOk result (λ plan. (sessions : Seated) (pool : Pooled) → Fits plan.change sessions pool) }
         ensures quiet { IfOk result (λ plan. HasList plan.reply → plan.change ≡ Change.Nothing) }
     {
         match self.refusal_of_listing(peer) {
@@ -134,7 +136,7 @@ impl Parts {
         transaction: &Prepared,
     ) -> Result<Plan, Memory>
         ensures ok { IfOk result (Plans (world_of self.old) (peer_step (world_of self.old) peer (submission_rules (world_of self.old) peer transaction.now) (submitted (world_of self.old) peer now transaction.now))) }
-        ensures fits { IfOk result (λ plan. Fits plan.change self.new) }
+        ensures fits { IfOk result (λ plan. Fits plan.change self.new.sessions self.new.pool) }
         ensures quiet { IfOk result (λ plan. HasList plan.reply → plan.change ≡ Change.Nothing) }
         ensures same { world_of self.new ≡ world_of self.old }
     {
@@ -180,7 +182,7 @@ impl Parts {
         transaction: &Prepared,
     ) -> Result<Plan, Memory>
         ensures ok { IfOk result (Plans (world_of self.old) (submitted (world_of self.old) peer now transaction.now)) }
-        ensures fits { IfOk result (λ plan. Fits plan.change self.new) }
+        ensures fits { IfOk result (λ plan. Fits plan.change self.new.sessions self.new.pool) }
         ensures quiet { IfOk result (λ plan. HasList plan.reply → plan.change ≡ Change.Nothing) }
         ensures same { world_of self.new ≡ world_of self.old }
     {
@@ -218,7 +220,7 @@ impl Parts {
     #[tactic(auto, unfolding(crate::specs::Steps::step_of))]
     pub(crate) fn plan(&mut self, alloc: Global, event: &Event) -> Result<Plan, Memory>
         ensures ok { IfOk result (Plans (world_of self.old) (step_of (world_of self.old) event.now)) }
-        ensures fits { IfOk result (λ plan. Fits plan.change self.new) }
+        ensures fits { IfOk result (λ plan. Fits plan.change self.new.sessions self.new.pool) }
         ensures quiet { IfOk result (λ plan. HasList plan.reply → plan.change ≡ Change.Nothing) }
         ensures same { world_of self.new ≡ world_of self.old }
     {
@@ -236,14 +238,14 @@ impl Parts {
 
     /// Makes a change that fits, without memory.
     pub(crate) fn commit(&mut self, change: Change)
-        requires { Fits change self.old }
+        requires { Fits change self.old.sessions self.old.pool }
         ensures { world_of self.new ≡ after change (world_of self.old) }
     {
         match change {
             Change::Nothing => (),
             Change::Enter { peer, flags } => self.sessions.enter(peer, flags),
             Change::Close { peer } => self.sessions.close(peer),
-            Change::Admit { entry } => self.pool.admit(entry),
+            Change::Admit { entry } => self.pool.replace(entry),
         }
     }
 }

@@ -15,6 +15,7 @@ use crate::session::Sessions;
 use gate_admit::{Chain, Floor, OpenFault, Pool};
 use gate_bytes::Memory;
 use std::alloc::Global;
+use std::hash::BuildHasher;
 use std::marker::Model;
 use thiserror::Error;
 
@@ -33,11 +34,11 @@ impl From<Memory> for StepFault {
 
 /// Everything that the gate knows: the chain, the pool with its floor, the sessions and the settings.
 #[derive(Drop)]
-pub struct State {
-    parts: Parts,
+pub struct State<S: BuildHasher + Copy + Drop> {
+    parts: Parts<S>,
 }
 
-impl Model for State {
+impl<S: BuildHasher + Copy + Drop> Model for State<S> {
     ghost use Rattle.gate_core.specs.World.{World};
     ghost use Rattle.gate_core.specs.Planning.{world_of};
 
@@ -46,9 +47,10 @@ impl Model for State {
     ghost view = { λ s. world_of s.parts };
 }
 
-impl State {
-    /// The state of an opening, with an empty pool. A fault names the first coin in the list that fails.
-    pub fn open(alloc: Global, opening: Opening) -> Result<State, OpenFault>
+impl<S: BuildHasher + Copy + Drop> State<S> {
+    /// The state of an opening, with an empty pool; the hasher's state serves every map of ids and outpoints. A fault names
+    /// the first coin in the list that fails.
+    pub fn open(alloc: Global, hasher: S, opening: Opening<S>) -> Result<State<S>, OpenFault>
         ensures ok { IfOk result (λ state. state ≡ opened_world opening) }
         ensures good { IfOk result IsGoodWorld }
         ensures fault { IsRefusedFor (open_fault opening.coins opening.times) result }
@@ -60,8 +62,8 @@ impl State {
             verdicts,
             bloom,
         } = opening;
-        let chain = Chain::open(alloc, coins.into_vec(), times.into_vec())?;
-        let pool = Pool::new(alloc)?;
+        let chain = Chain::open(alloc, hasher, coins.into_vec(), times.into_vec())?;
+        let pool = Pool::new(alloc, hasher)?;
         Ok(State {
             parts: Parts {
                 chain,
@@ -93,6 +95,7 @@ impl State {
         ensures exact { IfOk result (λ reply. (reply, self.new) ≡ step_of self.old event.now) }
         ensures quiet { IfOk result (λ reply. HasList reply → self.new ≡ self.old) }
     {
+        event.tells_spelled();
         let reply = self.apply(alloc, event)?;
         Ok(reply)
     }

@@ -5,12 +5,12 @@ use Rattle.std.proofs.lemmas.List.{append-nil}
 use Rattle.gate_tx.specs.declared.transaction.OutPoint.{OutPoint}
 use Rattle.gate_tx.specs.declared.transaction.TxIn.{TxIn}
 use Rattle.gate_tx.specs.Tx.{Tx}
-use Rattle.gate_tx.specs.Text.{is_full, stripped, text, IsInput, IsWitness, IsTx}
+use Rattle.gate_tx.specs.Text.{is_nonempty, stripped, text, IsInput, IsWitness, IsTx}
 use Rattle.gate_tx.specs.Laws.{without_witness, unwitnessed, prevouts, StrippedFormsStandApart, StrippedFormsSpendTheSame}
 use Rattle.gate_tx.proofs.Whole.{flat_map-bared, length-bared}
 use Rattle.gate_tx.proofs.Again.{no_prefix}
 
-none_full : (is : List TxIn) → list_any (λ i. is_full i.witness) (map without_witness is) ≡ false
+none_full : (is : List TxIn) → list_any (λ i. is_nonempty i.witness) (map without_witness is) ≡ false
 none_full [] = refl
 none_full (i ∷ is) = none_full is
 
