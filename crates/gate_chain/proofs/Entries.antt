@@ -76,32 +76,3 @@ has_txid-pushed id coins new opening before after is old now =
     by true false = refl
     by false true = refl
     by false false = refl
-
--- outpoints compare the same either way round
-point_eq-sym : (p q : OutPoint) → point_eq p q ≡ point_eq q p
-point_eq-sym p q =
-    let there : Decides (point_eq p q) (p ≡ q) = out_point_decides p q in
-    let back : Decides (point_eq q p) (q ≡ p) = out_point_decides q p in
-    one_answer (point_eq p q) (point_eq q p) there ((λ e. sym (back.0 e)), (λ e. back.1 (sym e)))
-
--- what holds of each key holds of the outpoint of a coin
-at_key : (P : OutPoint → Type 0) (es : List (OutPoint × Coin)) (kept left : List OpeningCoin) (o : OpeningCoin)
-    → opening_coins es ≡ kept ++ o ∷ left → AllByRecursion P (keys_of es) → P o.outpoint
-at_key P [] [] left o is all = absurd (cc)
-at_key P [] (k ∷ kept) left o is all = absurd (cc)
-at_key P (e ∷ es) [] left o is all =
-    let same : opening_coin e ≡ o = cc in
-    subst (λ (c : OpeningCoin). P c.outpoint) same all.0
-at_key P (e ∷ es) (k ∷ kept) left o is all = at_key P es kept left o (cc) all.1
-
--- a coin that a copy still lacks has an outpoint that the copy lacks
-pub has_outpoint-copied : (es : List (OutPoint × Coin)) (copied : List OpeningCoin) (p : OutPoint) (coin : Coin) (left : List (OutPoint × Coin))
-    → IsDistinct point_eq (keys_of es) → opening_coins es ≡ copied ++ opening_coins ((p, coin) ∷ left) → has_outpoint p copied ≡ false
-has_outpoint-copied es [] p coin left apart is = refl
-has_outpoint-copied [] (o ∷ copied) p coin left apart is = absurd (cc)
-has_outpoint-copied (e ∷ es) (o ∷ copied) p coin left apart is =
-    let same : opening_coin e ≡ o = cc in
-    let rest : opening_coins es ≡ copied ++ opening_coins ((p, coin) ∷ left) = cc in
-    let other : point_eq e.0 p ≡ false = at_key (λ k. point_eq e.0 k ≡ false) es copied (opening_coins left) (opening_coin (p, coin)) rest (IsDistinct-head point_eq e.0 (keys_of es) apart) in
-    let here : point_eq p o.outpoint ≡ false = ap (λ (c : OpeningCoin). point_eq p c.outpoint) (sym same) ∙ (point_eq-sym p e.0 ∙ other) in
-    ap (λ b. b || has_outpoint p copied) here ∙ has_outpoint-copied es copied p coin left (IsDistinct-tail point_eq e.0 (keys_of es) apart) rest

@@ -5,4 +5,8 @@ pub mod Times
 pub mod Coins
 pub mod Opening
 pub mod Keeping
+pub mod Denials
+pub mod Connecting
+pub mod Marking
+pub mod Linked
 pub mod Examples

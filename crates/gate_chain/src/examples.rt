@@ -9,7 +9,7 @@ ghost use Rattle.gate_chain.specs.Times.{tip_of, time_of, mtp_of};
 ghost use Rattle.gate_chain.specs.declared.fault.OpenFault.TheVariants as faults;
 
 /// The middle of times, the upper of two; of a chain only the last eleven count.
-#[tactic(auto, unfolding(crate::specs::Median::median_of, crate::specs::Times::mtp_of))]
+#[tactic(auto, unfolding(crate::specs::Median::median_of, crate::specs::Times::mtp_of, crate::specs::Times::mtp_at))]
 pub(crate) fn medians()
     ensures one { median_of (7 ∷ []) ≡ Some 7 }
     ensures four { mtp_of (opened [] (5 ∷ 1 ∷ 4 ∷ 2 ∷ [])) 3 ≡ Some 4 }

@@ -1,7 +1,8 @@
 ghost use Rattle.std.specs.Prelude.{◌≡◌};
-ghost use Rattle.gate_chain.specs.Opening.{token_of};
 ghost use Rattle.gate_chain.specs.declared.fault.OpenFault.TheVariants.{Memory as OutOfMemory};
+ghost use Rattle.gate_chain.specs.declared.fault.ChainFault.TheVariants.{Memory as NoMemory, Denied};
 
+use crate::denial::ChainDenial;
 use gate_bytes::Memory;
 use std::alloc::{AllocError, AllocFailed};
 use thiserror::Error;
@@ -25,23 +26,6 @@ pub enum OpenFault {
     CoinTwice(usize),
 }
 
-impl OpenFault {
-    /// The word that is printed for it.
-    pub fn token(&self) -> &'static str
-        ensures { result.now ≡ token_of self.now }
-    {
-        match self {
-            OpenFault::Memory => "memory",
-            OpenFault::NoTimes => "no-times",
-            OpenFault::TimesLimit => "times-limit",
-            OpenFault::CoinValue(_) => "coin-value",
-            OpenFault::CoinUnspendable(_) => "coin-unspendable",
-            OpenFault::CoinAboveTip(_) => "coin-above-tip",
-            OpenFault::CoinTwice(_) => "coin-twice",
-        }
-    }
-}
-
 impl From<Memory> for OpenFault {
     ghost from_gives = { λ _ fault. fault ≡ OutOfMemory };
 
@@ -63,5 +47,46 @@ impl<T: Drop> From<AllocFailed<T>> for OpenFault {
 
     fn from(_e: AllocFailed<T>) -> OpenFault {
         OpenFault::Memory
+    }
+}
+
+/// Why a block isn't connected: a rule fails, or memory is wanting.
+#[derive(Clone, Copy, Debug, PartialEq, Eq, Error)]
+pub enum ChainFault {
+    #[error("out of memory")]
+    Memory,
+    #[error("{0}")]
+    Denied(ChainDenial),
+}
+
+impl From<ChainDenial> for ChainFault {
+    ghost from_gives = { λ denial fault. fault ≡ Denied denial };
+
+    fn from(denial: ChainDenial) -> ChainFault {
+        ChainFault::Denied(denial)
+    }
+}
+
+impl From<Memory> for ChainFault {
+    ghost from_gives = { λ _ fault. fault ≡ NoMemory };
+
+    fn from(_e: Memory) -> ChainFault {
+        ChainFault::Memory
+    }
+}
+
+impl From<AllocError> for ChainFault {
+    ghost from_gives = { λ _ fault. fault ≡ NoMemory };
+
+    fn from(_e: AllocError) -> ChainFault {
+        ChainFault::Memory
+    }
+}
+
+impl<T: Drop> From<AllocFailed<T>> for ChainFault {
+    ghost from_gives = { λ _ fault. fault ≡ NoMemory };
+
+    fn from(_e: AllocFailed<T>) -> ChainFault {
+        ChainFault::Memory
     }
 }

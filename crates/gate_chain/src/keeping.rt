@@ -1,80 +1,85 @@
-ghost use Rattle.std.specs.Prelude.{◌≡◌, ◌++◌, ◌∷◌, [], length, IfOk, OnOk, false};
-ghost use Rattle.std.specs.Option.{option_copied};
-ghost use Rattle.gate_chain.specs.Coins.{opening_coin_of, has_txid, has_outpoint};
-ghost use Rattle.gate_chain.specs.Opening.{coin_fault, coins_fault, is_money, IsRefusedFor};
+ghost use Rattle.std.specs.Prelude.{◌≡◌, ◌++◌, ◌∷◌, [], List, ℕ, length, IfOk, OnOk, false};
+ghost use Rattle.std.specs.List.{list_any};
+ghost use Rattle.std.specs.Str.{bytes_eq};
+ghost use Rattle.gate_chain.specs.Coins.{has_txid, has_outpoint};
+ghost use Rattle.gate_chain.specs.Keeping.{opening_coins};
+ghost use Rattle.gate_chain.specs.Marking.{coins_in, is_marked};
+ghost use Rattle.gate_chain.specs.Opening.{coin_fault, coins_fault, IsRefusedFor};
+ghost use Rattle.gate_tx.specs.Money.{is_money};
+ghost use Rattle.gate_tx.specs.declared.OutPoint.{OutPoint as Point};
 
 use crate::fault::OpenFault;
+use crate::marked::Marked;
 use crate::opening::OpeningCoin;
-use gate_bytes::{Copied, Memory};
-use gate_tx::{Coin, OutPoint, Txid, is_unspendable};
+use gate_bytes::Memory;
+use gate_tx::{MAX_MONEY, OutPoint, Txid, is_unspendable};
 use indexmap::{IndexMap, IndexSet};
 use std::alloc::Global;
+use std::hash::BuildHasher;
 use std::marker::Model;
-
-/// The most satoshi that there can be (Bitcoin Core's `MAX_MONEY`).
-const MAX_MONEY: i64 = 2_100_000_000_000_000;
 
 fn is_money(value: i64) -> bool
     ensures { result ≡ is_money value }
 {
-    (0..=MAX_MONEY).contains(&value)
+    (0..=MAX_MONEY as i64).contains(&value)
 }
 
 /// The coins of an opening by their outpoints, and the transactions that they came from: contracts see the list of them.
 #[derive(Drop)]
-pub(crate) struct Coins {
-    unspent: IndexMap<OutPoint, Coin>,
-    txids: IndexSet<Txid>,
+pub(crate) struct Coins<S: BuildHasher + Copy + Drop> {
+    coins: IndexMap<OutPoint, Marked, S>,
+    txids: IndexSet<Txid, S>,
 }
 
-impl Model for Coins {
+impl<S: BuildHasher + Copy + Drop> Model for Coins<S> {
     ghost use Rattle.std.specs.Prelude.{◌≡◌, List, ℕ, map};
     ghost use Rattle.std.specs.Str.{bytes_eq};
     ghost use Rattle.indexmap.specs.IndexSet.{contains};
     ghost use Rattle.gate_chain.specs.Coins.{has_txid};
+    ghost use Rattle.std.specs.Prelude.{false};
+    ghost use Rattle.gate_tx.specs.declared.OutPoint.{OutPoint as Point};
     ghost use Rattle.gate_chain.specs.Keeping.{opening_coins};
+    ghost use Rattle.gate_chain.specs.Marking.{coins_in, is_marked};
     ghost use Rattle.gate_chain.specs.declared.opening.OpeningCoin.{OpeningCoin};
 
     ghost Value = { List OpeningCoin };
 
-    ghost invariant = { λ c. (id : List ℕ) → contains bytes_eq c.txids id ≡ has_txid id (opening_coins c.unspent.entries) };
+    ghost invariant = { λ c. ((id : List ℕ) → contains bytes_eq c.txids id ≡ has_txid id (opening_coins (coins_in c.coins.entries))) × ((p : Point) → is_marked c.coins.entries p ≡ false) };
 
-    ghost view = { λ c. opening_coins c.unspent.entries };
+    ghost view = { λ c. opening_coins (coins_in c.coins.entries) };
 }
 
-impl Coins {
+impl<S: BuildHasher + Copy + Drop> Coins<S> {
     /// No coins, with room for some.
-    fn with_capacity(alloc: Global, capacity: usize) -> Result<Coins, Memory>
+    fn with_capacity(alloc: Global, hasher: S, capacity: usize) -> Result<Coins<S>, Memory>
         ensures { IfOk result (λ coins. coins ≡ []) }
     {
         Ok(Coins {
-            unspent: IndexMap::with_capacity(alloc, capacity)?,
-            txids: IndexSet::with_capacity(alloc, capacity)?,
+            coins: IndexMap::with_capacity_and_hasher(alloc, capacity, hasher)?,
+            txids: IndexSet::with_capacity_and_hasher(alloc, capacity, hasher)?,
         })
     }
 
     fn len(&self) -> usize
         ensures { result ≡ length self.now }
     {
-        self.unspent.len()
-    }
-
-    pub(crate) fn coin(&self, outpoint: &OutPoint) -> Option<&Coin>
-        ensures { option_copied result ≡ opening_coin_of self.now outpoint.now }
-    {
-        self.unspent.get(outpoint)
-    }
-
-    pub(crate) fn came_from(&self, txid: &Txid) -> bool
-        ensures { result ≡ has_txid txid.now self.now }
-    {
-        self.txids.contains(txid)
+        self.coins.len()
     }
 
     fn has(&self, outpoint: &OutPoint) -> bool
         ensures { result ≡ has_outpoint outpoint.now self.now }
     {
-        self.unspent.contains_key(outpoint)
+        self.coins.contains_key(outpoint)
+    }
+
+    /// The map of the coins, none of them spent, and the ids.
+    pub(crate) fn into_parts(self) -> (IndexMap<OutPoint, Marked, S>, IndexSet<Txid, S>)
+        ensures coins { opening_coins (coins_in result.0.entries) ≡ self }
+        ensures marks { (p : Point) → is_marked result.0.entries p ≡ false }
+        ensures ids { (id : List ℕ) → list_any (bytes_eq id) result.1.keys ≡ has_txid id self }
+    {
+        let Coins { coins, txids } = self;
+        (coins, txids)
     }
 
     /// What is wrong with one more coin.
@@ -102,33 +107,25 @@ impl Coins {
         ensures { OnOk result (self.new ≡ self.old ++ opening ∷ []) }
     {
         let OpeningCoin { outpoint, coin } = opening;
-        self.unspent.reserve(1)?;
+        self.coins.reserve(1)?;
         self.txids.insert(outpoint.txid)?;
-        let kept: Result<_, _> = self.unspent.insert(outpoint, coin);
+        let kept: Result<_, _> = self.coins.insert(outpoint, Marked { coin, spent: false });
         let _ = kept.unwrap();
         Ok(())
     }
 }
 
-impl Copied for Coins {
-    fn copy(&self, alloc: Global) -> Result<Coins, Memory> {
-        let mut coins = Coins::with_capacity(alloc, self.unspent.len())?;
-        for (outpoint, coin) in self.unspent.iter() {
-            coins.push(OpeningCoin {
-                outpoint: *outpoint,
-                coin: coin.copy(alloc)?,
-            })?;
-        }
-        Ok(coins)
-    }
-}
-
 /// Keeps the coins of an opening, or names the first fault of one.
-pub(crate) fn keep(alloc: Global, opening: Vec<OpeningCoin>, tip: u32) -> Result<Coins, OpenFault>
+pub(crate) fn keep<S: BuildHasher + Copy + Drop>(
+    alloc: Global,
+    hasher: S,
+    opening: Vec<OpeningCoin>,
+    tip: u32,
+) -> Result<Coins<S>, OpenFault>
     ensures ok { IfOk result (λ coins. coins ≡ opening.items) }
     ensures fault { IsRefusedFor (coins_fault tip [] opening.items) result }
 {
-    let mut coins = Coins::with_capacity(alloc, opening.len())?;
+    let mut coins = Coins::with_capacity(alloc, hasher, opening.len())?;
     for coin in opening {
         if let Some(fault) = coins.fault(tip, &coin) {
             return Err(fault);

@@ -1,22 +1,27 @@
 //! The chain below the pool: which coins there are, and the time of each height.
 //!
 //! A `Chain` stands for its history: the coins and block times that it was opened with, and the blocks connected since.
-//! The main clause is that of `Chain::coin`, which answers as a search through that history does.
+//! The main clause is that of `Chain::coin`, which answers as a search through that history does. A block is connected
+//! whole or not at all, and `Chain::disconnect` gives back the history before it without taking memory.
 #![tactic(auto)]
 
 mod block;
 mod chain;
+mod connected;
+mod denial;
+mod entering;
 mod examples;
 mod fault;
+mod heading;
 mod keeping;
+mod making;
+mod marked;
 mod median;
 mod opening;
 
 pub use block::{Block, Header};
-pub use chain::Chain;
-pub use fault::OpenFault;
+pub use chain::{Chain, there_and_back};
+pub use denial::ChainDenial;
+pub use fault::{ChainFault, OpenFault};
 pub use median::stands_in_order;
 pub use opening::OpeningCoin;
-
-#[cfg(test)]
-mod tests;

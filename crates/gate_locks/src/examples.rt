@@ -27,7 +27,7 @@ pub(crate) fn blocks()
 {}
 
 /// Locks of 512 seconds, at tip 4, whose median time past is 2200: that of height 1 is 1600.
-#[tactic(auto, unfolding(crate::specs::Locks::sequence_locks_met_by, crate::specs::Locks::is_lock_met_by, gate_chain::specs::Times::mtp_of, gate_chain::specs::Median::median_of))]
+#[tactic(auto, unfolding(crate::specs::Locks::sequence_locks_met_by, crate::specs::Locks::is_lock_met_by, gate_chain::specs::Times::mtp_of, gate_chain::specs::Times::mtp_at, gate_chain::specs::Median::median_of))]
 pub(crate) fn seconds()
     ensures met { sequence_locks_met_by (locked (pos 2) 0x0040_0001) (2 ∷ []) five_blocks ≡ true }
     ensures early { sequence_locks_met_by (locked (pos 2) 0x0040_0002) (2 ∷ []) five_blocks ≡ false }

@@ -4,6 +4,7 @@ ghost use Rattle.gate_locks.specs.Locks.{median_at, is_lock_met_by, sequence_loc
 
 use gate_chain::Chain;
 use gate_tx::Transaction;
+use std::hash::BuildHasher;
 
 /// The bit of a sequence that says that there is no relative lock (Bitcoin Core's `SEQUENCE_LOCKTIME_DISABLE_FLAG`).
 const DISABLED: u32 = 1 << 31;
@@ -20,7 +21,11 @@ const SECONDS: u64 = 512;
 /// Whether the relative lock of each input is met in the next block (BIP 68). The heights are those of the inputs' coins,
 /// one for each input; a coin of an unconfirmed transaction stands at the height of the next block.
 #[tactic(auto, unfolding(crate::specs::Locks::sequence_locks_met_by))]
-pub fn sequence_locks_met(tx: &Transaction, heights: &[u32], chain: &Chain) -> bool
+pub fn sequence_locks_met<S: BuildHasher + Copy + Drop>(
+    tx: &Transaction,
+    heights: &[u32],
+    chain: &Chain<S>,
+) -> bool
     requires one_each { length heights.now ≡ length tx.now.inputs }
     requires within { All (λ h. h ≤ tip_of chain.now + 1) heights.now }
     ensures { result ≡ sequence_locks_met_by tx.now heights.now chain.now }
@@ -37,7 +42,7 @@ pub fn sequence_locks_met(tx: &Transaction, heights: &[u32], chain: &Chain) -> b
 }
 
 #[tactic(auto, unfolding(crate::specs::Locks::is_lock_met_by))]
-fn is_lock_met(sequence: u32, height: u32, chain: &Chain) -> bool
+fn is_lock_met<S: BuildHasher + Copy + Drop>(sequence: u32, height: u32, chain: &Chain<S>) -> bool
     requires { height ≤ tip_of chain.now + 1 }
     ensures { result ≡ is_lock_met_by chain.now sequence height }
 {
@@ -55,7 +60,7 @@ fn is_lock_met(sequence: u32, height: u32, chain: &Chain) -> bool
 }
 
 /// The median time past of a height up to the tip.
-fn median_at(chain: &Chain, height: u32) -> u32
+fn median_at<S: BuildHasher + Copy + Drop>(chain: &Chain<S>, height: u32) -> u32
     requires { height ≤ tip_of chain.now }
     ensures { result ≡ median_at chain.now height }
 {

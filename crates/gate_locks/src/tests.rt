@@ -3,7 +3,10 @@ use gate_bytes::Kept;
 use gate_chain::{Chain, OpenFault};
 use gate_tx::{OutPoint, Transaction, TxIn, TxOut, Txid};
 use std::alloc::{AllocError, Global};
+use std::hash::{BuildHasherDefault, FoldHasher};
 use std::test::Fail;
+
+type Hasher = BuildHasherDefault<FoldHasher>;
 
 /// A transaction with one input, and an output of nothing.
 fn spending(
@@ -42,15 +45,15 @@ fn is_final_with(
 }
 
 /// A chain up to height 100, with 600 seconds from one block to the next.
-fn hundred_blocks(alloc: Global) -> Result<Chain, OpenFault> {
+fn hundred_blocks(alloc: Global) -> Result<Chain<Hasher>, OpenFault> {
     let mut times = Vec::new(alloc);
     for height in 0..101u32 {
         times.push(1000 + 600 * height)?;
     }
-    Chain::open(alloc, Vec::new(alloc), times)
+    Chain::open(alloc, BuildHasherDefault::new(), Vec::new(alloc), times)
 }
 
-fn is_met(tx: &Transaction, height: u32, chain: &Chain) -> Option<bool> {
+fn is_met(tx: &Transaction, height: u32, chain: &Chain<Hasher>) -> Option<bool> {
     let tip = chain.tip();
     if tx.inputs().len() != 1 || height > tip + 1 {
         return None;
@@ -60,7 +63,7 @@ fn is_met(tx: &Transaction, height: u32, chain: &Chain) -> Option<bool> {
 
 fn is_met_with(
     alloc: Global,
-    chain: &Chain,
+    chain: &Chain<Hasher>,
     version: i32,
     sequence: u32,
     height: u32,

@@ -8,7 +8,7 @@ use Rattle.gate_locks.proofs.Each.{left_after, none_left, or_true}
 use Rattle.gate_locks.proofs.relative.sequence_locks_met.Goals as goal
 
 pub loop-input-preserved : goal.loop-input-preserved
-loop-input-preserved c =
+loop-input-preserved g c =
     let chain = c.args.chain.now in
     let s = c.loop-input.input-iterator in
     let t = c.next.new.self in
@@ -18,7 +18,7 @@ loop-input-preserved c =
 
 pub returns : goal.returns
 unfolding sequence_locks_met_by
-returns c =
+returns g c =
     let chain = c.args.chain.now in
     let s = c.loop-input.input-iterator in
     let ended = either_empty_from_Zip s c.next.new.self _ c.in-None.is c.next.ensures.steps in

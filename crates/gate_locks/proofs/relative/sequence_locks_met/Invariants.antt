@@ -6,4 +6,4 @@ use Rattle.gate_locks.proofs.Each.{IsLeft}
 use Rattle.gate_locks.proofs.relative.sequence_locks_met.Given as goal
 
 abbrev pub invariant-loop-input : goal.invariant-loop-input
-invariant-loop-input l = IsLeft l.chain (tip_of l.chain + 1) l.tx.inputs l.heights (iter_rest (zip_first l.input-iterator)) (iter_rest (zip_second l.input-iterator))
+invariant-loop-input g l = IsLeft l.chain (tip_of l.chain + 1) l.tx.inputs l.heights (iter_rest (zip_first l.input-iterator)) (iter_rest (zip_second l.input-iterator))

@@ -1,17 +1,16 @@
-use Rattle.std.proofs.Common.{sym, ap, ◌∙◌}
+use Rattle.std.proofs.Common.{ap, ◌∙◌, sym, subst}
 use Rattle.gate_chain.specs.Coins.{coin_of}
-use Rattle.gate_chain.proofs.Entries.{option_or-none}
-use Rattle.gate_chain.proofs.Opened.{coins_fit, heights_fit, height_of_lent, tip_of-opened}
+use Rattle.gate_chain.specs.History.{History}
+use Rattle.gate_chain.specs.Keeping.{IsFaultless}
+use Rattle.gate_chain.proofs.Growing.{unspent_is}
+use Rattle.gate_chain.proofs.Heights.{coin_within}
+use Rattle.gate_chain.proofs.Opened.{height_of_lent}
 use Rattle.gate_chain.proofs.chain.Chain.coin.Goals as goal
 
 pub returns-clause-coin : goal.returns-clause-coin
-unfolding coin_of
-returns-clause-coin c =
-    c.coin.ensures ∙ sym (option_or-none _) ∙ ap (λ h. coin_of h c.args.outpoint.now) c.self.view_is
+returns-clause-coin g c = c.unspent.ensures ∙ unspent_is _ _ _ c.self.invariant.maps c.args.outpoint.now ∙ ap (λ h. coin_of h c.args.outpoint.now) c.self.view_is
 
 pub returns-clause-height : goal.returns-clause-height
-returns-clause-height c =
-    let times = c.self.inside.times.items in
-    let tip = tip_of-opened c.self.inside.coins times c.args.self.now c.self.view_is in
-    let fit = coins_fit c.self.inside.coins times c.self.invariant.faultless in
-    rw tip (height_of_lent c.coin.result _ _ c.coin.ensures (heights_fit _ _ _ c.args.outpoint.now fit))
+returns-clause-height g c =
+    height_of_lent c.unspent.result _ _ (returns-clause-coin g c)
+    (coin_within c.args.self.now c.args.outpoint.now (subst (λ (h : History). IsFaultless h.coins h.times) c.self.view_is c.self.invariant.opening))

@@ -1,0 +1,75 @@
+-- What holds of a chain's maps.
+use Rattle.std.specs.Prelude.{◌≡◌, ℕ, ◌+◌, ◌≤◌, Bool, true, false, List, [], ◌∷◌, ◌++◌, map, take, length, Option, Some, None, is_some, Result, Ok, Err}
+use Rattle.std.specs.List.{list_any}
+use Rattle.std.specs.Map.{lookup}
+use Rattle.gate_tx.specs.declared.Coin.{Coin}
+use Rattle.std.specs.Str.{bytes_eq}
+use Rattle.gate_tx.specs.declared.OutPoint.{OutPoint}
+use Rattle.gate_tx.specs.Coins.{point_eq}
+use Rattle.gate_tx.specs.Tx.{Tx}
+use Rattle.gate_chain.specs.declared.block.Block.{Block}
+use Rattle.gate_chain.specs.declared.connected.Connected.{Connected}
+use Rattle.gate_chain.specs.declared.marked.Marked.{Marked}
+use Rattle.gate_chain.specs.declared.fault.ChainFault.{ChainFault}
+use Rattle.gate_chain.specs.declared.opening.OpeningCoin.{OpeningCoin}
+use Rattle.gate_chain.specs.Coins.{is_spent_in, has_txid}
+use Rattle.gate_chain.specs.Connecting.{grown, with_part, transaction_denial, transactions_denial, Tells}
+use Rattle.gate_chain.specs.Headers.{header_time}
+use Rattle.gate_chain.specs.History.{History}
+use Rattle.gate_chain.specs.Keeping.{IsFaultless, opening_coins}
+use Rattle.gate_chain.specs.Marking.{coins_in, coins_made, ids_of, is_marked}
+
+-- some connected block spends an outpoint
+abbrev pub is_spent : History → OutPoint → Bool
+is_spent h p = list_any (is_spent_in p) h.blocks
+
+-- what is spent was made
+pub record SpentMade (h : History) : Type 0 where
+  pub made : (p : OutPoint) → is_spent h p ≡ true → is_some (lookup (point_eq p) (coins_made h)) ≡ true
+
+-- the maps of a history
+pub record AreMaps (h : History) (es : List (OutPoint × Marked)) (txids : List (List ℕ)) : Type 0 where
+  pub coins_are : coins_in es ≡ coins_made h
+  pub marks_are : (p : OutPoint) → is_marked es p ≡ is_spent h p
+  pub txids_are : txids ≡ ids_of h.blocks
+
+-- a history has this opening and is so high
+pub record Opens (h : History) (opened : List (List ℕ)) (height : ℕ) : Type 0 where
+  pub ids_are : (id : List ℕ) → list_any (bytes_eq id) opened ≡ has_txid id h.coins
+  pub height_is : height ≡ length h.times + length h.blocks
+
+-- a block on top of a history can be taken off again
+pub record IsConnected (h : History) (c : Connected) : Type 0 where
+  pub faultless : transactions_denial h c.block.header [] c.block.transactions ≡ None
+  pub spent_made : SpentMade h
+  pub coins_are : c.coins ≡ length (coins_made h)
+  pub ids_are : c.ids ≡ length (ids_of h.blocks)
+
+-- what stands after one more transaction is entered, or isn't
+abbrev pub Enters : {X : Type 0} → History → List ℕ → List Tx → Tx → Result X ChainFault → List (OutPoint × Marked) → List (List ℕ) → Type 0
+Enters h header done t (Ok x) es txids = AreMaps (with_part h header (done ++ t ∷ [])) es txids × (transaction_denial h header done t ≡ None)
+Enters h header done t (Err e) es txids = AreMaps (with_part h header done) es txids × Tells e (transaction_denial h header done t)
+
+-- what stands after a block is connected, or isn't
+abbrev pub Connects : History → Block → Result Connected ChainFault → List (OutPoint × Marked) → List (List ℕ) → Type 0
+Connects h block (Ok c) es txids = (c.block ≡ block) × IsConnected h c × AreMaps (grown h block) es txids × (transactions_denial h block.header [] block.transactions ≡ None)
+Connects h block (Err e) es txids = AreMaps h es txids × Tells e (transactions_denial h block.header [] block.transactions)
+
+-- the history of blocks on top of an opening
+abbrev pub history : List OpeningCoin → List ℕ → List Connected → History
+history coins times blocks = record { coins = coins; times = times; blocks = map (λ c. c.block) blocks }
+
+-- the opening, whose coins stand first
+abbrev pub opening_in : ℕ → List (OutPoint × Marked) → List OpeningCoin
+opening_in opened es = opening_coins (take opened (coins_in es))
+
+-- what holds of a chain: its opening has no fault, its maps are those of its history, and each block can be taken off
+pub record IsLinked (coins : List OpeningCoin) (opened first : ℕ) (opened_ids : List (List ℕ)) (times : List ℕ) (blocks : List Connected) (es : List (OutPoint × Marked)) (txids : List (List ℕ)) : Type 0 where
+  pub opening : IsFaultless coins (take first times)
+  pub opened_is : opened ≡ length coins
+  pub opened_ids_are : (id : List ℕ) → list_any (bytes_eq id) opened_ids ≡ has_txid id coins
+  pub times_are : times ≡ take first times ++ map (λ c. header_time c.block.header) blocks
+  pub within : first ≤ length times
+  pub few : length times ≤ 10000001
+  pub maps : AreMaps (history coins (take first times) blocks) es txids
+  pub each : (before after : List Connected) (c : Connected) → blocks ≡ before ++ c ∷ after → IsConnected (history coins (take first times) before) c

@@ -1,0 +1,204 @@
+//! A block's transactions, entered one after another, and taken out again.
+ghost use Rattle.std.specs.Prelude.{◌≡◌, ℕ, ◌+◌, ◌<◌, ◌≤◌, ◌++◌, ◌∷◌, ◌&&◌, ◌||◌, [], List, map, take, drop, not, true, false, cond, length, Some, None, is_some, IfOk, OnErr, OnOk, if◌then◌else◌};
+ghost use Rattle.std.specs.Str.{bytes_eq};
+ghost use Rattle.gate_tx.specs.Ids.{txid_of};
+ghost use Rattle.gate_tx.specs.Text.{is_full};
+ghost use Rattle.gate_tx.specs.Tx.{Tx};
+ghost use Rattle.gate_tx.specs.declared.OutPoint.{OutPoint as Point};
+ghost use Rattle.indexmap.specs.IndexSet.{contains, spare as set_spare};
+ghost use Rattle.gate_chain.specs.History.{History};
+ghost use Rattle.gate_tx.specs.Coins.{spends};
+ghost use Rattle.gate_chain.specs.Coins.{any_spends};
+ghost use Rattle.gate_chain.specs.Connecting.{grown, with_part, missing, transactions_denial};
+ghost use Rattle.gate_chain.specs.Marking.{coins_in, is_marked, unspent_in, coins_made, ids_of};
+ghost use Rattle.gate_chain.specs.Linked.{IsConnected, AreMaps, SpentMade, Opens, Enters, Connects};
+
+use crate::block::Block;
+use crate::connected::Connected;
+use crate::denial::ChainDenial;
+use crate::fault::ChainFault;
+use crate::making::make;
+use crate::marked::{Marked, spend, unspend};
+use gate_bytes::Memory;
+use gate_tx::{OutPoint, Transaction, TxIn, Txid};
+use indexmap::{IndexMap, IndexSet};
+use std::alloc::Global;
+use std::hash::BuildHasher;
+
+/// Spends the coins of a transaction's inputs, but not of a coinbase's.
+fn spend_later<S: BuildHasher + Copy + Drop>(
+    coinbase: bool,
+    coins: &mut IndexMap<OutPoint, Marked, S>,
+    inputs: &[TxIn],
+) -> bool
+    ensures coins { coins_in coins.new.entries ≡ coins_in coins.old.entries }
+    ensures found { (not coinbase && missing (λ p. is_some (unspent_in coins.old.entries p)) inputs.now) ≡ not result }
+    ensures marks { (p : Point) → is_marked coins.new.entries p ≡ ((result && (not coinbase && spends inputs.now p)) || is_marked coins.old.entries p) }
+{
+    if coinbase { true } else { spend(coins, inputs) }
+}
+
+/// Gives them back.
+fn unspend_later<S: BuildHasher + Copy + Drop>(
+    coinbase: bool,
+    coins: &mut IndexMap<OutPoint, Marked, S>,
+    inputs: &[TxIn],
+)
+    ensures coins { coins_in coins.new.entries ≡ coins_in coins.old.entries }
+    ensures marks { (p : Point) → is_marked coins.new.entries p ≡ (if not coinbase && spends inputs.now p then false else is_marked coins.old.entries p) }
+{
+    if !coinbase {
+        unspend(coins, inputs);
+    }
+}
+
+fn is_repeated<S: BuildHasher + Copy + Drop>(
+    opened: &IndexSet<Txid, S>,
+    txids: &IndexSet<Txid, S>,
+    id: &Txid,
+) -> bool
+    ensures { result ≡ (contains bytes_eq opened.now id.now || contains bytes_eq txids.now id.now) }
+{
+    opened.contains(id) || txids.contains(id)
+}
+
+/// Notes the id of one more transaction, for which there is room.
+fn note<S: BuildHasher + Copy + Drop>(txids: &mut IndexSet<Txid, S>, id: Txid)
+    requires room { 1 ≤ set_spare txids.old }
+    requires new { contains bytes_eq txids.old id ≡ false }
+    ensures { txids.new.keys ≡ txids.old.keys ++ id ∷ [] }
+{
+    let noted: Result<_, _> = txids.insert(id);
+    let _ = noted.unwrap();
+}
+
+/// Enters one more transaction of a block, or leaves the maps as they are.
+fn enter<S: BuildHasher + Copy + Drop>(
+    alloc: Global,
+    opened: &IndexSet<Txid, S>,
+    coins: &mut IndexMap<OutPoint, Marked, S>,
+    txids: &mut IndexSet<Txid, S>,
+    height: u32,
+    coinbase: bool,
+    tx: &Transaction,
+) -> Result<(), ChainFault>
+    ensures { (h : History) (header : List ℕ) (done : List Tx) → Opens h opened.now.keys height → coinbase ≡ not (is_full done)
+        → AreMaps (with_part h header done) coins.old.entries txids.old.keys
+        → Enters h header done tx.now result coins.new.entries txids.new.keys }
+{
+    let id = tx.txid(alloc)?;
+    if is_repeated(opened, txids, &id) {
+        return Err(ChainFault::Denied(ChainDenial::TxidRepeated));
+    }
+    txids.reserve(1)?;
+    let found = spend_later(coinbase, coins, tx.inputs());
+    if !found {
+        return Err(ChainFault::Denied(ChainDenial::BlockInputs));
+    }
+    tx.is();
+    match make(alloc, coins, id, height, coinbase, tx.outputs()) {
+        Ok(()) => {
+            note(txids, id);
+            Ok(())
+        }
+        Err(Memory) => {
+            unspend_later(coinbase, coins, tx.inputs());
+            Err(ChainFault::Memory)
+        }
+    }
+}
+
+/// Takes the first transactions of a block out again: what stands above those numbers of coins and ids.
+pub(crate) fn leave<S: BuildHasher + Copy + Drop>(
+    coins: &mut IndexMap<OutPoint, Marked, S>,
+    txids: &mut IndexSet<Txid, S>,
+    coins_before: usize,
+    ids_before: usize,
+    txs: &[Transaction],
+)
+    ensures { (h : History) (header : List ℕ) → SpentMade h → transactions_denial h header [] txs.now ≡ None
+        → coins_before ≡ length (coins_made h) → ids_before ≡ length (ids_of h.blocks)
+        → AreMaps (with_part h header txs.now) coins.old.entries txids.old.keys → AreMaps h coins.new.entries txids.new.keys }
+{
+    coins.truncate(coins_before);
+    txids.truncate(ids_before);
+    give_back(coins, txs);
+}
+
+/// Gives back the coins that the transactions of a block spent.
+fn give_back<S: BuildHasher + Copy + Drop>(
+    coins: &mut IndexMap<OutPoint, Marked, S>,
+    txs: &[Transaction],
+)
+    ensures coins { coins_in coins.new.entries ≡ coins_in coins.old.entries }
+    ensures marks { (p : Point) → is_marked coins.new.entries p ≡ (if any_spends (drop 1 txs.now) p then false else is_marked coins.old.entries p) }
+{
+    match txs {
+        [] => {}
+        [_coinbase, others @ ..] => unspend_all(coins, others),
+    }
+}
+
+fn unspend_all<S: BuildHasher + Copy + Drop>(
+    coins: &mut IndexMap<OutPoint, Marked, S>,
+    txs: &[Transaction],
+)
+    ensures coins { coins_in coins.new.entries ≡ coins_in coins.old.entries }
+    ensures marks { (p : Point) → is_marked coins.new.entries p ≡ (if any_spends txs.now p then false else is_marked coins.old.entries p) }
+{
+    for tx in txs {
+        unspend(coins, tx.inputs());
+    }
+}
+
+/// Connects a block, or leaves the maps as they are.
+pub(crate) fn connect<S: BuildHasher + Copy + Drop>(
+    alloc: Global,
+    opened: &IndexSet<Txid, S>,
+    coins: &mut IndexMap<OutPoint, Marked, S>,
+    txids: &mut IndexSet<Txid, S>,
+    height: u32,
+    block: Block,
+) -> Result<Connected, ChainFault>
+    ensures { (h : History) → Opens h opened.now.keys height → AreMaps h coins.old.entries txids.old.keys
+        → Connects h block result coins.new.entries txids.new.keys }
+{
+    let coins_before = coins.len();
+    let ids_before = txids.len();
+    let txs = block.transactions.as_slice();
+    for (place, tx) in txs.iter().enumerate() {
+        if let Err(fault) = enter(alloc, opened, coins, txids, height, place == 0, tx) {
+            leave(coins, txids, coins_before, ids_before, &txs[..place]);
+            return Err(fault);
+        }
+    }
+    Ok(Connected {
+        block,
+        coins: coins_before,
+        ids: ids_before,
+    })
+}
+
+/// Disconnects a block. It takes no memory.
+pub(crate) fn disconnect<S: BuildHasher + Copy + Drop>(
+    coins: &mut IndexMap<OutPoint, Marked, S>,
+    txids: &mut IndexSet<Txid, S>,
+    last: Connected,
+) -> Block
+    ensures block { result ≡ last.block }
+    ensures maps { (h : History) → IsConnected h last → AreMaps (grown h last.block) coins.old.entries txids.old.keys → AreMaps h coins.new.entries txids.new.keys }
+{
+    let Connected {
+        block,
+        coins: coins_before,
+        ids,
+    } = last;
+    leave(
+        coins,
+        txids,
+        coins_before,
+        ids,
+        block.transactions.as_slice(),
+    );
+    block
+}
