@@ -15,7 +15,7 @@ use Rattle.gate_tx.specs.declared.Coin.{Coin}
 use Rattle.gate_bytes.proofs.OrderLemmas.{first_failing_append}
 use Rattle.gate_tx.specs.Coins.{point_eq, spends}
 use Rattle.gate_tx.specs.Ids.{txid_of}
-use Rattle.gate_tx.specs.Text.{is_full}
+use Rattle.gate_tx.specs.Text.{is_nonempty}
 use Rattle.gate_tx.specs.Tx.{Tx}
 use Rattle.gate_chain.specs.declared.block.Block.{Block}
 use Rattle.gate_chain.specs.declared.connected.Connected.{Connected}
@@ -92,44 +92,44 @@ module _ (h : History) (header : List ℕ) (done : List Tx) (t : Tx) (opened : L
 
   pub repeated : known ≡ true → transaction_denial h header done t ≡ Some TxidRepeated
   unfolding transaction_rules
-  repeated e = ap (λ b. if b then Some TxidRepeated else if is_full done && missing (λ p. is_some (coin_of (with_part h header done) p)) t.inputs then Some BlockInputs else None) (sym known_of ∙ e)
+  repeated e = ap (λ b. if b then Some TxidRepeated else if is_nonempty done && missing (λ p. is_some (coin_of (with_part h header done) p)) t.inputs then Some BlockInputs else None) (sym known_of ∙ e)
 
-  module _ (new : known ≡ false) (coinbase : Bool) (first : coinbase ≡ not (is_full done)) (found : Bool)
+  module _ (new : known ≡ false) (coinbase : Bool) (first : coinbase ≡ not (is_nonempty done)) (found : Bool)
       (found_is : (not coinbase && missing (λ p. is_some (unspent_in es p)) t.inputs) ≡ not found) where
     pub is_new : (es' : List (OutPoint × Marked)) → coins_in es' ≡ coins_in es → IsNew id es'
     is_new es' e = unknown_new (with_part h header done) id es' (ap (is_known_txid (with_part h header done)) is ∙ sym known_of ∙ new) (e ∙ a.coins_are)
 
-    full_is : not coinbase ≡ is_full done
-    full_is = ap not first ∙ twice (is_full done)
+    full_is : not coinbase ≡ is_nonempty done
+    full_is = ap not first ∙ twice (is_nonempty done)
       where
         twice : (b : Bool) → not (not b) ≡ b
         twice true = refl
         twice false = refl
 
-    missing_is : (is_full done && missing (λ p. is_some (coin_of (with_part h header done) p)) t.inputs) ≡ not found
+    missing_is : (is_nonempty done && missing (λ p. is_some (coin_of (with_part h header done) p)) t.inputs) ≡ not found
     missing_is = (λ j. sym full_is j && missing (λ p. is_some (sym (unspent_is (with_part h header done) es txids a p) j)) t.inputs) ∙ found_is
 
     fault_is : transaction_denial h header done t ≡ (if not found then Some BlockInputs else None)
     unfolding transaction_rules
     fault_is =
-        ap (λ b. if b then Some TxidRepeated else if is_full done && missing (λ p. is_some (coin_of (with_part h header done) p)) t.inputs then Some BlockInputs else None) (sym known_of ∙ new)
+        ap (λ b. if b then Some TxidRepeated else if is_nonempty done && missing (λ p. is_some (coin_of (with_part h header done) p)) t.inputs then Some BlockInputs else None) (sym known_of ∙ new)
         ∙ ap (λ b. if b then Some BlockInputs else None) missing_is
 
     pub not_found : found ≡ false → transaction_denial h header done t ≡ Some BlockInputs
     not_found e = fault_is ∙ ap (λ b. if not b then Some BlockInputs else None) e
 
     -- a coin that it spends was not spent before
-    spends_live : found ≡ true → (p : OutPoint) → (is_full done && spends t.inputs p) ≡ true → is_spent (with_part h header done) p ≡ false
-    spends_live e p s = live (with_part h header done) p (by (is_full done) refl s)
+    spends_live : found ≡ true → (p : OutPoint) → (is_nonempty done && spends t.inputs p) ≡ true → is_spent (with_part h header done) p ≡ false
+    spends_live e p s = live (with_part h header done) p (by (is_nonempty done) refl s)
       where
-        by : (b : Bool) → is_full done ≡ b → (b && spends t.inputs p) ≡ true → is_some (coin_of (with_part h header done) p) ≡ true
+        by : (b : Bool) → is_nonempty done ≡ b → (b && spends t.inputs p) ≡ true → is_some (coin_of (with_part h header done) p) ≡ true
         by false f h' = absurd (true≢false (sym h'))
         by true f h' = missing_some (λ q. is_some (coin_of (with_part h header done) q)) t.inputs p
             (ap (λ b. b && missing (λ q. is_some (coin_of (with_part h header done) q)) t.inputs) (sym f) ∙ missing_is ∙ ap not e) h'
 
     module _ (all : found ≡ true) (es1 : List (OutPoint × Marked)) (coins : coins_in es1 ≡ coins_in es)
         (marks : (p : OutPoint) → is_marked es1 p ≡ ((found && (not coinbase && spends t.inputs p)) || is_marked es p)) where
-      marks_now : (p : OutPoint) → is_marked es1 p ≡ ((is_full done && spends t.inputs p) || is_spent (with_part h header done) p)
+      marks_now : (p : OutPoint) → is_marked es1 p ≡ ((is_nonempty done && spends t.inputs p) || is_spent (with_part h header done) p)
       marks_now p = marks p ∙ (λ j. (all j && (full_is j && spends t.inputs p)) || a.marks_are p j)
 
       pub entered : (es2 : List (OutPoint × Marked)) → es2 ≡ es1 ++ unmarked (made_by id height coinbase 0 t.outputs) → (txids' : List (List ℕ)) → txids' ≡ txids ++ id ∷ []
@@ -140,7 +140,7 @@ module _ (h : History) (header : List ℕ) (done : List Tx) (t : Tx) (opened : L
               ∙ (λ j. (coins ∙ a.coins_are) j ++ coins_in-unmarked (made_by (is j) (o.height_is j) (first j) 0 t.outputs) j)
               ∙ sym (coins_more h header done t);
           marks_are = λ p. ap (λ l. is_marked l p) put ∙ marked-append es1 (made_by id height coinbase 0 t.outputs) p ∙ marks_now p
-              ∙ swap (is_full done && spends t.inputs p) (is_spent (with_part h header done) p) ∙ sym (spent_more h header done t p);
+              ∙ swap (is_nonempty done && spends t.inputs p) (is_spent (with_part h header done) p) ∙ sym (spent_more h header done t p);
           txids_are = noted ∙ (λ j. a.txids_are j ++ is j ∷ []) ∙ sym (ids_more h header done t);
         },
         fault_is ∙ ap (λ b. if not b then Some BlockInputs else None) all,
@@ -157,12 +157,12 @@ module _ (h : History) (header : List ℕ) (done : List Tx) (t : Tx) (opened : L
           → ((p : OutPoint) → is_marked es3 p ≡ (if not coinbase && spends t.inputs p then false else is_marked es2 p)) → (txids' : List (List ℕ)) → txids' ≡ txids → AreMaps (with_part h header done) es3 txids'
       undone es2 es3 same c m txids' t_same = record {
         coins_are = c ∙ ap coins_in same ∙ coins ∙ a.coins_are;
-        marks_are = λ p. m p ∙ (λ j. if full_is j && spends t.inputs p then false else is_marked (same j) p) ∙ ap (λ b. if is_full done && spends t.inputs p then false else b) (marks_now p)
-            ∙ by p (is_full done && spends t.inputs p) refl;
+        marks_are = λ p. m p ∙ (λ j. if full_is j && spends t.inputs p then false else is_marked (same j) p) ∙ ap (λ b. if is_nonempty done && spends t.inputs p then false else b) (marks_now p)
+            ∙ by p (is_nonempty done && spends t.inputs p) refl;
         txids_are = t_same ∙ a.txids_are;
       }
         where
-          by : (p : OutPoint) (b : Bool) → (is_full done && spends t.inputs p) ≡ b → (if b then false else (b || is_spent (with_part h header done) p)) ≡ is_spent (with_part h header done) p
+          by : (p : OutPoint) (b : Bool) → (is_nonempty done && spends t.inputs p) ≡ b → (if b then false else (b || is_spent (with_part h header done) p)) ≡ is_spent (with_part h header done) p
           by p true e = sym (spends_live all p e)
           by p false e = refl
 
@@ -195,11 +195,11 @@ module _ (h : History) (header : List ℕ) where
   neither None b e = (refl, e)
   neither (Some x) b e = absurd (cc)
 
-  none_missing : (done : List Tx) (t : Tx) → transaction_denial h header done t ≡ None → (is_full done && missing (λ p. is_some (coin_of (with_part h header done) p)) t.inputs) ≡ false
+  none_missing : (done : List Tx) (t : Tx) → transaction_denial h header done t ≡ None → (is_nonempty done && missing (λ p. is_some (coin_of (with_part h header done) p)) t.inputs) ≡ false
   unfolding transaction_rules
   none_missing done t e = (passed _ BlockInputs None (passed _ TxidRepeated _ e).1).0
 
-  rest_once : (done txs : List Tx) → is_full done ≡ true → transactions_denial h header done txs ≡ None → (p : OutPoint) → any_spends txs p ≡ true → is_spent h p ≡ false
+  rest_once : (done txs : List Tx) → is_nonempty done ≡ true → transactions_denial h header done txs ≡ None → (p : OutPoint) → any_spends txs p ≡ true → is_spent h p ≡ false
   rest_once done [] full e p s = absurd (true≢false (sym s))
   rest_once done (t ∷ txs) full e p s =
       let parts = neither (transaction_denial h header done t) (transactions_denial h header (done ++ t ∷ []) txs) (sym (denial_more h header done t txs) ∙ e) in
@@ -209,7 +209,7 @@ module _ (h : History) (header : List ℕ) where
       (ap (λ b. b && missing (λ q. is_some (coin_of (with_part h header done) q)) t.inputs) (sym full) ∙ none_missing done t parts.0) here))).0)
       (λ later. rest_once (done ++ t ∷ []) txs (still done) parts.1 p later)
     where
-      still : (d : List Tx) → is_full (d ++ t ∷ []) ≡ true
+      still : (d : List Tx) → is_nonempty (d ++ t ∷ []) ≡ true
       still [] = refl
       still (x ∷ d) = refl
 
@@ -265,7 +265,7 @@ count_coins h es txids a = sym (length-map es coin_in) ∙ ap length a.coins_are
 pub count_ids : (h : History) (es : List (OutPoint × Marked)) (txids : List (List ℕ)) → AreMaps h es txids → length txids ≡ length (ids_of h.blocks)
 count_ids h es txids a = ap length a.txids_are
 
-pub first_is : (txs : List Tx) (i : ℕ) → i < length txs → (i == 0) ≡ not (is_full (take i txs))
+pub first_is : (txs : List Tx) (i : ℕ) → i < length txs → (i == 0) ≡ not (is_nonempty (take i txs))
 first_is [] i lt = absurd (omega arith)
 first_is (x ∷ txs) zero lt = refl
 first_is (x ∷ txs) (suc i) lt = never i

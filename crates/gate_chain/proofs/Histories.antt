@@ -15,7 +15,7 @@ use Rattle.gate_tx.specs.declared.TxOut.{TxOut}
 use Rattle.gate_tx.specs.declared.Coin.{Coin}
 use Rattle.gate_tx.specs.Coins.{point_eq, spends, is_unspendable}
 use Rattle.gate_tx.specs.Ids.{txid_of}
-use Rattle.gate_tx.specs.Text.{is_full}
+use Rattle.gate_tx.specs.Text.{is_nonempty}
 use Rattle.gate_tx.specs.Tx.{Tx}
 use Rattle.gate_chain.specs.declared.block.Block.{Block}
 use Rattle.gate_chain.specs.declared.marked.Marked.{Marked}
@@ -56,7 +56,7 @@ bytes_same a b h = let d : Decides (bytes_eq a b) (a ≡ b) = bytes_eq-Decides a
 pub bytes_swap : (a b : List ℕ) → bytes_eq a b ≡ true → bytes_eq b a ≡ true
 bytes_swap a b h = let d : Decides (bytes_eq b a) (b ≡ a) = bytes_eq-Decides b a in d.1 (sym (bytes_same a b h))
 
-spent_push : (done : List Tx) (t : Tx) (p : OutPoint) → any_spends (drop 1 (done ++ t ∷ [])) p ≡ (any_spends (drop 1 done) p || (is_full done && spends t.inputs p))
+spent_push : (done : List Tx) (t : Tx) (p : OutPoint) → any_spends (drop 1 (done ++ t ∷ [])) p ≡ (any_spends (drop 1 done) p || (is_nonempty done && spends t.inputs p))
 spent_push [] t p = refl
 spent_push (x ∷ done) t p = list_any-append (λ (tx : Tx). spends tx.inputs p) done (t ∷ []) ∙ ap (λ b. any_spends done p || b) (or_false (spends t.inputs p))
 
@@ -73,7 +73,7 @@ later_push height (x ∷ done) t =
     ap (λ l. made_by (txid_of x) height false 0 x.outputs ++ l) (later_push height done t)
     ∙ sym (append_assoc (made_by (txid_of x) height false 0 x.outputs) (made_by_all height false done) (made_by (txid_of t) height false 0 t.outputs))
 
-all_push : (height : ℕ) (done : List Tx) (t : Tx) → made_by_all height true (done ++ t ∷ []) ≡ made_by_all height true done ++ made_by (txid_of t) height (not (is_full done)) 0 t.outputs
+all_push : (height : ℕ) (done : List Tx) (t : Tx) → made_by_all height true (done ++ t ∷ []) ≡ made_by_all height true done ++ made_by (txid_of t) height (not (is_nonempty done)) 0 t.outputs
 all_push height [] t = append-nil (made_by (txid_of t) height true 0 t.outputs)
 all_push height (x ∷ done) t =
     ap (λ l. made_by (txid_of x) height true 0 x.outputs ++ l) (later_push height done t)
@@ -102,11 +102,11 @@ pub ids_form : (h : History) (header : List ℕ) (d : List Tx) → ids_of (with_
 ids_form h header d = ids_push h.blocks (record { header = header; transactions = d })
 
 pub coins_more : (h : History) (header : List ℕ) (done : List Tx) (t : Tx)
-    → coins_made (with_part h header (done ++ t ∷ [])) ≡ coins_made (with_part h header done) ++ made_by (txid_of t) (length h.times + length h.blocks) (not (is_full done)) 0 t.outputs
+    → coins_made (with_part h header (done ++ t ∷ [])) ≡ coins_made (with_part h header done) ++ made_by (txid_of t) (length h.times + length h.blocks) (not (is_nonempty done)) 0 t.outputs
 coins_more h header done t =
     coins_form h header (done ++ t ∷ []) ∙ ap (λ l. coins_made h ++ l) (all_push (length h.times + length h.blocks) done t)
-    ∙ sym (append_assoc (coins_made h) (made_by_all (length h.times + length h.blocks) true done) (made_by (txid_of t) (length h.times + length h.blocks) (not (is_full done)) 0 t.outputs))
-    ∙ ap (λ l. l ++ made_by (txid_of t) (length h.times + length h.blocks) (not (is_full done)) 0 t.outputs) (sym (coins_form h header done))
+    ∙ sym (append_assoc (coins_made h) (made_by_all (length h.times + length h.blocks) true done) (made_by (txid_of t) (length h.times + length h.blocks) (not (is_nonempty done)) 0 t.outputs))
+    ∙ ap (λ l. l ++ made_by (txid_of t) (length h.times + length h.blocks) (not (is_nonempty done)) 0 t.outputs) (sym (coins_form h header done))
 
 pub ids_more : (h : History) (header : List ℕ) (done : List Tx) (t : Tx) → ids_of (with_part h header (done ++ t ∷ [])).blocks ≡ ids_of (with_part h header done).blocks ++ txid_of t ∷ []
 ids_more h header done t =
@@ -221,11 +221,11 @@ module _ (h : History) (header : List ℕ) (done : List Tx) (t : Tx) where
   pub spent_none : (p : OutPoint) → is_spent (with_part h header []) p ≡ is_spent h p
   spent_none p = spent_form [] p ∙ or_false (list_any (is_spent_in p) h.blocks)
 
-  pub spent_more : (p : OutPoint) → is_spent (with_part h header (done ++ t ∷ [])) p ≡ (is_spent (with_part h header done) p || (is_full done && spends t.inputs p))
+  pub spent_more : (p : OutPoint) → is_spent (with_part h header (done ++ t ∷ [])) p ≡ (is_spent (with_part h header done) p || (is_nonempty done && spends t.inputs p))
   spent_more p =
       spent_form (done ++ t ∷ []) p ∙ ap (λ b. list_any (is_spent_in p) h.blocks || b) (spent_push done t p)
-      ∙ sym (or_both (list_any (is_spent_in p) h.blocks) (any_spends (drop 1 done) p) (is_full done && spends t.inputs p))
-      ∙ ap (λ b. b || (is_full done && spends t.inputs p)) (sym (spent_form done p))
+      ∙ sym (or_both (list_any (is_spent_in p) h.blocks) (any_spends (drop 1 done) p) (is_nonempty done && spends t.inputs p))
+      ∙ ap (λ b. b || (is_nonempty done && spends t.inputs p)) (sym (spent_form done p))
 
   known_form : (d : List Tx) (id : List ℕ) → is_known_txid (with_part h header d) id
       ≡ (is_known_txid h id || list_any (λ x. bytes_eq (txid_of x) id) d)

@@ -6,7 +6,7 @@ use Rattle.gate_tx.specs.declared.OutPoint.{OutPoint}
 use Rattle.gate_tx.specs.declared.TxIn.{TxIn}
 use Rattle.gate_tx.specs.Coins.{point_eq, is_null}
 use Rattle.gate_tx.specs.Ids.{txid_of}
-use Rattle.gate_tx.specs.Text.{is_full}
+use Rattle.gate_tx.specs.Text.{is_nonempty}
 use Rattle.gate_tx.specs.Tx.{Tx}
 use Rattle.gate_chain.specs.declared.block.Block.{Block}
 use Rattle.gate_chain.specs.declared.denial.ChainDenial.{ChainDenial}
@@ -66,7 +66,7 @@ head_rules h block =
 unfoldable pub transaction_rules : History → List ℕ → List Tx → Tx → List (Rule ChainDenial)
 transaction_rules h header done tx =
     (TxidRepeated, is_known_txid (with_part h header done) (txid_of tx))
-    ∷ (BlockInputs, is_full done && missing (λ p. is_some (coin_of (with_part h header done) p)) tx.inputs)
+    ∷ (BlockInputs, is_nonempty done && missing (λ p. is_some (coin_of (with_part h header done) p)) tx.inputs)
     ∷ []
 
 -- what is asked of each of the transactions that are left

@@ -2,7 +2,7 @@
 ghost use Rattle.std.specs.Prelude.{◌≡◌, ℕ, ◌+◌, ◌<◌, ◌≤◌, ◌++◌, ◌∷◌, ◌&&◌, ◌||◌, [], List, map, take, drop, not, true, false, cond, length, Some, None, is_some, IfOk, OnErr, OnOk, if◌then◌else◌};
 ghost use Rattle.std.specs.Str.{bytes_eq};
 ghost use Rattle.gate_tx.specs.Ids.{txid_of};
-ghost use Rattle.gate_tx.specs.Text.{is_full};
+ghost use Rattle.gate_tx.specs.Text.{is_nonempty};
 ghost use Rattle.gate_tx.specs.Tx.{Tx};
 ghost use Rattle.gate_tx.specs.declared.OutPoint.{OutPoint as Point};
 ghost use Rattle.indexmap.specs.IndexSet.{contains, spare as set_spare};
@@ -82,7 +82,7 @@ fn enter<S: BuildHasher + Copy + Drop>(
     coinbase: bool,
     tx: &Transaction,
 ) -> Result<(), ChainFault>
-    ensures { (h : History) (header : List ℕ) (done : List Tx) → Opens h opened.now.keys height → coinbase ≡ not (is_full done)
+    ensures { (h : History) (header : List ℕ) (done : List Tx) → Opens h opened.now.keys height → coinbase ≡ not (is_nonempty done)
         → AreMaps (with_part h header done) coins.old.entries txids.old.keys
         → Enters h header done tx.now result coins.new.entries txids.new.keys }
 {
@@ -95,7 +95,7 @@ fn enter<S: BuildHasher + Copy + Drop>(
     if !found {
         return Err(ChainFault::Denied(ChainDenial::BlockInputs));
     }
-    tx.is();
+    tx.tells_invariant();
     match make(alloc, coins, id, height, coinbase, tx.outputs()) {
         Ok(()) => {
             note(txids, id);

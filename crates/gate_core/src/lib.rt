@@ -7,6 +7,7 @@
 mod address;
 mod caller;
 mod event;
+mod examples;
 mod laws;
 mod opening;
 mod parts;
@@ -29,5 +30,3 @@ pub use refusal::{Refusal, Then};
 pub use reply::Reply;
 pub use state::{State, StepFault};
 
-#[cfg(test)]
-mod tests;

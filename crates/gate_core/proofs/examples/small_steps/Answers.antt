@@ -1,6 +1,6 @@
 use Rattle.std.proofs.Common.{refl}
 use Rattle.gate_core.specs.Steps.{step_of}
-use Rattle.gate_core.proofs.tests.small_steps.Goals as goal
+use Rattle.gate_core.proofs.examples.small_steps.Goals as goal
 
 pub returns-clause-small : goal.returns-clause-small
 unfolding step_of
