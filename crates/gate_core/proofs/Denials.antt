@@ -4,14 +4,15 @@ use Rattle.std.proofs.lemmas.List.Elements.{All-head, All-tail}
 use Rattle.gate_bytes.specs.Order.{first_failing}
 use Rattle.gate_tx.specs.Tx.{Tx}
 use Rattle.gate_standard.specs.declared.Denial.{Denial}
+use Rattle.gate_admit.specs.declared.Attempt.TheVariants.{First}
 use Rattle.gate_admit.specs.declared.Grant.{Grant}
 use Rattle.gate_admit.specs.Rules.{decision_of}
-use Rattle.gate_admit.specs.Submission.{entered as entries_of, submit_of}
+use Rattle.gate_admit.specs.Submission.{entries_after, submit_of}
 use Rattle.gate_core.specs.declared.event.Event.{Event}
 use Rattle.gate_core.specs.declared.event.Event.TheVariants.{Enter, Leave, Tx as Submit, Mempool}
 use Rattle.gate_core.specs.declared.refusal.Refusal.{Refusal}
 use Rattle.gate_core.specs.declared.reply.Reply.{Reply}
-use Rattle.gate_core.specs.World.{World}
+use Rattle.gate_core.specs.World.{World, standing_of}
 use Rattle.gate_core.specs.Access.{entering_rules, session_rules, submission_rules, listing_rules}
 use Rattle.gate_core.specs.PeerSteps.{concluded, answered, entered, left, submitted, listed}
 use Rattle.gate_core.specs.Steps.{step_of}
@@ -23,8 +24,8 @@ abbrev pub IsAsIn : World → World → Type 0
 IsAsIn w v = (v.chain ≡ w.chain) × (v.pool ≡ w.pool) × (v.floor ≡ w.floor)
 
 concluded_denied : (w : World) (peer now : ℕ) (transaction : Option Tx) (decision : Result Grant Denial)
-    → IsDenied (concluded w peer transaction (record { decision = decision; entries = entries_of w.pool decision transaction now; floor = w.floor })).0
-    → IsAsIn w (concluded w peer transaction (record { decision = decision; entries = entries_of w.pool decision transaction now; floor = w.floor })).1
+    → IsDenied (concluded w peer transaction (record { decision = decision; entries = entries_after w.pool decision transaction now; floor = w.floor })).0
+    → IsAsIn w (concluded w peer transaction (record { decision = decision; entries = entries_after w.pool decision transaction now; floor = w.floor })).1
 concluded_denied w peer now None (Ok grant) h = (refl, refl, refl)
 concluded_denied w peer now None (Err denial) h = (refl, refl, refl)
 concluded_denied w peer now (Some tx) (Ok grant) h = absurd h
@@ -32,7 +33,7 @@ concluded_denied w peer now (Some tx) (Err denial) h = (refl, refl, refl)
 
 submitted_denied : (w : World) (peer now : ℕ) (transaction : Option Tx) → IsDenied (submitted w peer now transaction).0 → IsAsIn w (submitted w peer now transaction).1
 unfolding submit_of
-submitted_denied w peer now transaction h = concluded_denied w peer now transaction (decision_of w.chain w.pool w.floor transaction w.verdicts) h
+submitted_denied w peer now transaction h = concluded_denied w peer now transaction (decision_of First (standing_of w) transaction) h
 
 answered_denied : (w : World) (peer : ℕ) (served : Reply × World) (refusal : Option Refusal) → (IsDenied served.0 → IsAsIn w served.1)
     → IsDenied (answered w peer served refusal).0 → IsAsIn w (answered w peer served refusal).1

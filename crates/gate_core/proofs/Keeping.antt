@@ -1,5 +1,5 @@
 -- A step keeps the pool good, and brings in no transaction but its event's.
-use Rattle.std.proofs.Common.{◌≡◌, ℕ, Bool, true, false, cond, not, List, [], ◌∷◌, ◌++◌, map, filter, Contains, ⊎_elim, Option, Some, None, Result, Ok, Err, refl, sym, ap, subst, arith}
+use Rattle.std.proofs.Common.{◌≡◌, ℕ, Bool, true, false, cond, not, List, [], ◌∷◌, ◌++◌, map, filter, Contains, IfOk, ⊎_elim, Option, Some, None, Result, Ok, Err, refl, sym, ap, subst, arith}
 use Rattle.std.specs.Option.{option_to_list}
 use Rattle.std.specs.List.{list_any}
 use Rattle.std.proofs.lemmas.List.Elements.{Contains-append_left, Contains-append_right, Contains-append_cases}
@@ -65,6 +65,10 @@ opened_good o = record {
   pool = empty_good (limits_of (opened_world o)) (opened_world o).chain;
 }
 
+pub all_opened_good : {E : Type 0} (o : Start) (r : Result World E) → IfOk r (λ w. w ≡ opened_world o) → IfOk r IsGoodWorld
+all_opened_good o (Ok w) h = subst IsGoodWorld (sym h) (opened_good o)
+all_opened_good o (Err e) h = tt
+
 pub step_good : (w : World) (event : Event) → StaysApart w event → IsGoodWorld w → IsGoodWorld (step_of w event).1
 unfolding step_of
 step_good w (Enter peer address) new good = answered_good w peer (entered w peer address) (first_failing (entering_rules w.sessions peer)) good (same_good w _ refl refl refl good)
@@ -123,11 +127,11 @@ step_chain w (Mempool peer) = answered_chain w peer (listed w) (first_failing (l
 
 Contains-map_filter : {X Y : Type 0} (f : X → Y) (p : X → Bool) (xs : List X) (y : Y) → Contains (map f (filter p xs)) y → Contains (map f xs) y
 Contains-map_filter f p [] y h = h
-Contains-map_filter {X} {Y} f p (x ∷ xs) y h = go (p x) h
+Contains-map_filter {X} {Y} f p (x ∷ xs) y h = go (Contains-map_filter f p xs y) (p x) h
   where
-    go : (b : Bool) → Contains (map f (cond b (x ∷ filter p xs) (filter p xs))) y → Contains (f x ∷ map f xs) y
-    go true k = ⊎_elim (λ (e : f x ≡ y). subst (λ (z : Y). Contains (f x ∷ map f xs) z) e (Contains-head (f x) (map f xs))) (λ c. Contains-rest (f x) (map f xs) y (Contains-map_filter f p xs y c)) (Contains-cons_cases (f x) (map f (filter p xs)) y k)
-    go false k = Contains-rest (f x) (map f xs) y (Contains-map_filter f p xs y k)
+    go : (Contains (map f (filter p xs)) y → Contains (map f xs) y) → (b : Bool) → Contains (map f (cond b (x ∷ filter p xs) (filter p xs))) y → Contains (f x ∷ map f xs) y
+    go ih true k = ⊎_elim (λ (e : f x ≡ y). subst (λ (z : Y). Contains (f x ∷ map f xs) z) e (Contains-head (f x) (map f xs))) (λ c. Contains-rest (f x) (map f xs) y (ih c)) (Contains-cons_cases (f x) (map f (filter p xs)) y k)
+    go ih false k = Contains-rest (f x) (map f xs) y (ih k)
 
 entered_from : (entries : List Admitted) (decision : Result Grant Denial) (transaction : Option Tx) (now : ℕ) (tx : Tx)
     → Contains (map (λ (e : Admitted). e.tx) (entries_after entries decision transaction now)) tx → Contains (map (λ (e : Admitted). e.tx) entries ++ option_to_list transaction) tx
@@ -135,8 +139,8 @@ entered_from entries (Err denial) transaction now tx h = Contains-append_left _ 
 entered_from entries (Ok grant) None now tx h = Contains-append_left _ _ tx h
 entered_from entries (Ok grant) (Some other) now tx h =
     let stays = without_below (is_conflict other) entries in
-    ⊎_elim (λ k. Contains-append_left _ _ tx (Contains-map_filter (λ (e : Admitted). e.tx) (λ e. not (is_below_some (is_conflict other) entries e)) entries tx k))
-    (λ k. Contains-append_right _ _ tx k)
+    ⊎_elim (λ k. Contains-append_left (map (λ (e : Admitted). e.tx) entries) (other ∷ []) tx (Contains-map_filter (λ (e : Admitted). e.tx) (λ e. not (is_below_some (is_conflict other) entries e)) entries tx k))
+    (λ k. Contains-append_right (map (λ (e : Admitted). e.tx) entries) (other ∷ []) tx k)
     (Contains-append_cases (map (λ (e : Admitted). e.tx) stays) (other ∷ []) tx (subst (λ l. Contains l tx) (map-append (λ (e : Admitted). e.tx) stays (admitted other grant now ∷ [])) h))
 
 submission_from : (over : Standing) (transaction : Option Tx) (now budget : ℕ) (tx : Tx)

@@ -11,7 +11,7 @@ use Rattle.gate_core.specs.declared.event.Event.TheVariants.{Enter, Leave, Tx as
 use Rattle.gate_core.specs.declared.refusal.Refusal.{Refusal}
 use Rattle.gate_core.specs.declared.reply.Reply.{Reply}
 use Rattle.gate_core.specs.declared.reply.Reply.TheVariants.{Listing}
-use Rattle.gate_core.specs.World.{World}
+use Rattle.gate_core.specs.World.{World, standing_of}
 use Rattle.gate_core.specs.Access.{entering_rules, session_rules, submission_rules, listing_rules}
 use Rattle.gate_core.specs.PeerSteps.{decided, answered, entered, left, submitted, listed}
 use Rattle.gate_core.specs.Steps.{step_of}
@@ -24,7 +24,7 @@ decided_lists w peer (Some tx) (Err denial) txids h = cc
 
 submitted_lists : (w : World) (peer now : ℕ) (transaction : Option Tx) (txids : List (List ℕ)) → (submitted w peer now transaction).0 ≡ Listing txids → txids ≡ listing_of w.pool
 submitted_lists w peer now transaction txids h =
-    let s = submit_of w.chain w.pool w.floor transaction w.verdicts now w.budget in
+    let s = submit_of (standing_of w) transaction now w.budget in
     absurd (decided_lists (record w { pool = s.entries; floor = s.floor }) peer transaction s.decision txids h)
 
 answered_lists : (w : World) (peer : ℕ) (served : Reply × World) (refusal : Option Refusal) (txids : List (List ℕ))

@@ -20,7 +20,7 @@ use Rattle.gate_core.specs.Permissions.{Permissions}
 use Rattle.gate_core.specs.Callers.{caller_of}
 use Rattle.gate_core.specs.Refusals.{then_of}
 use Rattle.gate_core.specs.Sessions.{Session, session, session_of, flags_in, closed}
-use Rattle.gate_core.specs.World.{World, flags_at}
+use Rattle.gate_core.specs.World.{World, flags_at, standing_of}
 use Rattle.gate_core.specs.Access.{entering_rules, session_rules, submission_rules, listing_rules}
 use Rattle.gate_core.specs.PeerSteps.{sessions_after, decided, answered, entered, left, submitted, listed}
 use Rattle.gate_core.specs.Steps.{step_of}
@@ -58,7 +58,7 @@ decided_leaves w peer other (Some tx) (Err denial) h = after_leaves (then_of (fl
 
 submitted_leaves : (w : World) (peer other now : ℕ) (transaction : Option Tx) → other ≢ peer → session_of (submitted w peer now transaction).1.sessions other ≡ session_of w.sessions other
 submitted_leaves w peer other now transaction h =
-    let s = submit_of w.chain w.pool w.floor transaction w.verdicts now w.budget in
+    let s = submit_of (standing_of w) transaction now w.budget in
     decided_leaves (record w { pool = s.entries; floor = s.floor }) peer other transaction s.decision h
 
 answered_leaves : (w : World) (peer other : ℕ) (served : Reply × World) (refusal : Option Refusal) → other ≢ peer

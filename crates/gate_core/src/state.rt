@@ -48,11 +48,8 @@ impl<S: BuildHasher + Copy + Drop> Model for State<S> {
 }
 
 impl<S: BuildHasher + Copy + Drop> State<S> {
-    /// The state of an opening, with an empty pool; the hasher's state serves every map of ids and outpoints. A fault names
-    /// the first coin in the list that fails.
-    pub fn open(alloc: Global, hasher: S, opening: Opening<S>) -> Result<State<S>, OpenFault>
+    fn opened(alloc: Global, hasher: S, opening: Opening<S>) -> Result<State<S>, OpenFault>
         ensures ok { IfOk result (λ state. state ≡ opened_world opening) }
-        ensures good { IfOk result IsGoodWorld }
         ensures fault { IsRefusedFor (open_fault opening.coins opening.times) result }
     {
         let Opening {
@@ -63,7 +60,9 @@ impl<S: BuildHasher + Copy + Drop> State<S> {
             bloom,
         } = opening;
         let chain = Chain::open(alloc, hasher, coins.into_vec(), times.into_vec())?;
-        let pool = Pool::new(alloc, hasher)?;
+        let Ok(pool) = Pool::new(alloc, hasher) else {
+            return Err(OpenFault::Memory);
+        };
         Ok(State {
             parts: Parts {
                 chain,
@@ -75,6 +74,16 @@ impl<S: BuildHasher + Copy + Drop> State<S> {
                 bloom,
             },
         })
+    }
+
+    /// The state of an opening, with an empty pool; the hasher's state serves every map of ids and outpoints. A fault names
+    /// the first coin in the list that fails.
+    pub fn open(alloc: Global, hasher: S, opening: Opening<S>) -> Result<State<S>, OpenFault>
+        ensures ok { IfOk result (λ state. state ≡ opened_world opening) }
+        ensures good { IfOk result IsGoodWorld }
+        ensures fault { IsRefusedFor (open_fault opening.coins opening.times) result }
+    {
+        State::opened(alloc, hasher, opening)
     }
 
     /// The step, whatever the state and the event.
