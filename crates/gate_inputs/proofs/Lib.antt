@@ -1,3 +1,4 @@
 pub mod Ends
+pub mod Costs
 pub mod Forms
 pub mod Redeeming

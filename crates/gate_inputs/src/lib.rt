@@ -5,7 +5,9 @@
 #![tactic(auto)]
 
 mod answer;
+mod examples;
 mod judging;
+mod law;
 mod piece;
 mod reporting;
 mod witness;
@@ -13,6 +15,7 @@ mod witness;
 pub use answer::Answers;
 pub use gate_tx::Coin;
 pub use judging::answers;
+pub use law::costs_are_exact;
 pub use piece::Piece;
 pub use reporting::{InputReport, report};
 

@@ -69,15 +69,6 @@ fn items_and_script(
     Ok(witness)
 }
 
-/// An item of a size, a leaf script and what stands last.
-fn taproot_witness(rt: &HostRuntime, size: usize, last: &[u8]) -> Result<Vec<Kept<u8>>, Fail> {
-    let mut witness = Vec::new(rt.alloc());
-    witness.push(filled(rt, 1, size)?)?;
-    witness.push(filled(rt, 2, 500)?)?;
-    witness.push(Kept::from_vec(last.to_vec(rt.alloc())?))?;
-    Ok(witness)
-}
-
 const SCRIPT_HASH: [u8; 23] = [
     0xa9, 20, 1, 1, 1, 1, 1, 1, 1, 1, 1, 1, 1, 1, 1, 1, 1, 1, 1, 1, 1, 1, 0x87,
 ];
@@ -89,11 +80,6 @@ const KEY_HASH: [u8; 25] = [
 const WITNESS_SCRIPT_HASH: [u8; 34] = [
     0, 32, 2, 2, 2, 2, 2, 2, 2, 2, 2, 2, 2, 2, 2, 2, 2, 2, 2, 2, 2, 2, 2, 2, 2, 2, 2, 2, 2, 2, 2,
     2, 2, 2,
-];
-
-const TAPROOT: [u8; 34] = [
-    0x51, 32, 2, 2, 2, 2, 2, 2, 2, 2, 2, 2, 2, 2, 2, 2, 2, 2, 2, 2, 2, 2, 2, 2, 2, 2, 2, 2, 2, 2,
-    2, 2, 2, 2,
 ];
 
 /// A push of a witness key hash program.
@@ -184,41 +170,6 @@ fn witness_scripts(rt: HostRuntime) -> Result<(), Fail> {
     let witness = items_and_script(&rt, 1, 80, 3601)?;
     assert_eq!(rt;
         is_reported(&rt, &WITNESS_SCRIPT_HASH, &[], witness, (true, false, 3601))?,
-        true
-    );
-    Ok(())
-}
-
-#[test]
-fn taproot_leaf_scripts(rt: HostRuntime) -> Result<(), Fail> {
-    let witness = taproot_witness(&rt, 80, &[0xc0])?;
-    assert_eq!(rt;
-        is_reported(&rt, &TAPROOT, &[], witness, (true, true, 0))?,
-        true
-    );
-    let witness = taproot_witness(&rt, 81, &[0xc1])?;
-    assert_eq!(rt;
-        is_reported(&rt, &TAPROOT, &[], witness, (true, false, 0))?,
-        true
-    );
-    let witness = taproot_witness(&rt, 81, &[0xc2])?;
-    assert_eq!(rt;
-        is_reported(&rt, &TAPROOT, &[], witness, (true, true, 0))?,
-        true
-    );
-    Ok(())
-}
-
-#[test]
-fn taproot_annexes(rt: HostRuntime) -> Result<(), Fail> {
-    let witness = taproot_witness(&rt, 80, &[0x50])?;
-    assert_eq!(rt;
-        is_reported(&rt, &TAPROOT, &[], witness, (true, false, 0))?,
-        true
-    );
-    let witness = taproot_witness(&rt, 80, &[])?;
-    assert_eq!(rt;
-        is_reported(&rt, &TAPROOT, &[], witness, (true, false, 0))?,
         true
     );
     Ok(())

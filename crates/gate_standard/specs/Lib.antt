@@ -3,3 +3,4 @@ pub mod Denials
 pub mod Examples
 pub mod Outputs
 pub mod Rules
+pub mod Laws

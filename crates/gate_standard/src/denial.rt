@@ -216,6 +216,11 @@ impl Denial {
 }
 
 impl fmt::Display for Denial {
+    ghost use Rattle.std.specs.Prelude.{Some};
+    ghost use Rattle.gate_standard.specs.Denials.{token_of};
+
+    ghost output = { λ denial. Some (token_of denial) };
+
     fn fmt<W: fmt::Write>(&self, f: &mut fmt::Formatter<W>) -> fmt::Result {
         write!(f, "{}", self.token())
     }

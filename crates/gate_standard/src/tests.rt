@@ -84,20 +84,6 @@ fn denials_in_print(rt: HostRuntime) -> Result<(), Fail> {
 }
 
 #[test]
-fn fees_and_rates(rt: HostRuntime) {
-    assert_eq!(rt; fee_at(3000, 98), 294);
-    assert_eq!(rt; fee_at(1, 1), 1);
-    assert_eq!(rt; fee_at(0, 5), 0);
-    assert_eq!(rt; fee_at(5, 0), 0);
-    assert_eq!(rt;
-        fee_at(u64::MAX, u64::MAX),
-        340_282_366_920_938_463_426_481_119_284_349_108
-    );
-    assert_eq!(rt; rate_of(1000, 110), 9090);
-    assert_eq!(rt; rate_of(u64::MAX, 1), 18_446_744_073_709_551_615_000);
-}
-
-#[test]
 fn dust_of_each_template(rt: HostRuntime) -> Result<(), Fail> {
     let thresholds: [(&[&[u8]], u64); 7] = [
         (&[&[0x76, 0xa9, 20], &[0x22; 20], &[0x88, 0xac]], 546),
@@ -111,30 +97,6 @@ fn dust_of_each_template(rt: HostRuntime) -> Result<(), Fail> {
     for (parts, threshold) in thresholds {
         let output = paying(rt.alloc(), 0, parts)?;
         assert_eq!(rt; dust_threshold(&output), threshold);
-    }
-    Ok(())
-}
-
-#[test]
-fn values_of_outputs(rt: HostRuntime) -> Result<(), Fail> {
-    let all: i64 = 2_100_000_000_000_000;
-    let cases: [(&[i64], Option<Denial>); 7] = [
-        (&[], Some(Denial::VoutEmpty)),
-        (&[-1], Some(Denial::VoutNegative)),
-        (&[all + 1], Some(Denial::VoutTooLarge)),
-        (&[all, 1], Some(Denial::TotalTooLarge)),
-        (&[all, 1, -1], Some(Denial::TotalTooLarge)),
-        (&[all - 294, 294], None),
-        (&[all], None),
-    ];
-    let alloc = rt.alloc();
-    for (values, want) in cases {
-        let mut outputs = Vec::new(alloc);
-        for value in values {
-            outputs.push(to_witness_key(alloc, *value)?)?;
-        }
-        let inputs = vec![in alloc; spending(alloc, 0x11, &[])?]?;
-        assert_eq!(rt; first_denial(alloc, 2, inputs, outputs)?, want);
     }
     Ok(())
 }
@@ -205,23 +167,6 @@ fn inputs_of_a_transaction(rt: HostRuntime) -> Result<(), Fail> {
 }
 
 #[test]
-fn versions(rt: HostRuntime) -> Result<(), Fail> {
-    let alloc = rt.alloc();
-    for (version, want) in [
-        (1, None),
-        (2, None),
-        (3, Some(Denial::Version)),
-        (0, Some(Denial::Version)),
-        (-1, Some(Denial::Version)),
-    ] {
-        let inputs = vec![in alloc; spending(alloc, 0x11, &[])?]?;
-        let outputs = vec![in alloc; to_witness_key(alloc, 99_890)?]?;
-        assert_eq!(rt; first_denial(alloc, version, inputs, outputs)?, want);
-    }
-    Ok(())
-}
-
-#[test]
 fn standard_outputs(rt: HostRuntime) -> Result<(), Fail> {
     let alloc = rt.alloc();
     let cases = [
@@ -283,34 +228,4 @@ fn of_keys(alloc: Global, count: u8) -> Result<TxOut, Fail> {
     }
     script.extend_from_slice(&[0x50 | count, 0xae])?;
     paying(alloc, 1000, &[script.as_slice()])
-}
-
-/// One input and one output with a script of `length` bytes: 64 bytes and the script.
-fn of_script_length(alloc: Global, length: usize) -> Result<Option<Denial>, Fail> {
-    let script = vec![in alloc; 0x22; length]?;
-    let inputs = vec![in alloc; spending(alloc, 0x11, &[])?]?;
-    let outputs = vec![in alloc; paying(alloc, 1000, &[script.as_slice()])?]?;
-    first_denial(alloc, 2, inputs, outputs)
-}
-
-#[test]
-fn sizes_at_their_limits(rt: HostRuntime) -> Result<(), Fail> {
-    let alloc = rt.alloc();
-    assert_eq!(rt;
-        of_script_length(alloc, 100_000 - 64)?,
-        Some(Denial::ScriptPubKey)
-    );
-    assert_eq!(rt;
-        of_script_length(alloc, 100_000 - 63)?,
-        Some(Denial::TxSize)
-    );
-    assert_eq!(rt;
-        of_script_length(alloc, 1_000_000 - 64)?,
-        Some(Denial::TxSize)
-    );
-    assert_eq!(rt;
-        of_script_length(alloc, 1_000_000 - 63)?,
-        Some(Denial::Oversize)
-    );
-    Ok(())
 }

@@ -1,0 +1,5 @@
+use Rattle.gate_inputs.proofs.Costs.{costs_are_exact}
+use Rattle.gate_inputs.proofs.law.costs_are_exact.Goals as goal
+
+pub returns : goal.returns
+returns c = costs_are_exact
