@@ -1,17 +1,25 @@
-# make gate    builds the program, and says where it lies
-# make demo    builds it, and prints its replies to examples/first-path.txt
+# make gate    proves and builds the program crate by crate, and says where it lies
+# make demo    prints its replies to examples/first-path.txt: by the proved program where it is built, else compiled without the proofs, in about a minute
 # make check   quick: proves what changed since the last check, crate by crate
-# make test    everything from nothing: proofs, must-fail edits, tests, programs, and then the rows on the built program
-# make bench   what the program does in a second
-.PHONY: gate demo check test bench build
+# make test    everything from nothing: proofs, must-fail edits, tests, programs; then the rows and the program's own tests on the built program
+# make try     the rows and the program's own tests alone, on the built program
+# make bench   what the program costs; make bench LONG=1 runs the longest stream too
+#
+# rows/      worked rows: input, output and status of one run each
+# tests/     the program's own tests: what no contract can see, and random streams next to a plain model
+# bench/     the streams and figures of make bench
+# examples/  what the examples in the help read
+# tools/     what stands behind these words
+.PHONY: gate demo check test try bench build
 
 PROGRAM := crates/gate/out/gate
 
 gate: build
 	@echo "$(PROGRAM)"
 
-demo: build
-	@$(PROGRAM) run < examples/first-path.txt
+demo:
+	@tools/need rt
+	@tools/demo $(PROGRAM)
 
 check:
 	@tools/need rt
@@ -21,10 +29,13 @@ test:
 	@tools/need rt python3
 	@tools/test $(PROGRAM)
 
+try: build
+	@rows/run $(PROGRAM)
+	@tests/run $(PROGRAM)
+
 bench: build
-	@tools/need python3
-	@bench/run $(PROGRAM)
+	@bench/run $(if $(LONG),--long) $(PROGRAM)
 
 build:
-	@tools/need rt
+	@tools/need rt python3
 	@tools/build $(PROGRAM)

@@ -1,13 +1,18 @@
 #!/usr/bin/env python3
-"""stream.py COUNT: an opening with COUNT coins, and COUNT submissions, each of which spends one of them.
+"""stream.py COUNT [FEE]: an opening with COUNT coins, and COUNT submissions, each of which spends one of them.
 
 No submission depends on another. Each has one input with a witness of a signature's and a key's length, and
-one output: 192 bytes, 110 virtual bytes, a fee of 110 satoshi.
+one output: 192 bytes, 110 virtual bytes, a fee of FEE satoshi, 110 where it is not given.
 """
 
 import sys
 
 SCRIPT = "0014" + "22" * 20
+WITNESS = "02" + "48" + "30" * 72 + "21" + "02" * 33
+VALUE = 100000
+SETTINGS = "budget 1000000000\ntimes 101 1000 600\nverdict * %s\nbloom 1\n"
+BREAK = "---\n"
+ENTER = "peer 1 enter 192.0.2.1\n"
 
 
 def hash_of(number):
@@ -19,25 +24,35 @@ def reversed_bytes(text):
     return bytes.fromhex(text)[::-1].hex()
 
 
-def transaction(number):
-    return (
-        "02000000" "0001" "01"
-        + hash_of(number) + "00000000" + "00" + "fdffffff"
-        + "01" + (99890).to_bytes(8, "little").hex() + "16" + SCRIPT
-        + "02" + "48" + "30" * 72 + "21" + "02" * 33
-        + "00000000"
-    )
+def count_of(number):
+    """A CompactSize count."""
+    return number.to_bytes(1, "little").hex() if number < 253 else "fd" + number.to_bytes(2, "little").hex()
 
 
-def main(count):
+def transaction(inputs, values, witness=True):
+    """A transaction in hexadecimal that spends coins by their numbers to outputs of these values."""
+    spent = "".join(hash_of(number) + "00000000" + "00" + "fdffffff" for number in inputs)
+    outputs = "".join(value.to_bytes(8, "little").hex() + "16" + SCRIPT for value in values)
+    flag, witnesses = ("0001", WITNESS * len(inputs)) if witness else ("", "")
+    return "02000000" + flag + count_of(len(inputs)) + spent + count_of(len(values)) + outputs + witnesses + "00000000"
+
+
+def coins(count, value=VALUE):
+    for number in range(1, count + 1):
+        yield "coin %s 0 %d 1 plain %s\n" % (reversed_bytes(hash_of(number)), value, SCRIPT)
+
+
+def submission(digits):
+    return "peer 1 tx 5000 %s\n" % digits
+
+
+def main(count, fee=110):
     out = sys.stdout
-    out.write("budget 1000000000\ntimes 101 1000 600\nverdict * ok\nbloom 1\n")
-    for number in range(1, count + 1):
-        out.write("coin %s 0 100000 1 plain %s\n" % (reversed_bytes(hash_of(number)), SCRIPT))
-    out.write("---\npeer 1 enter 192.0.2.1\n")
-    for number in range(1, count + 1):
-        out.write("peer 1 tx 5000 %s\n" % transaction(number))
+    out.write(SETTINGS % "ok")
+    out.writelines(coins(count))
+    out.write(BREAK + ENTER)
+    out.writelines(submission(transaction([number], [VALUE - fee])) for number in range(1, count + 1))
 
 
 if __name__ == "__main__":
-    main(int(sys.argv[1]))
+    main(*map(int, sys.argv[1:]))

@@ -1,0 +1,152 @@
+"""The words of the command line, help, usage, and `gate check`."""
+
+import os
+import subprocess
+
+from bitcoin import padded, payment
+from gate import ROOT, same, true
+
+# the transaction of the genesis block
+GENESIS = (
+    "01000000" "01" + "00" * 32 + "ffffffff"
+    "4d" "04ffff001d0104455468652054696d65732030332f4a616e2f32303039204368616e63656c6c6f72206f6e206272696e6b"
+    "206f66207365636f6e64206261696c6f757420666f722062616e6b73" "ffffffff"
+    "01" "00f2052a01000000" "43"
+    "4104678afdb0fe5548271967f1a67130b7105cd6a828e03909a67962e0ea1f61deb649f6bc3f4cef38c4f35504e51ec112de5c384df7ba0b8d578a4c702b6bf11d5fac"
+    "00000000"
+)
+GENESIS_ID = "4a5e1e4baab89f3a32518a88c31bc87f618f76673e2cc77ab2127b7afdeda33b"
+GENESIS_CHECK = "%s %s 816\ndenied A11 coinbase\n" % (GENESIS_ID, GENESIS_ID)
+UNDECODABLE = b"denied A1 tx-decode\n"
+
+
+def ends(gate, words, stdin, status, stdout):
+    """The program prints this, nothing on standard error, and ends with this status."""
+    done = gate.run(words, stdin)
+    same("standard output", done.stdout, stdout.encode() if isinstance(stdout, str) else stdout)
+    same("standard error", done.stderr, b"")
+    same("status", done.status, status)
+
+
+def is_usage(gate, words):
+    """A fault of usage: nothing on standard output, the usage on standard error, status 2."""
+    done = gate.run(words)
+    same("standard output of gate " + words, done.stdout, b"")
+    true("no usage on standard error of gate %s: %r" % (words, done.stderr), b"Usage: gate" in done.stderr)
+    same("status of gate " + words, done.status, 2)
+
+
+def help_of(gate, words):
+    done = gate.run(words)
+    same("standard error of gate " + words, done.stderr, b"")
+    same("status of gate " + words, done.status, 0)
+    text = done.stdout.decode()
+    true("no usage in the help of gate %s: %r" % (words, text), "Usage: gate" in text)
+    return text
+
+
+def examples(text):
+    """The commands that stand as examples in a help text."""
+    return [line.strip() for line in text.splitlines() if line.startswith("  gate ") and "Usage" not in line]
+
+
+def test_gate_alone(gate):
+    """`gate` alone is a fault of usage."""
+    is_usage(gate, "")
+
+
+def test_words_that_ask_for_nothing(gate):
+    """Unknown commands, missing words, words too many and unknown options are faults of usage."""
+    for words in ("check", "check 00 00", "check - -", "run -", "run x", "run run", "admit", "--nothing", "run --nothing", "check --nothing", "RUN"):
+        is_usage(gate, words)
+
+
+def test_words_that_are_no_text(gate):
+    """A word that is not UTF-8 is a fault of usage, told in one line."""
+    done = subprocess.run([os.fsencode(gate.program), b"check", b"\xff"], capture_output=True)
+    same("standard output", done.stdout, b"")
+    same("standard error", done.stderr, b"gate: a word of the command line is not UTF-8\n")
+    same("status", done.returncode, 2)
+
+
+def test_help(gate):
+    """`gate --help` names the commands, on standard output with status 0."""
+    for words in ("--help", "-h", "help"):
+        text = help_of(gate, words)
+        for word in ("run", "check", "--version"):
+            true("the help does not name %s" % word, word in text)
+
+
+def test_version(gate):
+    """`gate --version` prints the name and the number."""
+    for words in ("--version", "-V"):
+        ends(gate, words, b"", 0, "gate 0.1.0\n")
+
+
+def test_examples_in_the_help(gate):
+    """The help of each command has an example, which works as it stands at the top of the repository."""
+    wanted = {
+        "gate run < examples/first-path.txt": 0,
+        "gate check - < examples/payment.hex": 0,
+        "gate check 01000000000000000000": 1,
+    }
+    found = {words: examples(help_of(gate, words + "--help")) for words in ("", "run ", "check ")}
+    same("examples", sorted(found[""]), sorted(wanted))
+    same("examples of run", found["run "], ["gate run < examples/first-path.txt"])
+    same("examples of check", sorted(found["check "]), sorted(set(wanted) - set(found["run "])))
+    path = dict(os.environ, PATH=os.path.dirname(gate.program) + os.pathsep + os.environ["PATH"])
+    for command in found[""]:
+        done = subprocess.run(["sh", "-c", command], cwd=ROOT, env=path, capture_output=True)
+        same("status of " + command, done.returncode, wanted[command])
+        same("standard error of " + command, done.stderr, b"")
+        true("nothing is printed by " + command, done.stdout)
+
+
+def test_check_of_other_digits(gate):
+    """What is no hexadecimal text of a transaction prints the denial A1 alone."""
+    for word in ("0x" + GENESIS, GENESIS[:-1], GENESIS + "g", GENESIS[:-2], GENESIS + "00", "0", "zz", "\u00e9"):
+        ends(gate, "check " + word, b"", 1, UNDECODABLE)
+
+
+def test_check_takes_either_case(gate):
+    ends(gate, "check " + GENESIS.upper(), b"", 1, GENESIS_CHECK)
+
+
+def test_check_of_the_input(gate):
+    """`gate check -` reads the digits from standard input, without the white space around them."""
+    for digits in (GENESIS, GENESIS.upper() + "\n", " \t\r\n\f" + GENESIS + "\r\n \t\f\n"):
+        ends(gate, "check -", digits, 1, GENESIS_CHECK)
+    good = payment(1, 1000).hex()
+    ends(gate, "check -", good + "\n", 0, "%s %s %d\nstandard\n" % (payment(1, 1000).txid(), payment(1, 1000).wtxid(), payment(1, 1000).weight()))
+
+
+def test_check_of_an_input_without_digits(gate):
+    """Nothing, white space within the digits, other white space and other bytes are no transaction."""
+    half = len(GENESIS) // 2
+    for digits in (b"", b"\n", GENESIS[:half] + "\n" + GENESIS[half:], "\v" + GENESIS, "\u00a0" + GENESIS, b"\xff" + GENESIS.encode(), b"\0", GENESIS + " " + GENESIS, "-"):
+        ends(gate, "check -", digits, 1, UNDECODABLE)
+
+
+def test_check_of_a_long_input(gate):
+    """A transaction of 200,000 digits, the most that is standard, and one byte more."""
+    one = padded(100000, 1, 1000)
+    same("digits", len(one.hex()), 200000)
+    ends(gate, "check -", one.hex() + "\n", 0, "%s %s 400000\nstandard\n" % (one.txid(), one.wtxid()))
+    more = padded(100001, 1, 1000)
+    ends(gate, "check -", more.hex() + "\n", 1, "%s %s 400004\ndenied A13 tx-size\n" % (more.txid(), more.wtxid()))
+
+
+def test_check_of_too_many_bytes(gate):
+    """The greatest text of a transaction has 33,554,432 bytes."""
+    ends(gate, "check -", "00" * 33554433, 1, UNDECODABLE)
+
+
+def test_check_reads_no_further_than_it_says(gate):
+    """`gate check HEX` and `gate run` differ in what they read: a check of a word leaves standard input alone."""
+    folder = os.open(ROOT, os.O_RDONLY)
+    try:
+        done = gate.run("check " + GENESIS, folder)
+    finally:
+        os.close(folder)
+    same("standard output", done.stdout, GENESIS_CHECK.encode())
+    same("standard error", done.stderr, b"")
