@@ -5,8 +5,9 @@
 
 use gate_prog::{ArgsFault, LaneFault, read_args, run_job};
 use std::alloc::{AllocError, AllocFailed};
-use std::io::{BufReader, ErrorKind};
+use std::io::{BufReader, BufWriter, ErrorKind};
 use std::process::ExitCode;
+use std::hash::RandomState;
 use std::{env, io};
 use thiserror::Error;
 
@@ -15,6 +16,8 @@ use thiserror::Error;
 enum Fault {
     #[error("a word of the command line is not UTF-8")]
     Words,
+    #[error("no random numbers for the hash tables")]
+    Random,
     #[error("{0}")]
     Lane(LaneFault),
 }
@@ -23,7 +26,7 @@ impl Fault {
     fn status(self) -> u8 {
         match self {
             Fault::Words => 2,
-            Fault::Lane(_) => 1,
+            Fault::Random | Fault::Lane(_) => 1,
         }
     }
 }
@@ -84,8 +87,14 @@ fn status(rt: &HostRuntime) -> Result<u8, Fault> {
     let Ok(mut reader) = BufReader::new(alloc, rt.reader()) else {
         return Err(Fault::Lane(LaneFault::Memory));
     };
-    let mut writer = io::writer(rt);
-    Ok(run_job(alloc, &job, &mut reader, &mut writer)?)
+    let Ok(mut writer) = BufWriter::new(alloc, io::writer(rt)) else {
+        return Err(Fault::Lane(LaneFault::Memory));
+    };
+    // Peers choose txids and outpoints: with keys that they can't know they can't make them collide.
+    let Ok(hasher) = RandomState::new(rt) else {
+        return Err(Fault::Random);
+    };
+    Ok(run_job(alloc, hasher, &job, &mut reader, &mut writer)?)
 }
 
 /// The status that follows what was printed.

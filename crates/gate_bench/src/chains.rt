@@ -4,6 +4,10 @@ use gate_bytes::Kept;
 use gate_chain::{Chain, OpeningCoin};
 use gate_tx::{Coin, OutPoint, Txid};
 use std::alloc::Global;
+use std::hash::{BuildHasherDefault, FoldHasher};
+
+/// A hasher whose state is the same in each run, so that runs compare.
+pub type Hasher = BuildHasherDefault<FoldHasher>;
 
 /// The outpoint of the coin of this number.
 pub fn outpoint(number: u32) -> OutPoint {
@@ -40,17 +44,17 @@ pub fn coins(alloc: Global, count: u32) -> Result<Vec<OpeningCoin>> {
 }
 
 /// A chain of one block time over these coins.
-pub fn open(alloc: Global, coins: Vec<OpeningCoin>) -> Result<Chain> {
+pub fn open(alloc: Global, coins: Vec<OpeningCoin>) -> Result<Chain<Hasher>> {
     let mut times = Vec::new(alloc);
     times.push(1000)?;
-    match Chain::open(alloc, coins, times) {
+    match Chain::open(alloc, BuildHasherDefault::new(), coins, times) {
         Ok(chain) => Ok(chain),
         Err(fault) => bail!("the coins of the measurement are refused: {fault}"),
     }
 }
 
 /// Looks each coin up, and fails where one is missing.
-pub fn look_up(chain: &Chain, count: u32) -> Result<()> {
+pub fn look_up(chain: &Chain<Hasher>, count: u32) -> Result<()> {
     for number in 0..count {
         if chain.coin(&outpoint(number)).is_none() {
             bail!("coin {number} is missing");

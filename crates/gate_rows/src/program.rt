@@ -2,6 +2,7 @@ ghost use Rattle.std.specs.Prelude.{◌≡◌, ◌≤◌, IfOk};
 
 use gate_prog::{ArgsFault, LaneFault, read_args, run_job};
 use std::alloc::Global;
+use std::hash::{BuildHasherDefault, FoldHasher};
 
 /// What the program writes to standard output for these words, parted by spaces, and this input, and its status. Help is
 /// what it writes; a fault of usage writes nothing here and has status 2.
@@ -27,8 +28,7 @@ pub fn outcome(alloc: Global, words: &str, input: &str) -> Result<(u8, Vec<u8>),
         Err(ArgsFault::Memory) => return Err(LaneFault::Memory),
     };
     let mut reader = input.as_bytes();
-    match run_job(alloc, &job, &mut reader, &mut written) {
-        Ok(status) => Ok((status, written)),
-        Err(fault) => Err(fault),
-    }
+    let hasher: BuildHasherDefault<FoldHasher> = BuildHasherDefault::new();
+    let status = run_job(alloc, hasher, &job, &mut reader, &mut written)?;
+    Ok((status, written))
 }
