@@ -1,13 +1,9 @@
 -- A chain's fields as blocks come and go.
-use Rattle.std.proofs.Common.{Ok, Err, ◌≡◌, ◌≢◌, ℕ, ◌+◌, ◌-◌, ◌<◌, ◌≤◌, nat_le, Bool, true, false, List, [], ◌∷◌, ◌++◌, ◌⊎◌, length, map, take, Option, Some, None, is_some, if◌then◌else◌, refl, sym, ap, subst, ◌∙◌, true≢false, inl, inr, arith, add-one, append-nil, append_assoc, length-append, zero, suc}
+use Rattle.std.proofs.Common.{Ok, ◌≡◌, ℕ, ◌+◌, ◌-◌, ◌<◌, ◌≤◌, nat_le, Bool, true, false, List, [], ◌∷◌, ◌++◌, ◌⊎◌, length, map, take, Option, Some, None, if◌then◌else◌, refl, sym, ap, subst, ◌∙◌, inl, inr, arith, append-nil, append_assoc, length-append, zero, suc}
 use Rattle.std.proofs.lemmas.List.{map-append, length-map, take_all, take-append-le}
 use Rattle.std.proofs.lemmas.Bool.Decides.{nat_tests}
 use Rattle.std.specs.List.{list_any}
-use Rattle.std.specs.Map.{lookup}
-use Rattle.std.specs.Option.{option_or}
 use Rattle.gate_tx.specs.declared.OutPoint.{OutPoint}
-use Rattle.gate_tx.specs.declared.Coin.{Coin}
-use Rattle.gate_tx.specs.Coins.{point_eq}
 use Rattle.gate_chain.specs.declared.block.Block.{Block}
 use Rattle.gate_chain.specs.declared.connected.Connected.{Connected}
 use Rattle.gate_chain.specs.declared.denial.ChainDenial.{ChainDenial}
@@ -15,17 +11,17 @@ use Rattle.gate_chain.specs.declared.fault.ChainFault.{ChainFault}
 use Rattle.gate_chain.specs.declared.denial.ChainDenial.TheVariants.{ChainFull, NoUndo}
 use Rattle.gate_bytes.proofs.OrderLemmas.{found_in_first, found_in_second}
 use Rattle.gate_chain.specs.declared.opening.OpeningCoin.{OpeningCoin}
-use Rattle.gate_chain.specs.Coins.{coin_of, has_txid}
+use Rattle.gate_chain.specs.Coins.{has_txid}
 use Rattle.gate_chain.specs.Connecting.{Tells, grown, block_rules, head_rules, transactions_rules, head_denial, block_denial, undo_denial, transactions_denial}
 use Rattle.gate_chain.specs.Headers.{header_time}
 use Rattle.gate_chain.specs.History.{History}
 use Rattle.gate_chain.specs.Keeping.{IsFaultless, opening_coins, opening_coin}
 use Rattle.gate_chain.specs.declared.marked.Marked.{Marked}
 use Rattle.gate_chain.specs.Linked.{AreMaps, Connects, IsConnected, IsLinked, Opens, history, opening_in}
-use Rattle.gate_chain.specs.Marking.{coins_in, coins_made, is_marked, opening_entry}
+use Rattle.gate_chain.specs.Marking.{coins_in, is_marked, opening_entry}
 use Rattle.std.proofs.Math.Seq.{take-append_seam}
 use Rattle.std.specs.Str.{bytes_eq}
-use Rattle.gate_chain.specs.Times.{times_of, tip_of, mtp_of}
+use Rattle.gate_chain.specs.Times.{times_of, tip_of}
 
 abbrev header_times : List Connected → List ℕ
 header_times cs = map (λ c. header_time c.block.header) cs

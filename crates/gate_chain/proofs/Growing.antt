@@ -1,36 +1,33 @@
 -- One more transaction is entered on top of a history.
 use Rattle.std.proofs.lemmas.Bool.Decides.{nat_tests}
-use Rattle.std.proofs.Common.{◌≡◌, ◌≢◌, ℕ, zero, suc, ◌==◌, ◌+◌, ◌<◌, ◌≤◌, Bool, true, false, cond, not, ◌||◌, ◌&&◌, List, [], ◌∷◌, ◌++◌, length, map, Option, Some, None, is_some, if◌then◌else◌, refl, sym, ap, subst, ◌∙◌, true≢false, arith, append-nil, append_assoc, take, drop, get_or, add-one}
+use Rattle.std.proofs.Common.{◌≡◌, ℕ, zero, suc, ◌==◌, ◌+◌, ◌<◌, ◌≤◌, Bool, true, false, not, ◌||◌, ◌&&◌, List, [], ◌∷◌, ◌++◌, length, map, Option, Some, None, is_some, if◌then◌else◌, refl, sym, ap, subst, ◌∙◌, true≢false, arith, append-nil, append_assoc, take, drop, get_or, add-one}
 use Rattle.std.specs.Prelude.{pos}
 use Rattle.std.proofs.Math.Seq.{drop-cons, take-append_seam}
 use Rattle.std.proofs.lemmas.List.{take-append-drop, map-append, take-map, take_all, take_more, length-map}
-use Rattle.std.proofs.lemmas.List.Folds.{list_any-append}
 use Rattle.std.specs.List.{list_any}
 use Rattle.std.specs.Map.{lookup}
 use Rattle.std.specs.Option.{option_or}
 use Rattle.std.specs.Str.{bytes_eq}
 use Rattle.gate_tx.specs.declared.OutPoint.{OutPoint}
 use Rattle.gate_tx.specs.declared.TxIn.{TxIn}
-use Rattle.gate_tx.specs.declared.Coin.{Coin}
 use Rattle.gate_bytes.proofs.OrderLemmas.{first_failing_append}
 use Rattle.gate_tx.specs.Coins.{point_eq, spends}
 use Rattle.gate_tx.specs.Ids.{txid_of}
 use Rattle.gate_tx.specs.Text.{is_nonempty}
 use Rattle.gate_tx.specs.Tx.{Tx}
 use Rattle.gate_chain.specs.declared.block.Block.{Block}
-use Rattle.gate_chain.specs.declared.connected.Connected.{Connected}
 use Rattle.gate_chain.specs.declared.denial.ChainDenial.{ChainDenial}
 use Rattle.gate_chain.specs.declared.fault.ChainFault.{ChainFault}
 use Rattle.gate_chain.specs.declared.fault.ChainFault.TheVariants.{Memory, Denied}
 use Rattle.gate_chain.specs.declared.denial.ChainDenial.TheVariants.{TxidRepeated, BlockInputs}
 use Rattle.gate_chain.specs.declared.marked.Marked.{Marked}
-use Rattle.gate_chain.specs.Coins.{coin_of, has_txid, has_transaction, is_known_txid, any_spends, is_spent_in}
+use Rattle.gate_chain.specs.Coins.{coin_of, is_known_txid, any_spends}
 use Rattle.gate_chain.specs.Connecting.{grown, with_part, missing, transaction_rules, transactions_rules, transaction_denial, transactions_denial, Tells}
 use Rattle.gate_chain.specs.History.{History}
 use Rattle.gate_chain.specs.Marking.{IsNew, coins_in, coin_in, coins_made, ids_of, is_marked, made_by, unmarked, unspent_in}
 use Rattle.gate_chain.specs.Linked.{is_spent, SpentMade, AreMaps, Opens, IsConnected}
 use Rattle.gate_chain.proofs.Marks.{same_point, marked_made, marked_first, marked-append, coins_in-unmarked}
-use Rattle.gate_chain.proofs.Histories.{or_left, or_right, or_cases, opposite, coin_is, coins_form, coins_more, ids_form, ids_more, ids_known, spent_form, spent_none, spent_more, unknown_new}
+use Rattle.gate_chain.proofs.Histories.{or_cases, coin_is, coins_form, coins_more, ids_form, ids_more, ids_known, spent_form, spent_none, spent_more, unknown_new}
 
 -- every coin that is spent was there
 missing_some : (has : OutPoint → Bool) (inputs : List TxIn) (p : OutPoint) → missing has inputs ≡ false → spends inputs p ≡ true → has p ≡ true

@@ -1,5 +1,5 @@
 -- A history as its last block grows by one transaction.
-use Rattle.std.proofs.Common.{◌≡◌, ◌≢◌, ℕ, zero, suc, ◌+◌, ◌<◌, ◌≤◌, ◌==◌, Bool, true, false, cond, not, ◌||◌, ◌&&◌, List, [], ◌∷◌, ◌++◌, length, map, drop, find, slice_get, Option, Some, None, is_some, if◌then◌else◌, refl, sym, ap, subst, ◌∙◌, true≢false, arith, add-one, append-nil, append_assoc}
+use Rattle.std.proofs.Common.{◌≡◌, ℕ, zero, suc, ◌+◌, ◌<◌, ◌==◌, Bool, true, false, cond, not, ◌||◌, ◌&&◌, List, [], ◌∷◌, ◌++◌, length, map, drop, find, slice_get, Option, Some, None, is_some, if◌then◌else◌, refl, sym, ap, ◌∙◌, true≢false, arith, add-one, append-nil, append_assoc}
 use Rattle.std.specs.Prelude.{option_and_then}
 use Rattle.std.proofs.lemmas.Bool.Decides.{nat_tests}
 use Rattle.std.proofs.lemmas.List.{map-append}
@@ -21,12 +21,11 @@ use Rattle.gate_chain.specs.declared.block.Block.{Block}
 use Rattle.gate_chain.specs.declared.marked.Marked.{Marked}
 use Rattle.gate_chain.specs.declared.opening.OpeningCoin.{OpeningCoin}
 use Rattle.gate_chain.specs.Coins.{coin_of, coin_made, coin_of_transaction, coin_of_transactions, coin_of_blocks, opening_coin_of, any_spends, is_spent_in, has_txid, has_transaction, is_known_txid}
-use Rattle.gate_chain.specs.Connecting.{grown, with_part}
+use Rattle.gate_chain.specs.Connecting.{with_part}
 use Rattle.gate_chain.specs.History.{History}
 use Rattle.gate_chain.specs.Marking.{IsNew, coins_in, coins_made, opening_entry, made_by, made_by_all, made_by_blocks, ids_of}
 use Rattle.gate_chain.specs.Linked.{is_spent}
-use Rattle.gate_chain.proofs.Entries.{option_or-none}
-use Rattle.gate_chain.proofs.Marks.{or_assoc, lookup-append, coin_of_entry, lookup-coins_in}
+use Rattle.gate_chain.proofs.Marks.{lookup-append, coin_of_entry, lookup-coins_in}
 
 or_false : (b : Bool) → (b || false) ≡ b
 or_false true = refl

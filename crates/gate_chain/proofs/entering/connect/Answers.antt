@@ -1,4 +1,4 @@
-use Rattle.std.proofs.Common.{rules, ◌≡◌, sym, ap, ◌∙◌, refl, arith, ◌≤◌, length}
+use Rattle.std.proofs.Common.{◌∙◌, refl, arith, ◌≤◌, length}
 use Rattle.gate_chain.proofs.Growing.{starts, spent_made, count_coins, count_ids, first_is, stops, goes, ends}
 use Rattle.gate_chain.proofs.entering.connect.Goals as goal
 

@@ -1,4 +1,4 @@
-use Rattle.std.proofs.Common.{◌≡◌, ℕ, List, [], take, drop, None}
+use Rattle.std.proofs.Common.{◌≡◌, [], take, None}
 use Rattle.gate_chain.specs.History.{History}
 use Rattle.gate_chain.specs.Connecting.{with_part, transactions_denial}
 use Rattle.gate_chain.specs.Linked.{AreMaps, Opens}

@@ -1,5 +1,4 @@
-use Rattle.std.proofs.Common.{rules, ◌≡◌, sym, ap, ◌∙◌, true, false, not, Bool, refl, List, ℕ, ◌++◌, ◌∷◌, []}
-use Rattle.std.proofs.lemmas.Result.{err_from_is_err_and}
+use Rattle.std.proofs.Common.{rules, ◌≡◌, ap, ◌∙◌, false, List, ℕ, ◌++◌, ◌∷◌, []}
 use Rattle.gate_chain.proofs.Growing.{same_maps, repeated, not_found, is_new, entered, undone}
 use Rattle.gate_chain.proofs.entering.enter.Goals as goal
 

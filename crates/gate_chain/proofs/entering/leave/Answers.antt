@@ -1,4 +1,3 @@
-use Rattle.std.proofs.Common.{rules, ◌≡◌, sym, ap, ◌∙◌}
 use Rattle.gate_chain.proofs.Growing.{left}
 use Rattle.gate_chain.proofs.entering.leave.Goals as goal
 

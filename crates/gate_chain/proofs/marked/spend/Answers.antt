@@ -1,5 +1,5 @@
-use Rattle.std.proofs.Common.{rules, ◌≡◌, sym, ap, ◌∙◌, arith, true, false}
-use Rattle.gate_chain.proofs.Marks.{spending_goes, spending_stops, spending_undone, spending_ends, spending_starts}
+use Rattle.std.proofs.Common.{rules, arith}
+use Rattle.gate_chain.proofs.Marks.{spending_goes}
 use Rattle.gate_chain.proofs.marked.spend.Goals as goal
 
 pub loop-place-preserved : goal.loop-place-preserved

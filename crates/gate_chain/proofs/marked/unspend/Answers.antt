@@ -1,4 +1,4 @@
-use Rattle.std.proofs.Common.{rules, ◌≡◌, sym, ap, ◌∙◌, arith}
+use Rattle.std.proofs.Common.{◌∙◌, arith}
 use Rattle.gate_chain.proofs.Marks.{unspending_goes}
 use Rattle.gate_chain.proofs.marked.unspend.Goals as goal
 

@@ -1,4 +1,4 @@
-use Rattle.std.proofs.Common.{rules, ◌≡◌, sym, ap, ◌∙◌, Some, None, if◌then◌else◌, false, true}
+use Rattle.std.proofs.Common.{rules, ◌≡◌, sym, ap, ◌∙◌, Some, None, if◌then◌else◌, false}
 use Rattle.gate_chain.proofs.Marks.{unspent_none, unspent_some}
 use Rattle.gate_chain.proofs.marked.unspent.Goals as goal
 

@@ -1,4 +1,4 @@
-use Rattle.std.proofs.Common.{ap, ◌∙◌, sym, subst}
+use Rattle.std.proofs.Common.{ap, ◌∙◌, subst}
 use Rattle.gate_chain.specs.Coins.{coin_of}
 use Rattle.gate_chain.specs.History.{History}
 use Rattle.gate_chain.specs.Keeping.{IsFaultless}

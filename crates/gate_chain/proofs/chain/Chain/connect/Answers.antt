@@ -1,7 +1,6 @@
-use Rattle.std.proofs.Common.{rules, ◌≡◌, ◌++◌, ◌∷◌, [], sym, ap, subst, ◌∙◌, length, take, None, ℕ, List}
+use Rattle.std.proofs.Common.{rules, ◌≡◌, ◌++◌, ◌∷◌, [], sym, ap, subst, ◌∙◌, length, take, None}
 use Rattle.std.proofs.lemmas.Result.{err_from_is_err_and}
-use Rattle.gate_chain.specs.Connecting.{head_denial, transactions_denial, grown, Tells}
-use Rattle.gate_chain.specs.Headers.{header_time}
+use Rattle.gate_chain.specs.Connecting.{head_denial, transactions_denial, grown}
 use Rattle.gate_chain.specs.History.{History}
 use Rattle.gate_chain.specs.Linked.{Opens, history, opening_in}
 use Rattle.gate_chain.proofs.Chains.{opens, connected, refused, denial_of_head, denial_of_rest, told_of_rest}

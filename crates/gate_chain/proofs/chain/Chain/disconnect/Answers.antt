@@ -1,5 +1,4 @@
 use Rattle.std.proofs.Common.{rules, ◌≡◌, sym, ap, ◌∙◌, length, take, ◌-◌, vec_len}
-use Rattle.gate_chain.specs.Connecting.{grown}
 use Rattle.gate_chain.proofs.Chains.{disconnected, none_left, one_left, blocks_none, blocks_one, no_items}
 use Rattle.gate_chain.proofs.chain.Chain.disconnect.Goals as goal
 

@@ -1,7 +1,5 @@
-use Rattle.std.proofs.Common.{rules, ap, ◌∙◌, sym, ◌≡◌, subst, List, ℕ}
+use Rattle.std.proofs.Common.{rules, ap, ◌∙◌}
 use Rattle.gate_chain.specs.Coins.{has_txid}
-use Rattle.gate_chain.specs.declared.opening.OpeningCoin.{OpeningCoin}
-use Rattle.gate_chain.specs.Keeping.{IsFaultless}
 use Rattle.gate_chain.proofs.Chains.{linked_open, relinked}
 use Rattle.gate_chain.proofs.chain.Chain.open.Goals as goal
 
