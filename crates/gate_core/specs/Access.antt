@@ -1,5 +1,5 @@
 -- Access: the rules on an event's caller in the written order, of which the first that fails is the refusal.
-use Rattle.std.specs.Prelude.{ℕ, Bool, true, false, not, is_some, is_none, List, [], ◌∷◌, ◌++◌, Option}
+use Rattle.std.specs.Prelude.{ℕ, Bool, false, not, is_some, is_none, List, [], ◌∷◌, ◌++◌, Option}
 use Rattle.std.specs.Option.{option_map_or}
 use Rattle.gate_bytes.specs.Order.{Rule, first_failing, IsFirstOf}
 use Rattle.gate_tx.specs.Tx.{Tx}
