@@ -1,6 +1,11 @@
 pub mod Apart
+pub mod Closing
 pub mod Conflicts
 pub mod Entries
+pub mod Holes
+pub mod Indexing
+pub mod Keeping
 pub mod Removals
 pub mod Noting
+pub mod Points
 pub mod Walking

@@ -1,10 +1,30 @@
 -- What a pool keeps beside its entries.
-use Rattle.std.specs.Prelude.{◌≡◌, ℕ, ◌+◌, ◌<◌, ◌≤◌, true, None, List, Option, Some, length, Contains}
+use Rattle.std.specs.Prelude.{◌≡◌, ℕ, ◌+◌, ◌<◌, ◌≤◌, Bool, None, List, Option, Some, length, Contains}
 use Rattle.gate_tx.specs.declared.TxIn.{TxIn}
 use Rattle.gate_tx.specs.declared.OutPoint.{OutPoint}
 use Rattle.gate_tx.specs.Ids.{txid_of, wtxid_of}
 use Rattle.gate_tx.specs.Coins.{spends}
-use Rattle.gate_pool.specs.Pool.{Admitted, entry_by_txid, entry_by_wtxid, spender_of}
+use Rattle.gate_pool.specs.Pool.{Admitted, largest_vsize, has_txid, has_wtxid, entry_by_txid, entry_by_wtxid, spender_of, size_of}
+use Rattle.gate_pool.specs.Slots.{entries_of, Indexes}
+
+abbrev pub has_point : Admitted → OutPoint → Bool
+has_point e point = spends e.tx.inputs point
+
+-- each index finds the places of the entries, `n` of them stand there, and `sum` is their size
+pub record IsKept (slots : List (Option Admitted)) (n : ℕ) (sum : ℕ) (by_txid by_wtxid : List ℕ → Option ℕ) (by_point : OutPoint → Option ℕ) : Type 0 where
+  pub txids : Indexes has_txid slots by_txid
+  pub wtxids : Indexes has_wtxid slots by_wtxid
+  pub points : Indexes has_point slots by_point
+  pub count : n ≡ length (entries_of slots)
+  pub size : sum ≡ size_of (entries_of slots)
+  pub vsizes : (e : Admitted) → Contains (entries_of slots) e → e.vsize ≤ largest_vsize
+
+-- an entry of fewer inputs than `room` has a place in each index and among the slots
+pub record HasRoom (room : ℕ) (txid_spare wtxid_spare point_spare : ℕ) (len capacity : ℕ) : Type 0 where
+  pub txids : 0 < room → 0 < txid_spare
+  pub wtxids : 0 < room → 0 < wtxid_spare
+  pub points : room ≤ point_spare + 1
+  pub slots : 0 < room → len < capacity
 
 -- no entry has its ids, or spends what it spends
 pub record IsNew (entries : List Admitted) (e : Admitted) : Type 0 where

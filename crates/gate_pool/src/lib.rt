@@ -7,6 +7,7 @@
 mod bounds;
 mod entry;
 mod family;
+mod places;
 mod pool;
 mod slots;
 mod view;

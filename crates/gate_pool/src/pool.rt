@@ -107,6 +107,28 @@ impl<S: BuildHasher + Copy + Drop> Pool<S> {
         ensures entries { self.new.entries ≡ self.old.entries }
         ensures room { OnOk result (inputs < self.new.room) }
     {
+        let most = self.slots.points().saturating_mul(2).saturating_add(16);
+        if self.bounds.len() > most {
+            self.purge()?;
+        }
+        self.take_room(inputs)
+    }
+
+    /// Makes the bounds afresh, without those of transactions of which nothing is spent any more.
+    fn purge(&mut self) -> Result<(), Memory>
+        ensures { self.new.entries ≡ self.old.entries }
+    {
+        self.room = 0;
+        let alloc = *self.bounds.allocator();
+        let hasher = *self.bounds.hasher();
+        self.bounds = self.slots.bounds(alloc, hasher)?;
+        Ok(())
+    }
+
+    fn take_room(&mut self, inputs: usize) -> Result<(), Memory>
+        ensures entries { self.new.entries ≡ self.old.entries }
+        ensures room { OnOk result (inputs < self.new.room) }
+    {
         self.room = 0;
         let Some(room) = inputs.checked_add(1) else {
             return Err(Memory);
@@ -134,6 +156,7 @@ impl<S: BuildHasher + Copy + Drop> Pool<S> {
         take_conflicts(&mut self.slots, &mut self.found, &self.bounds, inputs);
         note(&mut self.bounds, inputs);
         self.slots.put(entry);
+        self.slots.tidy();
     }
 
     /// Takes out the entry of an id and all that is below the id. It takes no memory, and gives up the room that was taken.
@@ -142,6 +165,7 @@ impl<S: BuildHasher + Copy + Drop> Pool<S> {
     {
         self.room = 0;
         take_out(&mut self.slots, &mut self.found, &self.bounds, txid);
+        self.slots.tidy();
     }
 }
 

@@ -29,8 +29,8 @@ invariant_of-self g c =
     let rest : c.take_conflicts.new.slots.entries ≡ without_below (spends_one_of e.tx.inputs) old = rw (c.inputs-inputs.ensures, c.transaction.ensures) at c.take_conflicts.ensures.rest in
     let kept : IsNoted c.take_conflicts.new.slots.entries (get bytes_eq c.self.inside.bounds) = IsNoted-less c.self.invariant.noted (λ d m. Contains-from_filter (λ (d : Admitted). not (is_below_some (spends_one_of e.tx.inputs) old d)) old d (subst (λ l. Contains l d) rest m)) in
     record {
-      noted = IsNoted-push e (IsNoted-grown c.note.ensures.grown kept) (λ i m. (rw (c.inputs-inputs.ensures, c.transaction.ensures) at c.note.ensures.noted) i m) c.put.ensures;
-      now = omega (arith, c.self.invariant.next, c.self.ranges, shorter (λ (d : Admitted). not (is_below_some (spends_one_of e.tx.inputs) old d)) old, ap length rest, ap length c.put.ensures, length-append c.take_conflicts.new.slots.entries (e ∷ []), c.take_conflicts.ensures.capacity, c.requires.room, ap (λ (p : Pooled). p.room) c.self.view_is);
+      noted = IsNoted-push e (IsNoted-grown c.note.ensures.grown kept) (λ i m. (rw (c.inputs-inputs.ensures, c.transaction.ensures) at c.note.ensures.noted) i m) (c.tidy.ensures ∙ c.put.ensures);
+      now = omega (arith, c.self.invariant.next, c.self.ranges, shorter (λ (d : Admitted). not (is_below_some (spends_one_of e.tx.inputs) old d)) old, ap length rest, ap length (c.tidy.ensures ∙ c.put.ensures), length-append c.take_conflicts.new.slots.entries (e ∷ []), c.take_conflicts.ensures.capacity, c.requires.room, ap (λ (p : Pooled). p.room) c.self.view_is);
       next = λ l. absurd (omega (arith, l));
       bounds = omega arith;
       slots_room = omega arith;
@@ -39,5 +39,5 @@ invariant_of-self g c =
 pub returns : goal.returns
 returns g c =
     let e = c.args.entry in
-    c.put.ensures ∙ ap (λ l. l ++ e ∷ []) (rw (c.inputs-inputs.ensures, c.transaction.ensures) at c.take_conflicts.ensures.rest)
+    c.tidy.ensures ∙ c.put.ensures ∙ ap (λ l. l ++ e ∷ []) (rw (c.inputs-inputs.ensures, c.transaction.ensures) at c.take_conflicts.ensures.rest)
     ∙ ap (λ (p : Pooled). entered p.entries e) c.self.view_is

@@ -1,4 +1,4 @@
-use Rattle.std.proofs.Common.{not, ap, subst, arith, length}
+use Rattle.std.proofs.Common.{not, ◌∙◌, ap, subst, arith, length}
 use Rattle.std.specs.Prelude.{Contains}
 use Rattle.gate_tx.specs.Ids.{txid_of}
 use Rattle.gate_graph.specs.Family.{reaches}
@@ -11,7 +11,7 @@ pub invariant_of-self : goal.invariant_of-self
 invariant_of-self g c =
     let x = c.args.txid.now in
     let old = c.self.inside.slots.entries in
-    let left = c.take_out.ensures.rest in
+    let left = c.tidy.ensures ∙ c.take_out.ensures.rest in
     record {
       noted = IsNoted-less c.self.invariant.noted (λ e m. Contains-from_filter (λ (e : Admitted). not (reaches (steps old) x (txid_of e.tx))) old e (subst (λ l. Contains l e) left m));
       now = omega (arith, shorter (λ (e : Admitted). not (reaches (steps old) x (txid_of e.tx))) old, ap length left, c.self.invariant.now, c.take_out.ensures.capacity);

@@ -4,7 +4,7 @@ use Rattle.std.specs.Map.{lookup}
 use Rattle.indexmap.specs.IndexMap.{get}
 use Rattle.gate_pool.specs.Keeping.{IsUpTo, IsNoted}
 use Rattle.gate_pool.proofs.Noting.{IsNoted-grown}
-use Rattle.gate_pool.proofs.pool.Pool.reserve.Goals as goal
+use Rattle.gate_pool.proofs.pool.Pool.take_room.Goals as goal
 
 pub invariant_of-self-in_err-reserve-2 : goal.invariant_of-self-in_err-reserve-2
 invariant_of-self-in_err-reserve-2 g c = record {

@@ -1,0 +1,40 @@
+-- What a loop over inputs has written.
+use Rattle.std.proofs.Common.{◌≡◌, ℕ, zero, suc, ◌+◌, ◌<◌, Bool, true, false, cond, ◌||◌, List, [], ◌∷◌, ◌++◌, length, take, get_or, refl, sym, ap, ◌∙◌, arith, Option, Some, None, is_some, Result, Ok, Err, IsOk, OnErr, true≢false, inl, inr}
+use Rattle.std.proofs.lemmas.Bool.{or_right, or_cases, false_from_ne_true, or_left}
+use Rattle.gate_tx.specs.declared.OutPoint.{OutPoint}
+use Rattle.gate_tx.specs.declared.TxIn.{TxIn}
+use Rattle.gate_tx.specs.Coins.{point_eq}
+use Rattle.gate_tx.specs.Equality.{out_point_decides}
+use Rattle.std.specs.List.{list_any}
+use Rattle.std.proofs.lemmas.List.{take_more}
+use Rattle.std.proofs.lemmas.List.Folds.{list_any-append}
+
+any_more : {X : Type 0} (test : X → Bool) (xs : List X) (i : ℕ) (x : X) → i < length xs → x ≡ get_or xs i x → list_any test (take (i + 1) xs) ≡ (list_any test (take i xs) || (test x || false))
+any_more test xs i x h is =
+    ap (list_any test) (take_more xs i x h ∙ ap (λ y. take i xs ++ y ∷ []) (sym is)) ∙ list_any-append test (take i xs) (x ∷ [])
+
+-- one more key is written
+pub written_more : {X Y : Type 0} (test : X → Bool) (xs : List X) (i : ℕ) (x : X) (value first before after : Y) → i < length xs → x ≡ get_or xs i x
+    → before ≡ cond (list_any test (take i xs)) value first → after ≡ cond (test x) value before → after ≡ cond (list_any test (take (i + 1) xs)) value first
+written_more {X} {Y} test xs i x value first before after h is was now =
+    now ∙ ap (cond (test x) value) was ∙ by (test x) (list_any test (take i xs)) ∙ ap (λ b. cond b value first) (sym (any_more test xs i x h is))
+  where
+    by : (b d : Bool) → cond b value (cond d value first) ≡ cond (d || (b || false)) value first
+    by true true = refl
+    by true false = refl
+    by false true = refl
+    by false false = refl
+
+pub any_at : {X : Type 0} (test : X → Bool) (xs : List X) (i : ℕ) (x : X) → i < length xs → x ≡ get_or xs i x → test x ≡ true → list_any test xs ≡ true
+any_at test [] i x h is t = absurd (omega (arith, h))
+any_at test (y ∷ xs) zero x h is t = ap (λ b. b || list_any test xs) (ap test (sym is) ∙ t)
+any_at test (y ∷ xs) (suc i) x h is t = or_right (test y) _ (any_at test xs i x (omega (arith, h)) is t)
+
+pub some-cond : {V : Type 0} (b : Bool) (v : V) (o : Option V) → is_some o ≡ true → is_some (cond b (Some v) o) ≡ true
+some-cond true v o h = refl
+some-cond false v o h = h
+
+-- an insert at a key that is there succeeds
+pub ok_where_present : {A E V : Type 0} (r : Result A E) (o : Option V) → OnErr r (o ≡ None) → is_some o ≡ true → IsOk r
+ok_where_present (Ok a) o none some = refl
+ok_where_present (Err e) o none some = absurd (true≢false (sym some ∙ ap is_some none))
