@@ -49,6 +49,9 @@ impl<T: Drop> From<AllocFailed<T>> for Fault {
     }
 }
 
+/// The bytes of each buffer.
+const BUFFER: usize = 65_536;
+
 fn main(rt: HostRuntime) -> ExitCode {
     match status(&rt) {
         Ok(status) => ExitCode::from(status),
@@ -84,12 +87,8 @@ fn status(rt: &HostRuntime) -> Result<u8, Fault> {
         Err(ArgsFault::Usage(text)) => return printed(rt.eprint(text), 2),
         Err(ArgsFault::Memory) => return Err(Fault::Lane(LaneFault::Memory)),
     };
-    let Ok(mut reader) = BufReader::new(alloc, rt.reader()) else {
-        return Err(Fault::Lane(LaneFault::Memory));
-    };
-    let Ok(mut writer) = BufWriter::new(alloc, io::writer(rt)) else {
-        return Err(Fault::Lane(LaneFault::Memory));
-    };
+    let mut reader = BufReader::with_capacity(alloc, BUFFER, rt.reader())?;
+    let mut writer = BufWriter::with_capacity(alloc, BUFFER, io::writer(rt))?;
     // Peers choose txids and outpoints: with keys that they can't know they can't make them collide.
     let Ok(hasher) = RandomState::new(rt) else {
         return Err(Fault::Random);

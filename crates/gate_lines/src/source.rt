@@ -1,11 +1,11 @@
 //! Readers of lines.
-ghost use Rattle.std.specs.Prelude.{◌≡◌, ◌≢◌, Bool, true, false, IfErr};
+ghost use Rattle.std.specs.Prelude.{◌≡◌, ◌≢◌, ◌++◌, Bool, true, false, IfErr, IfSome, OnOk};
 ghost use Rattle.gate_lines.specs.Parts.{PartTaken};
 
 use crate::fault::LaneFault;
 use crate::part::{Part, append_part};
 use memchr::memchr;
-use std::io::{BufRead, BufReader, Read};
+use std::io::{BufRead, BufReader, ErrorKind, Read};
 
 /// A reader of lines. One over bytes in memory never fails.
 pub trait Source: BufRead {
@@ -19,6 +19,12 @@ pub trait Source: BufRead {
     /// kept, and at most `room` bytes and one that isn't kept.
     fn take_part(&mut self, line: &mut Vec<u8>, room: usize) -> Result<Part, LaneFault>
         ensures taken { PartTaken (Self.remaining self.old) (Self.remaining self.new) line.old.items line.new.items room result }
+        ensures steady { steady ≡ true → IfErr result (λ fault. fault ≢ LaneFault.Read) };
+
+    /// Moves all that is left to the end of `text`. After a fault some of it may be lost.
+    fn take_rest(&mut self, text: &mut Vec<u8>) -> Result<(), LaneFault>
+        ensures rest { OnOk result (IfSome (Self.remaining self.old) (λ rest. text.new.items ≡ text.old.items ++ rest)) }
+        ensures kind { IfErr result (λ fault. fault ≢ LaneFault.Write) }
         ensures steady { steady ≡ true → IfErr result (λ fault. fault ≢ LaneFault.Read) };
 }
 
@@ -35,6 +41,12 @@ impl Source for &[u8] {
         *self = &shown[taken..];
         Ok(part)
     }
+
+    fn take_rest(&mut self, text: &mut Vec<u8>) -> Result<(), LaneFault> {
+        text.extend_from_slice(*self)?;
+        *self = &[];
+        Ok(())
+    }
 }
 
 /// A reader with a buffer, over one that may fail or wait.
@@ -47,6 +59,16 @@ impl<R: Read> Source for BufReader<R> {
 
     fn take_part(&mut self, line: &mut Vec<u8>, room: usize) -> Result<Part, LaneFault> {
         take_shown(self, line, room)
+    }
+
+    fn take_rest(&mut self, text: &mut Vec<u8>) -> Result<(), LaneFault> {
+        match self.read_to_end(text) {
+            Ok(_) => Ok(()),
+            Err(error) => Err(match error.kind() {
+                ErrorKind::OutOfMemory => LaneFault::Memory,
+                _ => LaneFault::Read,
+            }),
+        }
     }
 }
 

@@ -1,13 +1,7 @@
-pub mod Lines
-pub mod Reading
-pub mod Writing
-pub mod Words
-pub mod Numbers
 pub mod EventLines
 pub mod OpeningLines
 pub mod Lanes
 pub mod Turns
-pub mod VerdictRows
 pub mod OpeningFaults
 pub mod BlockTimes
 pub mod Said
@@ -16,3 +10,4 @@ pub mod Checks
 pub mod Jobs
 pub mod LaneRuns
 pub mod JobRuns
+pub mod FaultedRuns

@@ -5,21 +5,21 @@ use Rattle.std.specs.Str.{bytes_eq}
 use Rattle.gate_chain.specs.Opening.{open_fault}
 use Rattle.gate_chain.specs.declared.OpenFault.{OpenFault}
 use Rattle.gate_chain.specs.declared.OpeningCoin.{OpeningCoin}
-use Rattle.gate_admit.specs.declared.Verdict.{Verdict}
-use Rattle.gate_admit.specs.declared.VerdictRow.{VerdictRow}
+use Rattle.gate_admit.specs.declared.verdicts.Verdict.{Verdict}
+use Rattle.gate_admit.specs.declared.verdicts.VerdictRow.{VerdictRow}
+use Rattle.gate_admit.specs.Verdicts.{has_row_on}
+use Rattle.gate_core.specs.Opening.{Start}
 use Rattle.gate_core.specs.World.{World, opened_world}
-use Rattle.gate_core.specs.declared.Opening.{Opening}
 use Rattle.gate_prog.specs.declared.opening_fault.OpeningFault.{OpeningFault}
 use Rattle.gate_prog.specs.declared.opening_fault.OpeningFault.TheVariants.{Line, Read, Memory}
 use Rattle.gate_prog.specs.declared.opening_fault.OpeningToken.{OpeningToken}
 use Rattle.gate_prog.specs.declared.opening_fault.OpeningToken.TheVariants.{BadLine, TimesLimit}
 use Rattle.gate_prog.specs.declared.opening_line.OpeningLine.{OpeningLine}
 use Rattle.gate_prog.specs.declared.opening_line.OpeningLine.TheVariants as says
-use Rattle.gate_prog.specs.Lines.{line_limit, count_limit, is_skipped, lines_of}
+use Rattle.gate_lines.specs.Lines.{line_limit, count_limit, is_skipped, lines_of}
 use Rattle.gate_prog.specs.OpeningLines.{said_by}
 use Rattle.gate_prog.specs.OpeningFaults.{located}
 use Rattle.gate_prog.specs.BlockTimes.{times_from, some_too_great}
-use Rattle.gate_prog.specs.VerdictRows.{subject_of, has_row}
 
 -- what was said, with the line of each coin
 pub record Said : Type 0 where
@@ -48,7 +48,7 @@ abbrev pub line_fault : Said → OpeningLine → Option OpeningToken
 line_fault said (says.Budget budget) = fault_if (is_some said.budget) BadLine
 line_fault said (says.Times count first step) = fault_if (exceeds (length said.times) count first step) TimesLimit
 line_fault said (says.Coin coin) = None
-line_fault said (says.Verdict row) = fault_if (has_row (subject_of row) said.rows) BadLine
+line_fault said (says.Verdict row) = fault_if (has_row_on said.rows row.wtxid row.input) BadLine
 line_fault said (says.OtherVerdicts verdict) = fault_if (is_some said.other) BadLine
 line_fault said (says.Bloom on) = fault_if (is_some said.bloom) BadLine
 
@@ -96,7 +96,7 @@ all_said number said (line ∷ lines) =
     else Err (Line (number + 1) BadLine)
     else Err (Line (number + 1) BadLine)
 
-abbrev pub opening_of : Said → Opening
+abbrev pub opening_of : Said → Start
 opening_of said = record {
   budget = unwrap_or said.budget 300000000;
   coins = said.coins;

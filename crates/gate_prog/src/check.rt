@@ -1,17 +1,16 @@
 //! The check of one transaction by itself.
-ghost use Rattle.std.specs.Prelude.{◌≡◌, ◌≢◌, IfErr, IfOk, IfSome, string_bytes};
+ghost use Rattle.std.specs.Prelude.{◌≡◌, ◌≢◌, true, IfErr, IfOk, IfSome, string_bytes};
 ghost use Rattle.gate_prog.specs.Checks.{check_lines, check_status, denied_line, ids_line, input_spells, trimmed, verdict_line, verdict_status};
 ghost use Rattle.gate_prog.specs.EventLines.{prepared_of};
-ghost use Rattle.gate_prog.specs.Lines.{unlines};
+ghost use Rattle.gate_lines.specs.Lines.{unlines};
 
 use crate::event_line::prepared;
-use crate::fault::LaneFault;
 use gate_admit::Prepared;
 use gate_bytes::Memory;
+use gate_lines::{LaneFault, Source};
 use gate_standard::Denial;
 use gate_tx::{Txid, Wtxid};
 use std::alloc::Global;
-use std::io::{ErrorKind, Read};
 
 /// What a check prints, and the status that follows it.
 #[derive(Debug, Drop)]
@@ -30,25 +29,16 @@ pub(crate) fn check_hex(alloc: Global, hex: &str) -> Result<Checked, Memory>
 }
 
 /// Checks the transaction that the digits of an input spell. The input is read to its end.
-pub(crate) fn check_input<R: Read>(alloc: Global, reader: &mut R) -> Result<Checked, LaneFault>
+pub(crate) fn check_input<R: Source>(alloc: Global, reader: &mut R) -> Result<Checked, LaneFault>
     ensures text { IfOk result (λ checked. IfSome (R.remaining reader.old) (λ input. string_bytes checked.text ≡ unlines (check_lines (input_spells input)))) }
     ensures status { IfOk result (λ checked. IfSome (R.remaining reader.old) (λ input. checked.status ≡ check_status (input_spells input))) }
     ensures kind { IfErr result (λ fault. fault ≢ LaneFault.Write) }
+    ensures steady { R.steady ≡ true → IfErr result (λ fault. fault ≢ LaneFault.Read) }
 {
     let mut input = Vec::new(alloc);
-    if let Err(error) = reader.read_to_end(&mut input) {
-        return Err(match error.kind() {
-            ErrorKind::OutOfMemory => LaneFault::Memory,
-            _ => LaneFault::Read,
-        });
-    }
-    let Ok(prepared) = prepared_input(alloc, input.as_slice()) else {
-        return Err(LaneFault::Memory);
-    };
-    match check(alloc, &prepared) {
-        Ok(checked) => Ok(checked),
-        Err(_) => Err(LaneFault::Memory),
-    }
+    reader.take_rest(&mut input)?;
+    let prepared = prepared_input(alloc, input.as_slice())?;
+    Ok(check(alloc, &prepared)?)
 }
 
 /// The transaction that an input spells, without the white space around it.

@@ -4,15 +4,15 @@ ghost use Rattle.gate_core.specs.Good.{IsGoodWorld};
 ghost use Rattle.gate_prog.specs.OpeningLines.{said_by};
 ghost use Rattle.gate_prog.specs.Said.{exceeds, nothing_said, opened_from, with_line, with_text, Takes};
 
-use crate::line::asks_nothing;
 use crate::opening_fault::{OpeningFault, OpeningToken, at_line};
 use crate::opening_line::{OpeningLine, read_opening_line};
 use crate::times::{append_times, times_fit};
-use crate::verdict_rows::VerdictRows;
-use gate_admit::{OpeningCoin, Verdict, Verdicts};
+use gate_admit::{OpeningCoin, Verdicts};
 use gate_bytes::{Kept, Memory};
 use gate_core::{Opening, State};
+use gate_lines::asks_nothing;
 use std::alloc::Global;
+use std::hash::BuildHasher;
 use std::marker::Model;
 
 /// The most block times of an opening.
@@ -23,27 +23,26 @@ const DEFAULT_BUDGET: u64 = 300_000_000;
 
 /// What the lines of an opening have said so far: contracts see a record of it. After a fault it holds nothing of use.
 #[derive(Drop)]
-pub(crate) struct Draft {
+pub(crate) struct Draft<S: BuildHasher + Copy + Drop> {
     budget: Option<u64>,
     times: Vec<u32>,
     coins: Vec<OpeningCoin>,
     /// The line of each coin.
     coin_lines: Vec<u64>,
-    rows: VerdictRows,
-    other: Option<Verdict>,
+    verdicts: Verdicts<S>,
     bloom: Option<bool>,
 }
 
-impl Model for Draft {
+impl<S: BuildHasher + Copy + Drop> Model for Draft<S> {
     ghost use Rattle.gate_prog.specs.Said.{Said};
 
     ghost Value = { Said };
 
-    ghost view = { λ d. record { budget = d.budget; times = d.times.items; coins = d.coins.items; coin_lines = d.coin_lines.items; rows = d.rows; other = d.other; bloom = d.bloom } };
+    ghost view = { λ d. record { budget = d.budget; times = d.times.items; coins = d.coins.items; coin_lines = d.coin_lines.items; rows = d.verdicts.rows; other = d.verdicts.other; bloom = d.bloom } };
 }
 
-impl Draft {
-    pub(crate) fn new(alloc: Global) -> Draft
+impl<S: BuildHasher + Copy + Drop> Draft<S> {
+    pub(crate) fn new(alloc: Global, hasher: S) -> Draft<S>
         ensures { result ≡ nothing_said }
     {
         Draft {
@@ -51,8 +50,7 @@ impl Draft {
             times: Vec::new(alloc),
             coins: Vec::new(alloc),
             coin_lines: Vec::new(alloc),
-            rows: VerdictRows::new(alloc),
-            other: None,
+            verdicts: Verdicts::new(alloc, hasher),
             bloom: None,
         }
     }
@@ -89,16 +87,16 @@ impl Draft {
             }
             OpeningLine::Times { count, first, step } => self.add_times(number, count, first, step),
             OpeningLine::Coin(coin) => self.add_coin(number, coin),
-            OpeningLine::Verdict(row) => match self.rows.add(row) {
+            OpeningLine::Verdict(row) => match self.verdicts.add(row) {
                 Ok(true) => Ok(()),
                 Ok(false) => Err(OpeningFault::Line(number, OpeningToken::BadLine)),
                 Err(_) => Err(OpeningFault::Memory),
             },
             OpeningLine::OtherVerdicts(verdict) => {
-                if self.other.is_some() {
+                if self.verdicts.other().is_some() {
                     return Err(OpeningFault::Line(number, OpeningToken::BadLine));
                 }
-                self.other = Some(verdict);
+                self.verdicts.answer_others(verdict);
                 Ok(())
             }
             OpeningLine::Bloom(on) => {
@@ -139,31 +137,28 @@ impl Draft {
     }
 
     /// The state of the opening, or the first fault of its times and coins.
-    pub(crate) fn open(self, alloc: Global) -> Result<State, OpeningFault>
+    pub(crate) fn open(self, alloc: Global, hasher: S) -> Result<State<S>, OpeningFault>
         ensures opened { IfOk result (λ state. opened_from self ≡ Ok state) }
         ensures good { IfOk result IsGoodWorld }
         ensures refused { IfErr result (λ fault. fault ≢ OpeningFault.Memory → opened_from self ≡ Err fault) }
+        ensures kind { IfErr result (λ fault. fault ≢ OpeningFault.Read) }
     {
         let Draft {
             budget,
             times,
             coins,
             coin_lines,
-            rows,
-            other,
+            verdicts,
             bloom,
         } = self;
         let opening = Opening {
             budget: budget.unwrap_or(DEFAULT_BUDGET),
             coins: Kept::from_vec(coins),
             times: Kept::from_vec(times),
-            verdicts: Verdicts {
-                rows: Kept::from_vec(rows.into_rows()),
-                other,
-            },
+            verdicts,
             bloom: bloom.unwrap_or(false),
         };
-        match State::open(alloc, opening) {
+        match State::open(alloc, hasher, opening) {
             Ok(state) => Ok(state),
             Err(fault) => Err(at_line(fault, coin_lines.as_slice())),
         }
