@@ -28,7 +28,7 @@ text_is_no_fault Entered e = let h : 101 ≡ 102 = first_byte (reply_text Entere
 text_is_no_fault Left e = let h : 108 ≡ 102 = first_byte (reply_text Left) fault_memory e in omega (arith, h)
 text_is_no_fault (Admitted txid fee vsize replaced) e = let h : 97 ≡ 102 = first_byte (reply_text (Admitted txid fee vsize replaced)) fault_memory e in omega (arith, h)
 text_is_no_fault (Listing txids) e = let h : 108 ≡ 102 = first_byte (reply_text (Listing txids)) fault_memory e in omega (arith, h)
-text_is_no_fault (Denied refusal then) e = let h : 100 ≡ 102 = first_byte (reply_text (Denied refusal then)) fault_memory e in omega (arith, h)
+text_is_no_fault (Denied refusal followed) e = let h : 100 ≡ 102 = first_byte (reply_text (Denied refusal followed)) fault_memory e in omega (arith, h)
 
 -- a step that is answered so leaves the state
 stays : (old mid : World) (event : Option Event) (reply : List ℕ) → EventAnswered old event reply mid → reply ≡ fault_memory → mid ≡ old
@@ -54,7 +54,7 @@ one_reply true fault number old mid new line reply others lines replies is told 
     absurd (subst (λ (b : Bool). MatchBool b ⊥ (EventAnswered old (line_event line) reply mid)) is answered)
 one_reply false true number old mid new line reply others lines replies is told few short answered goes =
     let event = subst (λ (b : Bool). MatchBool b ⊥ (EventAnswered old (line_event line) reply mid)) is answered in
-    at_true _ _ _ few (at_true _ _ _ refl ([], replies, mid, refl, (refl, stays old mid (line_event line) reply event (fault_is reply told)), goes))
+    at_true _ _ _ few ([], replies, mid, refl, (refl, stays old mid (line_event line) reply event (fault_is reply told)), goes)
 one_reply false false number old mid new line reply others lines replies is told few short answered goes =
     at_true _ _ _ few (at_true _ _ _ short (reply ∷ [], replies, mid, refl, answered, goes))
 

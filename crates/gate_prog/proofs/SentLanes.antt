@@ -34,9 +34,15 @@ all_first (Some xs) lines all = ([], all ∙ sym (append-nil lines))
 
 -- all was answered and written, and not sent on
 pub done_unsent : (r r' w w' w'' : Option (List ℕ)) (s t : World) (count : ℕ) → LaneCame r r' w w' s t (Ok count) → Appends w' w'' [] → StoppedBy faults.Write 0 r w w'' s t
-done_unsent r r' w w' w'' s t count (lines, replies, all, goes, wrote, counted) kept =
-    (lines, replies, unlines replies, all_first r lines all, goes, then_sent w w' w'' _ wrote kept,
-    (replies, [], [], sym (append-nil replies), omega arith, sym (append-nil (unlines replies)), refl))
+done_unsent r r' w w' w'' s t count (lines, replies, all, goes, wrote, counted) kept = (
+  lines,
+  replies,
+  unlines replies,
+  all_first r lines all,
+  goes,
+  then_sent w w' w'' _ wrote kept,
+  (replies, [], [], sym (append-nil replies), omega arith, sym (append-nil (unlines replies)), refl),
+)
 
 -- ---- what a lane came to, by its fault
 

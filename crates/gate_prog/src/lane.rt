@@ -8,7 +8,9 @@ ghost use Rattle.gate_prog.specs.Turns.{EventReplied, EventLost, AnswerMade, Ans
 use crate::event_line::read_event;
 use gate_bytes::Memory;
 use gate_core::{Event, State};
-use gate_lines::{Found, LaneFault, MAX_LINES, Sink, Source, asks_nothing, end_line, has_ended, next_line};
+use gate_lines::{
+    Found, LaneFault, MAX_LINES, Sink, Source, asks_nothing, end_line, has_ended, next_line,
+};
 use std::alloc::Global;
 use std::hash::BuildHasher;
 

@@ -19,7 +19,9 @@ pub use args::{ArgsFault, VERSION, read_args};
 pub use gate_lines::LaneFault;
 pub use job::{Job, run_check, run_check_input, run_gate, run_job};
 pub use lane::run_lane;
-pub use laws::{faulted_gate_runs_are_runs, faulted_lanes_are_runs, gate_runs_are_runs, lanes_are_runs};
+pub use laws::{
+    faulted_gate_runs_are_runs, faulted_lanes_are_runs, gate_runs_are_runs, lanes_are_runs,
+};
 pub use opening::read_opening;
 pub use opening_fault::{OpeningFault, OpeningToken};
 

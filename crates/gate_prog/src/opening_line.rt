@@ -6,8 +6,8 @@ ghost use Rattle.gate_prog.specs.OpeningLines.{opening_line_of, budget_line_of, 
 use gate_admit::{Verdict, VerdictRow};
 use gate_bytes::{Kept, Memory};
 use gate_chain::OpeningCoin;
-use gate_tx::{Coin, OutPoint, Txid, Wtxid};
 use gate_lines::{next_word, read_number, read_small_number};
+use gate_tx::{Coin, OutPoint, Txid, Wtxid};
 use hex::FromHexError;
 use std::alloc::Global;
 

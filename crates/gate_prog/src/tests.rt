@@ -205,7 +205,10 @@ fn a_reader_that_breaks(rt: HostRuntime) -> Result<(), Fail> {
 /// The replies to the first part go out in one write before the second is read, and no reply is left in the buffer.
 #[test]
 fn replies_before_a_wait(rt: HostRuntime) -> Result<(), Fail> {
-    let halves = Halves(b"times 1 0 0\n---\npeer 1 leave\npeer 1 leave\npeer 1", b" leave\n");
+    let halves = Halves(
+        b"times 1 0 0\n---\npeer 1 leave\npeer 1 leave\npeer 1",
+        b" leave\n",
+    );
     let mut reader = BufReader::new(rt.alloc(), halves)?;
     let kept = Writes {
         bytes: Vec::new(rt.alloc()),

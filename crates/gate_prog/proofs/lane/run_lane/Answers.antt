@@ -3,4 +3,4 @@ use Rattle.gate_prog.proofs.lane.run_lane.Goals as goal
 
 pub returns-in_err-sent-clause-unwritten : goal.returns-in_err-sent-clause-unwritten
 returns-in_err-sent-clause-unwritten g c = λ h.
-    done_unsent _ (g.R.Read.remaining c.answer_lines-answered.new.reader) _ _ _ _ _ c.in_ok-count.count c.in_ok-count.ensures.came c.send.ensures.kept
+    done_unsent _ (g.R.Read.remaining c.answer_lines-answered.new.reader) _ _ _ _ _ c.in_ok-count.count c.in_ok-count.ensures.came c.send-sent.ensures.kept
