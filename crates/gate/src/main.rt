@@ -2,9 +2,12 @@
 #![tactic(auto)]
 
 use gate_prog::{ArgsFault, read_args, run_job};
-use std::io::BufReader;
+use std::io::{BufReader, BufWriter};
 use std::process::ExitCode;
 use std::{env, io};
+
+/// The bytes of each buffer.
+const BUFFER: usize = 65_536;
 
 fn main(rt: HostRuntime) -> ExitCode {
     match status(&rt) {
@@ -32,8 +35,8 @@ fn status(rt: &HostRuntime) -> io::Result<u8> {
         }
         Err(ArgsFault::Memory) => return Ok(1),
     };
-    let mut reader = BufReader::new(alloc, rt.reader())?;
-    let mut writer = io::writer(rt);
+    let mut reader = BufReader::with_capacity(alloc, BUFFER, rt.reader())?;
+    let mut writer = BufWriter::with_capacity(alloc, BUFFER, io::writer(rt))?;
     match run_job(alloc, &job, &mut reader, &mut writer) {
         Ok(status) => Ok(status),
         Err(_) => Ok(1),

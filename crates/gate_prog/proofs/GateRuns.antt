@@ -1,12 +1,14 @@
 -- What `gate run` writes, from what its opening came to.
-use Rattle.std.proofs.Common.{◌≡◌, ℕ, List, Option, Some, None, IfSome, Result, Ok, Err, IfOk, IfErr, inl, sym, subst}
+use Rattle.std.proofs.Common.{◌≡◌, ℕ, List, Option, Some, None, IfSome, Result, Ok, Err, IfOk, IfErr, inl, inr, refl, sym, subst}
 use Rattle.gate_core.specs.World.{World}
 use Rattle.gate_prog.specs.declared.opening_fault.OpeningFault.{OpeningFault}
 use Rattle.gate_prog.specs.declared.opening_fault.OpeningFault.TheVariants.{Line}
 use Rattle.gate_prog.specs.declared.opening_fault.OpeningToken.{OpeningToken}
-use Rattle.gate_prog.specs.declared.fault.LaneFault.{LaneFault}
-use Rattle.gate_prog.specs.declared.fault.LaneFault.TheVariants as faults
-use Rattle.gate_prog.specs.Jobs.{FaultPrinted, GateRan, TextRan, GateStopped, RefusalStopped}
+use Rattle.gate_lines.specs.declared.fault.LaneFault.{LaneFault}
+use Rattle.gate_lines.specs.declared.fault.LaneFault.TheVariants as faults
+use Rattle.gate_prog.specs.Jobs.{FaultPrinted, GateRan, TextRan, GateStopped, OpenedAs, RefusalStopped}
+use Rattle.gate_prog.specs.Lanes.{LaneUnread, StoppedBy}
+use Rattle.gate_prog.specs.Openings.{LeavesRest}
 use Rattle.gate_prog.specs.Said.{spelled}
 
 gate_refused : (input before after : Option (List ℕ)) (line : ℕ) (token : OpeningToken) (status : ℕ)
@@ -28,3 +30,17 @@ stopped_in_refusal (Ok done) input rest before after line token h stopped = tt
 stopped_in_refusal (Err faults.Read) input rest before after line token h stopped = absurd stopped
 stopped_in_refusal (Err faults.Write) input rest before after line token h stopped = inl (line, token, h, stopped)
 stopped_in_refusal (Err faults.Memory) input rest before after line token h stopped = inl stopped
+
+opened_as : (input middle : Option (List ℕ)) (state : World) → IfSome input (λ text. spelled text ≡ Ok state) → LeavesRest input middle → OpenedAs input middle state
+opened_as None middle state opened left = tt
+opened_as (Some text) middle state opened left = (opened, left)
+
+pub stopped_in_lane : (fault : LaneFault) (input middle rest before after : Option (List ℕ)) (state new : World)
+    → IfSome input (λ text. spelled text ≡ Ok state) → LeavesRest input middle
+    → (fault ≡ faults.Read → LaneUnread middle rest before after state new)
+    → (fault ≡ faults.Write → StoppedBy faults.Write 0 middle before after state new)
+    → (fault ≡ faults.Memory → StoppedBy faults.Memory 0 middle before after state new)
+    → GateStopped input rest before after fault
+stopped_in_lane faults.Read input middle rest before after state new opened left unread unwritten memory = inr (middle, state, new, opened_as input middle state opened left, unread refl)
+stopped_in_lane faults.Write input middle rest before after state new opened left unread unwritten memory = inr (middle, state, new, opened_as input middle state opened left, unwritten refl)
+stopped_in_lane faults.Memory input middle rest before after state new opened left unread unwritten memory = inr (middle, state, new, opened_as input middle state opened left, memory refl)

@@ -1,5 +1,5 @@
 -- An opening after some whole lines, and how it ends from there.
-use Rattle.std.proofs.Common.{◌≡◌, ℕ, ◌+◌, ◌<◌, ◌≤◌, Bool, true, false, ◌||◌, List, [], ◌∷◌, ◌++◌, Option, Some, None, Ok, Err, refl, sym, ap, subst, ◌∙◌, append_assoc, append-nil}
+use Rattle.std.proofs.Common.{◌≡◌, ℕ, ◌+◌, ◌<◌, ◌≤◌, Bool, true, false, ◌||◌, List, [], ◌∷◌, ◌++◌, Option, OnSome, Some, None, Ok, Err, refl, sym, ap, subst, ◌∙◌, append_assoc, append-nil}
 use Rattle.std.specs.List.{list_any}
 use Rattle.std.proofs.lemmas.List.Folds.{list_any-append}
 use Rattle.std.specs.Io.KnownBytes.{Consumes, IsAtEnd}
@@ -8,11 +8,14 @@ use Rattle.gate_prog.specs.declared.opening_fault.OpeningFault.{OpeningFault}
 use Rattle.gate_prog.specs.declared.opening_fault.OpeningFault.TheVariants.{Line, Read, Memory}
 use Rattle.gate_prog.specs.declared.opening_fault.OpeningToken.TheVariants.{BadLine}
 use Rattle.gate_prog.specs.declared.opening.Step.TheVariants.{Went, Ended}
-use Rattle.gate_prog.specs.Lines.{EachLacksNewline, count_limit, lines_of, unlines}
-use Rattle.gate_prog.specs.Reading.{PieceRead}
+use Rattle.gate_lines.specs.Lines.{EachLacksNewline, count_limit, lines_of, unlines}
+use Rattle.gate_lines.specs.Reading.{PieceRead, EndTold}
+use Rattle.gate_lines.specs.declared.fault.LaneFault.{LaneFault}
+use Rattle.gate_lines.specs.declared.fault.LaneFault.TheVariants as lane
+use Rattle.gate_prog.specs.OpeningFaults.{unread_by}
 use Rattle.gate_prog.specs.Said.{Said, nothing_said, all_said, is_end}
 use Rattle.gate_prog.specs.Openings.{OpeningGathered, OpeningUnread, StepTaken, opening_part}
-use Rattle.gate_prog.proofs.LineLists.{lines_of-unlines, lines_of-some, unlines-append, EachLacksNewline-push}
+use Rattle.gate_lines.proofs.LineLists.{lines_of-unlines, lines_of-some, unlines-append, EachLacksNewline-push}
 use Rattle.gate_prog.proofs.OpeningParts.{opening_part-past}
 use Rattle.gate_prog.proofs.Saying.{all_said-went, all_said-full}
 use Rattle.gate_prog.proofs.Steps.{step_nothing}
@@ -79,7 +82,7 @@ Heard-fault Memory number r r' r'' said new so h = tt
 
 -- ---- after the last line that an opening may have
 
-pub Heard-end : (number : ℕ) (r r' r'' : Option (List ℕ)) (said : Said) → Heard number r r' said → Consumes r' r'' [] → IsAtEnd r'' → OpeningGathered r r'' (Ok said)
+pub Heard-end : (number : ℕ) (r r' r'' : Option (List ℕ)) (said : Said) → Heard number r r' said → Consumes r' r'' [] → OnSome r' (IsAtEnd r'') → OpeningGathered r r'' (Ok said)
 Heard-end number r r' r'' said so read end = Heard-ended number r r' r'' said said so (step_nothing number r' r'' said read end)
 
 pub Heard-full : (number : ℕ) (r r' r'' : Option (List ℕ)) (said : Said) (byte line : ℕ) → count_limit ≤ number → line ≡ number + 1
@@ -92,3 +95,8 @@ Heard-full number (Some xs) (Some ys) (Some zs) said byte line full is so read =
     all_from number (Some xs) (Some ys) said so xs ys so.read
     ∙ ap (λ t. all_said number said (lines_of t)) read ∙ ap (all_said number said) f.2
     ∙ all_said-full number said f.0 f.1 full ∙ ap (λ n. Err (Line n BadLine)) (sym is)
+
+pub Heard-untold : (fault : LaneFault) (number : ℕ) (r r' r'' : Option (List ℕ)) (said : Said) → Heard number r r' said → EndTold r' r'' (Err fault) → OpeningGathered r r'' (Err (unread_by fault))
+Heard-untold lane.Read number r r' r'' said so h = Heard-unread number r r' r'' said so ([], h, tt)
+Heard-untold lane.Write number r r' r'' said so h = absurd h
+Heard-untold lane.Memory number r r' r'' said so h = tt

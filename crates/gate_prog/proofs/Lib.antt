@@ -1,11 +1,8 @@
-pub mod LineLemmas
-pub mod Parts
-pub mod Decimals
-pub mod LineLists
 pub mod Runs
 pub mod TextForms
 pub mod TurnLemmas
 pub mod SoFar
+pub mod SentLanes
 pub mod EvenSteps
 pub mod OpeningParts
 pub mod Saying
@@ -13,4 +10,5 @@ pub mod Steps
 pub mod Heard
 pub mod GateRuns
 pub mod LedLanes
+pub mod FaultedLanes
 pub mod JobRunning

@@ -2,10 +2,10 @@
 use Rattle.std.proofs.Common.{◌≡◌, ℕ, suc, ◌+◌, Bool, true, false, ◌||◌, if◌then◌else◌, List, [], ◌∷◌, ◌++◌, length, take, refl, ap, ◌∙◌, arith, true≢false, length-append}
 use Rattle.std.proofs.lemmas.List.{take_all}
 use Rattle.std.specs.List.{list_any}
-use Rattle.gate_prog.specs.Lines.{LacksNewline, EachLacksNewline, lines_of, unlines}
+use Rattle.gate_lines.specs.Lines.{LacksNewline, EachLacksNewline, lines_of, unlines}
 use Rattle.gate_prog.specs.Said.{is_end}
 use Rattle.gate_prog.specs.Openings.{opening_length, opening_part}
-use Rattle.gate_prog.proofs.LineLists.{lines_of-unlines, lines_of-whole}
+use Rattle.gate_lines.proofs.LineLists.{lines_of-unlines, lines_of-whole}
 
 -- what stands before the cut is whole
 take-past : (xs ys : List ℕ) (n : ℕ) → take (length xs + n) (xs ++ ys) ≡ xs ++ take n ys

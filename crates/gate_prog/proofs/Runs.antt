@@ -3,13 +3,13 @@ use Rattle.std.proofs.Common.{◌≡◌, ℕ, ◌+◌, ◌<◌, ◌≤◌, nat_l
 use Rattle.std.proofs.lemmas.Bool.{lt-ltb, le-leb}
 use Rattle.std.proofs.lemmas.Bool.Decides.{nat_tests}
 use Rattle.gate_core.specs.World.{World}
-use Rattle.gate_prog.specs.Lines.{line_limit, count_limit}
+use Rattle.gate_lines.specs.Lines.{line_limit, count_limit}
 use Rattle.gate_prog.specs.Lanes.{Run, LineAnswered, line_too_long, too_many_lines}
 
-at_true : (P Q : Type 0) (b : Bool) → b ≡ true → P → MatchBool b P Q
+pub at_true : (P Q : Type 0) (b : Bool) → b ≡ true → P → MatchBool b P Q
 at_true P Q b e p = subst (λ (c : Bool). MatchBool c P Q) (sym e) p
 
-at_false : (P Q : Type 0) (b : Bool) → b ≡ false → Q → MatchBool b P Q
+pub at_false : (P Q : Type 0) (b : Bool) → b ≡ false → Q → MatchBool b P Q
 at_false P Q b e q = subst (λ (c : Bool). MatchBool c P Q) (sym e) q
 
 pub not-lt : (a b : ℕ) → b ≤ a → nat_lt a b ≡ false

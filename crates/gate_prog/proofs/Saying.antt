@@ -4,7 +4,7 @@ use Rattle.std.proofs.lemmas.Bool.{lt-ltb, le-leb}
 use Rattle.gate_prog.specs.declared.opening_fault.OpeningFault.{OpeningFault}
 use Rattle.gate_prog.specs.declared.opening_fault.OpeningFault.TheVariants.{Line}
 use Rattle.gate_prog.specs.declared.opening_fault.OpeningToken.TheVariants.{BadLine}
-use Rattle.gate_prog.specs.Lines.{line_limit, count_limit}
+use Rattle.gate_lines.specs.Lines.{line_limit, count_limit}
 use Rattle.gate_prog.specs.Said.{Said, all_said, on_said, with_text, is_end}
 use Rattle.gate_prog.proofs.Runs.{not-lt, not-le}
 

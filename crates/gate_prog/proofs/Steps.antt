@@ -1,14 +1,18 @@
 -- One step of an opening, from what was read and what was said.
-use Rattle.std.proofs.Common.{◌≡◌, ℕ, ◌+◌, ◌<◌, ◌≤◌, true, false, List, [], ◌∷◌, ◌++◌, length, Option, Some, None, IfSome, Ok, Err, sym, ap, ◌∙◌, append_assoc, append-nil}
+use Rattle.std.proofs.Common.{◌≡◌, ◌≢◌, ℕ, ◌+◌, ◌<◌, ◌≤◌, true, false, List, [], ◌∷◌, ◌++◌, length, Option, OnSome, Some, None, IfSome, Ok, Err, refl, sym, ap, ◌∙◌, append_assoc, append-nil}
 use Rattle.std.specs.Io.KnownBytes.{Consumes, IsAtEnd}
+use Rattle.gate_lines.specs.declared.fault.LaneFault.{LaneFault}
+use Rattle.gate_lines.specs.declared.fault.LaneFault.TheVariants as lane
+use Rattle.gate_lines.specs.Reading.{LineRead, EndTold}
+use Rattle.gate_prog.specs.OpeningFaults.{unread_by}
 use Rattle.gate_prog.specs.declared.opening_fault.OpeningFault.{OpeningFault}
 use Rattle.gate_prog.specs.declared.opening_fault.OpeningFault.TheVariants.{Line, Read, Memory}
 use Rattle.gate_prog.specs.declared.opening_fault.OpeningToken.TheVariants.{BadLine}
 use Rattle.gate_prog.specs.declared.opening.Step.TheVariants.{Ended}
-use Rattle.gate_prog.specs.Lines.{LacksNewline, line_limit, count_limit, lines_of}
+use Rattle.gate_lines.specs.Lines.{LacksNewline, line_limit, count_limit, lines_of}
 use Rattle.gate_prog.specs.Said.{Said, Takes, all_said, with_text, is_end}
 use Rattle.gate_prog.specs.Openings.{StepTaken, opening_part}
-use Rattle.gate_prog.proofs.LineLists.{lines_of-whole}
+use Rattle.gate_lines.proofs.LineLists.{lines_of-whole}
 use Rattle.gate_prog.proofs.TurnLemmas.{LongLine}
 use Rattle.gate_prog.specs.Lanes.{FirstLines}
 use Rattle.gate_prog.proofs.OpeningParts.{opening_part-end, opening_part-only}
@@ -37,7 +41,7 @@ step_fault Memory number r r' said new line few first short open' takes = tt
 
 -- the last line, without a newline
 pub step_rest : (number : ℕ) (r r' : Option (List ℕ)) (said new : Said) (line : List ℕ)
-    → Consumes r r' line → IsAtEnd r' → IfSome r (λ xs. lines_of xs ≡ line ∷ []) → all_said number said (line ∷ []) ≡ Ok new
+    → Consumes r r' line → OnSome r (IsAtEnd r') → IfSome r (λ xs. lines_of xs ≡ line ∷ []) → all_said number said (line ∷ []) ≡ Ok new
     → StepTaken number r r' said new (Ok Ended)
 step_rest number None r' said new line read end only h = tt
 step_rest number (Some xs) None said new line read end only h = absurd read
@@ -55,7 +59,7 @@ pub rest_said : (number : ℕ) (said new : Said) (line : List ℕ) → number < 
 rest_said number said new line few short open' h = all_said-went number said new line [] few short open' h
 
 -- the end of the input
-pub step_nothing : (number : ℕ) (r r' : Option (List ℕ)) (said : Said) → Consumes r r' [] → IsAtEnd r' → StepTaken number r r' said said (Ok Ended)
+pub step_nothing : (number : ℕ) (r r' : Option (List ℕ)) (said : Said) → Consumes r r' [] → OnSome r (IsAtEnd r') → StepTaken number r r' said said (Ok Ended)
 step_nothing number None r' said read end = tt
 step_nothing number (Some xs) None said read end = absurd read
 step_nothing number (Some xs) (Some ys) said read end =
@@ -68,3 +72,19 @@ pub step_long : (number : ℕ) (r r' : Option (List ℕ)) (said : Said) → numb
 step_long number None r' said few l = tt
 step_long number (Some xs) r' said few l =
     ap (all_said number said) l.first.1 ∙ all_said-long number said l.line l.first.0 few l.long
+
+-- the line was not read
+pub step_unread : (fault : LaneFault) (number : ℕ) (r r' : Option (List ℕ)) (said : Said) (line : List ℕ) → LineRead r r' line (Err fault) → StepTaken number r r' said said (Err (unread_by fault))
+step_unread lane.Read number r r' said line (read, clean) = (line, read, clean)
+step_unread lane.Write number r r' said line h = absurd h
+step_unread lane.Memory number r r' said line h = tt
+
+pub line_not_unread : (fault : LaneFault) (r r' : Option (List ℕ)) (line : List ℕ) → LineRead r r' line (Err fault) → fault ≢ lane.Read → unread_by fault ≢ Read
+line_not_unread lane.Read r r' line h other = absurd (other refl)
+line_not_unread lane.Write r r' line h other = absurd h
+line_not_unread lane.Memory r r' line h other = λ e. cc
+
+pub end_not_unread : (fault : LaneFault) (r r' : Option (List ℕ)) → EndTold r r' (Err fault) → fault ≢ lane.Read → unread_by fault ≢ Read
+end_not_unread lane.Read r r' h other = absurd (other refl)
+end_not_unread lane.Write r r' h other = absurd h
+end_not_unread lane.Memory r r' h other = λ e. cc

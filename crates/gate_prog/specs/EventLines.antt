@@ -9,9 +9,9 @@ use Rattle.gate_tx.specs.Reading.{decoded}
 use Rattle.gate_core.specs.Addresses.{address_of}
 use Rattle.gate_core.specs.declared.event.Event.{Event}
 use Rattle.gate_core.specs.declared.event.Event.TheVariants as events
-use Rattle.gate_prog.specs.Lines.{if_text}
-use Rattle.gate_prog.specs.Words.{part_of, is_word}
-use Rattle.gate_prog.specs.Numbers.{number_of}
+use Rattle.gate_lines.specs.Lines.{if_text}
+use Rattle.gate_lines.specs.Words.{part_of, is_word}
+use Rattle.gate_lines.specs.Numbers.{number_of}
 
 infixl 10 ◌>>=◌
 abbrev pub ◌>>=◌ : {A B : Type 0} → Option A → (A → Option B) → Option B

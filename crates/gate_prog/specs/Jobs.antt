@@ -1,10 +1,10 @@
 -- What the jobs of the command line write, and the statuses that follow.
-use Rattle.std.specs.Prelude.{◌≡◌, ℕ, ◌++◌, List, [], ◌∷◌, codes, Option, IfSome, Result, Ok, Err, ◌⊎◌}
+use Rattle.std.specs.Prelude.{◌≡◌, ℕ, ◌++◌, ◌≤◌, List, [], ◌∷◌, length, take, codes, Option, IfSome, Result, Ok, Err, ◌⊎◌}
 use Rattle.std.specs.Fmt.{decimal}
 use Rattle.std.specs.Io.KnownBytes.{Appends, Consumes}
 use Rattle.gate_core.specs.World.{World}
-use Rattle.gate_prog.specs.declared.fault.LaneFault.{LaneFault}
-use Rattle.gate_prog.specs.declared.fault.LaneFault.TheVariants as lane
+use Rattle.gate_lines.specs.declared.fault.LaneFault.{LaneFault}
+use Rattle.gate_lines.specs.declared.fault.LaneFault.TheVariants as lane
 use Rattle.gate_prog.specs.declared.job.Job.{Job}
 use Rattle.gate_prog.specs.declared.job.Job.TheVariants as jobs
 use Rattle.gate_prog.specs.declared.opening_fault.OpeningFault.{OpeningFault}
@@ -12,12 +12,11 @@ use Rattle.gate_prog.specs.declared.opening_fault.OpeningFault.TheVariants as fa
 use Rattle.gate_prog.specs.declared.opening_fault.OpeningToken.{OpeningToken}
 use Rattle.gate_prog.specs.Checks.{check_lines, check_status}
 use Rattle.gate_prog.specs.EventLines.{prepared_of}
-use Rattle.gate_prog.specs.Lanes.{Run, LaneUnread, StoppedFrom}
-use Rattle.gate_prog.specs.Lines.{lines_of, unlines}
+use Rattle.gate_prog.specs.Lanes.{Run, LaneUnread, StoppedBy}
+use Rattle.gate_lines.specs.Lines.{lines_of, unlines}
 use Rattle.gate_prog.specs.OpeningFaults.{token_text}
 use Rattle.gate_prog.specs.Openings.{opening_part, OpeningUnread}
 use Rattle.gate_prog.specs.Said.{spelled}
-use Rattle.gate_prog.specs.Writing.{PartWritten}
 
 -- the line of an opening's fault
 abbrev pub opening_line : ℕ → OpeningToken → List ℕ
@@ -47,11 +46,15 @@ JobDone jobs.Run input before after status = GateRan input before after status
 
 -- ---- after a fault
 
+-- a part of the text was written, or all of it, and the writer could not send it on
+abbrev pub PartSent : Option (List ℕ) → Option (List ℕ) → List ℕ → Type 0
+PartSent before after text = (n : ℕ) × (n ≤ length text) × Appends before after (take n text)
+
 -- the lane behind the opening stopped
 abbrev pub LaneFaulted : Option (List ℕ) → Option (List ℕ) → Option (List ℕ) → Option (List ℕ) → World → World → LaneFault → Type 0
 LaneFaulted input rest before after old new lane.Read = LaneUnread input rest before after old new
-LaneFaulted input rest before after old new lane.Write = StoppedFrom 0 input before after old new
-LaneFaulted input rest before after old new lane.Memory = StoppedFrom 0 input before after old new
+LaneFaulted input rest before after old new lane.Write = StoppedBy lane.Write 0 input before after old new
+LaneFaulted input rest before after old new lane.Memory = StoppedBy lane.Memory 0 input before after old new
 
 -- the opening was read as far as this, and opened this state
 abbrev pub OpenedAs : Option (List ℕ) → Option (List ℕ) → World → Type 0
@@ -61,10 +64,10 @@ abbrev pub StoppedInLane : Option (List ℕ) → Option (List ℕ) → Option (L
 StoppedInLane input rest before after fault =
     (middle : Option (List ℕ)) × (state : World) × (new : World) × OpenedAs input middle state × LaneFaulted middle rest before after state new fault
 
--- the line of the opening's fault was not written whole
+-- the line of the opening's fault was not sent whole
 abbrev pub StoppedInRefusal : Option (List ℕ) → Option (List ℕ) → Option (List ℕ) → Type 0
 StoppedInRefusal input before after = (line : ℕ) × (token : OpeningToken)
-    × IfSome input (λ text. spelled text ≡ Err (faults.Line line token)) × PartWritten before after (opening_line line token ++ 10 ∷ [])
+    × IfSome input (λ text. spelled text ≡ Err (faults.Line line token)) × PartSent before after (opening_line line token ++ 10 ∷ [])
 
 -- `gate run` stopped: in its opening, with nothing written, or in the line of the opening's fault, or in its lane
 abbrev pub GateStopped : Option (List ℕ) → Option (List ℕ) → Option (List ℕ) → Option (List ℕ) → LaneFault → Type 0
@@ -75,7 +78,7 @@ GateStopped input rest before after lane.Memory = Appends before after [] ⊎ St
 -- a check reads nothing, and writes its lines at once
 abbrev pub CheckStopped : List ℕ → Option (List ℕ) → Option (List ℕ) → LaneFault → Type 0
 CheckStopped hex before after lane.Read = ⊥
-CheckStopped hex before after lane.Write = PartWritten before after (unlines (check_lines (prepared_of hex)))
+CheckStopped hex before after lane.Write = PartSent before after (unlines (check_lines (prepared_of hex)))
 CheckStopped hex before after lane.Memory = Appends before after []
 
 abbrev pub JobStopped : Job → Option (List ℕ) → Option (List ℕ) → Option (List ℕ) → Option (List ℕ) → LaneFault → Type 0
@@ -85,5 +88,5 @@ JobStopped jobs.Run input rest before after fault = GateStopped input rest befor
 -- writing the line of an opening's fault stopped
 abbrev pub RefusalStopped : ℕ → OpeningToken → Option (List ℕ) → Option (List ℕ) → LaneFault → Type 0
 RefusalStopped line token before after lane.Read = ⊥
-RefusalStopped line token before after lane.Write = PartWritten before after (opening_line line token ++ 10 ∷ [])
+RefusalStopped line token before after lane.Write = PartSent before after (opening_line line token ++ 10 ∷ [])
 RefusalStopped line token before after lane.Memory = Appends before after []

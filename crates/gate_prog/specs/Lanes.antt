@@ -3,11 +3,13 @@ use Rattle.std.specs.Prelude.{◌≡◌, ℕ, ◌+◌, ◌≤◌, nat_lt, nat_le
 use Rattle.std.specs.Io.{StartsWith}
 use Rattle.std.specs.Io.KnownBytes.{Appends, Consumes}
 use Rattle.gate_core.specs.World.{World}
+use Rattle.gate_lines.specs.declared.fault.LaneFault.{LaneFault}
+use Rattle.gate_lines.specs.declared.fault.LaneFault.TheVariants as faults
 use Rattle.gate_core.specs.Good.{StepGives}
 use Rattle.gate_core.specs.Texts.{reply_text}
 use Rattle.gate_core.specs.declared.event.Event.{Event}
 use Rattle.gate_core.specs.declared.reply.Reply.{Reply}
-use Rattle.gate_prog.specs.Lines.{line_limit, count_limit, LacksNewline, EachLacksNewline, lines_of, unlines, is_skipped}
+use Rattle.gate_lines.specs.Lines.{line_limit, count_limit, LacksNewline, EachLacksNewline, lines_of, unlines, is_skipped}
 use Rattle.gate_prog.specs.EventLines.{line_event}
 
 -- ---- what a line is answered
@@ -63,19 +65,25 @@ LaneUnread input rest before after old new =
     × Consumes input rest (unlines lines ++ piece) × EachLacksNewline lines × LacksNewline piece
     × Appends before after (unlines replies) × Run 0 old lines replies new
 
--- all of these reply lines but a last one were sent, and a part of that one
-abbrev pub AllSentButOne : List (List ℕ) → List ℕ → Type 0
-AllSentButOne replies sent = (whole : List (List ℕ)) × (last : List (List ℕ)) × (part : List ℕ)
-    × (replies ≡ whole ++ last) × (length last ≤ 1) × (sent ≡ unlines whole ++ part) × StartsWith (unlines last) part
-
 -- the first lines of the input
 abbrev pub FirstLines : Option (List ℕ) → List (List ℕ) → Type 0
 FirstLines input lines = IfSome input (λ bytes. (more : List (List ℕ)) × (lines_of bytes ≡ lines ++ more))
 
+-- what of a last reply line went out before the fault: a front of it, and nothing where memory ran out
+abbrev pub SentOf : LaneFault → List (List ℕ) → List ℕ → Type 0
+SentOf faults.Write last part = StartsWith (unlines last) part
+SentOf faults.Memory last part = part ≡ []
+SentOf faults.Read last part = ⊥
+
+-- all of these reply lines but a last one were sent, and a part of that one
+abbrev pub AllSentButOne : LaneFault → List (List ℕ) → List ℕ → Type 0
+AllSentButOne fault replies sent = (whole : List (List ℕ)) × (last : List (List ℕ)) × (part : List ℕ)
+    × (replies ≡ whole ++ last) × (length last ≤ 1) × (sent ≡ unlines whole ++ part) × SentOf fault last part
+
 -- the writer failed, or memory ran out: what went out is a front of the run's text, and the state is the run's after the
 -- lines whose replies went out whole, with at most one line more
-abbrev pub StoppedFrom : ℕ → Option (List ℕ) → Option (List ℕ) → Option (List ℕ) → World → World → Type 0
-StoppedFrom number input before after old new =
+abbrev pub StoppedBy : LaneFault → ℕ → Option (List ℕ) → Option (List ℕ) → Option (List ℕ) → World → World → Type 0
+StoppedBy fault number input before after old new =
     (lines : List (List ℕ)) × (replies : List (List ℕ)) × (sent : List ℕ)
     × FirstLines input lines × Run number old lines replies new
-    × Appends before after sent × AllSentButOne replies sent
+    × Appends before after sent × AllSentButOne fault replies sent

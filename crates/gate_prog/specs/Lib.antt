@@ -1,8 +1,3 @@
-pub mod Lines
-pub mod Reading
-pub mod Writing
-pub mod Words
-pub mod Numbers
 pub mod EventLines
 pub mod OpeningLines
 pub mod Lanes
@@ -16,3 +11,4 @@ pub mod Checks
 pub mod Jobs
 pub mod LaneRuns
 pub mod JobRuns
+pub mod FaultedRuns

@@ -3,6 +3,8 @@ use Rattle.std.specs.Prelude.{ℕ, List, codes, slice_get}
 use Rattle.std.specs.Option.{unwrap_or}
 use Rattle.gate_chain.specs.declared.OpenFault.{OpenFault}
 use Rattle.gate_chain.specs.declared.OpenFault.TheVariants as chain
+use Rattle.gate_lines.specs.declared.fault.LaneFault.{LaneFault}
+use Rattle.gate_lines.specs.declared.fault.LaneFault.TheVariants as lane
 use Rattle.gate_prog.specs.declared.opening_fault.OpeningToken.{OpeningToken}
 use Rattle.gate_prog.specs.declared.opening_fault.OpeningToken.TheVariants as tokens
 use Rattle.gate_prog.specs.declared.opening_fault.OpeningFault.{OpeningFault}
@@ -30,3 +32,9 @@ located lines (chain.CoinValue coin) = faults.Line (line_of_coin lines coin) tok
 located lines (chain.CoinUnspendable coin) = faults.Line (line_of_coin lines coin) tokens.CoinUnspendable
 located lines (chain.CoinAboveTip coin) = faults.Line (line_of_coin lines coin) tokens.CoinAboveTip
 located lines (chain.CoinTwice coin) = faults.Line (line_of_coin lines coin) tokens.CoinTwice
+
+-- a fault of the reader
+abbrev pub unread_by : LaneFault → OpeningFault
+unread_by lane.Read = faults.Read
+unread_by lane.Write = faults.Read
+unread_by lane.Memory = faults.Memory

@@ -10,9 +10,9 @@ use Rattle.gate_admit.specs.declared.Verdict.TheVariants.{Good, Soft, Hard}
 use Rattle.gate_prog.specs.declared.opening_line.OpeningLine.{OpeningLine}
 use Rattle.gate_prog.specs.declared.opening_line.OpeningLine.TheVariants as says
 use Rattle.gate_prog.specs.declared.opening_line.CoinHead.{CoinHead}
-use Rattle.gate_prog.specs.Lines.{if_text}
-use Rattle.gate_prog.specs.Words.{part_of}
-use Rattle.gate_prog.specs.Numbers.{number_of, small_number_of}
+use Rattle.gate_lines.specs.Lines.{if_text}
+use Rattle.gate_lines.specs.Words.{part_of}
+use Rattle.gate_lines.specs.Numbers.{number_of, small_number_of}
 
 infixl 10 ◌>>=◌
 abbrev pub ◌>>=◌ : {A B : Type 0} → Option A → (A → Option B) → Option B

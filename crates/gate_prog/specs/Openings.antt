@@ -6,8 +6,8 @@ use Rattle.gate_prog.specs.declared.opening.Step.{Step}
 use Rattle.gate_prog.specs.declared.opening.Step.TheVariants.{Went, Ended}
 use Rattle.gate_prog.specs.declared.opening_fault.OpeningFault.{OpeningFault}
 use Rattle.gate_prog.specs.declared.opening_fault.OpeningFault.TheVariants.{Line, Read, Memory}
-use Rattle.gate_prog.specs.Lines.{LacksNewline, EachLacksNewline, line_limit, lines_of, unlines}
-use Rattle.gate_prog.specs.Reading.{PieceRead}
+use Rattle.gate_lines.specs.Lines.{LacksNewline, EachLacksNewline, line_limit, lines_of, unlines}
+use Rattle.gate_lines.specs.Reading.{PieceRead}
 use Rattle.gate_prog.specs.Said.{Said, nothing_said, all_said, with_text, is_end}
 
 -- the bytes of these lines with a newline each, up to a line `---` and its newline

@@ -15,7 +15,7 @@ use Rattle.gate_prog.specs.declared.opening_fault.OpeningToken.{OpeningToken}
 use Rattle.gate_prog.specs.declared.opening_fault.OpeningToken.TheVariants.{BadLine, TimesLimit}
 use Rattle.gate_prog.specs.declared.opening_line.OpeningLine.{OpeningLine}
 use Rattle.gate_prog.specs.declared.opening_line.OpeningLine.TheVariants as says
-use Rattle.gate_prog.specs.Lines.{line_limit, count_limit, is_skipped, lines_of}
+use Rattle.gate_lines.specs.Lines.{line_limit, count_limit, is_skipped, lines_of}
 use Rattle.gate_prog.specs.OpeningLines.{said_by}
 use Rattle.gate_prog.specs.OpeningFaults.{located}
 use Rattle.gate_prog.specs.BlockTimes.{times_from, some_too_great}

@@ -2,7 +2,7 @@
 ghost use Rattle.std.specs.Prelude.{◌≡◌, IfOk, string_bytes};
 ghost use Rattle.gate_prog.specs.Checks.{check_lines, check_status, denied_line, ids_line, verdict_line, verdict_status};
 ghost use Rattle.gate_prog.specs.EventLines.{prepared_of};
-ghost use Rattle.gate_prog.specs.Lines.{unlines};
+ghost use Rattle.gate_lines.specs.Lines.{unlines};
 
 use crate::event_line::prepared;
 use gate_admit::Prepared;

@@ -4,7 +4,6 @@ ghost use Rattle.gate_core.specs.Good.{IsGoodWorld};
 ghost use Rattle.gate_prog.specs.OpeningLines.{said_by};
 ghost use Rattle.gate_prog.specs.Said.{exceeds, nothing_said, opened_from, with_line, with_text, Takes};
 
-use crate::line::asks_nothing;
 use crate::opening_fault::{OpeningFault, OpeningToken, at_line};
 use crate::opening_line::{OpeningLine, read_opening_line};
 use crate::times::{append_times, times_fit};
@@ -12,6 +11,7 @@ use crate::verdict_rows::VerdictRows;
 use gate_admit::{OpeningCoin, Verdict, Verdicts};
 use gate_bytes::{Kept, Memory};
 use gate_core::{Opening, State};
+use gate_lines::asks_nothing;
 use std::alloc::Global;
 use std::marker::Model;
 
@@ -143,6 +143,7 @@ impl Draft {
         ensures opened { IfOk result (λ state. opened_from self ≡ Ok state) }
         ensures good { IfOk result IsGoodWorld }
         ensures refused { IfErr result (λ fault. fault ≢ OpeningFault.Memory → opened_from self ≡ Err fault) }
+        ensures kind { IfErr result (λ fault. fault ≢ OpeningFault.Read) }
     {
         let Draft {
             budget,

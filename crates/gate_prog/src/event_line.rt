@@ -2,11 +2,10 @@
 ghost use Rattle.std.specs.Prelude.{◌≡◌, IfOk, MatchOption, None, Some};
 ghost use Rattle.gate_prog.specs.EventLines.{event_of, numbered_of, peer_event_of, enter_event_of, tx_event_of, prepared_of};
 
-use crate::number::read_number;
-use crate::word::{is_one_word, next_word};
 use gate_admit::Prepared;
 use gate_bytes::Memory;
 use gate_core::{Address, Event};
+use gate_lines::{is_one_word, next_word, read_number};
 use hex::FromHexError;
 use std::alloc::Global;
 

@@ -1,16 +1,14 @@
 //! The jobs of the command line.
-ghost use Rattle.std.specs.Prelude.{◌≡◌, ◌++◌, ◌∷◌, [], None, IfOk, IfErr};
+ghost use Rattle.std.specs.Prelude.{◌≡◌, ◌≢◌, ◌++◌, ◌∷◌, [], None, true, IfOk, IfErr};
 ghost use Rattle.gate_prog.specs.Jobs.{JobDone, JobStopped, FaultPrinted, RefusalStopped, GateRan, GateStopped, CheckStopped, opening_line};
 
 use crate::check::check_hex;
-use crate::fault::LaneFault;
 use crate::lane::run_lane;
 use crate::opening::read_opening;
 use crate::opening_fault::{OpeningFault, OpeningToken};
-use crate::output::{with_newline, write_text};
 use gate_bytes::{Memory, Text};
+use gate_lines::{LaneFault, Sink, Source, end_line};
 use std::alloc::Global;
-use std::io::{Read, Write};
 
 /// What the program is asked to do.
 #[derive(Debug, Drop, PartialEq, Eq)]
@@ -22,7 +20,7 @@ pub enum Job {
 }
 
 /// Does a job over a reader and a writer, and gives the status that the program ends with; a fault is status 1.
-pub fn run_job<R: Read, W: Write>(
+pub fn run_job<R: Source, W: Sink>(
     alloc: Global,
     job: &Job,
     reader: &mut R,
@@ -30,6 +28,8 @@ pub fn run_job<R: Read, W: Write>(
 ) -> Result<u8, LaneFault>
     ensures done { IfOk result (λ status. JobDone job.now (R.remaining reader.old) (W.contents writer.old) (W.contents writer.new) status) }
     ensures stopped { IfErr result (λ fault. JobStopped job.now (R.remaining reader.old) (R.remaining reader.new) (W.contents writer.old) (W.contents writer.new) fault) }
+    ensures steady_reader { R.steady ≡ true → IfErr result (λ fault. fault ≢ LaneFault.Read) }
+    ensures steady_writer { W.steady ≡ true → IfErr result (λ fault. fault ≢ LaneFault.Write) }
 {
     match job {
         Job::Check(hex) => run_check(alloc, hex.as_str(), writer),
@@ -37,34 +37,34 @@ pub fn run_job<R: Read, W: Write>(
     }
 }
 
-/// The lines of a check in one write, so that want of memory prints nothing.
-fn run_check<W: Write>(alloc: Global, hex: &str, writer: &mut W) -> Result<u8, LaneFault>
+/// Checks one transaction in hex by itself: its lines go out in one write, so that want of memory prints nothing.
+pub fn run_check<W: Sink>(alloc: Global, hex: &str, writer: &mut W) -> Result<u8, LaneFault>
     ensures done { IfOk result (λ status. JobDone (Job.Check hex.now) None (W.contents writer.old) (W.contents writer.new) status) }
     ensures stopped { IfErr result (λ fault. CheckStopped hex.now (W.contents writer.old) (W.contents writer.new) fault) }
+    ensures steady { W.steady ≡ true → IfErr result (λ fault. fault ≢ LaneFault.Write) }
 {
-    let Ok(checked) = check_hex(alloc, hex) else {
-        return Err(LaneFault::Memory);
-    };
-    match write_text(writer, checked.text.as_bytes()) {
-        Ok(()) => Ok(checked.status),
-        Err(fault) => Err(fault),
-    }
+    let checked = check_hex(alloc, hex)?;
+    writer.write_text(checked.text.as_bytes())?;
+    writer.send()?;
+    Ok(checked.status)
 }
 
-/// An opening, and then a lane over the rest of the reader.
-fn run_gate<R: Read, W: Write>(
+/// Opens a gate from the front of the input, and runs a lane over the rest. An opening with a fault is refused by a line.
+pub fn run_gate<R: Source, W: Sink>(
     alloc: Global,
     reader: &mut R,
     writer: &mut W,
 ) -> Result<u8, LaneFault>
     ensures done { IfOk result (λ status. GateRan (R.remaining reader.old) (W.contents writer.old) (W.contents writer.new) status) }
     ensures stopped { IfErr result (λ fault. GateStopped (R.remaining reader.old) (R.remaining reader.new) (W.contents writer.old) (W.contents writer.new) fault) }
+    ensures steady_reader { R.steady ≡ true → IfErr result (λ fault. fault ≢ LaneFault.Read) }
+    ensures steady_writer { W.steady ≡ true → IfErr result (λ fault. fault ≢ LaneFault.Write) }
 {
     match read_opening(alloc, reader) {
-        Ok(mut state) => match run_lane(alloc, &mut state, reader, writer) {
-            Ok(_) => Ok(0),
-            Err(fault) => Err(fault),
-        },
+        Ok(mut state) => {
+            run_lane(alloc, &mut state, reader, writer)?;
+            Ok(0)
+        }
         Err(OpeningFault::Line(line, token)) => refuse_opening(alloc, writer, line, token),
         Err(OpeningFault::Read) => Err(LaneFault::Read),
         Err(OpeningFault::Memory) => Err(LaneFault::Memory),
@@ -72,7 +72,7 @@ fn run_gate<R: Read, W: Write>(
 }
 
 /// Writes the line of an opening's fault, and gives the status that follows it.
-fn refuse_opening<W: Write>(
+fn refuse_opening<W: Sink>(
     alloc: Global,
     writer: &mut W,
     line: u64,
@@ -80,20 +80,17 @@ fn refuse_opening<W: Write>(
 ) -> Result<u8, LaneFault>
     ensures done { IfOk result (λ status. FaultPrinted line token (W.contents writer.old) (W.contents writer.new) status) }
     ensures stopped { IfErr result (λ fault. RefusalStopped line token (W.contents writer.old) (W.contents writer.new) fault) }
+    ensures steady { W.steady ≡ true → IfErr result (λ fault. fault ≢ LaneFault.Write) }
 {
-    let Ok(text) = refusal_line(alloc, line, token) else {
-        return Err(LaneFault::Memory);
-    };
-    match write_text(writer, text.as_slice()) {
-        Ok(()) => Ok(2),
-        Err(fault) => Err(fault),
-    }
+    let text = refusal_line(alloc, line, token)?;
+    writer.write_text(text.as_slice())?;
+    writer.send()?;
+    Ok(2)
 }
 
 /// `opening LINE TOKEN`, with its newline.
 fn refusal_line(alloc: Global, line: u64, token: OpeningToken) -> Result<Vec<u8>, Memory>
     ensures { IfOk result (λ text. text.items ≡ opening_line line token ++ 10 ∷ []) }
 {
-    let text = format!(in alloc; "opening {line} {token}")?;
-    with_newline(alloc, text.as_str())
+    end_line(format!(in alloc; "opening {line} {token}")?)
 }

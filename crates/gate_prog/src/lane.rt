@@ -1,17 +1,17 @@
 //! The lane: lines read one after another, each answered before the next is read.
-ghost use Rattle.std.specs.Prelude.{◌≡◌, ◌≢◌, ◌++◌, ◌∷◌, [], ◌⊎◌, IfOk, IfErr, OnErr, IsErrOf};
+ghost use Rattle.std.specs.Prelude.{◌≡◌, ◌≢◌, [], true, IfOk, IfErr, OnErr, IsOk, IsErrOf};
+ghost use Rattle.std.specs.Io.KnownBytes.{Appends};
 ghost use Rattle.gate_prog.specs.EventLines.{line_event};
-ghost use Rattle.gate_prog.specs.Lanes.{LaneDone, LaneUnread, StoppedFrom};
-ghost use Rattle.gate_prog.specs.Turns.{EventReplied, EventLost, AnswerMade, AnswerLost, Responded, Unresponded, TurnTaken};
+ghost use Rattle.gate_prog.specs.Lanes.{LaneDone, LaneUnread, StoppedBy};
+ghost use Rattle.gate_prog.specs.Turns.{EventReplied, EventLost, AnswerMade, AnswerLost, LineTaken, TurnTaken, LaneCame};
 
 use crate::event_line::read_event;
-use crate::fault::LaneFault;
-use crate::line::{Found, MAX_LINES, asks_nothing, next_byte, next_line};
-use crate::output::{with_newline, write_text};
 use gate_bytes::Memory;
 use gate_core::{Event, State};
+use gate_lines::{
+    Found, LaneFault, MAX_LINES, Sink, Source, asks_nothing, end_line, has_ended, next_line,
+};
 use std::alloc::Global;
-use std::io::{Read, Write};
 
 /// What a turn came to, with the number of reply lines that it wrote.
 #[derive(Clone, Copy, Debug, PartialEq, Eq)]
@@ -36,12 +36,9 @@ fn answer_event(alloc: Global, state: &mut State, event: &Event) -> Result<Vec<u
     ensures err { OnErr result (EventLost state.old event.now state.new) }
 {
     let Ok(reply) = state.step(alloc, event) else {
-        return with_newline(alloc, "fault memory");
+        return Ok(Vec::from_slice(alloc, b"fault memory\n")?);
     };
-    match reply.text(alloc) {
-        Ok(text) => with_newline(alloc, text.as_str()),
-        Err(memory) => Err(memory),
-    }
+    end_line(reply.text(alloc)?)
 }
 
 /// Answers a line within the limits, by its reply line with a newline; `None` for a line that is skipped.
@@ -52,75 +49,99 @@ fn answer(alloc: Global, state: &mut State, line: &[u8]) -> Result<Option<Vec<u8
     if asks_nothing(line) {
         return Ok(None);
     }
-    let event = match event_on(alloc, line) {
-        Ok(Some(event)) => event,
-        Ok(None) => {
-            return match with_newline(alloc, "refused L1 bad-line") {
-                Ok(text) => Ok(Some(text)),
-                Err(memory) => Err(memory),
-            };
-        }
-        Err(memory) => return Err(memory),
-    };
-    match answer_event(alloc, state, &event) {
-        Ok(text) => Ok(Some(text)),
-        Err(memory) => Err(memory),
+    match event_on(alloc, line)? {
+        Some(event) => Ok(Some(answer_event(alloc, state, &event)?)),
+        None => Ok(Some(Vec::from_slice(alloc, b"refused L1 bad-line\n")?)),
     }
 }
 
 /// Answers a line within the limits, and writes its reply line.
-fn respond<W: Write>(
+fn respond<W: Sink>(
     alloc: Global,
     state: &mut State,
     writer: &mut W,
     line: &[u8],
 ) -> Result<u64, LaneFault>
-    ensures ok { IfOk result (λ count. Responded (W.contents writer.old) (W.contents writer.new) state.old line.now state.new count) }
-    ensures err { OnErr result (Unresponded (W.contents writer.old) (W.contents writer.new) state.old line.now state.new) }
-    ensures kind { IfErr result (λ fault. fault ≢ LaneFault.Read) }
+    ensures taken { LineTaken (W.contents writer.old) (W.contents writer.new) state.old line.now state.new result }
+    ensures steady { W.steady ≡ true → IfErr result (λ fault. fault ≢ LaneFault.Write) }
 {
-    match answer(alloc, state, line) {
-        Ok(None) => Ok(0),
-        Ok(Some(reply)) => match write_text(writer, reply.as_slice()) {
-            Ok(()) => Ok(1),
-            Err(fault) => Err(fault),
-        },
-        Err(_) => Err(LaneFault::Memory),
-    }
+    let Some(reply) = answer(alloc, state, line)? else {
+        return Ok(0);
+    };
+    writer.write_text(reply.as_slice())?;
+    Ok(1)
 }
 
 /// Reads the next line and answers it before anything more is read.
-fn take_turn<R: Read, W: Write>(
+fn take_turn<R: Source, W: Sink>(
     alloc: Global,
     state: &mut State,
     reader: &mut R,
     writer: &mut W,
     line: &mut Vec<u8>,
 ) -> Result<Turn, LaneFault>
-    ensures { TurnTaken (R.remaining reader.old) (R.remaining reader.new) (W.contents writer.old) (W.contents writer.new) state.old state.new result }
+    ensures taken { TurnTaken (R.remaining reader.old) (R.remaining reader.new) (W.contents writer.old) (W.contents writer.new) state.old state.new result }
+    ensures steady_reader { R.steady ≡ true → IfErr result (λ fault. fault ≢ LaneFault.Read) }
+    ensures steady_writer { W.steady ≡ true → IfErr result (λ fault. fault ≢ LaneFault.Write) }
 {
-    match next_line(reader, line) {
-        Ok(Found::Whole) => match respond(alloc, state, writer, line.as_slice()) {
-            Ok(count) => Ok(Turn::Went(count)),
-            Err(fault) => Err(fault),
-        },
-        Ok(Found::Rest) => match respond(alloc, state, writer, line.as_slice()) {
-            Ok(count) => Ok(Turn::Ended(count)),
-            Err(fault) => Err(fault),
-        },
-        Ok(Found::End) => Ok(Turn::Ended(0)),
-        Ok(Found::TooLong) => match write_text(writer, b"refused L2 line-too-long\n") {
-            Ok(()) => Ok(Turn::Ended(1)),
-            Err(fault) => Err(fault),
-        },
-        Err(fault) => Err(fault),
+    match next_line(reader, line)? {
+        Found::Whole => Ok(Turn::Went(respond(alloc, state, writer, line.as_slice())?)),
+        Found::Rest => Ok(Turn::Ended(respond(alloc, state, writer, line.as_slice())?)),
+        Found::End => Ok(Turn::Ended(0)),
+        Found::TooLong => {
+            writer.write_text(b"refused L2 line-too-long\n")?;
+            Ok(Turn::Ended(1))
+        }
     }
+}
+
+/// Sends on what was written, unless a whole line waits to be read.
+fn send_before_wait<R: Source, W: Sink>(reader: &R, writer: &mut W) -> Result<(), LaneFault>
+    ensures kept { Appends (W.contents writer.old) (W.contents writer.new) [] }
+    ensures kind { IfErr result (λ fault. fault ≡ LaneFault.Write) }
+    ensures steady { W.steady ≡ true → IsOk result }
+{
+    if reader.has_line() {
+        return Ok(());
+    }
+    writer.send()
+}
+
+/// Answers all lines, up to the first past a limit, and gives the number of reply lines. The last of them may not be sent
+/// on yet.
+fn answer_lines<R: Source, W: Sink>(
+    alloc: Global,
+    state: &mut State,
+    reader: &mut R,
+    writer: &mut W,
+) -> Result<u64, LaneFault>
+    ensures came { LaneCame (R.remaining reader.old) (R.remaining reader.new) (W.contents writer.old) (W.contents writer.new) state.old state.new result }
+    ensures steady_reader { R.steady ≡ true → IfErr result (λ fault. fault ≢ LaneFault.Read) }
+    ensures steady_writer { W.steady ≡ true → IfErr result (λ fault. fault ≢ LaneFault.Write) }
+{
+    let mut count = 0;
+    let mut line = Vec::new(alloc);
+    for _ in 0..MAX_LINES {
+        send_before_wait(reader, writer)?;
+        match take_turn(alloc, state, reader, writer, &mut line)? {
+            Turn::Went(replies) => count += replies,
+            Turn::Ended(replies) => return Ok(count + replies),
+        }
+    }
+    send_before_wait(reader, writer)?;
+    if has_ended(reader, &mut line)? {
+        return Ok(count);
+    }
+    writer.write_text(b"refused L3 too-many-lines\n")?;
+    Ok(count + 1)
 }
 
 /// Runs a lane to the end of its input, or to the first line past a limit, and gives the number of reply lines.
 ///
-/// Each reply line goes out before the next line is read. After a fault the state is that of the lines answered.
-pub fn run_lane<R: Read, W: Write>(
+/// A reply line is out before the lane waits for more input, and all of them before it returns, where the writer can
+/// send them on. After a fault the state is that of the lines answered. Where the lane and then the writer's last sending
+/// fail, the lane's fault is told.
+pub fn run_lane<R: Source, W: Sink>(
     alloc: Global,
     state: &mut State,
     reader: &mut R,
@@ -129,24 +150,16 @@ pub fn run_lane<R: Read, W: Write>(
     ensures done { IfOk result (λ count. LaneDone (R.remaining reader.old) (W.contents writer.old) (W.contents writer.new) state.old state.new count) }
     ensures unread { IsErrOf result LaneFault.Read →
         LaneUnread (R.remaining reader.old) (R.remaining reader.new) (W.contents writer.old) (W.contents writer.new) state.old state.new }
-    ensures stopped { IsErrOf result LaneFault.Write ⊎ IsErrOf result LaneFault.Memory →
-        StoppedFrom 0 (R.remaining reader.old) (W.contents writer.old) (W.contents writer.new) state.old state.new }
+    ensures unwritten { IsErrOf result LaneFault.Write →
+        StoppedBy LaneFault.Write 0 (R.remaining reader.old) (W.contents writer.old) (W.contents writer.new) state.old state.new }
+    ensures memory { IsErrOf result LaneFault.Memory →
+        StoppedBy LaneFault.Memory 0 (R.remaining reader.old) (W.contents writer.old) (W.contents writer.new) state.old state.new }
+    ensures steady_reader { R.steady ≡ true → IfErr result (λ fault. fault ≢ LaneFault.Read) }
+    ensures steady_writer { W.steady ≡ true → IfErr result (λ fault. fault ≢ LaneFault.Write) }
 {
-    let mut count = 0;
-    let mut line = Vec::new(alloc);
-    for _ in 0..MAX_LINES {
-        match take_turn(alloc, state, reader, writer, &mut line) {
-            Ok(Turn::Went(replies)) => count += replies,
-            Ok(Turn::Ended(replies)) => return Ok(count + replies),
-            Err(fault) => return Err(fault),
-        }
-    }
-    match next_byte(reader) {
-        Ok(None) => Ok(count),
-        Ok(Some(_)) => match write_text(writer, b"refused L3 too-many-lines\n") {
-            Ok(()) => Ok(count + 1),
-            Err(fault) => Err(fault),
-        },
-        Err(fault) => Err(fault),
-    }
+    let answered = answer_lines(alloc, state, reader, writer);
+    let sent = writer.send();
+    let count = answered?;
+    sent?;
+    Ok(count)
 }

@@ -1,4 +1,5 @@
 //! Laws above the definitions.
+ghost use Rattle.gate_prog.specs.FaultedRuns.{FaultedLanesAreRuns, FaultedGateRunsAreRuns};
 ghost use Rattle.gate_prog.specs.JobRuns.{GateRunsAreRuns};
 ghost use Rattle.gate_prog.specs.LaneRuns.{LanesAreRuns};
 
@@ -11,4 +12,15 @@ pub fn lanes_are_runs()
 /// What `gate run` writes are the reply lines of the run.
 pub fn gate_runs_are_runs()
     ensures { GateRunsAreRuns }
+{}
+
+/// A lane in some of whose steps memory ran out: the reply lines but for `fault memory`, and the state, are those of the run
+/// over the events that were answered.
+pub fn faulted_lanes_are_runs()
+    ensures { FaultedLanesAreRuns }
+{}
+
+/// What `gate run` writes but for `fault memory` are the reply lines of the run over the events that were answered.
+pub fn faulted_gate_runs_are_runs()
+    ensures { FaultedGateRunsAreRuns }
 {}

@@ -1,16 +1,14 @@
 //! The opening: its lines read one after another, up to a line `---` or the end of the input.
-ghost use Rattle.std.specs.Prelude.{◌≡◌, ◌<◌, ℕ, IfOk, OnOk, Ok, Err, IfSome, IsErrOf};
+ghost use Rattle.std.specs.Prelude.{◌≡◌, ◌≢◌, ◌<◌, ℕ, true, IfOk, IfErr, OnOk, Ok, Err, IfSome, IsErrOf};
 ghost use Rattle.gate_core.specs.Good.{IsGoodWorld};
 ghost use Rattle.gate_prog.specs.Said.{is_end, spelled};
 ghost use Rattle.gate_prog.specs.Openings.{StepTaken, OpeningGathered, OpeningUnread, LeavesRest};
 
 use crate::draft::Draft;
-use crate::fault::LaneFault;
-use crate::line::{Found, MAX_LINES, next_byte, next_line};
 use crate::opening_fault::{OpeningFault, OpeningToken};
 use gate_core::State;
+use gate_lines::{Found, MAX_LINES, Source, has_ended, next_line};
 use std::alloc::Global;
-use std::io::Read;
 
 /// What reading one line of an opening came to.
 #[derive(Clone, Copy, Debug, PartialEq, Eq)]
@@ -26,7 +24,7 @@ fn ends_opening(line: &[u8]) -> bool
 }
 
 /// Reads the next line of an opening, where `number` lines were before it, and adds what it says.
-fn take_step<R: Read>(
+fn take_step<R: Source>(
     alloc: Global,
     reader: &mut R,
     line: &mut Vec<u8>,
@@ -34,56 +32,49 @@ fn take_step<R: Read>(
     draft: &mut Draft,
 ) -> Result<Step, OpeningFault>
     requires { number < 1000000 }
-    ensures { StepTaken number (R.remaining reader.old) (R.remaining reader.new) draft.old draft.new result }
+    ensures taken { StepTaken number (R.remaining reader.old) (R.remaining reader.new) draft.old draft.new result }
+    ensures steady { R.steady ≡ true → IfErr result (λ fault. fault ≢ OpeningFault.Read) }
 {
-    match next_line(reader, line) {
-        Ok(Found::Whole) => {
+    match next_line(reader, line)? {
+        Found::Whole => {
             if ends_opening(line.as_slice()) {
                 return Ok(Step::Ended);
             }
-            match draft.take(alloc, number + 1, line.as_slice()) {
-                Ok(()) => Ok(Step::Went),
-                Err(fault) => Err(fault),
-            }
+            draft.take(alloc, number + 1, line.as_slice())?;
+            Ok(Step::Went)
         }
-        Ok(Found::Rest) => {
-            if ends_opening(line.as_slice()) {
-                return Ok(Step::Ended);
+        Found::Rest => {
+            if !ends_opening(line.as_slice()) {
+                draft.take(alloc, number + 1, line.as_slice())?;
             }
-            match draft.take(alloc, number + 1, line.as_slice()) {
-                Ok(()) => Ok(Step::Ended),
-                Err(fault) => Err(fault),
-            }
+            Ok(Step::Ended)
         }
-        Ok(Found::End) => Ok(Step::Ended),
-        Ok(Found::TooLong) => Err(OpeningFault::Line(number + 1, OpeningToken::BadLine)),
-        Err(LaneFault::Memory) => Err(OpeningFault::Memory),
-        Err(_) => Err(OpeningFault::Read),
+        Found::End => Ok(Step::Ended),
+        Found::TooLong => Err(OpeningFault::Line(number + 1, OpeningToken::BadLine)),
     }
 }
 
 /// Reads all that an opening says.
-fn gather<R: Read>(alloc: Global, reader: &mut R) -> Result<Draft, OpeningFault>
-    ensures { OpeningGathered (R.remaining reader.old) (R.remaining reader.new) result }
+fn gather<R: Source>(alloc: Global, reader: &mut R) -> Result<Draft, OpeningFault>
+    ensures gathered { OpeningGathered (R.remaining reader.old) (R.remaining reader.new) result }
+    ensures steady { R.steady ≡ true → IfErr result (λ fault. fault ≢ OpeningFault.Read) }
 {
     let mut draft = Draft::new(alloc);
     let mut line = Vec::new(alloc);
     for number in 0..MAX_LINES {
-        match take_step(alloc, reader, &mut line, number, &mut draft) {
-            Ok(Step::Went) => {}
-            Ok(Step::Ended) => return Ok(draft),
-            Err(fault) => return Err(fault),
+        match take_step(alloc, reader, &mut line, number, &mut draft)? {
+            Step::Went => {}
+            Step::Ended => return Ok(draft),
         }
     }
-    match next_byte(reader) {
-        Ok(None) => Ok(draft),
-        Ok(Some(_)) => Err(OpeningFault::Line(MAX_LINES + 1, OpeningToken::BadLine)),
-        Err(_) => Err(OpeningFault::Read),
+    if has_ended(reader, &mut line)? {
+        return Ok(draft);
     }
+    Err(OpeningFault::Line(MAX_LINES + 1, OpeningToken::BadLine))
 }
 
 /// Reads an opening and opens its state, with an empty pool. What stands behind its line `---` is left unread.
-pub fn read_opening<R: Read>(alloc: Global, reader: &mut R) -> Result<State, OpeningFault>
+pub fn read_opening<R: Source>(alloc: Global, reader: &mut R) -> Result<State, OpeningFault>
     ensures opened { IfOk result (λ state. IfSome (R.remaining reader.old) (λ text. spelled text ≡ Ok state)) }
     ensures good { IfOk result IsGoodWorld }
     ensures left { OnOk result (LeavesRest (R.remaining reader.old) (R.remaining reader.new)) }
@@ -92,9 +83,7 @@ pub fn read_opening<R: Read>(alloc: Global, reader: &mut R) -> Result<State, Ope
     ensures fault { (line : ℕ) (token : OpeningToken) → result ≡ Err (OpeningFault.Line line token) →
         IfSome (R.remaining reader.old) (λ text. spelled text ≡ Err (OpeningFault.Line line token)) }
     ensures unread { IsErrOf result OpeningFault.Read → OpeningUnread (R.remaining reader.old) (R.remaining reader.new) }
+    ensures steady { R.steady ≡ true → IfErr result (λ fault. fault ≢ OpeningFault.Read) }
 {
-    match gather(alloc, reader) {
-        Ok(draft) => draft.open(alloc),
-        Err(fault) => Err(fault),
-    }
+    gather(alloc, reader)?.open(alloc)
 }

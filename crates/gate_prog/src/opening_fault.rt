@@ -1,8 +1,9 @@
 //! Why an opening is refused.
-ghost use Rattle.std.specs.Prelude.{◌≡◌, Some};
-ghost use Rattle.gate_prog.specs.OpeningFaults.{token_text, located, line_of_coin};
+ghost use Rattle.std.specs.Prelude.{◌≡◌, ◌≢◌, Some};
+ghost use Rattle.gate_prog.specs.OpeningFaults.{token_text, located, line_of_coin, unread_by};
 
 use gate_chain::OpenFault;
+use gate_lines::LaneFault;
 use std::fmt;
 use thiserror::Error;
 
@@ -59,9 +60,22 @@ pub enum OpeningFault {
     Memory,
 }
 
+/// A fault of a reader, which none writes to.
+impl From<LaneFault> for OpeningFault {
+    ghost from_gives = { λ lane fault. fault ≡ unread_by lane };
+
+    fn from(fault: LaneFault) -> OpeningFault {
+        match fault {
+            LaneFault::Read | LaneFault::Write => OpeningFault::Read,
+            LaneFault::Memory => OpeningFault::Memory,
+        }
+    }
+}
+
 /// A fault of the chain, at the line of its coin; `lines` has the line of each coin.
 pub(crate) fn at_line(fault: OpenFault, lines: &[u64]) -> OpeningFault
-    ensures { result ≡ located lines.now fault }
+    ensures located { result ≡ located lines.now fault }
+    ensures kind { result ≢ OpeningFault.Read }
 {
     match fault {
         OpenFault::Memory => OpeningFault::Memory,

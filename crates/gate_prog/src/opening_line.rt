@@ -3,11 +3,10 @@ ghost use Rattle.std.specs.Prelude.{◌≡◌, MatchOption, IfOk, None, Some};
 ghost use Rattle.std.specs.Option.{option_map};
 ghost use Rattle.gate_prog.specs.OpeningLines.{opening_line_of, budget_line_of, times_line_of, coin_line_of, coin_head_of, script_of, verdict_line_of, row_of, bloom_line_of, verdict_of, is_coinbase_of};
 
-use crate::number::{read_number, read_small_number};
-use crate::word::next_word;
 use gate_admit::{Verdict, VerdictRow};
 use gate_bytes::{Kept, Memory};
 use gate_chain::OpeningCoin;
+use gate_lines::{next_word, read_number, read_small_number};
 use gate_tx::{Coin, OutPoint, Txid, Wtxid};
 use hex::FromHexError;
 use std::alloc::Global;

@@ -1,11 +1,11 @@
 //! Openings and lanes over readers and writers in memory, and over some that break.
 use crate::{
-    ArgsFault, Job, LaneFault, OpeningFault, OpeningToken, numbers_are_decimal, read_args,
-    read_opening, run_job,
+    ArgsFault, Job, LaneFault, OpeningFault, OpeningToken, read_args, read_opening, run_gate,
+    run_job,
 };
 use std::alloc::Global;
 use std::io;
-use std::io::{BufReader, ErrorKind, Read, Write};
+use std::io::{BufReader, BufWriter, ErrorKind, Read, Write};
 use std::test::Fail;
 
 /// A reader that is interrupted once its bytes are out.
@@ -34,6 +34,39 @@ impl Write for Drops {
         }
         self.left -= 1;
         Ok(1)
+    }
+
+    fn flush(&mut self) -> io::Result<()> {
+        Ok(())
+    }
+}
+
+/// A reader that gives a part of its input each time.
+#[derive(Drop)]
+struct Halves<'a>(&'a [u8], &'a [u8]);
+
+impl Read for Halves<'_> {
+    fn read(&mut self, buf: &mut [u8]) -> io::Result<usize> {
+        if self.0.is_empty() {
+            self.0 = self.1;
+            self.1 = b"";
+        }
+        self.0.read(buf)
+    }
+}
+
+/// A writer that keeps its bytes and counts the writes.
+#[derive(Drop)]
+struct Writes {
+    bytes: Vec<u8>,
+    count: usize,
+}
+
+impl Write for Writes {
+    fn write(&mut self, buf: &[u8]) -> io::Result<usize> {
+        self.bytes.extend_from_slice(buf)?;
+        self.count = self.count.saturating_add(1);
+        Ok(buf.len())
     }
 
     fn flush(&mut self) -> io::Result<()> {
@@ -140,7 +173,7 @@ fn the_rest_of_the_reader(rt: HostRuntime) -> Result<(), Fail> {
     let mut reader: &[u8] = b"times 1 0 0\n---\npeer 1 leave";
     assert!(rt; read_opening(rt.alloc(), &mut reader).is_ok());
     assert_eq!(rt; std::str::from_utf8(reader)?, "peer 1 leave");
-    let mut broken = Interrupted(b"times 1 0 0\n--");
+    let mut broken = BufReader::new(rt.alloc(), Interrupted(b"times 1 0 0\n--"))?;
     assert_eq!(rt;
         read_opening(rt.alloc(), &mut broken).err(),
         Some(OpeningFault::Read)
@@ -155,7 +188,8 @@ fn the_rest_of_the_reader(rt: HostRuntime) -> Result<(), Fail> {
 
 #[test]
 fn a_reader_that_breaks(rt: HostRuntime) -> Result<(), Fail> {
-    let mut reader = Interrupted(b"times 1 0 0\n---\npeer 1 leave\npeer 1 leave");
+    let input = Interrupted(b"times 1 0 0\n---\npeer 1 leave\npeer 1 leave");
+    let mut reader = BufReader::new(rt.alloc(), input)?;
     let mut written = Vec::new(rt.alloc());
     assert_eq!(rt;
         run_job(rt.alloc(), &Job::Run, &mut reader, &mut written),
@@ -168,22 +202,41 @@ fn a_reader_that_breaks(rt: HostRuntime) -> Result<(), Fail> {
     Ok(())
 }
 
+/// The replies to the first part go out in one write before the second is read, and no reply is left in the buffer.
+#[test]
+fn replies_before_a_wait(rt: HostRuntime) -> Result<(), Fail> {
+    let halves = Halves(
+        b"times 1 0 0\n---\npeer 1 leave\npeer 1 leave\npeer 1",
+        b" leave\n",
+    );
+    let mut reader = BufReader::new(rt.alloc(), halves)?;
+    let kept = Writes {
+        bytes: Vec::new(rt.alloc()),
+        count: 0,
+    };
+    let mut writer = BufWriter::new(rt.alloc(), kept)?;
+    assert_eq!(rt; run_gate(rt.alloc(), &mut reader, &mut writer), Ok(0));
+    assert!(rt; writer.buffer().is_empty());
+    assert_eq!(rt; writer.get_ref().count, 2);
+    assert_eq!(rt; writer.get_ref().bytes.len(), 84);
+    Ok(())
+}
+
 #[test]
 fn a_writer_of_single_bytes(rt: HostRuntime) -> Result<(), Fail> {
     let mut reader: &[u8] = b"times 1 0 0\n---\npeer 1 leave\npeer 1 leave\npeer 1 leave\n";
-    let mut writer = Drops { left: 56 };
+    let mut writer = BufWriter::with_capacity(rt.alloc(), 0, Drops { left: 56 })?;
     assert_eq!(rt;
         run_job(rt.alloc(), &Job::Run, &mut reader, &mut writer),
         Err(LaneFault::Write)
     );
     assert_eq!(rt; reader.len(), 0);
     let mut reader: &[u8] = b"times 1 0 0\n---\npeer 1 leave\npeer 1 leave\npeer 1 leave\n";
-    let mut writer = Drops { left: 84 };
+    let mut writer = BufWriter::with_capacity(rt.alloc(), 0, Drops { left: 84 })?;
     assert_eq!(rt;
         run_job(rt.alloc(), &Job::Run, &mut reader, &mut writer),
         Ok(0)
     );
-    numbers_are_decimal();
     Ok(())
 }
 

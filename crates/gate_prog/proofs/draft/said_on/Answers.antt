@@ -1,6 +1,6 @@
 use Rattle.std.proofs.Common.{sym}
 use Rattle.gate_prog.specs.OpeningLines.{opening_line_of}
-use Rattle.gate_prog.proofs.TextForms.{if_text-read, if_text-no_text}
+use Rattle.gate_lines.proofs.TextLines.{if_text-read, if_text-no_text}
 use Rattle.gate_prog.proofs.draft.said_on.Goals as goal
 
 pub returns-in-Ok : goal.returns-in-Ok

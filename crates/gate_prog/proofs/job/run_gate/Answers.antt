@@ -1,11 +1,14 @@
 use Rattle.std.proofs.Common.{ap, Err}
-use Rattle.gate_prog.proofs.GateRuns.{fault_ran, stopped_in_refusal}
+use Rattle.std.proofs.lemmas.Result.{err_from_is_err_and}
+use Rattle.gate_prog.proofs.GateRuns.{fault_ran, stopped_in_lane}
 use Rattle.gate_prog.proofs.job.run_gate.Goals as goal
+
+pub returns-in_err-run_lane-in-Ok-clause-stopped : goal.returns-in_err-run_lane-in-Ok-clause-stopped
+returns-in_err-run_lane-in-Ok-clause-stopped g c =
+    let p = err_from_is_err_and c.from_residual.result c.from_residual.ensures.1 in
+    rw (p.1, p.2) (stopped_in_lane c.in_err-run_lane-in-Ok.field-0.0 _ (g.R.Read.remaining c.read_opening.new.reader) _ _ _ c.in-Ok.state c.run_lane.new.state c.in-Ok.ensures.opened c.in-Ok.ensures.left
+    (λ e. c.in_err-run_lane-in-Ok.ensures.unread (ap Err e)) (λ e. c.in_err-run_lane-in-Ok.ensures.unwritten (ap Err e)) (λ e. c.in_err-run_lane-in-Ok.ensures.memory (ap Err e)))
 
 pub returns-in-Err-Line-clause-done : goal.returns-in-Err-Line-clause-done
 returns-in-Err-Line-clause-done g c =
     fault_ran _ _ _ _ c.in-Err-Line.line c.in-Err-Line.token (c.in-Err-Line.ensures.fault c.in-Err-Line.line c.in-Err-Line.token (ap Err c.in-Err-Line.field-0-is)) c.refuse_opening.ensures.done
-
-pub returns-in-Err-Line-clause-stopped : goal.returns-in-Err-Line-clause-stopped
-returns-in-Err-Line-clause-stopped g c =
-    stopped_in_refusal _ _ _ _ _ c.in-Err-Line.line c.in-Err-Line.token (c.in-Err-Line.ensures.fault c.in-Err-Line.line c.in-Err-Line.token (ap Err c.in-Err-Line.field-0-is)) c.refuse_opening.ensures.stopped

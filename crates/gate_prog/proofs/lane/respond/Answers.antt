@@ -1,7 +1,7 @@
-use Rattle.std.proofs.Common.{[], ◌∷◌, refl}
+use Rattle.gate_prog.proofs.TurnLemmas.{line_written}
 use Rattle.gate_prog.proofs.lane.respond.Goals as goal
 
-pub returns-in-Ok-clause-ok : goal.returns-in-Ok-clause-ok
-returns-in-Ok-clause-ok g c =
-    let made = rw c.in-Ok-Some.field-0-is at c.in-Ok-Some.ensures.ok in
-    (made.0 ∷ [], made.2, rw (← made.1, ← c.as_slice.ensures.value) c.in-Ok.ensures.ok, refl)
+pub returns-clause-taken : goal.returns-clause-taken
+returns-clause-taken g c =
+    let made = rw c.in-Some.is at c.in_ok-reply.ensures.ok in
+    line_written _ _ c.args.state.now c.answer.new.state c.args.line.now c.in-Some.reply made (rw c.as_slice.ensures.value at c.in_ok-write_text.ensures.written)

@@ -1,5 +1,7 @@
 use Rattle.std.proofs.Common.{[], arith}
-use Rattle.gate_prog.proofs.Heard.{Heard-start, Heard-went, Heard-ended, Heard-fault, Heard-end, Heard-full, Heard-unread}
+use Rattle.std.proofs.lemmas.Result.{err_from_is_err_and}
+use Rattle.gate_prog.proofs.Heard.{Heard-start, Heard-went, Heard-ended, Heard-fault, Heard-end, Heard-full, Heard-untold}
+use Rattle.gate_prog.proofs.Steps.{end_not_unread}
 use Rattle.gate_prog.proofs.opening.gather.Goals as goal
 
 pub loop-number-init : goal.loop-number-init
@@ -7,26 +9,33 @@ loop-number-init g c = Heard-start _ _ c.new-draft.ensures
 
 pub loop-number-preserved : goal.loop-number-preserved
 loop-number-preserved g c =
-    Heard-went c.loop-number.number _ _ _ _ _ c.loop-number-test.true c.loop-number.invariant (rw c.in-Ok-Went.field-0-is at c.in-Ok-Went.ensures)
+    Heard-went c.loop-number.number _ _ _ _ _ c.loop-number-test.true c.loop-number.invariant (rw c.in-Went.is at c.in_ok-take_step.ensures.taken)
 
-pub returns-in-Ok-Ended : goal.returns-in-Ok-Ended
-returns-in-Ok-Ended g c =
-    Heard-ended c.loop-number.number _ (g.R.Read.remaining c.loop-number.reader) _ c.loop-number.draft _ c.loop-number.invariant (rw c.in-Ok-Ended.field-0-is at c.in-Ok-Ended.ensures)
+pub returns-in-Ended-clause-gathered : goal.returns-in-Ended-clause-gathered
+returns-in-Ended-clause-gathered g c =
+    Heard-ended c.loop-number.number _ (g.R.Read.remaining c.loop-number.reader) _ c.loop-number.draft _ c.loop-number.invariant (rw c.in-Ended.is at c.in_ok-take_step.ensures.taken)
 
-pub returns-in-Err : goal.returns-in-Err
-returns-in-Err g c =
-    Heard-fault c.in-Err.fault c.loop-number.number _ (g.R.Read.remaining c.loop-number.reader) _ c.loop-number.draft c.take_step.new.draft c.loop-number.invariant c.in-Err.ensures
+pub returns-in_err-take_step-clause-gathered : goal.returns-in_err-take_step-clause-gathered
+returns-in_err-take_step-clause-gathered g c =
+    let p = err_from_is_err_and c.from_residual.result c.from_residual.ensures.1 in
+    rw (p.1, p.2) (Heard-fault c.in_err-take_step.field-0.0 c.loop-number.number _ (g.R.Read.remaining c.loop-number.reader) _ c.loop-number.draft c.take_step.new.draft c.loop-number.invariant c.in_err-take_step.ensures.taken)
 
-pub returns-in-Ok-None : goal.returns-in-Ok-None
-returns-in-Ok-None g c =
-    let read = rw c.in-Ok-None.field-0-is at c.in-Ok-None.ensures.bytes in
-    Heard-end c.loop-number.number _ (g.R.Read.remaining c.loop-number.reader) _ _ c.loop-number.invariant read.0 read.1
+pub returns-in_err-has_ended-clause-gathered : goal.returns-in_err-has_ended-clause-gathered
+returns-in_err-has_ended-clause-gathered g c =
+    let p = err_from_is_err_and c.from_residual-in_err-has_ended.result c.from_residual-in_err-has_ended.ensures.1 in
+    rw (p.1, p.2) (Heard-untold c.in_err-has_ended.field-0.0 c.loop-number.number _ (g.R.Read.remaining c.loop-number.reader) _ c.loop-number.draft c.loop-number.invariant c.in_err-has_ended.ensures.told)
 
-pub returns-in-Ok-Some : goal.returns-in-Ok-Some
-returns-in-Ok-Some g c =
-    let read = rw c.in-Ok-Some.field-0-is at c.in-Ok-Some.ensures.bytes in
-    Heard-full c.loop-number.number _ (g.R.Read.remaining c.loop-number.reader) (g.R.Read.remaining c.next_byte.new.reader) c.loop-number.draft c.in-Ok-Some.field-0-0 1000001 c.loop-number-test.false (omega arith) c.loop-number.invariant read
+pub returns-in_err-has_ended-clause-steady : goal.returns-in_err-has_ended-clause-steady
+returns-in_err-has_ended-clause-steady g c = λ steady.
+    let p = err_from_is_err_and c.from_residual-in_err-has_ended.result c.from_residual-in_err-has_ended.ensures.1 in
+    rw (p.1, p.2) (end_not_unread c.in_err-has_ended.field-0.0 _ _ c.in_err-has_ended.ensures.told (c.in_err-has_ended.ensures.steady steady))
 
-pub returns-in-Err-next_byte : goal.returns-in-Err-next_byte
-returns-in-Err-next_byte g c =
-    Heard-unread c.loop-number.number _ (g.R.Read.remaining c.loop-number.reader) _ c.loop-number.draft c.loop-number.invariant ([], c.in-Err-next_byte.ensures.bytes, tt)
+pub returns-then-branch-clause-gathered : goal.returns-then-branch-clause-gathered
+returns-then-branch-clause-gathered g c =
+    let told = rw c.if-branch.true at c.in_ok-has_ended.ensures.told in
+    Heard-end c.loop-number.number _ (g.R.Read.remaining c.loop-number.reader) _ _ c.loop-number.invariant told.0 told.1
+
+pub returns-clause-gathered : goal.returns-clause-gathered
+returns-clause-gathered g c =
+    let told = rw c.if-branch.false at c.in_ok-has_ended.ensures.told in
+    Heard-full c.loop-number.number _ (g.R.Read.remaining c.loop-number.reader) (g.R.Read.remaining c.has_ended.new.reader) c.loop-number.draft told.0 1000001 c.loop-number-test.false (omega arith) c.loop-number.invariant told.1

@@ -1,7 +1,0 @@
-use Rattle.std.proofs.Common.{arith}
-use Rattle.std.proofs.lemmas.Str.Pattern.{split_once_first}
-use Rattle.gate_prog.proofs.Parts.{parted}
-use Rattle.gate_prog.proofs.word.next_word.Goals as goal
-
-pub returns : goal.returns
-returns c = parted c.args.line.now _ (split_once_first 32 c.args.line.now _ c.split_once.ensures.cases (omega arith))

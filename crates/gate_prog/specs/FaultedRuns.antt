@@ -1,0 +1,52 @@
+-- A lane in some of whose steps memory ran out: but for these it is the run over the events that were answered.
+use Rattle.std.specs.Prelude.{◌≡◌, ℕ, ◌++◌, Bool, if◌then◌else◌, List, [], ◌∷◌, Some, Ok}
+use Rattle.std.specs.Str.{bytes_eq}
+use Rattle.gate_core.specs.Good.{IsGoodWorld}
+use Rattle.gate_core.specs.Runs.{run_of, IsRunApart}
+use Rattle.gate_core.specs.World.{World}
+use Rattle.gate_lines.specs.Lines.{is_skipped, lines_of, unlines}
+use Rattle.gate_prog.specs.declared.job.Job.TheVariants as jobs
+use Rattle.gate_prog.specs.Jobs.{JobDone}
+use Rattle.gate_prog.specs.LaneRuns.{lane_events, lane_replies}
+use Rattle.gate_prog.specs.Lanes.{Run, fault_memory}
+use Rattle.gate_prog.specs.Openings.{opening_part}
+use Rattle.gate_prog.specs.Said.{spelled}
+
+-- the reply line says that memory ran out in the step
+abbrev pub is_fault : List ℕ → Bool
+is_fault reply = bytes_eq reply fault_memory
+
+-- these reply lines but for `fault memory`
+abbrev pub answers_among : List (List ℕ) → List (List ℕ)
+answers_among [] = []
+answers_among (reply ∷ replies) = if is_fault reply then answers_among replies else reply ∷ answers_among replies
+
+-- a line that asks for something, by its reply, and what follows it
+abbrev pub answered_line : List ℕ → List (List ℕ) → (List (List ℕ) → List (List ℕ)) → List (List ℕ)
+answered_line line [] following = line ∷ following []
+answered_line line (reply ∷ replies) following = (if is_fault reply then [] else line) ∷ following replies
+
+-- The lines that were answered, by the reply lines to all of them. An empty line, which asks for nothing, stands for each that
+-- was answered `fault memory`, so that the others keep their numbers.
+abbrev pub answered_lines : List (List ℕ) → List (List ℕ) → List (List ℕ)
+answered_lines [] replies = []
+answered_lines (line ∷ lines) replies =
+    if is_skipped line then line ∷ answered_lines lines replies else answered_line line replies (answered_lines lines)
+
+-- From a good state, where the transactions of the events that were answered are apart, the reply lines but for `fault memory`
+-- are those of the run over these events, and the state is the run's and good.
+abbrev pub FaultedLanesAreRuns : Type 0
+FaultedLanesAreRuns =
+    (old : World) (lines replies : List (List ℕ)) (new : World)
+    → IsGoodWorld old → IsRunApart old (lane_events 0 (answered_lines lines replies)) → Run 0 old lines replies new
+    → (answers_among replies ≡ lane_replies 0 (answered_lines lines replies) (run_of old (lane_events 0 (answered_lines lines replies))).0)
+    × (new ≡ (run_of old (lane_events 0 (answered_lines lines replies))).1) × IsGoodWorld new
+
+-- so it is with what `gate run` writes
+abbrev pub FaultedGateRunsAreRuns : Type 0
+FaultedGateRunsAreRuns =
+    (text rest before after : List ℕ) (status : ℕ) (w : World)
+    → spelled text ≡ Ok w → text ≡ opening_part text ++ rest → JobDone jobs.Run (Some text) (Some before) (Some after) status
+    → (replies : List (List ℕ)) × (after ≡ before ++ unlines replies) × (status ≡ 0)
+    × (IsRunApart w (lane_events 0 (answered_lines (lines_of rest) replies))
+    → answers_among replies ≡ lane_replies 0 (answered_lines (lines_of rest) replies) (run_of w (lane_events 0 (answered_lines (lines_of rest) replies))).0)
