@@ -15,3 +15,8 @@ mod view;
 pub use entry::{Entry, LARGEST_VSIZE};
 pub use pool::Pool;
 pub use view::PoolView;
+
+#[cfg(test)]
+mod plain;
+#[cfg(test)]
+mod tests;
