@@ -6,16 +6,14 @@ use Rattle.std.specs.Option.{option_map_or}
 use Rattle.std.proofs.lemmas.Bool.Decides.{nat_tests}
 use Rattle.gate_tx.specs.declared.transaction.TxIn.{TxIn}
 use Rattle.gate_tx.specs.Text.{IsInput, IsWitness}
-use Rattle.gate_bytes.specs.Compact.{IsCount}
 use Rattle.gate_script.specs.Instructions.{Instruction, Push, Truncated, Plain, instructions}
 use Rattle.gate_script.specs.Pushes.{item_of, items_of, is_push_only, push_stack_of}
 use Rattle.gate_script.specs.Sigops.{sigops_of}
 use Rattle.gate_script.specs.Templates.{template_of}
-use Rattle.gate_script.specs.declared.templates.Template.{Template}
 use Rattle.gate_script.proofs.Operations.{sigops_of-most}
 use Rattle.gate_inputs.specs.Answers.{answers_of}
 use Rattle.gate_inputs.specs.Laws.{CostsAreExact}
-use Rattle.gate_inputs.specs.Reports.{is_pay_to_script_hash, last_of, redeem_of, counted_redeem, program_by, script_cost, program_cost, witness_cost, cost_by, sigop_cost_of}
+use Rattle.gate_inputs.specs.Reports.{is_pay_to_script_hash, last_of, redeem_of, counted_redeem, program_by, script_cost, witness_cost, cost_by, sigop_cost_of}
 
 -- ---- a last item is one of the items
 

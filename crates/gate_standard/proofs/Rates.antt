@@ -1,5 +1,5 @@
 -- A rate is rounded down.
-use Rattle.std.proofs.Common.{◌≡◌, ℕ, ◌+◌, ◌*◌, ◌/◌, ◌<◌, ◌≤◌, subst, sym, arith}
+use Rattle.std.proofs.Common.{◌≡◌, ℕ, ◌+◌, ◌*◌, ◌/◌, ◌<◌, subst, sym, arith}
 use Rattle.std.proofs.Math.Nat.{div-mul-le_self, lt-div-mul-add}
 use Rattle.gate_standard.specs.Amounts.{feerate}
 use Rattle.gate_standard.specs.Laws.{RatesAreRoundedDown}

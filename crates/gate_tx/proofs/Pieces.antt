@@ -1,5 +1,5 @@
 -- The form with flag 1 without marker, flag and witnesses is the form without witnesses.
-use Rattle.std.proofs.Common.{◌≡◌, ℕ, ◌+◌, ◌-◌, ◌*◌, ◌≤◌, Bool, cond, List, [], ◌∷◌, ◌++◌, length, take, drop, refl, sym, ap, subst, ◌∙◌, append_assoc, length-append, arith}
+use Rattle.std.proofs.Common.{◌≡◌, ℕ, ◌+◌, ◌-◌, ◌*◌, ◌≤◌, Bool, cond, List, ◌∷◌, ◌++◌, length, take, drop, refl, sym, ap, ◌∙◌, append_assoc, length-append, arith}
 use Rattle.std.specs.Prelude.{slice_range}
 use Rattle.std.specs.List.{flat_map}
 use Rattle.std.specs.Int.{w32, cast_unsigned}
@@ -9,8 +9,6 @@ use Rattle.byteorder.specs.Numbers.{length-bytes_low_first}
 use Rattle.gate_tx.specs.Tx.{Tx}
 use Rattle.gate_tx.specs.Text.{vector, input, output, witness, has_witness, stripped, extended, text, longest, Spells}
 use Rattle.gate_tx.specs.Sizes.{stripped_size_of, weight_of}
-use Rattle.gate_tx.specs.Internal.{stripped_lists}
-use Rattle.gate_tx.specs.Ids.{txid_of, wtxid_of}
 use Rattle.gate_tx.proofs.Bounds.{length-stripped, length-extended, length-text}
 
 abbrev whole : List ℕ → List ℕ → List ℕ → List ℕ → List ℕ

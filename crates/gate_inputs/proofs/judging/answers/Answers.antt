@@ -1,5 +1,4 @@
-use Rattle.std.proofs.Common.{◌≡◌, ◌∙◌, [], Some, None, ap, false, sym}
-use Rattle.gate_script.specs.Templates.{template_of}
+use Rattle.std.proofs.Common.{◌≡◌, ◌∙◌, [], Some, ap, false, sym}
 use Rattle.gate_script.specs.declared.templates.Template.TheVariants.{ScriptHash}
 use Rattle.gate_inputs.specs.Internal.{answers_by}
 use Rattle.gate_inputs.specs.Reports.{is_pay_to_script_hash, redeem_of}

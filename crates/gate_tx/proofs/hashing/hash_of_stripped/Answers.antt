@@ -1,4 +1,4 @@
-use Rattle.std.proofs.Common.{◌≡◌, ◌∙◌, ap, true, false}
+use Rattle.std.proofs.Common.{◌∙◌, ap, true, false}
 use Rattle.sha2.specs.Sha256.{sha256}
 use Rattle.gate_tx.proofs.Pieces.{text-extended}
 use Rattle.gate_tx.proofs.hashing.hash_of_stripped.Goals as goal

@@ -1,4 +1,4 @@
-use Rattle.std.proofs.Common.{◌≡◌, ◌∙◌, ◌-◌, ap, length, arith}
+use Rattle.std.proofs.Common.{◌∙◌, ◌-◌, ap, length, arith}
 use Rattle.sha2.specs.Sha256.{sha256}
 use Rattle.gate_tx.proofs.Pieces.{places, cut_is_stripped, cut}
 use Rattle.gate_tx.proofs.hashing.hash_without_witnesses.Goals as goal
