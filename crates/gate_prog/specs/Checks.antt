@@ -7,10 +7,10 @@ use Rattle.gate_tx.specs.Tx.{Tx}
 use Rattle.gate_tx.specs.Ids.{txid_of, wtxid_of, id_text}
 use Rattle.gate_tx.specs.Sizes.{weight_of}
 use Rattle.gate_standard.specs.Denials.{rule_of, token_of}
-use Rattle.gate_standard.specs.Order.{first_failing}
+use Rattle.gate_bytes.specs.Order.{first_failing}
 use Rattle.gate_admit.specs.Rules.{alone_rules}
 use Rattle.gate_prog.specs.EventLines.{prepared_of}
-use Rattle.gate_prog.specs.Lines.{if_text}
+use Rattle.gate_lines.specs.Lines.{if_text}
 use Rattle.gate_standard.specs.declared.Denial.{Denial}
 use Rattle.gate_standard.specs.declared.Denial.TheVariants.{Decode}
 

@@ -4,6 +4,7 @@ use crate::{
     run_job,
 };
 use std::alloc::Global;
+use std::hash::{BuildHasherDefault, FoldHasher};
 use std::io;
 use std::io::{BufReader, BufWriter, ErrorKind, Read, Write};
 use std::test::Fail;
@@ -74,11 +75,16 @@ impl Write for Writes {
     }
 }
 
+/// Keys that are the same in each run.
+fn hasher() -> BuildHasherDefault<FoldHasher> {
+    BuildHasherDefault::new()
+}
+
 /// What `gate run` writes for an input, and its status.
 fn run(alloc: Global, input: &[u8]) -> Result<(u8, Vec<u8>), LaneFault> {
     let mut reader = input;
     let mut written = Vec::new(alloc);
-    let status = run_job(alloc, &Job::Run, &mut reader, &mut written)?;
+    let status = run_job(alloc, hasher(), &Job::Run, &mut reader, &mut written)?;
     Ok((status, written))
 }
 
@@ -115,7 +121,7 @@ fn lines_of_all_kinds(rt: HostRuntime) -> Result<(), Fail> {
     let mut reader = BufReader::new(rt.alloc(), input)?;
     let mut written = Vec::new(rt.alloc());
     assert_eq!(rt;
-        run_job(rt.alloc(), &Job::Run, &mut reader, &mut written),
+        run_job(rt.alloc(), hasher(), &Job::Run, &mut reader, &mut written),
         Ok(0)
     );
     assert_eq!(rt;
@@ -171,16 +177,16 @@ fn faults_of_openings(rt: HostRuntime) -> Result<(), Fail> {
 #[test]
 fn the_rest_of_the_reader(rt: HostRuntime) -> Result<(), Fail> {
     let mut reader: &[u8] = b"times 1 0 0\n---\npeer 1 leave";
-    assert!(rt; read_opening(rt.alloc(), &mut reader).is_ok());
+    assert!(rt; read_opening(rt.alloc(), hasher(), &mut reader).is_ok());
     assert_eq!(rt; std::str::from_utf8(reader)?, "peer 1 leave");
     let mut broken = BufReader::new(rt.alloc(), Interrupted(b"times 1 0 0\n--"))?;
     assert_eq!(rt;
-        read_opening(rt.alloc(), &mut broken).err(),
+        read_opening(rt.alloc(), hasher(), &mut broken).err(),
         Some(OpeningFault::Read)
     );
     let mut empty: &[u8] = b"";
     assert_eq!(rt;
-        read_opening(rt.alloc(), &mut empty).err(),
+        read_opening(rt.alloc(), hasher(), &mut empty).err(),
         Some(OpeningFault::Line(0, OpeningToken::NoTimes))
     );
     Ok(())
@@ -192,7 +198,7 @@ fn a_reader_that_breaks(rt: HostRuntime) -> Result<(), Fail> {
     let mut reader = BufReader::new(rt.alloc(), input)?;
     let mut written = Vec::new(rt.alloc());
     assert_eq!(rt;
-        run_job(rt.alloc(), &Job::Run, &mut reader, &mut written),
+        run_job(rt.alloc(), hasher(), &Job::Run, &mut reader, &mut written),
         Err(LaneFault::Read)
     );
     assert_eq!(rt;
@@ -215,7 +221,7 @@ fn replies_before_a_wait(rt: HostRuntime) -> Result<(), Fail> {
         count: 0,
     };
     let mut writer = BufWriter::new(rt.alloc(), kept)?;
-    assert_eq!(rt; run_gate(rt.alloc(), &mut reader, &mut writer), Ok(0));
+    assert_eq!(rt; run_gate(rt.alloc(), hasher(), &mut reader, &mut writer), Ok(0));
     assert!(rt; writer.buffer().is_empty());
     assert_eq!(rt; writer.get_ref().count, 2);
     assert_eq!(rt; writer.get_ref().bytes.len(), 84);
@@ -227,14 +233,14 @@ fn a_writer_of_single_bytes(rt: HostRuntime) -> Result<(), Fail> {
     let mut reader: &[u8] = b"times 1 0 0\n---\npeer 1 leave\npeer 1 leave\npeer 1 leave\n";
     let mut writer = BufWriter::with_capacity(rt.alloc(), 0, Drops { left: 56 })?;
     assert_eq!(rt;
-        run_job(rt.alloc(), &Job::Run, &mut reader, &mut writer),
+        run_job(rt.alloc(), hasher(), &Job::Run, &mut reader, &mut writer),
         Err(LaneFault::Write)
     );
     assert_eq!(rt; reader.len(), 0);
     let mut reader: &[u8] = b"times 1 0 0\n---\npeer 1 leave\npeer 1 leave\npeer 1 leave\n";
     let mut writer = BufWriter::with_capacity(rt.alloc(), 0, Drops { left: 84 })?;
     assert_eq!(rt;
-        run_job(rt.alloc(), &Job::Run, &mut reader, &mut writer),
+        run_job(rt.alloc(), hasher(), &Job::Run, &mut reader, &mut writer),
         Ok(0)
     );
     Ok(())
@@ -249,7 +255,7 @@ fn checks_of_transactions(rt: HostRuntime) -> Result<(), Fail> {
     let mut reader: &[u8] = b"";
     let mut written = Vec::new(rt.alloc());
     let job = read_args(rt.alloc(), &["check", GENESIS])?;
-    assert_eq!(rt; run_job(rt.alloc(), &job, &mut reader, &mut written), Ok(1));
+    assert_eq!(rt; run_job(rt.alloc(), hasher(), &job, &mut reader, &mut written), Ok(1));
     assert_eq!(rt;
         std::str::from_utf8(written.as_slice())?,
         "4a5e1e4baab89f3a32518a88c31bc87f618f76673e2cc77ab2127b7afdeda33b 4a5e1e4baab89f3a32518a88c31bc87f618f76673e2cc77ab2127b7afdeda33b 816
@@ -258,7 +264,7 @@ denied A11 coinbase
     );
     let mut written = Vec::new(rt.alloc());
     let job = read_args(rt.alloc(), &["check", "zz"])?;
-    assert_eq!(rt; run_job(rt.alloc(), &job, &mut reader, &mut written), Ok(1));
+    assert_eq!(rt; run_job(rt.alloc(), hasher(), &job, &mut reader, &mut written), Ok(1));
     assert_eq!(rt;
         std::str::from_utf8(written.as_slice())?,
         "denied A1 tx-decode\n"

@@ -11,18 +11,14 @@ pub fn outcome(alloc: Global, words: &str, input: &str) -> Result<(u8, Vec<u8>),
 {
     let mut parts = Vec::new(alloc);
     for word in words.split(' ') {
-        if parts.push(word).is_err() {
-            return Err(LaneFault::Memory);
-        }
+        parts.push(word)?;
     }
     let mut written = Vec::new(alloc);
     let job = match read_args(alloc, parts.as_slice()) {
         Ok(job) => job,
         Err(ArgsFault::Help(text)) => {
-            return match written.extend_from_slice(text.as_bytes()) {
-                Ok(()) => Ok((0, written)),
-                Err(_) => Err(LaneFault::Memory),
-            };
+            written.extend_from_slice(text.as_bytes())?;
+            return Ok((0, written));
         }
         Err(ArgsFault::Usage(_)) => return Ok((2, written)),
         Err(ArgsFault::Memory) => return Err(LaneFault::Memory),

@@ -1,7 +1,7 @@
 use Rattle.std.proofs.Common.{◌≡◌, IfOk, subst, sym, ◌∙◌, ap}
 use Rattle.gate_prog.specs.EventLines.{prepared_of}
-use Rattle.gate_prog.specs.Lines.{if_text}
-use Rattle.gate_prog.proofs.TextForms.{if_text-read, if_text-no_text}
+use Rattle.gate_lines.specs.Lines.{if_text}
+use Rattle.gate_lines.proofs.TextLines.{if_text-read, if_text-no_text}
 use Rattle.gate_prog.proofs.check.prepared_input.Goals as goal
 
 pub returns-in-Ok : goal.returns-in-Ok
