@@ -14,3 +14,4 @@ pub mod Heard
 pub mod GateRuns
 pub mod LedLanes
 pub mod JobRunning
+mod CommandLemmas
