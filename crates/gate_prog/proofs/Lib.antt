@@ -12,3 +12,4 @@ pub mod GateRuns
 pub mod LedLanes
 pub mod FaultedLanes
 pub mod JobRunning
+mod CommandLemmas

@@ -7,6 +7,7 @@ pub mod BlockTimes
 pub mod Said
 pub mod Openings
 pub mod Checks
+pub mod Commands
 pub mod Jobs
 pub mod LaneRuns
 pub mod JobRuns

@@ -1,4 +1,10 @@
 //! The words of the command line.
+ghost use Rattle.std.specs.Prelude.{◌≡◌, ℕ, List, [], ◌∷◌, IfOk, IfSome, Some, codes, map, option_map};
+ghost use Rattle.std.specs.Borrow.{Bor};
+ghost use Rattle.clap.specs.Words.{app_of, kind_of, subcommand_rows_of};
+ghost use Rattle.gate_prog.specs.Commands.{AsksFor, IsPlainWord, digits_job, gate_app, job_of_name, named_job, named_of};
+ghost use Rattle.gate_prog.specs.declared.args.ArgsFault.TheVariants.{Memory};
+
 use crate::job::Job;
 use clap::error::ErrorKind;
 use clap::{Arg, ArgMatches, Command};
@@ -23,13 +29,17 @@ pub enum ArgsFault {
 }
 
 impl From<AllocError> for ArgsFault {
+    ghost from_gives = { λ _ fault. fault ≡ Memory };
+
     fn from(_e: AllocError) -> ArgsFault {
         ArgsFault::Memory
     }
 }
 
 /// The commands of the program, each with an example.
-fn gate_command<'a>(alloc: Global) -> Result<Command<'a>, AllocError> {
+fn gate_command<'a>(alloc: Global) -> Result<Command<'a>, AllocError>
+    ensures { IfOk result (λ command. app_of command ≡ gate_app) }
+{
     let hex = Arg::new(alloc, "HEX").required(true).help(
         "A transaction in hexadecimal digits of either case; `-` takes them from standard input",
     );
@@ -60,27 +70,49 @@ fn gate_command<'a>(alloc: Global) -> Result<Command<'a>, AllocError> {
 }
 
 /// The job that the words behind the program's name ask for.
-pub fn read_args<'a>(alloc: Global, words: &'a [&'a str]) -> Result<Job, ArgsFault> {
+pub fn read_args<'a>(alloc: Global, words: &'a [&'a str]) -> Result<Job, ArgsFault>
+    ensures run { map (λ word. word.now) words.entry.now ≡ codes "run" ∷ [] → AsksFor Job.Run result }
+    ensures check { (digits : List ℕ) → IsPlainWord digits → map (λ word. word.now) words.entry.now ≡ codes "check" ∷ digits ∷ [] → AsksFor (Job.Check digits) result }
+    ensures input { map (λ word. word.now) words.entry.now ≡ codes "check" ∷ codes "-" ∷ [] → AsksFor Job.CheckInput result }
+{
     match gate_command(alloc)?.try_get_matches_from(words) {
         Ok(matches) => job_of(alloc, &matches),
         Err(error) => Err(fault_of(alloc, &error)),
     }
 }
 
-fn job_of(alloc: Global, matches: &ArgMatches<'_>) -> Result<Job, ArgsFault> {
-    let Some((name, rest)) = matches.subcommand() else {
-        return Err(no_job(alloc));
-    };
+/// The job of a parse that succeeded.
+fn job_of(alloc: Global, matches: &ArgMatches<'_>) -> Result<Job, ArgsFault>
+    ensures { IfSome (named_job (named_of (subcommand_rows_of matches.now))) (λ job. AsksFor job result) }
+{
+    match matches.subcommand() {
+        Some((name, rest)) => named_job(alloc, name, rest.get_str("HEX")),
+        None => Err(no_job(alloc)),
+    }
+}
+
+fn named_job(alloc: Global, name: &str, digits: Option<&str>) -> Result<Job, ArgsFault>
+    ensures { IfSome (job_of_name name.now (option_map (λ (text : Bor (List ℕ)). text.now) digits.entry)) (λ job. AsksFor job result) }
+{
     if name == "run" {
         return Ok(Job::Run);
     }
-    match rest.get_str("HEX") {
-        Some("-") => Ok(Job::CheckInput),
-        Some(hex) => {
-            let hex = String::from_str(alloc, hex)?;
-            Ok(Job::Check(Text::from_string(hex)))
-        }
+    match digits {
+        Some(digits) => digits_job(alloc, digits),
         None => Err(no_job(alloc)),
+    }
+}
+
+/// The check of these digits, or of the input's.
+fn digits_job(alloc: Global, digits: &str) -> Result<Job, ArgsFault>
+    ensures { AsksFor (digits_job digits.now) result }
+{
+    if digits == "-" {
+        return Ok(Job::CheckInput);
+    }
+    match String::from_str(alloc, digits) {
+        Ok(hex) => Ok(Job::Check(Text::from_string(hex))),
+        Err(_) => Err(ArgsFault::Memory),
     }
 }
 
@@ -89,7 +121,9 @@ fn no_job(alloc: Global) -> ArgsFault {
     ArgsFault::Usage(String::new(alloc))
 }
 
-fn fault_of(alloc: Global, error: &clap::Error) -> ArgsFault {
+fn fault_of(alloc: Global, error: &clap::Error) -> ArgsFault
+    ensures { kind_of error.now ≡ ErrorKind.OutOfMemory → result ≡ ArgsFault.Memory }
+{
     let Ok(text) = error.to_string(alloc) else {
         return ArgsFault::Memory;
     };
