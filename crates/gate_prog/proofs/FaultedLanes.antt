@@ -24,7 +24,7 @@ first_byte a b e = ap (λ l. get_or l 0 0) e
 
 -- no answer of a step reads `fault memory`
 text_is_no_fault : (answer : Reply) → reply_text answer ≡ fault_memory → ⊥
-text_is_no_fault Entered e = let h : 101 ≡ 102 = first_byte (reply_text Entered) fault_memory e in omega (arith, h)
+text_is_no_fault (Entered flags) e = let h : 101 ≡ 102 = first_byte (reply_text (Entered flags)) fault_memory e in omega (arith, h)
 text_is_no_fault Left e = let h : 108 ≡ 102 = first_byte (reply_text Left) fault_memory e in omega (arith, h)
 text_is_no_fault (Admitted txid fee vsize replaced) e = let h : 97 ≡ 102 = first_byte (reply_text (Admitted txid fee vsize replaced)) fault_memory e in omega (arith, h)
 text_is_no_fault (Listing txids) e = let h : 108 ≡ 102 = first_byte (reply_text (Listing txids)) fault_memory e in omega (arith, h)

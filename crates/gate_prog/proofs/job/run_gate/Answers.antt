@@ -12,3 +12,13 @@ returns-in_err-run_lane-in-Ok-clause-stopped g c =
 pub returns-in-Err-Line-clause-done : goal.returns-in-Err-Line-clause-done
 returns-in-Err-Line-clause-done g c =
     fault_ran _ _ _ _ c.in-Err-Line.line c.in-Err-Line.token (c.in-Err-Line.ensures.fault c.in-Err-Line.line c.in-Err-Line.token (ap Err c.in-Err-Line.field-0-is)) c.refuse_opening.ensures.done
+
+pub returns-in_err-run_lane-in-Ok-clause-steady_reader : goal.returns-in_err-run_lane-in-Ok-clause-steady_reader
+returns-in_err-run_lane-in-Ok-clause-steady_reader g c = λ steady.
+    let p = err_from_is_err_and c.from_residual.result c.from_residual.ensures.1 in
+    rw (p.1, p.2) (c.in_err-run_lane-in-Ok.ensures.steady_reader steady)
+
+pub returns-in_err-run_lane-in-Ok-clause-steady_writer : goal.returns-in_err-run_lane-in-Ok-clause-steady_writer
+returns-in_err-run_lane-in-Ok-clause-steady_writer g c = λ steady.
+    let p = err_from_is_err_and c.from_residual.result c.from_residual.ensures.1 in
+    rw (p.1, p.2) (c.in_err-run_lane-in-Ok.ensures.steady_writer steady)
