@@ -13,19 +13,6 @@ use Rattle.gate_chain.specs.declared.opening.OpeningCoin.{OpeningCoin}
 use Rattle.gate_chain.specs.Coins.{opening_coin_of, has_outpoint, has_txid}
 use Rattle.gate_chain.specs.Keeping.{opening_coin, opening_coins}
 
-pub option_or-none : {X : Type 0} (o : Option X) → option_or o None ≡ o
-option_or-none None = refl
-option_or-none (Some x) = refl
-
-pub opening_coin_of-entries : (p : OutPoint) (es : List (OutPoint × Coin)) → lookup (point_eq p) es ≡ opening_coin_of (opening_coins es) p
-opening_coin_of-entries p [] = refl
-opening_coin_of-entries p (e ∷ es) = by (point_eq p e.0) (opening_coin_of-entries p es)
-  where
-    by : (b : Bool) → lookup (point_eq p) es ≡ opening_coin_of (opening_coins es) p
-        → cond b (Some e.1) (lookup (point_eq p) es) ≡ option_map (λ (c : OpeningCoin). c.coin) (cond b (Some (opening_coin e)) (find (λ c. point_eq p c.outpoint) (opening_coins es)))
-    by true rest = refl
-    by false rest = rest
-
 pub has_outpoint-entries : (p : OutPoint) (es : List (OutPoint × Coin)) → is_some (lookup (point_eq p) es) ≡ has_outpoint p (opening_coins es)
 has_outpoint-entries p [] = refl
 has_outpoint-entries p (e ∷ es) = by (point_eq p e.0) (has_outpoint-entries p es)

@@ -46,9 +46,6 @@ pub or_cases : (a b : Bool) (P : Type 0) → (a || b) ≡ true → (a ≡ true �
 or_cases true b P h f g = f refl
 or_cases false b P h f g = g h
 
-pub opposite : (b : Bool) (P : Type 0) → b ≡ true → b ≡ false → P
-opposite b P t f = absurd (true≢false (sym t ∙ f))
-
 bytes_same : (a b : List ℕ) → bytes_eq a b ≡ true → a ≡ b
 bytes_same a b h = let d : Decides (bytes_eq a b) (a ≡ b) = bytes_eq-Decides a b in d.0 h
 
@@ -225,28 +222,6 @@ module _ (h : History) (header : List ℕ) (done : List Tx) (t : Tx) where
       spent_form (done ++ t ∷ []) p ∙ ap (λ b. list_any (is_spent_in p) h.blocks || b) (spent_push done t p)
       ∙ sym (or_both (list_any (is_spent_in p) h.blocks) (any_spends (drop 1 done) p) (is_nonempty done && spends t.inputs p))
       ∙ ap (λ b. b || (is_nonempty done && spends t.inputs p)) (sym (spent_form done p))
-
-  known_form : (d : List Tx) (id : List ℕ) → is_known_txid (with_part h header d) id
-      ≡ (is_known_txid h id || list_any (λ x. bytes_eq (txid_of x) id) d)
-  unfolding is_known_txid
-  known_form d id =
-      ap (λ b. has_txid id h.coins || b) (list_any-append (has_transaction id) h.blocks ((record { header = header; transactions = d }) ∷ [])
-      ∙ ap (λ b. list_any (has_transaction id) h.blocks || b) (or_false (list_any (λ x. bytes_eq (txid_of x) id) d)))
-      ∙ sym (or_both (has_txid id h.coins) (list_any (has_transaction id) h.blocks) (list_any (λ x. bytes_eq (txid_of x) id) d))
-
-  pub known_more : (id : List ℕ) → is_known_txid (with_part h header (done ++ t ∷ [])) id ≡ (is_known_txid (with_part h header done) id || bytes_eq (txid_of t) id)
-  known_more id =
-      known_form (done ++ t ∷ []) id
-      ∙ ap (λ b. is_known_txid h id || b) (list_any-append (λ x. bytes_eq (txid_of x) id) done (t ∷ []) ∙ ap (λ b. list_any (λ x. bytes_eq (txid_of x) id) done || b) (or_false (bytes_eq (txid_of t) id)))
-      ∙ sym (or_both (is_known_txid h id) (list_any (λ x. bytes_eq (txid_of x) id) done) (bytes_eq (txid_of t) id))
-      ∙ ap (λ b. b || bytes_eq (txid_of t) id) (sym (known_form done id))
-
-  pub known_part : (id : List ℕ) → is_known_txid (with_part h header done) id ≡ (is_known_txid h id || list_any (λ x. bytes_eq (txid_of x) id) done)
-  known_part id = known_form done id
-
-  pub known_parts : (id : List ℕ) → is_known_txid (with_part h header done) id ≡ (has_txid id h.coins || (list_any (has_transaction id) h.blocks || list_any (λ x. bytes_eq (txid_of x) id) done))
-  unfolding is_known_txid
-  known_parts id = known_form done id ∙ or_both (has_txid id h.coins) (list_any (has_transaction id) h.blocks) (list_any (λ x. bytes_eq (txid_of x) id) done)
 
 -- what is a coin came from a known transaction
 some_or : {X : Type 0} (a b : Option X) → is_some (option_or a b) ≡ (is_some a || is_some b)
