@@ -87,8 +87,12 @@ fn status(rt: &HostRuntime) -> Result<u8, Fault> {
         Err(ArgsFault::Usage(text)) => return printed(rt.eprint(text), 2),
         Err(ArgsFault::Memory) => return Err(Fault::Lane(LaneFault::Memory)),
     };
-    let mut reader = BufReader::with_capacity(alloc, BUFFER, rt.reader())?;
-    let mut writer = BufWriter::with_capacity(alloc, BUFFER, io::writer(rt))?;
+    let Ok(mut reader) = BufReader::with_capacity(alloc, BUFFER, rt.reader()) else {
+        return Err(Fault::Lane(LaneFault::Memory));
+    };
+    let Ok(mut writer) = BufWriter::with_capacity(alloc, BUFFER, io::writer(rt)) else {
+        return Err(Fault::Lane(LaneFault::Memory));
+    };
     // Peers choose txids and outpoints: with keys that they can't know they can't make them collide.
     let Ok(hasher) = RandomState::new(rt) else {
         return Err(Fault::Random);
