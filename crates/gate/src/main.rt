@@ -5,9 +5,9 @@
 
 use gate_prog::{ArgsFault, LaneFault, read_args, run_job};
 use std::alloc::{AllocError, AllocFailed};
+use std::hash::RandomState;
 use std::io::{BufReader, BufWriter, ErrorKind};
 use std::process::ExitCode;
-use std::hash::RandomState;
 use std::{env, io};
 use thiserror::Error;
 

@@ -29,4 +29,3 @@ pub use permissions::Permissions;
 pub use refusal::{Refusal, Then};
 pub use reply::Reply;
 pub use state::{State, StepFault};
-

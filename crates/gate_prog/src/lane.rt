@@ -32,7 +32,11 @@ fn event_on(alloc: Global, line: &[u8]) -> Result<Option<Event>, Memory>
 }
 
 /// The reply line to an event, with its newline. A step that memory ran out in is answered too.
-fn answer_event<S: BuildHasher + Copy + Drop>(alloc: Global, state: &mut State<S>, event: &Event) -> Result<Vec<u8>, Memory>
+fn answer_event<S: BuildHasher + Copy + Drop>(
+    alloc: Global,
+    state: &mut State<S>,
+    event: &Event,
+) -> Result<Vec<u8>, Memory>
     ensures ok { IfOk result (λ line. EventReplied state.old event.now line.items state.new) }
     ensures err { OnErr result (EventLost state.old event.now state.new) }
 {
@@ -43,7 +47,11 @@ fn answer_event<S: BuildHasher + Copy + Drop>(alloc: Global, state: &mut State<S
 }
 
 /// Answers a line within the limits, by its reply line with a newline; `None` for a line that is skipped.
-fn answer<S: BuildHasher + Copy + Drop>(alloc: Global, state: &mut State<S>, line: &[u8]) -> Result<Option<Vec<u8>>, Memory>
+fn answer<S: BuildHasher + Copy + Drop>(
+    alloc: Global,
+    state: &mut State<S>,
+    line: &[u8],
+) -> Result<Option<Vec<u8>>, Memory>
     ensures ok { IfOk result (λ reply. AnswerMade state.old line.now reply state.new) }
     ensures err { OnErr result (AnswerLost state.old line.now state.new) }
 {

@@ -56,7 +56,11 @@ fn take_step<S: BuildHasher + Copy + Drop, R: Source>(
 }
 
 /// Reads all that an opening says.
-fn gather<S: BuildHasher + Copy + Drop, R: Source>(alloc: Global, hasher: S, reader: &mut R) -> Result<Draft<S>, OpeningFault>
+fn gather<S: BuildHasher + Copy + Drop, R: Source>(
+    alloc: Global,
+    hasher: S,
+    reader: &mut R,
+) -> Result<Draft<S>, OpeningFault>
     ensures gathered { OpeningGathered (R.remaining reader.old) (R.remaining reader.new) result }
     ensures steady { R.steady ≡ true → IfErr result (λ fault. fault ≢ OpeningFault.Read) }
 {
@@ -76,7 +80,11 @@ fn gather<S: BuildHasher + Copy + Drop, R: Source>(alloc: Global, hasher: S, rea
 
 /// Reads an opening and opens its state, with an empty pool. What stands behind its line `---` is left unread. The
 /// hasher serves every map of ids and outpoints.
-pub fn read_opening<S: BuildHasher + Copy + Drop, R: Source>(alloc: Global, hasher: S, reader: &mut R) -> Result<State<S>, OpeningFault>
+pub fn read_opening<S: BuildHasher + Copy + Drop, R: Source>(
+    alloc: Global,
+    hasher: S,
+    reader: &mut R,
+) -> Result<State<S>, OpeningFault>
     ensures opened { IfOk result (λ state. IfSome (R.remaining reader.old) (λ text. spelled text ≡ Ok state)) }
     ensures good { IfOk result IsGoodWorld }
     ensures left { OnOk result (LeavesRest (R.remaining reader.old) (R.remaining reader.new)) }

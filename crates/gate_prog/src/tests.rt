@@ -221,7 +221,10 @@ fn replies_before_a_wait(rt: HostRuntime) -> Result<(), Fail> {
         count: 0,
     };
     let mut writer = BufWriter::new(rt.alloc(), kept)?;
-    assert_eq!(rt; run_gate(rt.alloc(), hasher(), &mut reader, &mut writer), Ok(0));
+    assert_eq!(rt;
+        run_gate(rt.alloc(), hasher(), &mut reader, &mut writer),
+        Ok(0)
+    );
     assert!(rt; writer.buffer().is_empty());
     assert_eq!(rt; writer.get_ref().count, 2);
     assert_eq!(rt; writer.get_ref().bytes.len(), 84);
@@ -255,7 +258,10 @@ fn checks_of_transactions(rt: HostRuntime) -> Result<(), Fail> {
     let mut reader: &[u8] = b"";
     let mut written = Vec::new(rt.alloc());
     let job = read_args(rt.alloc(), &["check", GENESIS])?;
-    assert_eq!(rt; run_job(rt.alloc(), hasher(), &job, &mut reader, &mut written), Ok(1));
+    assert_eq!(rt;
+        run_job(rt.alloc(), hasher(), &job, &mut reader, &mut written),
+        Ok(1)
+    );
     assert_eq!(rt;
         std::str::from_utf8(written.as_slice())?,
         "4a5e1e4baab89f3a32518a88c31bc87f618f76673e2cc77ab2127b7afdeda33b 4a5e1e4baab89f3a32518a88c31bc87f618f76673e2cc77ab2127b7afdeda33b 816
@@ -264,7 +270,10 @@ denied A11 coinbase
     );
     let mut written = Vec::new(rt.alloc());
     let job = read_args(rt.alloc(), &["check", "zz"])?;
-    assert_eq!(rt; run_job(rt.alloc(), hasher(), &job, &mut reader, &mut written), Ok(1));
+    assert_eq!(rt;
+        run_job(rt.alloc(), hasher(), &job, &mut reader, &mut written),
+        Ok(1)
+    );
     assert_eq!(rt;
         std::str::from_utf8(written.as_slice())?,
         "denied A1 tx-decode\n"
