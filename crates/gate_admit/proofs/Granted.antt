@@ -1,5 +1,5 @@
 -- What a grant says of a transaction: its inputs are live, value is conserved, and an entry holds its numbers.
-use Rattle.std.proofs.Common.{◌≡◌, ◌≢◌, ◌≤◌, ◌+◌, ◌*◌, ◌/◌, ℕ, suc, Bool, true, false, not, List, [], ◌∷◌, ◌++◌, get_or, Option, Some, None, Result, Ok, Err, refl, sym, ap, ◌∙◌, subst, arith}
+use Rattle.std.proofs.Common.{◌≡◌, ◌≢◌, ◌≤◌, ◌+◌, ◌*◌, ◌/◌, ℕ, Bool, true, false, not, List, [], ◌∷◌, get_or, Option, Some, None, Result, Ok, Err, refl, sym, ◌∙◌, subst, arith}
 use Rattle.std.specs.Prelude.{◌-◌, map, max, is_some, is_none, IsSome, IfSome, IfOk, OnOk, flat_map}
 use Rattle.std.specs.Str.{bytes_eq}
 use Rattle.std.specs.List.{All, AllPairs, list_any}
@@ -8,7 +8,7 @@ use Rattle.std.proofs.lemmas.Slice.Eq.{bytes_eq-Decides}
 use Rattle.std.proofs.lemmas.List.Elements.{All-nil, All-cons, All-tail, All-append, All-map, All-weaker}
 use Rattle.std.proofs.lemmas.List.Kept.{AllPairs-cons}
 use Rattle.std.proofs.Math.Nat.{add-sub_of_le}
-use Rattle.gate_bytes.specs.Order.{Rule, first_failing, NoneFails}
+use Rattle.gate_bytes.specs.Order.{first_failing, NoneFails}
 use Rattle.gate_bytes.proofs.OrderLemmas.{none_fails-append}
 use Rattle.gate_bytes.specs.declared.Memory.{Memory}
 use Rattle.gate_tx.specs.declared.Coin.{Coin}
@@ -19,12 +19,10 @@ use Rattle.gate_tx.specs.Equality.{out_point_decides}
 use Rattle.gate_tx.specs.Ids.{txid_of, wtxid_of}
 use Rattle.gate_tx.specs.Money.{max_money, amount_or_zero}
 use Rattle.gate_tx.specs.Sizes.{weight_of, stripped_size_of}
-use Rattle.gate_tx.specs.Text.{stripped, text}
 use Rattle.gate_tx.specs.Tx.{Tx}
 use Rattle.gate_standard.specs.declared.Denial.{Denial}
 use Rattle.gate_standard.specs.Amounts.{required_fee}
-use Rattle.gate_standard.specs.Rules.{transaction_rules, standard_rules, output_value_rules, spends_twice, rules_of_input, rules_of_output, rules_of_whole}
-use Rattle.gate_chain.specs.Coins.{opened_with_of}
+use Rattle.gate_standard.specs.Rules.{transaction_rules, standard_rules, output_value_rules, spends_twice, rules_of_input, rules_of_output}
 use Rattle.gate_chain.specs.Times.{tip_of}
 use Rattle.gate_pool.specs.Pool.{Admitted, spends_of, spent_by, entry_by_txid, entry_by_wtxid}
 use Rattle.gate_pool.specs.Family.{is_conflict}
@@ -34,7 +32,7 @@ use Rattle.gate_admit.specs.declared.grant.Grant.{Grant}
 use Rattle.gate_admit.specs.Bounds.{FitsEntry, FitsAnEntry}
 use Rattle.gate_admit.specs.Coins.{view_coin, coins_of}
 use Rattle.gate_admit.specs.Granting.{IsGrantable, Conserves, PaysItsSize}
-use Rattle.gate_admit.specs.Reports.{reported, report_rules, sigop_cost, vsize_of}
+use Rattle.gate_admit.specs.Reports.{reported, report_rules, sigop_cost}
 use Rattle.gate_admit.specs.Rules.{alone_rules, final_rules, pool_rules, coin_rules, lock_rules, is_immature, rules_of_coin, coin_value_rules, balance_rules, fee_rules, payment_rules, admission_rules, grant_of, denied_or, decision_of, coins_value, outputs_value, min_relay_rate}
 use Rattle.gate_admit.specs.Standing.{Standing}
 use Rattle.gate_admit.proofs.Conflicting.{is_some-find}

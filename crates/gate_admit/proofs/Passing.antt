@@ -1,11 +1,10 @@
 -- What each group of rules says where none of them fails.
-use Rattle.std.proofs.Common.{◌≡◌, ◌≤◌, ◌+◌, ℕ, true, false, List, [], ◌∷◌, ◌++◌, Option, Some, None, sym, ap, ◌∙◌}
+use Rattle.std.proofs.Common.{◌≡◌, ◌+◌, None}
 use Rattle.std.specs.Prelude.{◌-◌}
-use Rattle.gate_bytes.specs.Order.{Rule, first_failing, NoneFails}
+use Rattle.gate_bytes.specs.Order.{first_failing, NoneFails}
 use Rattle.gate_bytes.proofs.OrderLemmas.{none_fails-append, none_fails}
 use Rattle.gate_tx.specs.Ids.{wtxid_of}
 use Rattle.gate_tx.specs.Tx.{Tx}
-use Rattle.gate_standard.specs.declared.Denial.{Denial}
 use Rattle.gate_chain.specs.Times.{tip_of}
 use Rattle.gate_admit.specs.declared.attempt.Attempt.{Attempt}
 use Rattle.gate_admit.specs.Coins.{coins_of}

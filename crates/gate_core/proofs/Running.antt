@@ -4,7 +4,6 @@ use Rattle.std.specs.List.{flat_map}
 use Rattle.std.proofs.lemmas.List.Elements.{Contains-append_left, Contains-append_right, Contains-append_cases}
 use Rattle.gate_tx.specs.Tx.{Tx}
 use Rattle.gate_chain.specs.History.{History}
-use Rattle.gate_admit.specs.Good.{AreApart}
 use Rattle.gate_core.specs.declared.event.Event.{Event}
 use Rattle.gate_core.specs.declared.reply.Reply.{Reply}
 use Rattle.gate_core.specs.World.{World}

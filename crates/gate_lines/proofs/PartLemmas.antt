@@ -1,5 +1,5 @@
 -- A part of a line, from the bytes that a reader shows; and a line, from its parts.
-use Rattle.std.proofs.Common.{◌≡◌, ℕ, zero, suc, ◌+◌, ◌-◌, ◌<◌, ◌≤◌, ◌==◌, min, Bool, true, List, [], ◌∷◌, ◌++◌, length, take, get_or, Option, OnSome, Some, None, Ok, Err, refl, sym, ap, subst, ◌∙◌, arith, append_assoc, append-nil, length-append, length-take-le, take-take}
+use Rattle.std.proofs.Common.{◌≡◌, ℕ, zero, suc, ◌+◌, ◌-◌, ◌<◌, ◌≤◌, true, List, [], ◌∷◌, ◌++◌, length, take, get_or, Option, OnSome, Some, None, Ok, refl, sym, ap, subst, ◌∙◌, arith, append_assoc, append-nil, length-append, length-take-le, take-take}
 use Rattle.std.proofs.lemmas.List.{take_more}
 use Rattle.std.proofs.lemmas.Bool.Decides.{nat_tests}
 use Rattle.std.specs.Io.KnownBytes.{Consumes, IsAtEnd}
@@ -8,7 +8,7 @@ use Rattle.memchr.specs.Find.{IsFirstByte, is_byte}
 use Rattle.gate_lines.specs.declared.part.Part.{Part}
 use Rattle.gate_lines.specs.declared.part.Part.TheVariants.{Newline, More, TooLong, End}
 use Rattle.gate_lines.specs.Lines.{LacksNewline, line_limit}
-use Rattle.gate_lines.specs.Parts.{PartShown, PartTaken, Ends}
+use Rattle.gate_lines.specs.Parts.{PartShown, PartTaken}
 
 is_newline : (x : ℕ) → x ≡ 10 → is_byte 10 x ≡ true
 is_newline x e = grind (arith, nat_tests)

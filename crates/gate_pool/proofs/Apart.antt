@@ -1,5 +1,5 @@
 -- Entries are told apart where each key has one place.
-use Rattle.std.proofs.Common.{◌≡◌, ◌≢◌, ℕ, zero, suc, ◌+◌, ◌<◌, Bool, true, false, List, [], ◌∷◌, Option, Some, None, refl, sym, ap, subst, ◌∙◌, true≢false, arith, length, get_or, inl, inr}
+use Rattle.std.proofs.Common.{◌≡◌, ℕ, suc, Bool, true, false, List, [], ◌∷◌, Option, Some, None, refl, sym, ap, ◌∙◌, true≢false, arith, get_or, inl, inr}
 use Rattle.std.specs.Prelude.{Contains}
 use Rattle.std.specs.List.{AllPairs}
 use Rattle.std.specs.Cmp.Lexicographic.{bytes_decides}
@@ -9,7 +9,6 @@ use Rattle.std.proofs.lemmas.List.Elements.{Contains-get_or}
 use Rattle.std.proofs.lemmas.List.Kept.{AllPairs-cons}
 use Rattle.gate_tx.specs.declared.OutPoint.{OutPoint}
 use Rattle.gate_tx.specs.Ids.{txid_of, wtxid_of}
-use Rattle.gate_tx.specs.Coins.{spends}
 use Rattle.gate_graph.proofs.Members.{Contains-cons_cases, not_in_none}
 use Rattle.gate_pool.specs.Pool.{Admitted, has_txid, has_wtxid}
 use Rattle.gate_pool.specs.Distinct.{AreDistinct}

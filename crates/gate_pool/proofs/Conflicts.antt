@@ -1,6 +1,6 @@
 -- What conflicts with a transaction is gone once none spends what it spends.
-use Rattle.std.proofs.Common.{◌≡◌, ℕ, ◌+◌, Bool, true, false, cond, List, [], ◌∷◌, ◌++◌, None, Some, sym, ap, subst, ◌∙◌, refl, true≢false, not}
-use Rattle.std.specs.Prelude.{Contains, filter, find}
+use Rattle.std.proofs.Common.{◌≡◌, Bool, false, cond, List, [], ◌∷◌, ◌++◌, None, Some, sym, ap, ◌∙◌, refl, true≢false, not}
+use Rattle.std.specs.Prelude.{Contains, find}
 use Rattle.std.specs.List.{list_any}
 use Rattle.std.proofs.lemmas.Bool.{false_from_ne_true}
 use Rattle.gate_tx.specs.declared.TxIn.{TxIn}

@@ -1,14 +1,10 @@
 -- Steps of entries, and what `find` says.
-use Rattle.std.proofs.Common.{◌≡◌, ℕ, zero, suc, ◌+◌, ◌<◌, Bool, true, false, cond, not, ◌&&◌, ◌||◌, List, [], ◌∷◌, ◌++◌, length, refl, sym, ap, ◌∙◌, subst, ◌⊎◌, inl, inr, ⊎_elim, arith, map, Option, Some, None}
-use Rattle.std.specs.Prelude.{Contains, find, filter}
-use Rattle.std.specs.List.{list_any}
-use Rattle.std.specs.Str.{bytes_eq}
-use Rattle.std.specs.Cmp.Lexicographic.{bytes_decides}
-use Rattle.std.proofs.lemmas.Bool.{cases_Bool, true≢false, or_cases, or_left, or_right, and_parts, and_from, false_from_ne_true, not-true}
-use Rattle.gate_graph.specs.Family.{Node, steps_of, reaches}
+use Rattle.std.proofs.Common.{◌≡◌, ℕ, Bool, true, false, cond, List, [], ◌∷◌, refl, sym, ap, ◌∙◌, subst, ◌⊎◌, ⊎_elim, arith, map, Some, None}
+use Rattle.std.specs.Prelude.{Contains, find}
+use Rattle.gate_graph.specs.Family.{Node}
 use Rattle.gate_tx.specs.Ids.{txid_of}
-use Rattle.gate_graph.proofs.Members.{Contains-cons_cases, Contains-head, Contains-rest, any_is, list_any_of}
-use Rattle.gate_graph.proofs.Steps.{step_node, node_step, steps_of-append}
+use Rattle.gate_graph.proofs.Members.{Contains-cons_cases, Contains-head, Contains-rest}
+use Rattle.gate_graph.proofs.Steps.{step_node, node_step}
 use Rattle.gate_pool.specs.Pool.{Admitted}
 use Rattle.gate_tx.specs.declared.TxIn.{TxIn}
 use Rattle.gate_pool.specs.Family.{node_of, steps}

@@ -1,6 +1,5 @@
 -- How the pool's indexes follow its slots.
-use Rattle.std.proofs.Common.{◌≡◌, ℕ, ◌+◌, true, true≢false, not, refl, cond, List, [], ◌∷◌, ◌++◌, length, Option, Some, None, sym, ap, subst, ◌∙◌, arith, length-append, zero, suc, ◌⊎◌, inl, inr}
-use Rattle.std.specs.Str.{bytes_eq}
+use Rattle.std.proofs.Common.{◌≡◌, ℕ, ◌+◌, true, true≢false, not, refl, cond, List, [], ◌∷◌, ◌++◌, length, Option, Some, None, sym, ap, subst, ◌∙◌, arith, length-append, zero, suc, inl, inr}
 use Rattle.std.specs.Cmp.Lexicographic.{bytes_decides}
 use Rattle.gate_tx.specs.declared.OutPoint.{OutPoint}
 use Rattle.gate_tx.specs.declared.TxIn.{TxIn}
@@ -12,7 +11,7 @@ use Rattle.gate_pool.specs.Pool.{Admitted, has_txid, has_wtxid, size_of, spender
 use Rattle.gate_pool.specs.Keeping.{IsNew, IsKept, has_point}
 use Rattle.gate_pool.specs.Slots.{entries_of, at, passes, Indexes}
 use Rattle.gate_pool.proofs.Indexing.{unknown, Indexes-push, entries_of-push, Indexes-take, entries_of-take, length-take_one, only_place, all_stay}
-use Rattle.std.specs.Prelude.{filter, slice_set, Contains, sum_by, ◌≤◌, ◌*◌}
+use Rattle.std.specs.Prelude.{filter, slice_set, Contains, ◌≤◌, ◌*◌}
 use Rattle.std.proofs.lemmas.List.Elements.{Contains-append_cases}
 use Rattle.std.proofs.lemmas.List.Sums.{sum_by-append, sum_by-cons}
 use Rattle.std.proofs.lemmas.Option.{none-some, same_Some}

@@ -1,10 +1,6 @@
 -- What a loop over inputs has written.
-use Rattle.std.proofs.Common.{◌≡◌, ℕ, zero, suc, ◌+◌, ◌<◌, Bool, true, false, cond, ◌||◌, List, [], ◌∷◌, ◌++◌, length, take, get_or, refl, sym, ap, ◌∙◌, arith, Option, Some, None, is_some, Result, Ok, Err, IsOk, OnErr, true≢false, inl, inr}
-use Rattle.std.proofs.lemmas.Bool.{or_right, or_cases, false_from_ne_true, or_left}
-use Rattle.gate_tx.specs.declared.OutPoint.{OutPoint}
-use Rattle.gate_tx.specs.declared.TxIn.{TxIn}
-use Rattle.gate_tx.specs.Coins.{point_eq}
-use Rattle.gate_tx.specs.Equality.{out_point_decides}
+use Rattle.std.proofs.Common.{◌≡◌, ℕ, zero, suc, ◌+◌, ◌<◌, Bool, true, false, cond, ◌||◌, List, [], ◌∷◌, ◌++◌, length, take, get_or, refl, sym, ap, ◌∙◌, arith, Option, Some, None, is_some, Result, Ok, Err, IsOk, OnErr, true≢false}
+use Rattle.std.proofs.lemmas.Bool.{or_right}
 use Rattle.std.specs.List.{list_any}
 use Rattle.std.proofs.lemmas.List.{take_more}
 use Rattle.std.proofs.lemmas.List.Folds.{list_any-append}

@@ -1,18 +1,16 @@
 -- A set that takes with it all that is below its members goes out.
-use Rattle.std.proofs.Common.{◌≡◌, ℕ, zero, suc, ◌+◌, ◌<◌, ◌≤◌, Bool, true, false, cond, not, ◌&&◌, ◌||◌, List, [], ◌∷◌, ◌++◌, length, refl, sym, ap, ◌∙◌, subst, ◌⊎◌, inl, inr, ⊎_elim, arith, map, Option, Some, None}
-use Rattle.std.specs.Prelude.{Contains, find, filter, count_by}
-use Rattle.std.specs.List.{list_any}
-use Rattle.std.proofs.lemmas.Bool.{cases_Bool, true≢false, or_cases, and_parts, and_from, false_from_ne_true, not-true, cond-true, cond-false}
+use Rattle.std.proofs.Common.{◌≡◌, ◌<◌, Bool, true, false, cond, not, ◌&&◌, List, [], ◌∷◌, length, refl, sym, ap, ◌∙◌, subst, None}
+use Rattle.std.specs.Prelude.{Contains, find, filter}
+use Rattle.std.proofs.lemmas.Bool.{true≢false, and_parts, and_from, false_from_ne_true, not-true, cond-true, cond-false}
 use Rattle.gate_tx.specs.Ids.{txid_of}
 use Rattle.gate_graph.specs.Family.{reaches}
-use Rattle.gate_graph.proofs.Members.{Contains-cons_cases, Contains-head, Contains-rest, any_is, list_any_of}
+use Rattle.gate_graph.proofs.Members.{Contains-head, Contains-rest, any_is, list_any_of}
 use Rattle.gate_graph.proofs.Reaching.{reaches-same, reaches_trans, reaches_step}
 use Rattle.gate_graph.proofs.Steps.{same_bool, kept_reaches, closed_reaches}
 use Rattle.gate_pool.specs.Pool.{Admitted}
 use Rattle.gate_pool.specs.Family.{steps, without_family, without_below, is_below_some}
-use Rattle.gate_pool.proofs.Entries.{Id, find_some, find_none, entry_step, step_entry, StepOf}
+use Rattle.gate_pool.proofs.Entries.{Id, find_none, entry_step, step_entry}
 use Rattle.gate_pool.proofs.Walking.{Contains-filter, Contains-from_filter, falls}
-use Rattle.std.proofs.lemmas.List.Sums.{length-filter, count_by-le-length}
 
 -- the set goes out
 abbrev pub kept : (Id → Bool) → List Admitted → List Admitted

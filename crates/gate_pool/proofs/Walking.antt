@@ -1,5 +1,5 @@
 -- A walk down from an id takes out its family.
-use Rattle.std.proofs.Common.{◌≡◌, ℕ, ◌==◌, Bool, true, false, cond, not, ◌&&◌, ◌||◌, List, [], ◌∷◌, ◌++◌, refl, sym, ap, ◌∙◌, subst, ◌⊎◌, inl, inr, true≢false, arith}
+use Rattle.std.proofs.Common.{◌≡◌, ℕ, ◌==◌, Bool, true, false, cond, not, ◌||◌, List, [], ◌∷◌, ◌++◌, refl, sym, ap, ◌∙◌, subst, ◌⊎◌, inl, inr, true≢false, arith}
 use Rattle.std.specs.Prelude.{Contains, filter, find, length, ◌<◌, ◌≤◌, None, Some, Option}
 use Rattle.gate_tx.specs.declared.OutPoint.{OutPoint}
 use Rattle.gate_tx.specs.Coins.{point_eq, spends}

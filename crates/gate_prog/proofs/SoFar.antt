@@ -1,6 +1,6 @@
 -- A lane after some whole lines, and how it ends from there.
-use Rattle.std.proofs.Common.{◌≡◌, ◌≢◌, ℕ, ◌+◌, ◌<◌, ◌≤◌, List, [], ◌∷◌, ◌++◌, length, true, false, Option, Some, None, IfSome, Ok, Err, refl, sym, ap, subst, ◌∙◌, arith, append_assoc, append-nil, length-append, IsErrOf, OnSome, Result}
-use Rattle.std.specs.Io.KnownBytes.{Appends, Consumes, IsAtEnd}
+use Rattle.std.proofs.Common.{◌≡◌, ℕ, ◌+◌, ◌<◌, ◌≤◌, List, [], ◌∷◌, ◌++◌, length, true, false, Option, Some, None, Ok, Err, refl, sym, ap, subst, ◌∙◌, arith, append_assoc, append-nil, length-append}
+use Rattle.std.specs.Io.KnownBytes.{Appends, Consumes}
 use Rattle.std.proofs.KnownBytes.{Appends-nil, Appends-trans, Consumes-nil, Consumes-trans}
 use Rattle.gate_core.specs.World.{World}
 use Rattle.gate_lines.specs.declared.fault.LaneFault.{LaneFault}
@@ -8,7 +8,7 @@ use Rattle.gate_lines.specs.declared.fault.LaneFault.TheVariants as faults
 use Rattle.gate_lines.specs.Lines.{EachLacksNewline, lines_of, unlines, count_limit}
 use Rattle.gate_lines.specs.Reading.{PieceRead, EndTold}
 use Rattle.gate_lines.specs.Writing.{TextWritten}
-use Rattle.gate_prog.specs.Lanes.{Run, FirstLines, StoppedBy, LaneDone, LaneUnread, too_many_lines}
+use Rattle.gate_prog.specs.Lanes.{Run, FirstLines, StoppedBy, LaneUnread, too_many_lines}
 use Rattle.gate_prog.specs.Turns.{AllLines, TurnTaken, LaneCame}
 use Rattle.gate_prog.specs.declared.lane.Turn.TheVariants.{Went, Ended}
 use Rattle.gate_lines.proofs.LineLists.{lines_of-unlines, lines_of-some, unlines-append, EachLacksNewline-push}

@@ -1,5 +1,5 @@
 -- What is answered to a line.
-use Rattle.std.proofs.Common.{◌≡◌, ℕ, Bool, true, false, List, [], ◌∷◌, ◌++◌, Option, None, Result, Ok, Err, IfOk, OnErr, ◌∙◌, MatchBool, ap, subst, sym, inl, inr, refl, if◌then◌else◌}
+use Rattle.std.proofs.Common.{◌≡◌, ℕ, Bool, false, List, [], ◌∷◌, ◌++◌, Option, Result, Ok, Err, OnErr, MatchBool, subst, sym, inl, inr, refl}
 use Rattle.gate_core.specs.World.{World}
 use Rattle.gate_core.specs.Good.{StepGives}
 use Rattle.gate_core.specs.Texts.{reply_text}

@@ -1,6 +1,5 @@
 -- One turn of a lane, from what was read and what was answered.
-use Rattle.std.proofs.Common.{◌≡◌, ◌≢◌, ℕ, ◌+◌, ◌<◌, ◌≤◌, List, [], ◌∷◌, ◌++◌, length, Option, OnSome, Some, None, IfSome, Result, Ok, Err, refl, sym, ap, subst, ◌∙◌, arith, inl, inr, append_assoc, append-nil, take, length-take-le}
-use Rattle.std.specs.Io.{StartsWith}
+use Rattle.std.proofs.Common.{◌≡◌, ◌≢◌, ℕ, ◌+◌, ◌<◌, ◌≤◌, List, [], ◌∷◌, ◌++◌, length, Option, OnSome, Some, None, IfSome, Ok, Err, refl, ap, subst, ◌∙◌, arith, inl, inr, append_assoc, append-nil, take, length-take-le}
 use Rattle.std.specs.Io.KnownBytes.{Appends, Consumes, IsAtEnd}
 use Rattle.std.specs.Global.{Vec}
 use Rattle.std.proofs.KnownBytes.{Appends-nil}
@@ -12,7 +11,6 @@ use Rattle.gate_lines.specs.Reading.{LineRead}
 use Rattle.gate_lines.specs.Writing.{TextWritten}
 use Rattle.gate_prog.specs.Lanes.{LineAnswered, Run, FirstLines, SentOf, StoppedBy, line_too_long}
 use Rattle.gate_prog.specs.Turns.{AllLines, AnswerMade, AnswerLost, LineTaken, Responded, Unresponded, TurnTaken}
-use Rattle.gate_prog.specs.declared.lane.Turn.{Turn}
 use Rattle.gate_prog.specs.declared.lane.Turn.TheVariants.{Went, Ended}
 use Rattle.gate_lines.proofs.LineLists.{lines_of-whole, lines_of-rest, lines_of-long}
 use Rattle.gate_prog.proofs.Runs.{Run-one, Run-long}

@@ -1,4 +1,4 @@
-use Rattle.std.proofs.Common.{◌≡◌, ◌≤◌, ◌<◌, ◌+◌, length, refl, sym, arith}
+use Rattle.std.proofs.Common.{refl, sym, arith}
 use Rattle.std.proofs.lemmas.Bool.{eqb-false}
 use Rattle.gate_lines.proofs.PartLemmas.{shown_newline, shown_too_long, shown_more}
 use Rattle.gate_lines.proofs.part.append_part.Goals as goal

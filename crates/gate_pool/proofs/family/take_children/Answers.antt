@@ -1,5 +1,5 @@
-use Rattle.std.proofs.Common.{◌≡◌, ◌+◌, ◌∷◌, [], ◌++◌, not, sym, ap, subst, ◌∙◌, arith, length}
-use Rattle.std.specs.Prelude.{Contains, filter}
+use Rattle.std.proofs.Common.{◌≡◌, ◌∷◌, [], ◌++◌, not, sym, ap, subst, ◌∙◌, arith, length}
+use Rattle.std.specs.Prelude.{Contains}
 use Rattle.gate_tx.specs.Ids.{txid_of}
 use Rattle.gate_pool.specs.Pool.{Admitted, has_txid, spender_of}
 use Rattle.gate_pool.specs.Walk.{Walk}

@@ -1,10 +1,10 @@
-use Rattle.std.proofs.Common.{◌≡◌, None, not, sym, ap, subst, ◌∙◌, arith, length, take, inl, inr, List}
+use Rattle.std.proofs.Common.{◌≡◌, None, sym, subst, ◌∙◌, arith, inl, inr, List}
 use Rattle.std.specs.Prelude.{Contains}
 use Rattle.std.proofs.lemmas.List.{take_all}
 use Rattle.gate_tx.specs.declared.TxIn.{TxIn}
 use Rattle.gate_tx.specs.Coins.{spends}
 use Rattle.gate_graph.proofs.Members.{list_any_of}
-use Rattle.gate_pool.specs.Pool.{Admitted, spender_of}
+use Rattle.gate_pool.specs.Pool.{spender_of}
 use Rattle.gate_pool.specs.Family.{spends_one_of}
 use Rattle.gate_pool.proofs.Walking.{IsNoted-less}
 use Rattle.gate_pool.proofs.Noting.{Contains-take_more}

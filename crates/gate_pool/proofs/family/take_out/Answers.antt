@@ -1,4 +1,4 @@
-use Rattle.std.proofs.Common.{◌≡◌, ◌+◌, ◌∷◌, [], ◌++◌, List, not, sym, ap, subst, ◌∙◌, arith, length}
+use Rattle.std.proofs.Common.{◌∷◌, [], ◌++◌, not, sym, ap, subst, ◌∙◌, arith, length}
 use Rattle.std.specs.Prelude.{Contains, filter}
 use Rattle.gate_pool.specs.Pool.{Admitted, has_txid}
 use Rattle.gate_pool.specs.Walk.{Walk}

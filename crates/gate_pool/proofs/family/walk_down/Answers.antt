@@ -1,4 +1,4 @@
-use Rattle.std.proofs.Common.{◌≡◌, ◌+◌, ◌∷◌, [], ◌++◌, sym, ap, subst, ◌∙◌, arith, length, rules}
+use Rattle.std.proofs.Common.{◌≡◌, [], subst, ◌∙◌, arith}
 use Rattle.std.proofs.lemmas.List.{nil_from_length}
 use Rattle.gate_pool.specs.Walk.{Walk}
 use Rattle.gate_pool.proofs.Walking.{IsNoted-less, Walk-popped, Walk-end}

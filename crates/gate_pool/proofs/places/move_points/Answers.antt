@@ -1,4 +1,4 @@
-use Rattle.std.proofs.Common.{◌≡◌, true, Some, is_some, refl, ap, sym, subst, ◌∙◌}
+use Rattle.std.proofs.Common.{is_some, refl, ap, ◌∙◌}
 use Rattle.gate_tx.specs.Coins.{point_eq}
 use Rattle.gate_tx.specs.Equality.{out_point_decides}
 use Rattle.gate_tx.specs.declared.TxIn.{TxIn}

@@ -5,7 +5,7 @@ use Rattle.clap.specs.Words.{App, Rule, app_of, new_app, rule_of, with_rule, wit
 use Rattle.clap.specs.declared.builder.arg.Arg.{Arg}
 use Rattle.clap.specs.declared.builder.command.Command.{Command}
 use Rattle.clap.specs.declared.builder.command.Command.TheOpen.{Command-F}
-use Rattle.gate_prog.specs.Commands.{check_app, digits_rule, gate_app, run_app, with_commands}
+use Rattle.gate_prog.specs.Commands.{check_app, digits_rule, run_app, with_commands}
 use Rattle.gate_prog.proofs.args.gate_command.Goals as goal
 
 abbrev has_globals : Command-F Command → Bool

@@ -1,8 +1,7 @@
-use Rattle.std.proofs.Common.{◌≡◌, ◌∙◌, ap, ap₂, subst, inr, codes, Some, None, IfSome, Option, Err}
+use Rattle.std.proofs.Common.{◌∙◌, ap, ap₂, subst, inr, IfSome, Option, Err}
 use Rattle.clap.specs.Words.{Text, is_simple, subcommand_of, takes}
 use Rattle.gate_prog.specs.Commands.{AsksFor, named_job, named_of}
 use Rattle.gate_prog.specs.declared.job.Job.{Job}
-use Rattle.gate_prog.specs.declared.job.Job.TheVariants as jobs
 use Rattle.gate_prog.proofs.CommandLemmas.{input_named, input_taken, plain_job, plain_named, plain_taken, run_named, run_taken}
 use Rattle.gate_prog.proofs.args.read_args.Goals as goal
 

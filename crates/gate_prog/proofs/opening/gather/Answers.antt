@@ -1,4 +1,4 @@
-use Rattle.std.proofs.Common.{[], arith}
+use Rattle.std.proofs.Common.{arith}
 use Rattle.std.proofs.lemmas.Result.{err_from_is_err_and}
 use Rattle.gate_prog.proofs.Heard.{Heard-start, Heard-went, Heard-ended, Heard-fault, Heard-end, Heard-full, Heard-untold}
 use Rattle.gate_prog.proofs.Steps.{end_not_unread}

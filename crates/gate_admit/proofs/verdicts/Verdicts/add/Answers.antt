@@ -1,4 +1,4 @@
-use Rattle.std.proofs.Common.{◌≡◌, ◌++◌, ◌∷◌, [], ◌∙◌, ap, sym, not, Bool, true, false, List, is_some}
+use Rattle.std.proofs.Common.{◌≡◌, ◌++◌, ◌∷◌, [], ◌∙◌, ap, sym, not, false, List, is_some}
 use Rattle.std.specs.Map.{lookup}
 use Rattle.gate_admit.specs.declared.verdicts.VerdictRow.{VerdictRow}
 use Rattle.gate_admit.specs.Verdicts.{VerdictTable, has_row_on}

@@ -1,12 +1,11 @@
-use Rattle.std.proofs.Common.{◌≡◌, ◌+◌, ◌++◌, ◌∷◌, [], None, List, sym, ap, subst, ◌∙◌, not, arith, length, length-append}
+use Rattle.std.proofs.Common.{◌≡◌, ◌++◌, ◌∷◌, [], ap, subst, ◌∙◌, not, arith, length, length-append}
 use Rattle.std.specs.Str.{bytes_eq}
 use Rattle.std.specs.Prelude.{Contains}
 use Rattle.indexmap.specs.IndexMap.{get}
-use Rattle.gate_tx.specs.declared.TxIn.{TxIn}
 use Rattle.gate_tx.specs.Ids.{txid_of, wtxid_of}
-use Rattle.gate_pool.specs.Pool.{Admitted, Pooled, entry_by_txid, entry_by_wtxid, spender_of}
+use Rattle.gate_pool.specs.Pool.{Admitted, Pooled, entry_by_txid, entry_by_wtxid}
 use Rattle.gate_pool.specs.Family.{spends_one_of, without_below, is_below_some, entered}
-use Rattle.gate_pool.specs.Keeping.{IsUpTo, IsNoted}
+use Rattle.gate_pool.specs.Keeping.{IsNoted}
 use Rattle.gate_pool.proofs.Conflicts.{IsNew-left}
 use Rattle.gate_pool.proofs.Noting.{IsNoted-grown, IsNoted-push}
 use Rattle.gate_pool.proofs.Walking.{IsNoted-less, Contains-from_filter, shorter}

@@ -1,4 +1,4 @@
-use Rattle.std.proofs.Common.{rules, ◌≡◌, ◌+◌, ◌<◌, ◌^◌, arith, cond, [], ◌∷◌, ◌++◌, Some, None, ap, ◌∙◌, subst, sym, length, if◌then◌else◌, is_some}
+use Rattle.std.proofs.Common.{rules, ◌+◌, ◌<◌, ◌^◌, arith, cond, [], ◌∷◌, ◌++◌, Some, ap, ◌∙◌, subst, sym, length, if◌then◌else◌, is_some}
 use Rattle.std.specs.Str.{bytes_eq}
 use Rattle.indexmap.specs.IndexMap.{get, index_map_len}
 use Rattle.gate_pool.specs.Pool.{Pooled}
