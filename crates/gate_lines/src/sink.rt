@@ -1,5 +1,6 @@
 //! Writers of texts.
-ghost use Rattle.std.specs.Prelude.{◌≡◌, ◌≢◌, ◌++◌, ◌∷◌, [], Bool, true, false, OnOk, OnErr, IfErr, IfOk, IsOk, string_bytes};
+ghost use Rattle.std.specs.Prelude.{◌≡◌, ◌≢◌, ◌++◌, ◌∷◌, [], ℕ, Bool, true, false, List, OnOk, OnErr, IfErr, IfOk, IsOk, string_bytes};
+ghost use Rattle.std.specs.Io.Buffered.{writer_buffer};
 ghost use Rattle.std.specs.Io.KnownBytes.{Appends};
 ghost use Rattle.gate_lines.specs.Writing.{PartWritten, TextWritten};
 
@@ -12,6 +13,9 @@ pub trait Sink: Write {
     // Whether a writer of this type fails for want of memory alone.
     ghost steady: { Bool };
 
+    // The bytes that the writer took and has not sent on yet.
+    ghost held: { Self → List ℕ };
+
     /// Writes all of the text. A writer that fails, or that takes nothing of some bytes, is `Write`; after `Memory` nothing
     /// of the text was taken.
     fn write_text(&mut self, text: &[u8]) -> Result<(), LaneFault>
@@ -21,12 +25,15 @@ pub trait Sink: Write {
     /// Sends on what the writer still holds.
     fn send(&mut self) -> Result<(), LaneFault>
         ensures kept { Appends (Self.contents self.old) (Self.contents self.new) [] }
+        ensures sent { OnOk result (held self.new ≡ []) }
         ensures kind { IfErr result (λ fault. fault ≡ LaneFault.Write) }
         ensures steady { steady ≡ true → IsOk result };
 }
 
 impl Sink for Vec<u8> {
     ghost steady = { true };
+
+    ghost held = { λ _. [] };
 
     fn write_text(&mut self, text: &[u8]) -> Result<(), LaneFault> {
         self.extend_from_slice(text)?;
@@ -42,6 +49,8 @@ impl Sink for Vec<u8> {
 /// those in the buffer.
 impl<W: Write + Drop> Sink for BufWriter<W> {
     ghost steady = { false };
+
+    ghost held = { writer_buffer };
 
     fn write_text(&mut self, text: &[u8]) -> Result<(), LaneFault> {
         write_parts(self, text)

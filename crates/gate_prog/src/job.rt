@@ -1,5 +1,5 @@
 //! The jobs of the command line.
-ghost use Rattle.std.specs.Prelude.{◌≡◌, ◌≢◌, ◌++◌, ◌∷◌, [], None, true, IfOk, IfErr};
+ghost use Rattle.std.specs.Prelude.{◌≡◌, ◌≢◌, ◌++◌, ◌∷◌, [], None, true, IfOk, IfErr, OnOk};
 ghost use Rattle.gate_prog.specs.Jobs.{JobDone, JobStopped, CheckStopped, FaultPrinted, InputCheckStopped, InputChecked, RefusalStopped, GateRan, GateStopped, opening_line};
 
 use crate::check::{check_hex, check_input};
@@ -31,6 +31,7 @@ pub fn run_job<S: BuildHasher + Copy + Drop, R: Source, W: Sink>(
     writer: &mut W,
 ) -> Result<u8, LaneFault>
     ensures done { IfOk result (λ status. JobDone job.now (R.remaining reader.old) (W.contents writer.old) (W.contents writer.new) status) }
+    ensures sent { OnOk result (W.held writer.new ≡ []) }
     ensures stopped { IfErr result (λ fault. JobStopped job.now (R.remaining reader.old) (R.remaining reader.new) (W.contents writer.old) (W.contents writer.new) fault) }
     ensures steady_reader { R.steady ≡ true → IfErr result (λ fault. fault ≢ LaneFault.Read) }
     ensures steady_writer { W.steady ≡ true → IfErr result (λ fault. fault ≢ LaneFault.Write) }
@@ -45,6 +46,7 @@ pub fn run_job<S: BuildHasher + Copy + Drop, R: Source, W: Sink>(
 /// Checks one transaction in hex by itself: its lines go out in one write, so that want of memory prints nothing.
 pub fn run_check<W: Sink>(alloc: Global, hex: &str, writer: &mut W) -> Result<u8, LaneFault>
     ensures done { IfOk result (λ status. JobDone (Job.Check hex.now) None (W.contents writer.old) (W.contents writer.new) status) }
+    ensures sent { OnOk result (W.held writer.new ≡ []) }
     ensures stopped { IfErr result (λ fault. CheckStopped hex.now (W.contents writer.old) (W.contents writer.new) fault) }
     ensures steady { W.steady ≡ true → IfErr result (λ fault. fault ≢ LaneFault.Write) }
 {
@@ -61,6 +63,7 @@ pub fn run_check_input<R: Source, W: Sink>(
     writer: &mut W,
 ) -> Result<u8, LaneFault>
     ensures done { IfOk result (λ status. InputChecked (R.remaining reader.old) (W.contents writer.old) (W.contents writer.new) status) }
+    ensures sent { OnOk result (W.held writer.new ≡ []) }
     ensures stopped { IfErr result (λ fault. InputCheckStopped (R.remaining reader.old) (W.contents writer.old) (W.contents writer.new) fault) }
     ensures steady_reader { R.steady ≡ true → IfErr result (λ fault. fault ≢ LaneFault.Read) }
     ensures steady_writer { W.steady ≡ true → IfErr result (λ fault. fault ≢ LaneFault.Write) }
@@ -79,6 +82,7 @@ pub fn run_gate<S: BuildHasher + Copy + Drop, R: Source, W: Sink>(
     writer: &mut W,
 ) -> Result<u8, LaneFault>
     ensures done { IfOk result (λ status. GateRan (R.remaining reader.old) (W.contents writer.old) (W.contents writer.new) status) }
+    ensures sent { OnOk result (W.held writer.new ≡ []) }
     ensures stopped { IfErr result (λ fault. GateStopped (R.remaining reader.old) (R.remaining reader.new) (W.contents writer.old) (W.contents writer.new) fault) }
     ensures steady_reader { R.steady ≡ true → IfErr result (λ fault. fault ≢ LaneFault.Read) }
     ensures steady_writer { W.steady ≡ true → IfErr result (λ fault. fault ≢ LaneFault.Write) }
@@ -102,6 +106,7 @@ fn refuse_opening<W: Sink>(
     token: OpeningToken,
 ) -> Result<u8, LaneFault>
     ensures done { IfOk result (λ status. FaultPrinted line token (W.contents writer.old) (W.contents writer.new) status) }
+    ensures sent { OnOk result (W.held writer.new ≡ []) }
     ensures stopped { IfErr result (λ fault. RefusalStopped line token (W.contents writer.old) (W.contents writer.new) fault) }
     ensures steady { W.steady ≡ true → IfErr result (λ fault. fault ≢ LaneFault.Write) }
 {

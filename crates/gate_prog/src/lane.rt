@@ -1,5 +1,5 @@
 //! The lane: lines read one after another, each answered before the next is read.
-ghost use Rattle.std.specs.Prelude.{◌≡◌, ◌≢◌, [], true, IfOk, IfErr, OnErr, IsOk, IsErrOf};
+ghost use Rattle.std.specs.Prelude.{◌≡◌, ◌≢◌, [], true, IfOk, IfErr, OnOk, OnErr, IsOk, IsErrOf};
 ghost use Rattle.std.specs.Io.KnownBytes.{Appends};
 ghost use Rattle.gate_prog.specs.EventLines.{line_event};
 ghost use Rattle.gate_prog.specs.Lanes.{LaneDone, LaneUnread, StoppedBy};
@@ -157,6 +157,7 @@ pub fn run_lane<S: BuildHasher + Copy + Drop, R: Source, W: Sink>(
     writer: &mut W,
 ) -> Result<u64, LaneFault>
     ensures done { IfOk result (λ count. LaneDone (R.remaining reader.old) (W.contents writer.old) (W.contents writer.new) state.old state.new count) }
+    ensures sent { OnOk result (W.held writer.new ≡ []) }
     ensures unread { IsErrOf result LaneFault.Read →
         LaneUnread (R.remaining reader.old) (R.remaining reader.new) (W.contents writer.old) (W.contents writer.new) state.old state.new }
     ensures unwritten { IsErrOf result LaneFault.Write →
