@@ -1,3 +1,13 @@
 pub mod Members
 pub mod Reaching
 pub mod Steps
+pub mod Filters
+pub mod Apart
+pub mod Leaf
+pub mod Removal
+pub mod Entries
+pub mod Linking
+pub mod Walking
+pub mod Adding
+pub mod Removing
+pub mod Places

@@ -1,0 +1,183 @@
+-- A walk finds all that a chain leads to.
+use Rattle.std.proofs.Common.{◌≡◌, ℕ, ◌+◌, ◌<◌, ◌≤◌, Bool, true, false, if◌then◌else◌, List, [], ◌∷◌, ◌++◌, length, get_or, drop, drop-cons, add-one, refl, sym, ap, ◌∙◌, subst, ◌⊎◌, inl, inr, arith, length-append, Some, None, is_some, true≢false}
+use Rattle.std.specs.Prelude.{Contains, filter}
+use Rattle.std.specs.Map.{lookup}
+use Rattle.std.specs.Str.{bytes_eq}
+use Rattle.std.proofs.lemmas.List.Elements.{Contains-get_or, Contains-append_left, Contains-append_right, Contains-append_cases}
+use Rattle.std.proofs.lemmas.List.{get_or_append_left, get_or_default}
+use Rattle.indexmap.specs.IndexSet.{insert_key, insert_all}
+use Rattle.gate_graph.specs.Family.{Node, steps_of, Leads, here, down}
+use Rattle.gate_graph.specs.Families.{among, has, children_of}
+use Rattle.gate_graph.specs.declared.held.Held.{Held}
+use Rattle.gate_graph.specs.declared.held.Way.{Way}
+use Rattle.gate_graph.specs.declared.held.Way.TheVariants.{Up, Down}
+use Rattle.gate_graph.specs.Holding.{Linked, Entry, linked_of, linked_in, nodes_in, IsHeld, next_of, is_led}
+use Rattle.gate_graph.proofs.Members.{Contains-cons_cases, Contains-head, Contains-rest, not_in_none}
+use Rattle.gate_graph.proofs.Reaching.{Leads_from_reaches, reaches-same, reaches_trans, reaches_step}
+use Rattle.gate_graph.proofs.Steps.{same_bool, step_node, node_step}
+use Rattle.gate_graph.proofs.Filters.{Contains-map, Contains-from_map, Contains-filter, Contains-from_filter}
+use Rattle.gate_graph.proofs.Apart.{among_from, Contains-among, has-node, one_node}
+use Rattle.gate_graph.proofs.Entries.{found-seen, Contains-found, Contains-linked, Contains-node}
+
+abbrev Id : Type 0
+Id = List ℕ
+
+-- a step leads this way
+abbrev pub Next : Way → List Node → Id → Id → Type 0
+Next Up g a b = Contains (steps_of g) (b, a)
+Next Down g a b = Contains (steps_of g) (a, b)
+
+-- chains this way
+led-same : (way : Way) (g : List Node) (a : Id) → is_led way g a a ≡ true
+led-same Up g a = reaches-same (steps_of g) a
+led-same Down g a = reaches-same (steps_of g) a
+
+led_next : (way : Way) (g : List Node) (x a b : Id) → is_led way g x a ≡ true → Next way g a b → is_led way g x b ≡ true
+led_next Up g x a b h s = reaches_trans (steps_of g) b a x (reaches_step (steps_of g) b a s) h
+led_next Down g x a b h s = reaches_trans (steps_of g) x a b h (reaches_step (steps_of g) a b s)
+
+led_closed : (way : Way) (g : List Node) (p : Id → Bool) → ((a b : Id) → Next way g a b → p a ≡ true → p b ≡ true) → (x b : Id) → is_led way g x b ≡ true → p x ≡ true → p b ≡ true
+led_closed Up g p closed x b r h = climb (Leads_from_reaches (steps_of g) b x r) h
+  where
+    climb : {a b : Id} → Leads (steps_of g) a b → p b ≡ true → p a ≡ true
+    climb here h = h
+    climb (down {a = a} {b = b} s l) h = closed b a s (climb l h)
+led_closed Down g p closed x b r h = follow (Leads_from_reaches (steps_of g) x b r) h
+  where
+    follow : {a b : Id} → Leads (steps_of g) a b → p a ≡ true → p b ≡ true
+    follow here h = h
+    follow (down {a = a} {b = b} s l) h = follow l (closed a b s h)
+
+-- the children of what is found at an id
+held_children : (es : List Entry) (x : Id) (h : Held) → IsHeld (linked_in es) → lookup (bytes_eq x) es ≡ Some h → h.children.items ≡ children_of (nodes_in es) x
+held_children es x h ok e =
+    let l = Contains-linked es (x, h) (Contains-found es x h e) in
+    let w = Contains-from_map (λ (n : Node). record { node = n; children = children_of (nodes_in es) n.id }) (nodes_in es) (linked_of (x, h)) (subst (λ ls. Contains ls (linked_of (x, h))) ok.children l) in
+    sym (ap (λ (l : Linked). l.children) w.2) ∙ ap (λ (l : Linked). children_of (nodes_in es) l.node.id) w.2
+
+-- the steps from what is found at an id are those that it lists
+pub next_listed : (way : Way) (es : List Entry) (x : Id) (h : Held) → IsHeld (linked_in es) → lookup (bytes_eq x) es ≡ Some h → (b : Id) → Contains (next_of way h) b → Next way (nodes_in es) x b
+next_listed Up es x h ok e b c = node_step (nodes_in es) (linked_of (x, h)).node b (Contains-node es (x, h) (Contains-found es x h e)) c
+next_listed Down es x h ok e b c =
+    let w = Contains-from_map (λ (n : Node). n.id) (filter (λ n. among n.parents x) (nodes_in es)) b (subst (λ l. Contains l b) (held_children es x h ok e) c) in
+    let v = Contains-from_filter (λ n. among n.parents x) (nodes_in es) w.0 w.1 in
+    subst (λ z. Contains (steps_of (nodes_in es)) (x, z)) w.2 (node_step (nodes_in es) w.0 x v.0 (Contains-among w.0.parents x v.1))
+
+pub listed_next : (way : Way) (es : List Entry) (x : Id) (h : Held) → IsHeld (linked_in es) → lookup (bytes_eq x) es ≡ Some h → (b : Id) → Next way (nodes_in es) x b → Contains (next_of way h) b
+listed_next Up es x h ok e b s =
+    let w = step_node (nodes_in es) b x s in
+    subst (λ (m : Node). Contains m.parents b) (one_node (nodes_in es) w.0 (linked_of (x, h)).node ok.graph.apart w.1 (Contains-node es (x, h) (Contains-found es x h e)) w.2) w.3
+listed_next Down es x h ok e b s =
+    let w = step_node (nodes_in es) x b s in
+    subst (λ l. Contains l b) (sym (held_children es x h ok e))
+    (subst (Contains (children_of (nodes_in es) x)) w.2
+    (Contains-map (λ (n : Node). n.id) (filter (λ n. among n.parents x) (nodes_in es)) w.0 (Contains-filter (λ n. among n.parents x) (nodes_in es) w.0 w.1 (among_from w.0.parents x w.3))))
+
+-- no step leads from an id that no node has
+pub none_next : (way : Way) (es : List Entry) (x : Id) → IsHeld (linked_in es) → lookup (bytes_eq x) es ≡ None → (b : Id) → Next way (nodes_in es) x b → ⊥
+none_next Up es x ok e b s =
+    let w = step_node (nodes_in es) b x s in
+    true≢false (sym (has-node (nodes_in es) w.0 w.1) ∙ ap (has (nodes_in es)) w.2 ∙ sym (found-seen es x) ∙ ap is_some e)
+none_next Down es x ok e b s = true≢false (sym (ok.graph.closed x b s) ∙ sym (found-seen es x) ∙ ap is_some e)
+
+-- by cases on whether y is there already
+by_new : (P : List Id → Type 0) (xs : List Id) (y : Id) → (among xs y ≡ true → P xs) → (among xs y ≡ false → P (xs ++ y ∷ [])) → P (insert_key bytes_eq xs y)
+by_new P xs y old new = go (among xs y) old new
+  where
+    go : (b : Bool) → (b ≡ true → P xs) → (b ≡ false → P (xs ++ y ∷ [])) → P (if b then xs else xs ++ y ∷ [])
+    go true old new = old refl
+    go false old new = new refl
+
+-- what was found stays found
+still_found : (xs ys : List Id) (z : Id) → Contains xs z → Contains (insert_all bytes_eq xs ys) z
+still_found xs [] z c = c
+still_found xs (y ∷ ys) z c = still_found (insert_key bytes_eq xs y) ys z (by_new (λ l. Contains l z) xs y (λ _. c) (λ _. Contains-append_left xs (y ∷ []) z c))
+
+-- what is inserted is found
+inserted_found : (xs ys : List Id) (z : Id) → Contains ys z → Contains (insert_all bytes_eq xs ys) z
+inserted_found xs [] z c = not_in_none z c
+inserted_found xs (y ∷ ys) z c =
+    elim (Contains-cons_cases y ys z c) [
+      | inl e ↦ still_found (insert_key bytes_eq xs y) ys z (subst (Contains (insert_key bytes_eq xs y)) e (by_new (λ l. Contains l y) xs y (λ t. Contains-among xs y t) (λ _. Contains-append_right xs (y ∷ []) y (Contains-head y []))))
+      | inr k ↦ inserted_found (insert_key bytes_eq xs y) ys z k
+    ]
+
+-- what is found afterwards was found, or is inserted
+found_before : (P : Id → Type 0) (xs ys : List Id) → ((z : Id) → Contains xs z → P z) → ((z : Id) → Contains ys z → P z) → (z : Id) → Contains (insert_all bytes_eq xs ys) z → P z
+found_before P xs [] h k z c = h z c
+found_before P xs (y ∷ ys) h k z c =
+    found_before P (insert_key bytes_eq xs y) ys
+    (by_new (λ l. (w : Id) → Contains l w → P w) xs y (λ _. h)
+    (λ _ w d. elim (Contains-append_cases xs (y ∷ []) w d) [
+      | inl m ↦ h w m
+      | inr m ↦ elim (Contains-cons_cases y [] w m) [ inl e ↦ subst P e (k y (Contains-head y ys)) | inr n ↦ not_in_none w n ]
+    ]))
+    (λ w d. k w (Contains-rest y ys w d)) z c
+
+-- the front stays
+front_stays : (xs ys : List Id) (k : ℕ) (d : Id) → k < length xs → get_or (insert_all bytes_eq xs ys) k d ≡ get_or xs k d
+front_stays xs [] k d h = refl
+front_stays xs (y ∷ ys) k d h =
+    let l = insert_key bytes_eq xs y in
+    let both : (k < length l) × (get_or l k d ≡ get_or xs k d) = by_new (λ l. (k < length l) × (get_or l k d ≡ get_or xs k d)) xs y (λ _. (h, refl)) (λ _. (omega (arith, length-append xs (y ∷ [])), get_or_append_left xs (y ∷ []) d k h)) in
+    front_stays l ys k d both.0 ∙ both.1
+
+-- a loop's step
+pub insert_more : (found ids : List Id) (i : ℕ) (d : Id) → i < length ids → insert_all bytes_eq found (drop i ids) ≡ insert_all bytes_eq (insert_key bytes_eq found (get_or ids i d)) (drop (i + 1) ids)
+insert_more found ids i d h = ap (insert_all bytes_eq found) (drop-cons ids i d h) ∙ ap (λ k. insert_all bytes_eq (insert_key bytes_eq found (get_or ids i d)) (drop k ids)) (sym (add-one i))
+
+-- what stays true of a walk that has looked at the first `place` ids
+pub record Walk (way : Way) (g : List Node) (x : Id) (found : List Id) (place : ℕ) : Type 0 where
+  pub start : Contains found x
+  pub sound : (a : Id) → Contains found a → is_led way g x a ≡ true
+  pub done : (k : ℕ) (d : Id) → k < place → (b : Id) → Next way g (get_or found k d) b → Contains found b
+  pub within : place ≤ length found
+
+pub Walk-start : (way : Way) (g : List Node) (x : Id) → Walk way g x (x ∷ []) 0
+Walk-start way g x = record {
+  start = Contains-head x [];
+  sound = λ a c. elim (Contains-cons_cases x [] a c) [ inl e ↦ subst (λ z. is_led way g x z ≡ true) e (led-same way g x) | inr n ↦ not_in_none a n ];
+  done = λ k d lt. absurd (omega arith);
+  within = omega arith;
+}
+
+-- one id looked at: all that is next to it is found
+pub Walk-more : (way : Way) (g : List Node) (x : Id) (found next : List Id) (place : ℕ) (e : Id) → Walk way g x found place → place < length found
+    → ((b : Id) → Next way g (get_or found place e) b → Contains next b) → ((b : Id) → Contains next b → Next way g (get_or found place e) b) → Walk way g x (insert_all bytes_eq found next) (place + 1)
+Walk-more way g x found next place e w lt all only = record {
+  start = still_found found next x w.start;
+  sound = found_before (λ a. is_led way g x a ≡ true) found next w.sound (λ b c. led_next way g x (get_or found place e) b (w.sound (get_or found place e) (Contains-get_or found place e lt)) (only b c));
+  done = λ k d l b s.
+      elim (cases_last k l) [
+        | inl below ↦ still_found found next b (w.done k d below b (subst (λ y. Next way g y b) (front_stays found next k d (omega (arith, below, w.within))) s))
+        | inr same ↦ inserted_found found next b (all b (subst (λ y. Next way g y b) (front_stays found next k d (omega (arith, same, lt)) ∙ at_same k d same) s))
+      ];
+  within = omega (arith, longer found next, lt);
+}
+  where
+    cases_last : (k : ℕ) → k < place + 1 → (k < place) ⊎ (k ≡ place)
+    cases_last k l = grind arith
+
+    at_same : (k : ℕ) (d : Id) → k ≡ place → get_or found k d ≡ get_or found place e
+    at_same k d s = ap (λ j. get_or found j d) s ∙ get_or_default found place d e lt
+
+    longer : (xs ys : List Id) → length xs ≤ length (insert_all bytes_eq xs ys)
+    longer xs [] = omega arith
+    longer xs (y ∷ ys) =
+        let one : length xs ≤ length (insert_key bytes_eq xs y) = by_new (λ l. length xs ≤ length l) xs y (λ _. omega arith) (λ _. omega (arith, length-append xs (y ∷ []))) in
+        omega (arith, one, longer (insert_key bytes_eq xs y) ys)
+
+-- at the end all is found
+pub Walk-end : (way : Way) (g : List Node) (x : Id) (found : List Id) (place : ℕ) → Walk way g x found place → length found ≤ place → (b : Id) → among found b ≡ is_led way g x b
+Walk-end way g x found place w end b = same_bool _ _
+    (λ t. w.sound b (Contains-among found b t))
+    (λ r. led_closed way g (among found) closed x b r (among_from found x w.start))
+  where
+    closed : (a b : Id) → Next way g a b → among found a ≡ true → among found b ≡ true
+    closed a b s t =
+        let c = Contains-among found a t in
+        among_from found b (w.done c.0 a (omega (arith, c.1)) b (subst (λ y. Next way g y b) (sym c.2) s))
+
+-- where nothing is next to an id the walk goes on
+pub Walk-skip : (way : Way) (g : List Node) (x : Id) (found : List Id) (place : ℕ) (e : Id) → Walk way g x found place → place < length found → ((b : Id) → Next way g (get_or found place e) b → ⊥) → Walk way g x found (place + 1)
+Walk-skip way g x found place e w lt none = Walk-more way g x found [] place e w lt (λ b s. absurd (none b s)) (λ b c. not_in_none b c)

@@ -1,0 +1,20 @@
+-- Why a node is not added: the first fault in the written order.
+use Rattle.std.specs.Prelude.{◌≡◌, ◌≢◌, ℕ, not, List, [], ◌∷◌, Option, None, Some, Result, IfErr, OnOk}
+use Rattle.std.specs.List.{list_all}
+use Rattle.gate_bytes.specs.Order.{Rule, first_failing}
+use Rattle.gate_graph.specs.declared.fault.GraphFault.{GraphFault}
+use Rattle.gate_graph.specs.declared.fault.GraphFault.TheVariants.{Present, NoNode, Memory}
+use Rattle.gate_graph.specs.Family.{Node}
+use Rattle.gate_graph.specs.Families.{has}
+
+-- what is asked of a node below others: its id is new, and each parent is a node
+abbrev pub leaf_rules : List Node → List ℕ → List (List ℕ) → List (Rule GraphFault)
+leaf_rules g id parents = (Present, has g id) ∷ (NoNode, not (list_all (λ p. has g p) parents)) ∷ []
+
+abbrev pub fault_of_leaf : List Node → List ℕ → List (List ℕ) → Option GraphFault
+fault_of_leaf g id parents = first_failing (leaf_rules g id parents)
+
+-- what is answered where this is the first fault: it is named, and nothing is refused without one, where memory serves
+pub record IsRefusedFor {X : Type 0} (fault : Option GraphFault) (result : Result X GraphFault) : Type 0 where
+  pub refused : IfErr result (λ e. e ≢ Memory → fault ≡ Some e)
+  pub accepted : OnOk result (fault ≡ None)

@@ -1,0 +1,46 @@
+ghost use Rattle.std.specs.Prelude.{◌≡◌};
+ghost use Rattle.gate_graph.specs.declared.fault.GraphFault.TheVariants.{Memory as NoMemory};
+
+use gate_bytes::Memory;
+use std::alloc::{AllocError, AllocFailed};
+use thiserror::Error;
+
+/// Why a node is not added.
+#[derive(Clone, Copy, Debug, PartialEq, Eq, Error)]
+pub enum GraphFault {
+    /// The id is a node's already.
+    #[error("the id is a node's already")]
+    Present,
+    /// One that should be next to it is no node.
+    #[error("a neighbour is no node")]
+    NoNode,
+    /// It would be above itself. A node without children never is.
+    #[error("the node would be above itself")]
+    Cycle,
+    #[error("out of memory")]
+    Memory,
+}
+
+impl From<Memory> for GraphFault {
+    ghost from_gives = { λ _ fault. fault ≡ NoMemory };
+
+    fn from(_e: Memory) -> GraphFault {
+        GraphFault::Memory
+    }
+}
+
+impl From<AllocError> for GraphFault {
+    ghost from_gives = { λ _ fault. fault ≡ NoMemory };
+
+    fn from(_e: AllocError) -> GraphFault {
+        GraphFault::Memory
+    }
+}
+
+impl<T: Drop> From<AllocFailed<T>> for GraphFault {
+    ghost from_gives = { λ _ fault. fault ≡ NoMemory };
+
+    fn from(_e: AllocFailed<T>) -> GraphFault {
+        GraphFault::Memory
+    }
+}
