@@ -1,11 +1,16 @@
+pub mod Adding
 pub mod Apart
+pub mod Children
 pub mod Closing
 pub mod Conflicts
 pub mod Entries
+pub mod Families
 pub mod Holes
+pub mod Ids
 pub mod Indexing
 pub mod Keeping
 pub mod Removals
+pub mod Searching
 pub mod Noting
 pub mod Points
 pub mod Walking

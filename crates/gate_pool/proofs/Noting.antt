@@ -25,7 +25,7 @@ module _ (look look' : List ℕ → Option ℕ) (key : List ℕ) (value : ℕ) (
   UpTo-written m l = (value, is key ∙ ap (λ b. cond b (Some value) (look key)) ((bytes_decides key key).1 refl), l)
 
 -- one more input
-pub Contains-take_more : (xs : List TxIn) (i : ℕ) (x y : TxIn) → i < length xs → x ≡ get_or xs i x → Contains (take (i + 1) xs) y → Contains (take i xs) y ⊎ (x ≡ y)
+pub Contains-take_more : {X : Type 0} (xs : List X) (i : ℕ) (x y : X) → i < length xs → x ≡ get_or xs i x → Contains (take (i + 1) xs) y → Contains (take i xs) y ⊎ (x ≡ y)
 Contains-take_more xs i x y h is c =
     elim (Contains-append_cases (take i xs) (x ∷ []) y (subst (λ l. Contains l y) (take_more xs i x h ∙ ap (λ z. take i xs ++ z ∷ []) (sym is)) c)) [
       | inl k ↦ inl k

@@ -60,7 +60,8 @@ filter_both {X} p q (x ∷ xs) = go (q x) (p x) (filter_both p q xs)
     go true d h = h
     go false d h = ap (λ l. cond (not (p x)) (x ∷ l) l) h
 
-same_id : (a : Id) → bytes_eq a a ≡ true
+-- an id is its own
+pub same_id : (a : Id) → bytes_eq a a ≡ true
 same_id a = (bytes_decides a a).1 refl
 
 pub Walk-start : (g : List Admitted) (x : Id) → Walk g x (x ∷ []) (filter (λ e. not (has_txid e x)) g)

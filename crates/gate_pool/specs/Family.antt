@@ -1,12 +1,14 @@
 -- The families of a pool's entries, and what takes the place of what.
-use Rattle.std.specs.Prelude.{ℕ, Bool, ◌&&◌, not, List, [], ◌∷◌, ◌++◌, map, filter}
-use Rattle.std.specs.List.{list_any}
+use Rattle.std.specs.Prelude.{◌≡◌, ◌≢◌, ℕ, Bool, ◌&&◌, not, List, [], ◌∷◌, ◌++◌, map, filter, length, sum_by, Contains}
+use Rattle.std.specs.List.{list_any, AllPairs}
+use Rattle.std.specs.Str.{bytes_eq}
 use Rattle.gate_tx.specs.declared.TxIn.{TxIn}
 use Rattle.gate_tx.specs.Tx.{Tx}
 use Rattle.gate_tx.specs.Ids.{txid_of}
 use Rattle.gate_tx.specs.Coins.{spends}
 use Rattle.gate_graph.specs.Family.{Node, steps_of, reaches}
-use Rattle.gate_pool.specs.Pool.{Admitted}
+use Rattle.gate_pool.specs.Pool.{Admitted, has_txid, size_of}
+use Rattle.gate_pool.specs.declared.closures.Sums.{Sums}
 
 -- an entry as a node: its parents are the transactions whose outputs it spends, in the pool or not
 abbrev pub node_of : Admitted → Node
@@ -16,6 +18,14 @@ node_of e = record { id = txid_of e.tx; size = e.vsize; fee = e.fee; parents = m
 unfoldable pub steps : List Admitted → List (List ℕ × List ℕ)
 steps entries = steps_of (map node_of entries)
 
+-- an entry spends an output of the transaction with this id, whether the pool has that or not
+abbrev pub names : Admitted → List ℕ → Bool
+names e txid = list_any (λ (i : TxIn). bytes_eq i.prevout.txid txid) e.tx.inputs
+
+-- the entries that spend its outputs, in order of admission
+abbrev pub children_of : List Admitted → List ℕ → List Admitted
+children_of entries txid = filter (λ e. names e txid) entries
+
 -- the entries from which a chain of steps leads to an id, its own among them, in order of admission
 abbrev pub ancestors_of : List Admitted → List ℕ → List Admitted
 ancestors_of entries txid = filter (λ e. reaches (steps entries) (txid_of e.tx) txid) entries
@@ -24,6 +34,11 @@ ancestors_of entries txid = filter (λ e. reaches (steps entries) (txid_of e.tx)
 abbrev pub descendants_of : List Admitted → List ℕ → List Admitted
 descendants_of entries txid = filter (λ e. reaches (steps entries) txid (txid_of e.tx)) entries
 
+-- the entries from which a chain of steps leads to what these inputs spend, in order of admission: the parents in the pool of
+-- a transaction with these inputs, their parents, and so on
+abbrev pub ancestors_above : List Admitted → List TxIn → List Admitted
+ancestors_above entries inputs = filter (λ e. list_any (λ (i : TxIn). reaches (steps entries) (txid_of e.tx) i.prevout.txid) inputs) entries
+
 -- the entries that are left without an id and all that is below it
 abbrev pub without_family : List Admitted → List ℕ → List Admitted
 without_family entries txid = filter (λ e. not (reaches (steps entries) txid (txid_of e.tx))) entries
@@ -31,6 +46,10 @@ without_family entries txid = filter (λ e. not (reaches (steps entries) txid (t
 -- an entry passes the test itself, or is below one that does
 abbrev pub is_below_some : (Admitted → Bool) → List Admitted → Admitted → Bool
 is_below_some test entries e = list_any (λ a. test a && reaches (steps entries) (txid_of a.tx) (txid_of e.tx)) entries
+
+-- the entries that pass a test, and all that are below them
+abbrev pub all_below : (Admitted → Bool) → List Admitted → List Admitted
+all_below test entries = filter (is_below_some test entries) entries
 
 -- the entries that are left without those that pass a test and all that is below them
 abbrev pub without_below : (Admitted → Bool) → List Admitted → List Admitted
@@ -44,6 +63,31 @@ spends_one_of inputs e = list_any (λ (i : TxIn). spends e.tx.inputs i.prevout) 
 abbrev pub is_conflict : Tx → Admitted → Bool
 is_conflict tx e = spends_one_of tx.inputs e
 
+-- the entries that conflict with a transaction, and those that it replaces: these, and all that are below them (BIP 125)
+abbrev pub conflicts_of : List Admitted → Tx → List Admitted
+conflicts_of entries tx = filter (is_conflict tx) entries
+
+abbrev pub replaced_of : List Admitted → Tx → List Admitted
+replaced_of entries tx = all_below (is_conflict tx) entries
+
 -- an entry enters: what conflicts with it goes out, with all that is below, and it stands at the end
 abbrev pub entered : List Admitted → Admitted → List Admitted
 entered entries e = without_below (is_conflict e.tx) entries ++ e ∷ []
+
+-- an entry has one of these ids
+abbrev pub is_among : List (List ℕ) → Admitted → Bool
+is_among txids e = list_any (has_txid e) txids
+
+-- the ids are those of the entries, each once, in whatever order
+pub record AreIdsOf (txids : List (List ℕ)) (entries : List Admitted) : Type 0 where
+  pub once : AllPairs (λ (a : List ℕ) (b : List ℕ). a ≢ b) txids
+  pub all : (e : Admitted) → Contains entries e → Contains txids (txid_of e.tx)
+  pub only : (txid : List ℕ) → Contains txids txid → (e : Admitted) × Contains entries e × (txid_of e.tx ≡ txid)
+
+-- the sum of the fees, in satoshi
+abbrev pub fees_of : List Admitted → ℕ
+fees_of entries = sum_by (λ e. e.fee) entries
+
+-- how many entries there are, and what they come to
+abbrev pub sums_of : List Admitted → Sums
+sums_of entries = record { count = length entries; size = size_of entries; fees = fees_of entries }

@@ -1,19 +1,52 @@
-ghost use Rattle.std.specs.Prelude.{◌≡◌, ◌≤◌, ◌+◌, ℕ, Bool, true, None, List, ◌∷◌, length, Contains, vec_len};
+ghost use Rattle.std.specs.Prelude.{◌≡◌, ◌≤◌, ◌+◌, ℕ, Bool, true, None, List, ◌∷◌, length, Contains, vec_len, IfOk};
 ghost use Rattle.std.specs.Str.{bytes_eq};
 ghost use Rattle.std.specs.Vec.{vec_capacity};
 ghost use Rattle.gate_tx.specs.declared.TxIn.{TxIn as Input};
 ghost use Rattle.gate_tx.specs.declared.OutPoint.{OutPoint as Point};
 ghost use Rattle.gate_tx.specs.Coins.{spends};
 ghost use Rattle.gate_pool.specs.Pool.{Admitted, spender_of};
-ghost use Rattle.gate_pool.specs.Family.{without_family, without_below, spends_one_of};
+ghost use Rattle.gate_pool.specs.Family.{without_family, without_below, spends_one_of, children_of, AreIdsOf};
 ghost use Rattle.gate_pool.specs.Walk.{Walk};
 ghost use Rattle.gate_pool.specs.Keeping.{IsNoted};
 ghost use Rattle.indexmap.specs.IndexMap.{get};
 
 use crate::slots::Slots;
+use gate_bytes::Memory;
 use gate_tx::{OutPoint, TxIn, Txid};
 use indexmap::IndexMap;
+use std::alloc::Global;
 use std::hash::BuildHasher;
+
+/// The ids of the entries that name an id, of which no index above the bound is spent.
+pub(crate) fn children_up_to<S: BuildHasher + Drop>(
+    slots: &Slots<S>,
+    alloc: Global,
+    parent: &Txid,
+    bound: u32,
+) -> Result<Vec<Txid>, Memory>
+    requires { (e : Admitted) → Contains slots.now.entries e → (i : Input) → Contains e.tx.inputs i → bytes_eq i.prevout.txid parent.now ≡ true → i.prevout.index ≤ bound }
+    ensures { IfOk result (λ ids. AreIdsOf ids.items (children_of slots.now.entries parent.now)) }
+{
+    slots.tells_distinct();
+    let mut found = Vec::new(alloc);
+    let outputs = u64::from(bound) + 1;
+    for index in 0..outputs {
+        let point = OutPoint {
+            txid: *parent,
+            index: index as u32,
+        };
+        match slots.spender(&point) {
+            Some(child) => {
+                let txid = child.txid();
+                if !found.contains(&txid) {
+                    found.push(txid)?;
+                }
+            }
+            None => {}
+        }
+    }
+    Ok(found)
+}
 
 /// Takes out the entries that name an id, of which no index above the bound is spent, and notes theirs.
 fn take_children<S: BuildHasher + Drop>(

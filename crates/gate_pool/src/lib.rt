@@ -5,6 +5,7 @@
 #![tactic(auto)]
 
 mod bounds;
+mod closures;
 mod entry;
 mod family;
 mod places;
@@ -12,6 +13,7 @@ mod pool;
 mod slots;
 mod view;
 
+pub use closures::{Sums, add_up, ancestors, descendants};
 pub use entry::{Entry, LARGEST_VSIZE};
 pub use pool::Pool;
 pub use view::PoolView;

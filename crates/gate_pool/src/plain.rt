@@ -1,7 +1,7 @@
 //! A plain list in which everything is found by search, as the indexes are to find it.
-use crate::{Pool, PoolView};
+use crate::{Pool, PoolView, Sums, add_up, ancestors, descendants};
 use gate_bytes::Memory;
-use gate_tx::{OutPoint, Txid, Wtxid};
+use gate_tx::{OutPoint, TxIn, Txid, Wtxid};
 use std::alloc::Global;
 use std::hash::BuildHasher;
 
@@ -24,6 +24,21 @@ impl Row {
 
     fn conflicts(&self, other: &Row) -> bool {
         self.points.iter().any(|point| other.spends(point))
+    }
+}
+
+/// Whether two lists of ids have the same ids, each once where one of them does.
+fn same_ids(found: &[Txid], wanted: &[Txid]) -> bool {
+    found.len() == wanted.len()
+        && found.iter().all(|txid| wanted.contains(txid))
+        && wanted.iter().all(|txid| found.contains(txid))
+}
+
+/// Whether a search that may find `most` ids found those that are wanted.
+fn is_found(found: &Option<Vec<Txid>>, wanted: &[Txid], most: usize) -> bool {
+    match found {
+        Some(found) => wanted.len() <= most && same_ids(found.as_slice(), wanted),
+        None => most < wanted.len(),
     }
 }
 
@@ -102,5 +117,136 @@ impl Plain {
                 && pool.count() == txids.len()
                 && pool.size() == size,
         )
+    }
+
+    fn has(&self, txid: &Txid) -> bool {
+        self.rows.iter().any(|row| row.txid == *txid)
+    }
+
+    /// Adds an id that is a row's, unless it was found before.
+    fn add(&self, found: &mut Vec<Txid>, txid: &Txid) -> Result<(), Memory> {
+        if self.has(txid) && !found.contains(txid) {
+            found.push(*txid)?;
+        }
+        Ok(())
+    }
+
+    fn add_parents(&self, found: &mut Vec<Txid>) -> Result<(), Memory> {
+        for row in self.rows.as_slice() {
+            if found.contains(&row.txid) {
+                for point in &row.points {
+                    self.add(found, &point.txid)?;
+                }
+            }
+        }
+        Ok(())
+    }
+
+    fn add_children(&self, found: &mut Vec<Txid>) -> Result<(), Memory> {
+        for row in self.rows.as_slice() {
+            if row.names(found.as_slice()) {
+                self.add(found, &row.txid)?;
+            }
+        }
+        Ok(())
+    }
+
+    /// The ids of the rows that the inputs name and of all rows above them, by passes until one finds nothing more.
+    fn above(&self, alloc: Global, inputs: &[TxIn]) -> Result<Vec<Txid>, Memory> {
+        let mut found = Vec::new(alloc);
+        for input in inputs {
+            self.add(&mut found, &input.prevout.txid)?;
+        }
+        for _ in 0..self.rows.len() {
+            let before = found.len();
+            self.add_parents(&mut found)?;
+            if found.len() == before {
+                break;
+            }
+        }
+        Ok(found)
+    }
+
+    /// The roots that are ids of rows, and the ids of all rows below them.
+    fn below(&self, alloc: Global, roots: &[Txid]) -> Result<Vec<Txid>, Memory> {
+        let mut found = Vec::new(alloc);
+        for root in roots {
+            self.add(&mut found, root)?;
+        }
+        for _ in 0..self.rows.len() {
+            let before = found.len();
+            self.add_children(&mut found)?;
+            if found.len() == before {
+                break;
+            }
+        }
+        Ok(found)
+    }
+
+    fn sums(&self, txids: &[Txid]) -> Sums {
+        let mut sums = Sums {
+            count: 0,
+            size: 0,
+            fees: 0,
+        };
+        for row in self.rows.as_slice() {
+            if txids.contains(&row.txid) {
+                sums.count = sums.count.wrapping_add(1);
+                sums.size = sums.size.wrapping_add(u128::from(row.vsize));
+                sums.fees = sums.fees.wrapping_add(1000);
+            }
+        }
+        sums
+    }
+
+    /// Whether a view finds the children of one transaction that a search of the list finds.
+    pub fn agrees_on_children<V: PoolView>(
+        &self,
+        alloc: Global,
+        view: &V,
+        asked: &Row,
+    ) -> Result<bool, Memory> {
+        let children = view.children(alloc, &asked.txid)?;
+        let mut wanted = Vec::new(alloc);
+        for row in self.rows.as_slice() {
+            if row.names(&[asked.txid]) {
+                wanted.push(row.txid)?;
+            }
+        }
+        Ok(same_ids(children.as_slice(), wanted.as_slice()))
+    }
+
+    /// Whether a walk finds above the inputs what passes over the list find.
+    pub fn agrees_above<V: PoolView>(
+        &self,
+        alloc: Global,
+        view: &V,
+        inputs: &[TxIn],
+    ) -> Result<bool, Memory> {
+        let wanted = self.above(alloc, inputs)?;
+        for most in [0, 1, 3, 60] {
+            let found = ancestors(alloc, view, inputs, most)?;
+            if !is_found(&found, wanted.as_slice(), most) {
+                return Ok(false);
+            }
+        }
+        Ok(true)
+    }
+
+    /// The same below the roots, and whether that comes to the same sums.
+    pub fn agrees_below<V: PoolView>(
+        &self,
+        alloc: Global,
+        view: &V,
+        roots: &[Txid],
+    ) -> Result<bool, Memory> {
+        let wanted = self.below(alloc, roots)?;
+        for most in [0, 1, 3, 60] {
+            let found = descendants(alloc, view, roots, most)?;
+            if !is_found(&found, wanted.as_slice(), most) {
+                return Ok(false);
+            }
+        }
+        Ok(add_up(view, wanted.as_slice()) == self.sums(wanted.as_slice()))
     }
 }

@@ -7,7 +7,7 @@ ghost use Rattle.gate_pool.specs.Distinct.{AreDistinct};
 
 use crate::bounds::note;
 use crate::entry::Entry;
-use crate::family::{take_conflicts, take_out};
+use crate::family::{children_up_to, take_conflicts, take_out};
 use crate::slots::Slots;
 use crate::view::PoolView;
 use gate_bytes::{Kept, Memory};
@@ -182,5 +182,16 @@ impl<S: BuildHasher + Copy + Drop> PoolView for Pool<S> {
 
     fn spender(&self, point: &OutPoint) -> Option<&Entry> {
         self.slots.spender(point)
+    }
+
+    fn children(&self, alloc: Global, txid: &Txid) -> Result<Vec<Txid>, Memory> {
+        match self.bounds.get(txid) {
+            Some(bound) => children_up_to(&self.slots, alloc, txid, *bound),
+            None => Ok(Vec::new(alloc)),
+        }
+    }
+
+    fn tells_distinct(&self) {
+        self.slots.tells_distinct();
     }
 }

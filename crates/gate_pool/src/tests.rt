@@ -112,6 +112,25 @@ fn edit<S: BuildHasher + Copy + Drop>(
     plain.replace(alloc, one.row)
 }
 
+/// Whether the pool finds the families of two transactions that passes over the list find.
+fn families_agree<S: BuildHasher + Copy + Drop>(
+    alloc: Global,
+    pool: &Pool<S>,
+    plain: &Plain,
+    one: &Made,
+    other: &Made,
+) -> Result<bool, Memory> {
+    let inputs = one.identified.get().transaction().inputs();
+    let single = [one.row.txid];
+    let several = [other.row.txid, one.row.txid, other.row.txid];
+    Ok(
+        plain.agrees_on_children(alloc, pool, &one.row)?
+            && plain.agrees_above(alloc, pool, inputs)?
+            && plain.agrees_below(alloc, pool, &single)?
+            && plain.agrees_below(alloc, pool, &several)?,
+    )
+}
+
 #[test]
 fn indexes_find_what_searches_find(rt: HostRuntime) -> Result<(), Fail> {
     let alloc = rt.alloc();
@@ -130,6 +149,14 @@ fn indexes_find_what_searches_find(rt: HostRuntime) -> Result<(), Fail> {
         let agree = made.iter().all(|one| plain.agrees(&pool, &one.row));
         assert!(rt; agree, "after edit {number}");
         assert!(rt; plain.is_listed(alloc, &pool)?, "after edit {number}");
+        let asked = (
+            made.get(draw.below(60) as usize),
+            made.get(draw.below(60) as usize),
+        );
+        if let (Some(one), Some(other)) = asked {
+            let agree = families_agree(alloc, &pool, &plain, one, other)?;
+            assert!(rt; agree, "families after edit {number}");
+        }
     }
     Ok(())
 }

@@ -1,11 +1,15 @@
 use crate::entry::Entry;
+use gate_bytes::Memory;
 use gate_tx::{OutPoint, Txid, Wtxid};
+use std::alloc::Global;
 
 /// Entries that can be searched: a pool as it stands, or a draft of one.
 pub trait PoolView {
-    ghost use Rattle.std.specs.Prelude.{◌≡◌, List};
+    ghost use Rattle.std.specs.Prelude.{◌≡◌, List, IfOk};
     ghost use Rattle.std.specs.Option.{option_copied};
     ghost use Rattle.gate_pool.specs.Pool.{Admitted, entry_by_txid, entry_by_wtxid, spender_of};
+    ghost use Rattle.gate_pool.specs.Family.{children_of, AreIdsOf};
+    ghost use Rattle.gate_pool.specs.Distinct.{AreDistinct};
 
     ghost entries: { Self → List Admitted };
 
@@ -18,4 +22,12 @@ pub trait PoolView {
     /// The entry that spends an output.
     fn spender(&self, point: &OutPoint) -> Option<&Entry>
         ensures { option_copied result ≡ spender_of (entries self.now) point.now };
+
+    /// The ids of the entries that spend outputs of a transaction, whether that is an entry or not.
+    fn children(&self, alloc: Global, txid: &Txid) -> Result<Vec<Txid>, Memory>
+        ensures { IfOk result (λ ids. AreIdsOf ids.items (children_of (entries self.now) txid.now)) };
+
+    /// That no two entries share an id or spend one outpoint: it does nothing.
+    fn tells_distinct(&self)
+        ensures { AreDistinct (entries self.now) };
 }

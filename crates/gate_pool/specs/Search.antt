@@ -1,0 +1,25 @@
+-- Ids that a search of entries has found.
+use Rattle.std.specs.Prelude.{◌≡◌, ◌≢◌, ℕ, ◌<◌, ◌≤◌, Bool, true, false, List, ◌++◌, map, length, Contains}
+use Rattle.std.specs.List.{AllPairs}
+use Rattle.gate_tx.specs.declared.TxIn.{TxIn}
+use Rattle.gate_tx.specs.Ids.{txid_of}
+use Rattle.gate_pool.specs.Pool.{Admitted}
+
+-- the ids of the transactions whose outputs the inputs spend, one for each input
+abbrev pub parents_of : List TxIn → List (List ℕ)
+parents_of inputs = map (λ (i : TxIn). i.prevout.txid) inputs
+
+-- an entry has this id
+abbrev pub IsEntry : List Admitted → List ℕ → Type 0
+IsEntry entries txid = (e : Admitted) × Contains entries e × (txid_of e.tx ≡ txid)
+
+-- ids were added to those found before, each once: of `txids` those of entries, all of them where still no more than `most`
+-- are found
+pub record IsFound (most : ℕ) (entries : List Admitted) (txids before after : List (List ℕ)) (within : Bool) : Type 0 where
+  pub more : List (List ℕ)
+  pub is : after ≡ before ++ more
+  pub once : AllPairs (λ (a : List ℕ) (b : List ℕ). a ≢ b) before → AllPairs (λ (a : List ℕ) (b : List ℕ). a ≢ b) after
+  pub only : (txid : List ℕ) → Contains more txid → Contains txids txid × IsEntry entries txid
+  pub all : within ≡ true → (txid : List ℕ) → Contains txids txid → IsEntry entries txid → Contains after txid
+  pub few : within ≡ true → length before ≤ most → length after ≤ most
+  pub many : within ≡ false → most < length after
