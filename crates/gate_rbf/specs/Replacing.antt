@@ -1,0 +1,47 @@
+-- What it takes to replace entries of a pool: BIP 125, as Bitcoin Core 22.0 has it (A23, and A38 to A42).
+use Rattle.std.specs.Prelude.{ℕ, ◌-◌, nat_lt, nat_le, Bool, not, ◌&&◌, List, [], ◌∷◌, length, sum_by, is_some, if◌then◌else◌}
+use Rattle.std.specs.List.{list_any}
+use Rattle.gate_bytes.specs.Order.{Rule}
+use Rattle.gate_tx.specs.declared.TxIn.{TxIn}
+use Rattle.gate_tx.specs.Ids.{txid_of}
+use Rattle.gate_tx.specs.Tx.{Tx}
+use Rattle.gate_standard.specs.Amounts.{required_fee, feerate}
+use Rattle.gate_standard.specs.declared.Denial.{Denial}
+use Rattle.gate_standard.specs.declared.Denial.TheVariants.{LowerFeeRate, TooManyReplacements, AddsUnconfirmed, LowerFee, LowerDifference}
+use Rattle.gate_pool.specs.Pool.{Admitted, entry_by_txid}
+use Rattle.gate_pool.specs.Family.{names, descendants_of, is_conflict, conflicts_of, replaced_of, fees_of}
+
+-- a transaction says that it may be replaced: an input has a sequence of at most 0xfffffffd
+abbrev pub signals : Tx → Bool
+signals tx = list_any (λ (i : TxIn). nat_le i.sequence 0xffff_fffd) tx.inputs
+
+-- an entry conflicts with a transaction, and doesn't say itself that it may be replaced; what its ancestors say is not asked
+abbrev pub is_firm_conflict : Tx → Admitted → Bool
+is_firm_conflict tx e = is_conflict tx e && not (signals e.tx)
+
+-- what a replacement pays for its own relay, in satoshi per 1,000 virtual bytes
+abbrev pub incremental_relay_rate : ℕ
+incremental_relay_rate = 1000
+
+-- the descendants of some entries, themselves among them: an entry below two of them counts twice
+abbrev pub descendant_count : List Admitted → List Admitted → ℕ
+descendant_count entries some = sum_by (λ (c : Admitted). length (descendants_of entries (txid_of c.tx))) some
+
+-- an input spends from an entry from which no input of the direct conflicts does
+abbrev pub adds_parent : List Admitted → List Admitted → TxIn → Bool
+adds_parent entries direct input = is_some (entry_by_txid entries input.prevout.txid) && not (list_any (λ (c : Admitted). names c input.prevout.txid) direct)
+
+-- the rules on a transaction of this fee and size, where it conflicts with these entries, and those that go with them pay this
+unfoldable pub rules_beside : List Admitted → List Admitted → ℕ → Tx → ℕ → ℕ → List (Rule Denial)
+rules_beside entries direct paid tx fee vsize =
+    (LowerFeeRate, list_any (λ (c : Admitted). nat_le (feerate fee vsize) (feerate c.fee c.vsize)) direct)
+    ∷ (TooManyReplacements, nat_lt 100 (descendant_count entries direct))
+    ∷ (AddsUnconfirmed, list_any (adds_parent entries direct) tx.inputs)
+    ∷ (LowerFee, nat_lt fee paid)
+    ∷ (LowerDifference, nat_lt (fee - paid) (required_fee incremental_relay_rate vsize))
+    ∷ []
+
+-- A38 to A42, which ask something only of a transaction that conflicts with an entry
+unfoldable pub replacement_rules : List Admitted → Tx → ℕ → ℕ → List (Rule Denial)
+replacement_rules entries tx fee vsize =
+    if list_any (is_conflict tx) entries then rules_beside entries (conflicts_of entries tx) (fees_of (replaced_of entries tx)) tx fee vsize else []
