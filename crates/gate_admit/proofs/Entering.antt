@@ -1,48 +1,46 @@
 -- A granted transaction that enters keeps a pool good.
-use Rattle.std.proofs.Common.{◌≡◌, ◌≢◌, ◌||◌, ℕ, Bool, false, List, [], ◌∷◌, ◌++◌, get_or, Option, Some, None, refl, sym, ap, ◌∙◌, subst, append-nil}
+use Rattle.std.proofs.Common.{◌≡◌, ◌≢◌, ◌≤◌, ◌||◌, ◌&&◌, ℕ, Bool, true, false, not, List, [], ◌∷◌, ◌++◌, get_or, Option, Some, None, refl, sym, ap, ◌∙◌, subst, append-nil}
 use Rattle.std.specs.Option.{option_to_list}
-use Rattle.std.specs.Prelude.{find, is_some, IsSome, IfSome}
+use Rattle.std.specs.Prelude.{Contains, IsSome, IfSome}
 use Rattle.std.specs.List.{All, AllPairs, list_any}
+use Rattle.std.proofs.lemmas.Bool.{true≢false, false_from_ne_true, and_parts}
 use Rattle.std.proofs.lemmas.Grind.{flat_map-append}
-use Rattle.std.proofs.lemmas.List.Elements.{All-nil, All-append}
-use Rattle.gate_bytes.specs.Order.{first_failing}
+use Rattle.std.proofs.lemmas.List.Elements.{All-nil, All-append, All-contains, All-filter, All-weaker, Contains-get_or}
+use Rattle.gate_bytes.specs.Order.{first_failing, NoneFails}
 use Rattle.gate_tx.specs.declared.OutPoint.{OutPoint}
+use Rattle.gate_tx.specs.declared.TxIn.{TxIn}
 use Rattle.gate_tx.specs.Ids.{txid_of, wtxid_of}
 use Rattle.gate_tx.specs.Text.{IsTx}
 use Rattle.gate_tx.specs.Tx.{Tx}
 use Rattle.gate_standard.specs.declared.Denial.{Denial}
 use Rattle.gate_chain.specs.Coins.{has_txid, has_transaction, is_known_txid, opened_with_of}
 use Rattle.gate_chain.specs.History.{History}
+use Rattle.gate_graph.specs.Family.{reaches}
+use Rattle.gate_graph.proofs.Members.{any_is, list_any_of}
 use Rattle.gate_pool.specs.Pool.{Admitted, spends_of, spent_by}
-use Rattle.gate_pool.specs.Family.{is_conflict, entered}
-use Rattle.gate_pool.proofs.Removals.{without_below-none}
+use Rattle.gate_pool.specs.Family.{steps, is_below_some, is_conflict, conflicts_of, ancestors_above, entered}
+use Rattle.gate_pool.proofs.Entries.{Contains-map, Contains-from_map}
+use Rattle.gate_pool.proofs.Walking.{Contains-filter}
+use Rattle.gate_rbf.specs.Replacing.{adds_parent}
 use Rattle.gate_admit.specs.declared.attempt.Attempt.TheVariants.{First}
-use Rattle.gate_admit.specs.declared.grant.Grant.{Grant}
 use Rattle.gate_admit.specs.Coins.{view_coin}
-use Rattle.gate_admit.specs.Good.{Limits, IsGood, IsSettled, IsUnconnected, AreApart, connected_transactions}
+use Rattle.gate_admit.specs.Good.{Limits, IsGood, IsLimited, IsSettled, IsUnconnected, AreApart, connected_transactions}
 use Rattle.gate_admit.specs.Granting.{IsGrantable}
+use Rattle.gate_admit.specs.Limits.{limit_rules}
 use Rattle.gate_admit.specs.Rules.{admission_rules, grant_of, denied_or, decision_of}
 use Rattle.gate_admit.specs.Standing.{Standing}
 use Rattle.gate_admit.specs.Submission.{Submitted, admitted, entries_after, submit_of}
-use Rattle.gate_admit.proofs.Conflicting.{is_some-find}
-use Rattle.gate_admit.proofs.Granted.{Differ, no_entry_conflicts, rules_grant}
-use Rattle.gate_admit.proofs.Unconnected.{unconnected}
+use Rattle.gate_admit.proofs.Childless.{IsChildless, left_by, left_within, above_new}
+use Rattle.gate_admit.proofs.Coining.{coin_elsewhere, coin_stays, coin_beside}
+use Rattle.gate_admit.proofs.Granted.{Differ, rules_grant, small}
+use Rattle.gate_admit.proofs.Limited.{limited_new, limited_old}
 use Rattle.gate_admit.proofs.Lists.{AllPairs-nil, AllPairs-one, AllPairs-append, All-one}
-
-abbrev DifferByTxid : Admitted → Admitted → Type 0
-DifferByTxid a b = txid_of a.tx ≢ txid_of b.tx
-
-abbrev DifferByWtxid : Admitted → Admitted → Type 0
-DifferByWtxid a b = wtxid_of a.tx ≢ wtxid_of b.tx
-
-none_found : {X : Type 0} (o : Option X) → is_some o ≡ false → o ≡ None
-none_found None h = refl
-none_found (Some x) h = cc
-
--- where no entry conflicts, an entry enters behind all others
-pub entered_last : (entries : List Admitted) (e : Admitted) → list_any (is_conflict e.tx) entries ≡ false → entered entries e ≡ entries ++ e ∷ []
-entered_last entries e h =
-    ap (λ l. l ++ e ∷ []) (without_below-none (is_conflict e.tx) entries (none_found (find (is_conflict e.tx) entries) (is_some-find (is_conflict e.tx) entries ∙ h)))
+use Rattle.gate_admit.proofs.Passing.{Passes, passes}
+use Rattle.gate_admit.proofs.Removing.{DifferByTxid, DifferByWtxid, below_good, spent_at}
+use Rattle.gate_admit.proofs.Replacing.{beside_conflict}
+use Rattle.gate_admit.proofs.Rooms.{no_parent_added, room_above, room_at}
+use Rattle.gate_admit.proofs.Staying.{is_below}
+use Rattle.gate_admit.proofs.Unconnected.{unconnected}
 
 spent_by-push : (entries : List Admitted) (e : Admitted) → spent_by (entries ++ e ∷ []) ≡ spent_by entries ++ spends_of e.tx
 spent_by-push entries e = flat_map-append (λ (e : Admitted). spends_of e.tx) entries (e ∷ []) ∙ ap (λ l. spent_by entries ++ l) (append-nil (spends_of e.tx))
@@ -54,61 +52,134 @@ unknown : (chain : History) (txid : List ℕ) → opened_with_of chain txid ≡ 
 unfolding opened_with_of is_known_txid
 unknown chain txid h k = neither (has_txid txid chain.coins) (list_any (has_transaction txid) chain.blocks) h k
 
--- a coin of the chain is one whatever the pool
-pub push_good : (limits : Limits) (over : Standing) (e : Admitted) → IsGood limits over.chain over.entries → IsGrantable over e.tx → list_any (has_transaction (txid_of e.tx)) over.chain.blocks ≡ false
-    → IsGood limits over.chain (over.entries ++ e ∷ [])
-push_good limits over e h k new =
-    let entries = over.entries in
-    let chain = over.chain in
-    record {
-      txids = AllPairs-append DifferByTxid entries (e ∷ []) h.txids
-          (AllPairs-one DifferByTxid e)
-          (λ n d l. All-one (λ (b : Admitted). txid_of (get_or entries n d).tx ≢ txid_of b.tx) e (k.txid n d l));
-      wtxids = AllPairs-append DifferByWtxid entries (e ∷ []) h.wtxids
-          (AllPairs-one DifferByWtxid e)
-          (λ n d l. All-one (λ (b : Admitted). wtxid_of (get_or entries n d).tx ≢ wtxid_of b.tx) e (k.wtxid n d l));
-      spends = subst (AllPairs Differ) (sym (spent_by-push entries e))
-          (AllPairs-append Differ (spent_by entries) (spends_of e.tx) h.spends k.single k.unspent);
-      coins = subst (All (λ (p : OutPoint). IsSome (view_coin chain (entries ++ e ∷ []) p))) (sym (spent_by-push entries e))
-          (All-append (λ (p : OutPoint). IsSome (view_coin chain (entries ++ e ∷ []) p)) (spent_by entries) (spends_of e.tx) h.coins k.coins);
-      fresh = All-append (λ (e : Admitted). is_known_txid chain (txid_of e.tx) ≡ false) entries (e ∷ []) h.fresh (All-one (λ (e : Admitted). is_known_txid chain (txid_of e.tx) ≡ false) e (unknown chain (txid_of e.tx) k.fresh new));
-    }
+-- ---- what is granted has no children, and its coins stay
 
-entered_good : (limits : Limits) (over : Standing) (tx : Tx) (found : Option Denial) (grant : Grant) (now : ℕ)
-    → (found ≡ None → IsGrantable over tx × (list_any (is_conflict tx) over.entries ≡ false) × IsUnconnected over.chain (Some tx))
-    → IsGood limits over.chain over.entries → IsGood limits over.chain (entries_after over.entries (denied_or found grant) (Some tx) now)
-entered_good limits over tx (Some denial) grant now h good = good
-entered_good limits over tx None grant now h good =
+module _ (limits : Limits) (over : Standing) (e : Admitted) (good : IsGood limits over.chain over.entries) (k : IsGrantable over e.tx) (fresh : is_known_txid over.chain (txid_of e.tx) ≡ false) where
+  new : (a : Admitted) → Contains over.entries a → txid_of a.tx ≢ txid_of e.tx
+  new a m = All-contains (λ (x : Admitted). txid_of x.tx ≢ txid_of e.tx) over.entries a k.txid m
+
+  elsewhere : (p : OutPoint) → IsSome (view_coin over.chain over.entries p) → p.txid ≢ txid_of e.tx
+  elsewhere p h = coin_elsewhere over.chain over.entries (txid_of e.tx) new fresh p h
+
+  own_coin : (i : TxIn) → Contains e.tx.inputs i → IsSome (view_coin over.chain over.entries i.prevout)
+  own_coin i c = All-contains (λ (p : OutPoint). IsSome (view_coin over.chain over.entries p)) (spends_of e.tx) i.prevout k.coins (Contains-map (λ (j : TxIn). j.prevout) e.tx.inputs i c)
+
+  -- an entry that named it would have its coin from a transaction of its txid
+  pub childless_grant : IsChildless over.entries e
+  childless_grant = record {
+    new = new;
+    unnamed = λ a m i c. elsewhere i.prevout (spent_at (λ (p : OutPoint). IsSome (view_coin over.chain over.entries p)) over.entries a i good.coins m c);
+    own = λ i c. elsewhere i.prevout (own_coin i c);
+  }
+
+  -- what it spends is below no conflict (A37)
+  own_beside : (i : TxIn) → Contains e.tx.inputs i → is_below (is_conflict e.tx) over.entries i.prevout.txid ≡ false
+  own_beside i c = false_from_ne_true _ (λ t.
+      let w = any_is (λ (a : Admitted). is_conflict e.tx a && reaches (steps over.entries) (txid_of a.tx) i.prevout.txid) over.entries t in
+      let p = and_parts _ _ w.2 in
+      let above : Contains (ancestors_above over.entries e.tx.inputs) w.0 =
+      Contains-filter (λ (a : Admitted). list_any (λ (j : TxIn). reaches (steps over.entries) (txid_of a.tx) j.prevout.txid) e.tx.inputs) over.entries w.0 w.1
+      (list_any_of (λ (j : TxIn). reaches (steps over.entries) (txid_of w.0.tx) j.prevout.txid) e.tx.inputs i c p.1) in
+      true≢false (sym p.0 ∙ All-contains (λ (a : Admitted). is_conflict e.tx a ≡ false) (ancestors_above over.entries e.tx.inputs) w.0 k.beside above))
+
+  -- a coin beside what goes
+  coin_after : (p : OutPoint) → IsSome (view_coin over.chain (left_by over.entries e) p) → p.txid ≢ txid_of e.tx → IsSome (view_coin over.chain (entered over.entries e) p)
+  coin_after p h apart = coin_beside over.chain (left_by over.entries e) e p apart h
+
+  old_coins : All (λ (p : OutPoint). IsSome (view_coin over.chain (left_by over.entries e) p)) (spent_by (left_by over.entries e)) → All (λ (p : OutPoint). IsSome (view_coin over.chain (entered over.entries e) p)) (spent_by (left_by over.entries e))
+  old_coins h =
+      All-weaker (λ (p : OutPoint). IsSome (view_coin over.chain (left_by over.entries e) p)) (λ (p : OutPoint). IsSome (view_coin over.chain (entered over.entries e) p))
+      (λ p c. coin_after p c (coin_elsewhere over.chain (left_by over.entries e) (txid_of e.tx) (λ a m. new a (left_within over.entries e a m)) fresh p c)) (spent_by (left_by over.entries e)) h
+
+  new_coins : All (λ (p : OutPoint). IsSome (view_coin over.chain (entered over.entries e) p)) (spends_of e.tx)
+  new_coins n d l =
+      let w = Contains-from_map (λ (i : TxIn). i.prevout) e.tx.inputs (get_or (spends_of e.tx) n d) (Contains-get_or (spends_of e.tx) n d l) in
+      subst (λ (p : OutPoint). IsSome (view_coin over.chain (entered over.entries e) p)) w.is
+      (coin_after w.item.prevout (coin_stays over.chain (is_conflict e.tx) over.entries w.item.prevout (own_beside w.item w.among) (own_coin w.item w.among)) (elsewhere w.item.prevout (own_coin w.item w.among)))
+
+  -- ---- the pool
+
+  families : e.vsize ≤ 100000 → NoneFails (limit_rules over.entries e.tx e.vsize) → (list_any (is_conflict e.tx) over.entries ≡ true → list_any (adds_parent over.entries (conflicts_of over.entries e.tx)) e.tx.inputs ≡ false)
+      → All (λ (a : Admitted). IsLimited (entered over.entries e) (txid_of a.tx)) (entered over.entries e)
+  families small room parents =
+      All-append (λ (a : Admitted). IsLimited (entered over.entries e) (txid_of a.tx)) (left_by over.entries e) (e ∷ [])
+      (λ n d l.
+      let a = get_or (left_by over.entries e) n d in
+      let m : Contains over.entries a = left_within over.entries e a (Contains-get_or (left_by over.entries e) n d l) in
+      limited_old childless_grant (txid_of a.tx) (new a m) (All-contains (λ (x : Admitted). IsLimited over.entries (txid_of x.tx)) over.entries a good.limited m)
+      (λ r. room_at over.entries e room parents a
+      (Contains-filter (λ (x : Admitted). list_any (λ (i : TxIn). reaches (steps over.entries) (txid_of x.tx) i.prevout.txid) e.tx.inputs) over.entries a m (above_new childless_grant a m r))))
+      (All-one (λ (a : Admitted). IsLimited (entered over.entries e) (txid_of a.tx)) e (limited_new childless_grant (room_above over.entries e small room)))
+
+  -- the pool after it entered
+  pub granted_good : e.vsize ≤ 100000 → NoneFails (limit_rules over.entries e.tx e.vsize) → (list_any (is_conflict e.tx) over.entries ≡ true → list_any (adds_parent over.entries (conflicts_of over.entries e.tx)) e.tx.inputs ≡ false)
+      → IsGood limits over.chain (entered over.entries e)
+  granted_good small room parents =
+      let kept = left_by over.entries e in
+      let chain = over.chain in
+      let stays : Admitted → Bool = λ a. not (is_below_some (is_conflict e.tx) over.entries a) in
+      let h : IsGood limits chain kept = below_good limits chain (is_conflict e.tx) over.entries good in
+      record {
+        txids = AllPairs-append DifferByTxid kept (e ∷ []) h.txids (AllPairs-one DifferByTxid e)
+            (λ n d l. All-one (λ (b : Admitted). txid_of (get_or kept n d).tx ≢ txid_of b.tx) e (All-filter stays (λ (a : Admitted). txid_of a.tx ≢ txid_of e.tx) over.entries k.txid n d l));
+        wtxids = AllPairs-append DifferByWtxid kept (e ∷ []) h.wtxids (AllPairs-one DifferByWtxid e)
+            (λ n d l. All-one (λ (b : Admitted). wtxid_of (get_or kept n d).tx ≢ wtxid_of b.tx) e (All-filter stays (λ (a : Admitted). wtxid_of a.tx ≢ wtxid_of e.tx) over.entries k.wtxid n d l));
+        spends = subst (AllPairs Differ) (sym (spent_by-push kept e)) (AllPairs-append Differ (spent_by kept) (spends_of e.tx) h.spends k.single k.unspent);
+        coins = subst (All (λ (p : OutPoint). IsSome (view_coin chain (entered over.entries e) p))) (sym (spent_by-push kept e))
+            (All-append (λ (p : OutPoint). IsSome (view_coin chain (entered over.entries e) p)) (spent_by kept) (spends_of e.tx) (old_coins h.coins) new_coins);
+        fresh = All-append (λ (a : Admitted). is_known_txid chain (txid_of a.tx) ≡ false) kept (e ∷ []) h.fresh (All-one (λ (a : Admitted). is_known_txid chain (txid_of a.tx) ≡ false) e fresh);
+        limited = families small room parents;
+      }
+
+-- ---- submissions
+
+room_granted : (over : Standing) (tx : Tx) → Passes First over tx → NoneFails (limit_rules over.entries tx (grant_of over tx).vsize)
+unfolding grant_of
+room_granted over tx p = p.limits
+
+parents_granted : (over : Standing) (tx : Tx) → Passes First over tx → list_any (is_conflict tx) over.entries ≡ true → list_any (adds_parent over.entries (conflicts_of over.entries tx)) tx.inputs ≡ false
+parents_granted over tx p conflicts = no_parent_added over.entries tx (conflicts_of over.entries tx) _ (grant_of over tx).fee (grant_of over tx).vsize (beside_conflict First over tx p conflicts)
+
+entered_good : (limits : Limits) (over : Standing) (tx : Tx) (found : Option Denial) (now : ℕ) → (found ≡ None → IsGrantable over tx × Passes First over tx × IsUnconnected over.chain (Some tx))
+    → IsGood limits over.chain over.entries → IsGood limits over.chain (entries_after over.entries (denied_or found (grant_of over tx)) (Some tx) now)
+entered_good limits over tx (Some denial) now h good = good
+entered_good limits over tx None now h good =
     let all = h refl in
-    subst (IsGood limits over.chain) (sym (entered_last over.entries (admitted tx grant now) all.1)) (push_good limits over (admitted tx grant now) good all.0 all.2)
+    granted_good limits over (admitted tx (grant_of over tx) now) good all.0 (unknown over.chain (txid_of tx) all.0.fresh all.2) (small First over tx all.1) (room_granted over tx all.1) (parents_granted over tx all.1)
 
--- what is granted is in no connected block
+-- what is granted over a good pool is in no connected block
 abbrev pub StaysUnconnected : Standing → Option Tx → Type 0
 StaysUnconnected over None = Unit {0}
-StaysUnconnected over (Some tx) = first_failing (admission_rules First over tx) ≡ None → IsUnconnected over.chain (Some tx)
+StaysUnconnected over (Some tx) =
+    All (λ (e : Admitted). is_known_txid over.chain (txid_of e.tx) ≡ false) over.entries → first_failing (admission_rules First over tx) ≡ None → IsUnconnected over.chain (Some tx)
 
 -- a submission keeps a pool good
 pub submission_good : (limits : Limits) (over : Standing) (tx : Option Tx) (now budget : ℕ) → StaysUnconnected over tx → IsGood limits over.chain over.entries → IsGood limits over.chain (submit_of over tx now budget).entries
 unfolding submit_of decision_of
 submission_good limits over None now budget new good = good
 submission_good limits over (Some tx) now budget new good =
-    entered_good limits over tx (first_failing (admission_rules First over tx)) (grant_of over tx) now (λ h. (rules_grant First over tx h, no_entry_conflicts First over tx h, new h)) good
+    entered_good limits over tx (first_failing (admission_rules First over tx)) now (λ h. (rules_grant First over tx h, passes First over tx h, new good.fresh h)) good
 
+-- what is in no connected block
 pub stays_if_unconnected : (over : Standing) (tx : Option Tx) → IsUnconnected over.chain tx → StaysUnconnected over tx
 stays_if_unconnected over None new = tt
-stays_if_unconnected over (Some tx) new = λ h. new
+stays_if_unconnected over (Some tx) new = λ fresh h. new
 
+-- a submission of what is in no connected block keeps a pool good
 pub unconnected_good : (limits : Limits) (over : Standing) (tx : Option Tx) (now budget : ℕ) → IsUnconnected over.chain tx → IsGood limits over.chain over.entries → IsGood limits over.chain (submit_of over tx now budget).entries
 unconnected_good limits over tx now budget new good = submission_good limits over tx now budget (stays_if_unconnected over tx new) good
 
+-- where transactions are told apart by their ids
 pub stays_if_apart : (over : Standing) (tx : Option Tx) → IsSettled over.chain → IfSome tx IsTx → AreApart (option_to_list tx ++ connected_transactions over.chain) → StaysUnconnected over tx
 stays_if_apart over None settled is_tx apart = tt
-stays_if_apart over (Some tx) settled is_tx apart = unconnected First over tx settled is_tx apart
+stays_if_apart over (Some tx) settled is_tx apart = λ fresh. unconnected First over tx settled fresh is_tx apart
 
+-- a submission keeps a pool good there
 pub apart_good : (limits : Limits) (over : Standing) (tx : Option Tx) (now budget : ℕ) → IsSettled over.chain → IfSome tx IsTx → AreApart (option_to_list tx ++ connected_transactions over.chain)
     → IsGood limits over.chain over.entries → IsGood limits over.chain (submit_of over tx now budget).entries
 apart_good limits over tx now budget settled is_tx apart good = submission_good limits over tx now budget (stays_if_apart over tx settled is_tx apart) good
 
+-- the same of what a submission comes to
 pub kept_good : (limits : Limits) (over : Standing) (tx : Option Tx) (now budget : ℕ) (after : Submitted)
     → submit_of over tx now budget ≡ after → IsSettled over.chain → IfSome tx IsTx → AreApart (option_to_list tx ++ connected_transactions over.chain)
     → IsGood limits over.chain over.entries → IsGood limits over.chain after.entries
@@ -124,4 +195,5 @@ empty_good limits chain =
       spends = AllPairs-nil Differ;
       coins = All-nil (λ (p : OutPoint). IsSome (view_coin chain [] p));
       fresh = All-nil (λ (e : Admitted). is_known_txid chain (txid_of e.tx) ≡ false);
+      limited = All-nil (λ (e : Admitted). IsLimited [] (txid_of e.tx));
     }

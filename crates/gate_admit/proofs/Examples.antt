@@ -62,8 +62,24 @@ coin_found = refl
 abbrev first_entry : Admitted
 first_entry = record { tx = paying 99000; fee = 1000; vsize = 110; time = 5000 }
 
--- a second transaction that spends the coin is a conflict
-spent_twice : bytes_eq (wtxid_of (paying 99000)) (wtxid_of (paying 98890)) ≡ false → bytes_eq (txid_of (paying 99000)) (txid_of (paying 98890)) ≡ false → first_failing (pool_rules (first_entry ∷ []) (paying 98890)) ≡ Some MempoolConflict
+-- a second transaction that spends the coin conflicts with an entry that says that it may be replaced
+replaceable : bytes_eq (wtxid_of (paying 99000)) (wtxid_of (paying 98890)) ≡ false → bytes_eq (txid_of (paying 99000)) (txid_of (paying 98890)) ≡ false → first_failing (pool_rules (first_entry ∷ []) (paying 98890)) ≡ None
+unfolding pool_rules
+replaceable h k = rw (h, k) refl
+
+-- a final entry doesn't say so
+abbrev final : Tx
+final = record {
+  version = pos 2;
+  inputs = record { prevout = record { txid = replicate 32 0x11; index = 0 }; script = []; sequence = 0xffff_fffe; witness = replicate 72 0x30 ∷ replicate 33 2 ∷ [] } ∷ [];
+  outputs = record { value = pos 99000; script = 0 ∷ 20 ∷ replicate 20 0x22 } ∷ [];
+  locktime = 0;
+}
+
+abbrev firm_entry : Admitted
+firm_entry = record { tx = final; fee = 1000; vsize = 110; time = 5000 }
+
+spent_twice : bytes_eq (wtxid_of final) (wtxid_of (paying 98890)) ≡ false → bytes_eq (txid_of final) (txid_of (paying 98890)) ≡ false → first_failing (pool_rules (firm_entry ∷ []) (paying 98890)) ≡ Some MempoolConflict
 unfolding pool_rules
 spent_twice h k = rw (h, k) refl
 

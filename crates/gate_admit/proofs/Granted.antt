@@ -1,11 +1,11 @@
 -- What a grant says of a transaction: its inputs are live, value is conserved, and an entry holds its numbers.
-use Rattle.std.proofs.Common.{◌≡◌, ◌≢◌, ◌≤◌, ◌+◌, ◌*◌, ◌/◌, ℕ, Bool, true, false, not, List, [], ◌∷◌, get_or, Option, Some, None, Result, Ok, Err, refl, sym, ◌∙◌, subst, arith}
+use Rattle.std.proofs.Common.{◌≡◌, ◌≢◌, ◌≤◌, ◌+◌, ◌*◌, ◌/◌, ℕ, Bool, true, false, not, ◌&&◌, List, [], ◌∷◌, get_or, Option, Some, None, Result, Ok, Err, refl, sym, ◌∙◌, subst, arith}
 use Rattle.std.specs.Prelude.{◌-◌, map, max, is_some, is_none, IsSome, IfSome, IfOk, OnOk, flat_map}
 use Rattle.std.specs.Str.{bytes_eq}
 use Rattle.std.specs.List.{All, AllPairs, list_any}
 use Rattle.std.proofs.lemmas.Bool.{true≢false, or_parts, ltb-false}
 use Rattle.std.proofs.lemmas.Slice.Eq.{bytes_eq-Decides}
-use Rattle.std.proofs.lemmas.List.Elements.{All-nil, All-cons, All-tail, All-append, All-map, All-weaker}
+use Rattle.std.proofs.lemmas.List.Elements.{All-nil, All-cons, All-tail, All-append, All-filter, All-map, All-weaker, Contains-get_or, filter_passes}
 use Rattle.std.proofs.lemmas.List.Kept.{AllPairs-cons}
 use Rattle.std.proofs.Math.Nat.{add-sub_of_le}
 use Rattle.gate_bytes.specs.Order.{first_failing, NoneFails}
@@ -25,19 +25,22 @@ use Rattle.gate_standard.specs.Amounts.{required_fee}
 use Rattle.gate_standard.specs.Rules.{transaction_rules, standard_rules, output_value_rules, spends_twice, rules_of_input, rules_of_output}
 use Rattle.gate_chain.specs.Times.{tip_of}
 use Rattle.gate_pool.specs.Pool.{Admitted, spends_of, spent_by, entry_by_txid, entry_by_wtxid}
-use Rattle.gate_pool.specs.Family.{is_conflict}
+use Rattle.gate_pool.specs.Family.{is_conflict, conflicts_of, without_below, ancestors_above}
+use Rattle.gate_rbf.specs.Replacing.{signals, is_firm_conflict}
 use Rattle.gate_admit.specs.declared.attempt.Attempt.{Attempt}
 use Rattle.gate_admit.specs.declared.attempt.Attempt.TheVariants.{First}
 use Rattle.gate_admit.specs.declared.grant.Grant.{Grant}
 use Rattle.gate_admit.specs.Bounds.{FitsEntry, FitsAnEntry}
 use Rattle.gate_admit.specs.Coins.{view_coin, coins_of}
 use Rattle.gate_admit.specs.Granting.{IsGrantable, Conserves, PaysItsSize}
+use Rattle.gate_admit.specs.Limits.{limit_rules}
 use Rattle.gate_admit.specs.Reports.{reported, report_rules, sigop_cost}
 use Rattle.gate_admit.specs.Rules.{alone_rules, final_rules, pool_rules, coin_rules, lock_rules, is_immature, rules_of_coin, coin_value_rules, balance_rules, fee_rules, payment_rules, admission_rules, grant_of, denied_or, decision_of, coins_value, outputs_value, min_relay_rate}
 use Rattle.gate_admit.specs.Standing.{Standing}
-use Rattle.gate_admit.proofs.Conflicting.{is_some-find}
+use Rattle.gate_rbf.proofs.Conflicting.{is_some-find}
 use Rattle.gate_admit.proofs.Lists.{none_pass, AllPairs-nil}
 use Rattle.gate_admit.proofs.Passing.{Passes, passes}
+use Rattle.gate_admit.proofs.Staying.{stays_apart}
 
 -- ---- outpoints and ids
 
@@ -81,6 +84,18 @@ no_conflicts tx (e ∷ entries) h =
     (no_conflict tx e (h 0 e (omega arith)))
     (no_conflicts tx entries (All-tail (λ (e : Admitted). is_conflict tx e ≡ false) e entries h))
 
+-- a conflict that is not firm says that it may be replaced
+not_firm : (conflicts says : Bool) → conflicts ≡ true → (conflicts && not says) ≡ false → says ≡ true
+not_firm true true c h = refl
+not_firm true false c h = sym h
+not_firm false says c h = absurd (true≢false (sym c))
+
+all_signal : (tx : Tx) (entries : List Admitted) → list_any (is_firm_conflict tx) entries ≡ false → All (λ (e : Admitted). signals e.tx ≡ true) (conflicts_of entries tx)
+all_signal tx entries h = λ k d l.
+    not_firm (is_conflict tx (get_or (conflicts_of entries tx) k d)) (signals (get_or (conflicts_of entries tx) k d).tx)
+    (filter_passes (is_conflict tx) entries k d l)
+    (All-filter (is_conflict tx) (λ (e : Admitted). is_firm_conflict tx e ≡ false) entries (none_pass (is_firm_conflict tx) entries h) k d l)
+
 -- ---- live inputs
 
 some_from_not_none : {X : Type 0} (o : Option X) → is_none o ≡ false → is_some o ≡ true
@@ -106,7 +121,7 @@ each_mature next_height sum (coin ∷ coins) h =
 
 -- no entry passes the tests of the pool's rules
 unpooled : (entries : List Admitted) (tx : Tx) → NoneFails (pool_rules entries tx)
-    → (list_any (λ (e : Admitted). bytes_eq (txid_of e.tx) (txid_of tx)) entries ≡ false) × (list_any (λ (e : Admitted). bytes_eq (wtxid_of e.tx) (wtxid_of tx)) entries ≡ false) × (list_any (is_conflict tx) entries ≡ false)
+    → (list_any (λ (e : Admitted). bytes_eq (txid_of e.tx) (txid_of tx)) entries ≡ false) × (list_any (λ (e : Admitted). bytes_eq (wtxid_of e.tx) (wtxid_of tx)) entries ≡ false) × (list_any (is_firm_conflict tx) entries ≡ false)
 unfolding pool_rules
 unpooled entries tx h = (
   sym (is_some-find (λ (e : Admitted). bytes_eq (txid_of e.tx) (txid_of tx)) entries) ∙ h.1.0,
@@ -114,12 +129,8 @@ unpooled entries tx h = (
   h.1.1.0,
 )
 
--- no entry is a direct conflict of a transaction that passes
-pub no_entry_conflicts : (attempt : Attempt) (over : Standing) (tx : Tx) → first_failing (admission_rules attempt over tx) ≡ None → list_any (is_conflict tx) over.entries ≡ false
-no_entry_conflicts attempt over tx h = (unpooled over.entries tx (passes attempt over tx h).pool).2
-
 live : (attempt : Attempt) (over : Standing) (tx : Tx) → Passes attempt over tx → IsGrantable over tx
-unfolding final_rules coin_rules lock_rules
+unfolding final_rules coin_rules lock_rules limit_rules
 live attempt over tx p =
     let fresh = unpooled over.entries tx p.pool in
     record {
@@ -127,7 +138,10 @@ live attempt over tx p =
           (none_pass (λ (e : Admitted). bytes_eq (txid_of e.tx) (txid_of tx)) over.entries fresh.0);
       wtxid = All-weaker (λ (e : Admitted). bytes_eq (wtxid_of e.tx) (wtxid_of tx) ≡ false) (λ (e : Admitted). wtxid_of e.tx ≢ wtxid_of tx) (λ e. ids_differ (wtxid_of e.tx) (wtxid_of tx)) over.entries
           (none_pass (λ (e : Admitted). bytes_eq (wtxid_of e.tx) (wtxid_of tx)) over.entries fresh.1);
-      unspent = no_conflicts tx over.entries (none_pass (is_conflict tx) over.entries fresh.2);
+      replaceable = all_signal tx over.entries fresh.2;
+      beside = none_pass (is_conflict tx) (ancestors_above over.entries tx.inputs) p.limits.1.0;
+      unspent = no_conflicts tx (without_below (is_conflict tx) over.entries)
+          (λ k d l. stays_apart (is_conflict tx) over.entries _ (Contains-get_or (without_below (is_conflict tx) over.entries) k d l));
       single = spends_once tx.inputs (each_once tx p.alone);
       coins = All-map (λ (q : OutPoint). IsSome (view_coin over.chain over.entries q)) (λ (i : TxIn). i.prevout) tx.inputs
           (λ k d l. some_from_not_none _ (none_pass (λ (i : TxIn). is_none (view_coin over.chain over.entries i.prevout)) tx.inputs p.coin.1.0 k d l));
@@ -169,6 +183,9 @@ pays over tx p = paid over.floor _ _ p.payment
 quarter : (weight cost : ℕ) → 1 ≤ weight → weight ≤ 400000 → cost ≤ 16000 → (1 ≤ (max weight (20 * cost) + 3) / 4) × ((max weight (20 * cost) + 3) / 4 ≤ 10000000)
 quarter weight cost some few low = (omega arith, omega arith)
 
+hundred : (weight cost : ℕ) → weight ≤ 400000 → cost ≤ 16000 → (max weight (20 * cost) + 3) / 4 ≤ 100000
+hundred weight cost few low = omega arith
+
 weighs : (tx : Tx) → 82 ≤ stripped_size_of tx → 1 ≤ weight_of tx
 unfolding weight_of stripped_size_of
 weighs tx h = omega arith
@@ -190,6 +207,11 @@ held attempt over tx p =
     let size = sized tx p.alone in
     let both = quarter (weight_of tx) (sigop_cost (reported tx.inputs (coins_of over.chain over.entries tx.inputs)) tx.outputs) size.0 size.1 (cheap attempt over tx p) in
     record { fee_in_range = (balanced (coins_value (coins_of over.chain over.entries tx.inputs)) (outputs_value tx) p.balance).1; some = both.0; few = both.1 }
+
+-- a quarter of the weight, or of what the cost weighs
+pub small : (attempt : Attempt) (over : Standing) (tx : Tx) → Passes attempt over tx → (grant_of over tx).vsize ≤ 100000
+unfolding grant_of
+small attempt over tx p = hundred (weight_of tx) (sigop_cost (reported tx.inputs (coins_of over.chain over.entries tx.inputs)) tx.outputs) (sized tx p.alone).1 (cheap attempt over tx p)
 
 fits_by : (found : Option Denial) (grant : Grant) → (found ≡ None → FitsEntry grant.fee grant.vsize) → FitsAnEntry (denied_or found grant)
 fits_by None grant h = h refl

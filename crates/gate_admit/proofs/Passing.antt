@@ -9,6 +9,8 @@ use Rattle.gate_chain.specs.Times.{tip_of}
 use Rattle.gate_admit.specs.declared.attempt.Attempt.{Attempt}
 use Rattle.gate_admit.specs.Coins.{coins_of}
 use Rattle.gate_admit.specs.Reports.{reported, report_rules, sigop_cost, vsize_of, verdict_rules}
+use Rattle.gate_rbf.specs.Replacing.{replacement_rules}
+use Rattle.gate_admit.specs.Limits.{limit_rules}
 use Rattle.gate_admit.specs.Rules.{alone_rules, final_rules, pool_rules, coin_rules, lock_rules, coin_value_rules, balance_rules, payment_rules, admission_rules, coins_value, outputs_value}
 use Rattle.gate_admit.specs.Standing.{Standing}
 
@@ -23,12 +25,16 @@ pub record Passes (attempt : Attempt) (over : Standing) (tx : Tx) : Type 0 where
   pub balance : NoneFails (balance_rules (coins_value (coins_of over.chain over.entries tx.inputs)) (outputs_value tx))
   pub report : NoneFails (report_rules (reported tx.inputs (coins_of over.chain over.entries tx.inputs)) tx)
   pub payment : NoneFails (payment_rules attempt over.floor (coins_value (coins_of over.chain over.entries tx.inputs) - outputs_value tx) (vsize_of (sigop_cost (reported tx.inputs (coins_of over.chain over.entries tx.inputs)) tx.outputs) tx))
+  pub limits : NoneFails (limit_rules over.entries tx (vsize_of (sigop_cost (reported tx.inputs (coins_of over.chain over.entries tx.inputs)) tx.outputs) tx))
+  pub replacement : NoneFails (replacement_rules over.entries tx (coins_value (coins_of over.chain over.entries tx.inputs) - outputs_value tx) (vsize_of (sigop_cost (reported tx.inputs (coins_of over.chain over.entries tx.inputs)) tx.outputs) tx))
 
 pub passes : (attempt : Attempt) (over : Standing) (tx : Tx) → first_failing (admission_rules attempt over tx) ≡ None → Passes attempt over tx
 unfolding admission_rules
 passes attempt over tx h =
     let coins = coins_of over.chain over.entries tx.inputs in
     let answers = reported tx.inputs coins in
+    let fee = coins_value coins - outputs_value tx in
+    let vsize = vsize_of (sigop_cost answers tx.outputs) tx in
     let alone = none_fails-append (alone_rules tx) _ (none_fails _ h) in
     let final = none_fails-append (final_rules over.chain tx) _ alone.1 in
     let pool = none_fails-append (pool_rules over.entries tx) _ final.1 in
@@ -37,5 +43,19 @@ passes attempt over tx h =
     let value = none_fails-append (coin_value_rules (tip_of over.chain + 1) 0 coins) _ lock.1 in
     let balance = none_fails-append (balance_rules (coins_value coins) (outputs_value tx)) _ value.1 in
     let report = none_fails-append (report_rules answers tx) _ balance.1 in
-    let payment = none_fails-append (payment_rules attempt over.floor (coins_value coins - outputs_value tx) (vsize_of (sigop_cost answers tx.outputs) tx)) (verdict_rules over.verdicts (wtxid_of tx) 0 tx.inputs) report.1 in
-    record { alone = alone.0; final = final.0; pool = pool.0; coin = coin.0; lock = lock.0; value = value.0; balance = balance.0; report = report.0; payment = payment.0 }
+    let payment = none_fails-append (payment_rules attempt over.floor fee vsize) _ report.1 in
+    let limits = none_fails-append (limit_rules over.entries tx vsize) _ payment.1 in
+    let replacement = none_fails-append (replacement_rules over.entries tx fee vsize) (verdict_rules over.verdicts (wtxid_of tx) 0 tx.inputs) limits.1 in
+    record {
+      alone = alone.0;
+      final = final.0;
+      pool = pool.0;
+      coin = coin.0;
+      lock = lock.0;
+      value = value.0;
+      balance = balance.0;
+      report = report.0;
+      payment = payment.0;
+      limits = limits.0;
+      replacement = replacement.0;
+    }

@@ -1,6 +1,7 @@
 -- What is granted is in no connected block, where transactions are told apart by their ids.
-use Rattle.std.proofs.Common.{◌≡◌, ◌||◌, Bool, true, false, List, [], ◌∷◌, ◌++◌, length, drop, Some, None, refl, sym, ap, ◌∙◌, subst, arith, ⊎_elim}
-use Rattle.std.specs.Prelude.{◌==◌, map, is_some, IsSome, Contains}
+use Rattle.std.proofs.Common.{◌≡◌, ◌+◌, ◌||◌, ℕ, Bool, Option, true, false, List, [], ◌∷◌, ◌++◌, length, drop, Some, None, refl, sym, ap, ◌∙◌, subst, arith, ⊎_elim}
+use Rattle.std.specs.Prelude.{◌==◌, map, is_some, IsSome, Contains, option_and_then, slice_get}
+use Rattle.std.specs.Option.{option_or}
 use Rattle.std.specs.Str.{bytes_eq}
 use Rattle.std.specs.List.{All, list_any, flat_map}
 use Rattle.std.proofs.lemmas.Bool.{true≢false, false_from_ne_true}
@@ -8,6 +9,7 @@ use Rattle.std.proofs.lemmas.Slice.Eq.{bytes_eq-Decides}
 use Rattle.gate_bytes.specs.Order.{NoneFails, first_failing}
 use Rattle.gate_bytes.proofs.OrderLemmas.{none_fails-append}
 use Rattle.gate_graph.proofs.Members.{Contains-cons_cases, Contains-head, Contains-rest, not_in_none, any_is, list_any_of}
+use Rattle.gate_tx.specs.declared.Coin.{Coin}
 use Rattle.gate_tx.specs.declared.OutPoint.{OutPoint}
 use Rattle.gate_tx.specs.declared.TxIn.{TxIn}
 use Rattle.gate_tx.specs.Coins.{point_eq, spends, is_null}
@@ -19,13 +21,16 @@ use Rattle.gate_tx.specs.Tx.{Tx}
 use Rattle.gate_tx.proofs.Stripped.{stripped_forms_spend_the_same}
 use Rattle.gate_standard.specs.Rules.{transaction_rules, standard_rules, output_value_rules, is_coinbase}
 use Rattle.gate_chain.specs.declared.Block.{Block}
-use Rattle.gate_chain.specs.Coins.{any_spends, coin_of, has_transaction, is_spent_in}
+use Rattle.gate_chain.specs.Coins.{coin_made, coin_of, has_transaction, is_known_txid, is_spent_in}
 use Rattle.gate_chain.specs.History.{History}
 use Rattle.gate_admit.specs.declared.attempt.Attempt.{Attempt}
 use Rattle.gate_admit.specs.Good.{AreApart, IsSettled, IsUnconnected, begins_with_coinbase, connected_transactions}
-use Rattle.gate_pool.specs.Pool.{spends_of}
+use Rattle.gate_chain.specs.Times.{tip_of}
+use Rattle.gate_pool.specs.Pool.{Admitted, has_txid, entry_by_txid, spends_of}
+use Rattle.gate_admit.specs.Coins.{view_coin}
 use Rattle.gate_admit.specs.Rules.{admission_rules, alone_rules}
 use Rattle.gate_admit.specs.Standing.{Standing}
+use Rattle.gate_rbf.proofs.Conflicting.{is_some-find}
 use Rattle.gate_admit.proofs.Granted.{rules_grant}
 use Rattle.gate_admit.proofs.Passing.{passes}
 
@@ -79,20 +84,18 @@ unfolding coin_of
 coin_gone chain p h = rw h refl
 
 -- a transaction behind a block's first spends a coin for good
-spent_behind : (chain : History) (b : Block) (t0 t : Tx) (txs : List Tx) (p : OutPoint) → Contains chain.blocks b → b.transactions ≡ t0 ∷ txs → Contains txs t → spends t.inputs p ≡ true
-    → is_some (coin_of chain p) ≡ false
-spent_behind chain b t0 t txs p at parts behind spent =
-    let inside : any_spends txs p ≡ true = list_any_of (λ (u : Tx). spends u.inputs p) txs t behind spent in
-    coin_gone chain p (list_any_of (is_spent_in p) chain.blocks b at (ap (λ (ts : List Tx). any_spends (drop 1 ts) p) parts ∙ inside))
+spent_behind : (chain : History) (b : Block) (t : Tx) (p : OutPoint) → Contains chain.blocks b → Contains (drop 1 b.transactions) t → spends t.inputs p ≡ true → is_some (coin_of chain p) ≡ false
+spent_behind chain b t p at behind spent =
+    coin_gone chain p (list_any_of (is_spent_in p) chain.blocks b at (list_any_of (λ (u : Tx). spends u.inputs p) (drop 1 b.transactions) t behind spent))
 
--- a transaction that spends what one of a block's does is a coinbase, or its first coin is gone
-alike : (chain : History) (tx t : Tx) (b : Block) (i : TxIn) (rest : List TxIn) (txs : List Tx) → IsSettled chain → Contains chain.blocks b → b.transactions ≡ txs → Contains txs t
-    → tx.inputs ≡ i ∷ rest → prevouts t ≡ prevouts tx → is_coinbase tx.inputs ≡ false → is_some (coin_of chain i.prevout) ≡ false
-alike chain tx t b i rest [] settled at parts member inputs same no_coinbase = not_in_none t member
-alike chain tx t b i rest (t0 ∷ txs) settled at parts member inputs same no_coinbase =
+-- a transaction that spends what one of a block's does is a coinbase, or that one stands behind the block's first
+alike : (chain : History) (tx t : Tx) (b : Block) (txs : List Tx) → IsSettled chain → Contains chain.blocks b → b.transactions ≡ txs → Contains txs t
+    → prevouts t ≡ prevouts tx → is_coinbase tx.inputs ≡ false → Contains (drop 1 txs) t
+alike chain tx t b [] settled at parts member same no_coinbase = not_in_none t member
+alike chain tx t b (t0 ∷ txs) settled at parts member same no_coinbase =
     ⊎_elim
     (λ (e : t0 ≡ t). absurd (true≢false (sym (subst (λ (ts : List Tx). begins_with_coinbase ts ≡ true) parts (settled.coinbases b at)) ∙ ap (λ (u : Tx). is_coinbase u.inputs) e ∙ coinbase_alike t tx same ∙ no_coinbase)))
-    (λ (c : Contains txs t). spent_behind chain b t0 t txs i.prevout at parts c (spends_alike t tx i.prevout same ∙ ap (λ (is : List TxIn). spends is i.prevout) inputs ∙ spends_first i rest))
+    (λ (c : Contains txs t). c)
     (Contains-cons_cases t0 txs t member)
 
 not_coinbase : (tx : Tx) → NoneFails (alone_rules tx) → is_coinbase tx.inputs ≡ false
@@ -106,13 +109,45 @@ unfolding alone_rules transaction_rules
 some_inputs tx h = (none_fails-append (transaction_rules tx) (standard_rules tx) h).0.0
 
 -- the outpoint of the first input has a coin
-first_coin : (chain : History) (tx : Tx) (i : TxIn) (rest : List TxIn) → tx.inputs ≡ i ∷ rest → All (λ (p : OutPoint). IsSome (coin_of chain p)) (spends_of tx) → is_some (coin_of chain i.prevout) ≡ true
-first_coin chain tx i rest inputs h =
-    subst (λ (is : List TxIn). All (λ (p : OutPoint). IsSome (coin_of chain p)) (map (λ (j : TxIn). j.prevout) is)) inputs h 0 i.prevout (omega arith)
+first_coin : (chain : History) (entries : List Admitted) (tx : Tx) (i : TxIn) (rest : List TxIn) → tx.inputs ≡ i ∷ rest → All (λ (p : OutPoint). IsSome (view_coin chain entries p)) (spends_of tx)
+    → is_some (view_coin chain entries i.prevout) ≡ true
+first_coin chain entries tx i rest inputs h =
+    subst (λ (is : List TxIn). All (λ (p : OutPoint). IsSome (view_coin chain entries p)) (map (λ (j : TxIn). j.prevout) is)) inputs h 0 i.prevout (omega arith)
 
-pub unconnected : (attempt : Attempt) (over : Standing) (tx : Tx) → IsSettled over.chain → IsTx tx → AreApart (tx ∷ connected_transactions over.chain)
-    → first_failing (admission_rules attempt over tx) ≡ None → IsUnconnected over.chain (Some tx)
-unconnected attempt over tx settled is_tx apart granted = go tx.inputs refl
+-- a coin that the chain doesn't have is an output of an entry
+entry_gives : (chain : History) (entries : List Admitted) (p : OutPoint) → is_some (view_coin chain entries p) ≡ true → is_some (coin_of chain p) ≡ false → is_some (entry_by_txid entries p.txid) ≡ true
+entry_gives chain entries p = go (entry_by_txid entries p.txid) (coin_of chain p)
+  where
+    go : (e : Option Admitted) (c : Option Coin) → is_some (option_or (option_and_then (λ (e : Admitted). option_and_then (coin_made (tip_of chain + 1) false) (slice_get e.tx.outputs p.index)) e) c) ≡ true
+        → is_some c ≡ false → is_some e ≡ true
+    go (Some e) c h k = refl
+    go None (Some c) h k = sym k
+    go None None h k = h
+
+-- the chain knows the transaction of no entry
+unknown_entry : (chain : History) (entries : List Admitted) (txid : List ℕ) → All (λ (e : Admitted). is_known_txid chain (txid_of e.tx) ≡ false) entries → is_some (entry_by_txid entries txid) ≡ true
+    → is_known_txid chain txid ≡ false
+unknown_entry chain entries txid fresh h =
+    let found = any_is (λ (e : Admitted). has_txid e txid) entries (sym (is_some-find (λ (e : Admitted). has_txid e txid) entries) ∙ h) in
+    subst (λ (a : List ℕ). is_known_txid chain a ≡ false) ((bytes_eq-Decides (txid_of found.0.tx) txid).0 found.2)
+    (subst (λ (e : Admitted). is_known_txid chain (txid_of e.tx) ≡ false) found.1.2 (fresh found.1.0 found.0 found.1.1))
+
+-- a transaction behind a block's first spends from what the chain knows
+known_first : (chain : History) (tx t : Tx) (b : Block) (i : TxIn) (rest : List TxIn) → IsSettled chain → Contains chain.blocks b → Contains (drop 1 b.transactions) t → tx.inputs ≡ i ∷ rest → prevouts t ≡ prevouts tx
+    → is_known_txid chain i.prevout.txid ≡ true
+known_first chain tx t b i rest settled at behind inputs same = go t.inputs refl
+  where
+    go : (is : List TxIn) → t.inputs ≡ is → is_known_txid chain i.prevout.txid ≡ true
+    go [] e = let f : map (λ (j : TxIn). j.prevout) [] ≡ i.prevout ∷ map (λ (j : TxIn). j.prevout) rest = ap (map (λ (j : TxIn). j.prevout)) (sym e) ∙ same ∙ ap (map (λ (j : TxIn). j.prevout)) inputs in cc
+    go (j ∷ js) e =
+        let f : j.prevout ∷ map (λ (k : TxIn). k.prevout) js ≡ i.prevout ∷ map (λ (k : TxIn). k.prevout) rest = ap (map (λ (k : TxIn). k.prevout)) (sym e) ∙ same ∙ ap (map (λ (k : TxIn). k.prevout)) inputs in
+        let one : j.prevout ≡ i.prevout = cc in
+        subst (λ (p : OutPoint). is_known_txid chain p.txid ≡ true) one (settled.founded b at t behind j (subst (λ (is : List TxIn). Contains is j) (sym e) (Contains-head j js)))
+
+-- where it was, its first coin is spent for good, and no entry gives it
+pub unconnected : (attempt : Attempt) (over : Standing) (tx : Tx) → IsSettled over.chain → All (λ (e : Admitted). is_known_txid over.chain (txid_of e.tx) ≡ false) over.entries → IsTx tx
+    → AreApart (tx ∷ connected_transactions over.chain) → first_failing (admission_rules attempt over tx) ≡ None → IsUnconnected over.chain (Some tx)
+unconnected attempt over tx settled fresh is_tx apart granted = go tx.inputs refl
   where
     go : (inputs : List TxIn) → tx.inputs ≡ inputs → list_any (has_transaction (txid_of tx)) over.chain.blocks ≡ false
     go [] e = absurd (true≢false (ap (λ (is : List TxIn). length is == 0) (sym e) ∙ some_inputs tx (passes attempt over tx granted).alone))
@@ -122,5 +157,8 @@ unconnected attempt over tx settled is_tx apart granted = go tx.inputs refl
         let inside : Contains (connected_transactions over.chain) member.0 = Contains-flat_map (λ (b : Block). b.transactions) over.chain.blocks block.0 member.0 block.1 member.1 in
         let one_form : stripped member.0 ≡ stripped tx = apart member.0 tx (Contains-rest tx (connected_transactions over.chain) member.0 inside) (Contains-head tx (connected_transactions over.chain)) ((bytes_eq-Decides (txid_of member.0) (txid_of tx)).0 member.2) in
         let same : prevouts member.0 ≡ prevouts tx = stripped_forms_spend_the_same member.0 tx (settled.spelled member.0 inside) is_tx one_form in
-        let gone = alike over.chain tx member.0 block.0 i rest block.0.transactions settled block.1 refl member.1 e same (not_coinbase tx (passes attempt over tx granted).alone) in
-        true≢false (sym (first_coin over.chain tx i rest e (rules_grant attempt over tx granted).coins) ∙ gone))
+        let behind = alike over.chain tx member.0 block.0 block.0.transactions settled block.1 refl member.1 same (not_coinbase tx (passes attempt over tx granted).alone) in
+        let spent : spends member.0.inputs i.prevout ≡ true = spends_alike member.0 tx i.prevout same ∙ ap (λ (is : List TxIn). spends is i.prevout) e ∙ spends_first i rest in
+        let gone = spent_behind over.chain block.0 member.0 i.prevout block.1 behind spent in
+        let given = entry_gives over.chain over.entries i.prevout (first_coin over.chain over.entries tx i rest e (rules_grant attempt over tx granted).coins) gone in
+        true≢false (sym (known_first over.chain tx member.0 block.0 i rest settled block.1 behind e same) ∙ unknown_entry over.chain over.entries i.prevout.txid fresh given))

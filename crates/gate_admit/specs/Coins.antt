@@ -1,17 +1,24 @@
 -- The coin view: which coin an outpoint is for a transaction that is judged over a chain and a pool.
-use Rattle.std.specs.Prelude.{Bool, List, Option, is_none}
-use Rattle.std.specs.Option.{option_to_list}
+use Rattle.std.specs.Prelude.{ℕ, ◌+◌, Bool, false, List, Option, is_none, option_and_then, slice_get}
+use Rattle.std.specs.Option.{option_or, option_to_list}
 use Rattle.std.specs.List.{list_any, flat_map}
 use Rattle.gate_tx.specs.declared.Coin.{Coin}
 use Rattle.gate_tx.specs.declared.OutPoint.{OutPoint}
 use Rattle.gate_tx.specs.declared.TxIn.{TxIn}
 use Rattle.gate_chain.specs.History.{History}
-use Rattle.gate_chain.specs.Coins.{coin_of}
-use Rattle.gate_pool.specs.Pool.{Admitted}
+use Rattle.gate_chain.specs.Coins.{coin_made, coin_of}
+use Rattle.gate_chain.specs.Times.{tip_of}
+use Rattle.gate_pool.specs.Pool.{Admitted, entry_by_txid}
 
--- the unspent coin of the chain; an output of the pool is none yet
+-- the coin that an output of an entry is, where something can spend it: of no coinbase, and as though its transaction were
+-- in a block of this height
+abbrev pub pool_coin : ℕ → List Admitted → OutPoint → Option Coin
+pool_coin height entries point =
+    option_and_then (λ (e : Admitted). option_and_then (coin_made height false) (slice_get e.tx.outputs point.index)) (entry_by_txid entries point.txid)
+
+-- the output of an entry, which the next block may have; else the unspent coin of the chain
 abbrev pub view_coin : History → List Admitted → OutPoint → Option Coin
-view_coin chain entries point = coin_of chain point
+view_coin chain entries point = option_or (pool_coin (tip_of chain + 1) entries point) (coin_of chain point)
 
 -- whether an input has no coin
 abbrev pub misses_coin : History → List Admitted → List TxIn → Bool

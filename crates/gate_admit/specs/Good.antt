@@ -1,7 +1,8 @@
 -- What holds of a pool over its chain at every moment, and of transactions whose ids tell them apart.
-use Rattle.std.specs.Prelude.{◌≡◌, ◌≢◌, ℕ, Bool, true, false, List, [], ◌∷◌, Option, Some, None, IsSome}
+use Rattle.std.specs.Prelude.{◌≡◌, ◌≢◌, ◌≤◌, ℕ, length, drop, Bool, true, false, List, [], ◌∷◌, Option, Some, None, IsSome}
 use Rattle.std.specs.List.{All, AllPairs, Contains, list_any, flat_map}
 use Rattle.gate_tx.specs.declared.OutPoint.{OutPoint}
+use Rattle.gate_tx.specs.declared.TxIn.{TxIn}
 use Rattle.gate_tx.specs.Tx.{Tx}
 use Rattle.gate_tx.specs.Text.{IsTx, stripped}
 use Rattle.gate_tx.specs.Ids.{txid_of, wtxid_of}
@@ -9,12 +10,20 @@ use Rattle.gate_standard.specs.Rules.{is_coinbase}
 use Rattle.gate_chain.specs.declared.Block.{Block}
 use Rattle.gate_chain.specs.History.{History}
 use Rattle.gate_chain.specs.Coins.{has_transaction, is_known_txid}
-use Rattle.gate_pool.specs.Pool.{Admitted, spent_by}
+use Rattle.gate_pool.specs.Pool.{Admitted, spent_by, size_of}
+use Rattle.gate_pool.specs.Family.{ancestors_of, descendants_of}
 use Rattle.gate_admit.specs.Coins.{view_coin}
 
 -- what a pool may hold, in virtual bytes; entries are not trimmed to it yet, so nothing below asks for it
 pub record Limits : Type 0 where
   pub budget : ℕ
+
+-- the ancestors and the descendants of an id, its own entry among each, are few and small
+pub record IsLimited (entries : List Admitted) (txid : List ℕ) : Type 0 where
+  pub ancestors : length (ancestors_of entries txid) ≤ 25
+  pub ancestors_size : size_of (ancestors_of entries txid) ≤ 101000
+  pub descendants : length (descendants_of entries txid) ≤ 26
+  pub descendants_size : size_of (descendants_of entries txid) ≤ 111000
 
 pub record IsGood (limits : Limits) (chain : History) (entries : List Admitted) : Type 0 where
   -- no two entries share an id
@@ -26,6 +35,8 @@ pub record IsGood (limits : Limits) (chain : History) (entries : List Admitted) 
   pub coins : All (λ (p : OutPoint). IsSome (view_coin chain entries p)) (spent_by entries)
   -- no entry has the txid of a coin that the chain was opened with, or of a connected block's transaction
   pub fresh : All (λ (e : Admitted). is_known_txid chain (txid_of e.tx) ≡ false) entries
+  -- the family of each entry is within the limits
+  pub limited : All (λ (e : Admitted). IsLimited entries (txid_of e.tx)) entries
 
 -- the transactions of the connected blocks, in their order
 abbrev pub connected_transactions : History → List Tx
@@ -40,10 +51,12 @@ abbrev pub begins_with_coinbase : List Tx → Bool
 begins_with_coinbase [] = false
 begins_with_coinbase (tx ∷ txs) = is_coinbase tx.inputs
 
--- each connected block begins with a coinbase, and its transactions have a text
+-- each connected block begins with a coinbase, its transactions have a text, and what those behind the first spend came from
+-- transactions that the chain knows
 pub record IsSettled (chain : History) : Type 0 where
   pub coinbases : (b : Block) → Contains chain.blocks b → begins_with_coinbase b.transactions ≡ true
   pub spelled : (tx : Tx) → Contains (connected_transactions chain) tx → IsTx tx
+  pub founded : (b : Block) → Contains chain.blocks b → (tx : Tx) → Contains (drop 1 b.transactions) tx → (i : TxIn) → Contains tx.inputs i → is_known_txid chain i.prevout.txid ≡ true
 
 -- no connected block has a transaction of the submission's txid
 abbrev pub IsUnconnected : History → Option Tx → Type 0

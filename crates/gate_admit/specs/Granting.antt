@@ -1,17 +1,19 @@
--- What a grant says of a transaction: its inputs are live, and value is conserved.
-use Rattle.std.specs.Prelude.{◌≡◌, ◌≢◌, ◌+◌, ◌≤◌, true, false, IsSome}
+-- What a grant says of a transaction: its inputs are live, value is conserved, and a replacement pays for what it replaces.
+use Rattle.std.specs.Prelude.{◌≡◌, ◌≢◌, ◌+◌, ◌≤◌, ◌<◌, ℕ, true, false, IsSome, IfSome, Option, Some, None}
 use Rattle.std.specs.List.{All, AllPairs}
 use Rattle.gate_tx.specs.declared.Coin.{Coin}
 use Rattle.gate_tx.specs.declared.OutPoint.{OutPoint}
 use Rattle.gate_tx.specs.Ids.{txid_of, wtxid_of}
 use Rattle.gate_tx.specs.Money.{max_money}
 use Rattle.gate_tx.specs.Tx.{Tx}
-use Rattle.gate_standard.specs.Amounts.{required_fee}
+use Rattle.gate_standard.specs.Amounts.{required_fee, feerate}
 use Rattle.gate_chain.specs.Coins.{opened_with_of}
 use Rattle.gate_chain.specs.Times.{tip_of}
 use Rattle.gate_locks.specs.Finality.{is_final_at}
 use Rattle.gate_locks.specs.Locks.{median_at, sequence_locks_met_by}
 use Rattle.gate_pool.specs.Pool.{Admitted, spends_of, spent_by}
+use Rattle.gate_pool.specs.Family.{names, is_conflict, conflicts_of, replaced_of, without_below, ancestors_above, fees_of}
+use Rattle.gate_rbf.specs.Replacing.{signals, incremental_relay_rate}
 use Rattle.gate_admit.specs.declared.grant.Grant.{Grant}
 use Rattle.gate_admit.specs.Coins.{view_coin, coins_of}
 use Rattle.gate_admit.specs.Rules.{coins_value, heights_of, is_immature, min_relay_rate, outputs_value}
@@ -21,8 +23,11 @@ pub record IsGrantable (over : Standing) (tx : Tx) : Type 0 where
   -- no entry has one of its ids
   pub txid : All (λ (e : Admitted). txid_of e.tx ≢ txid_of tx) over.entries
   pub wtxid : All (λ (e : Admitted). wtxid_of e.tx ≢ wtxid_of tx) over.entries
-  -- no entry spends an outpoint that it spends, and it spends none twice
-  pub unspent : All (λ (p : OutPoint). All (λ (q : OutPoint). p ≢ q) (spends_of tx)) (spent_by over.entries)
+  -- each entry that spends an outpoint that it spends says that it may be replaced, and none of them is above it
+  pub replaceable : All (λ (e : Admitted). signals e.tx ≡ true) (conflicts_of over.entries tx)
+  pub beside : All (λ (e : Admitted). is_conflict tx e ≡ false) (ancestors_above over.entries tx.inputs)
+  -- no entry that stays spends an outpoint that it spends, and it spends none twice
+  pub unspent : All (λ (p : OutPoint). All (λ (q : OutPoint). p ≢ q) (spends_of tx)) (spent_by (without_below (is_conflict tx) over.entries))
   pub single : AllPairs (λ (p : OutPoint) (q : OutPoint). p ≢ q) (spends_of tx)
   -- each outpoint that it spends has a coin, no coin of a coinbase is too young, and its locks are met
   pub coins : All (λ (p : OutPoint). IsSome (view_coin over.chain over.entries p)) (spends_of tx)
@@ -40,3 +45,10 @@ pub record Conserves (over : Standing) (tx : Tx) (grant : Grant) : Type 0 where
 -- the fee pays for the size at the rate that is asked of every transaction
 abbrev pub PaysItsSize : Grant → Type 0
 PaysItsSize grant = required_fee min_relay_rate grant.vsize ≤ grant.fee
+
+-- a replacement pays at least what all that it replaces pay, and its own relay above that; its rate, rounded down, is above
+-- that of each entry that it conflicts with; and no entry that stays spends an output of one that goes
+pub record Replaces (over : Standing) (tx : Tx) (grant : Grant) : Type 0 where
+  pub paid : fees_of (replaced_of over.entries tx) + required_fee incremental_relay_rate grant.vsize ≤ grant.fee
+  pub rate : All (λ (c : Admitted). feerate c.fee c.vsize < feerate grant.fee grant.vsize) (conflicts_of over.entries tx)
+  pub whole : All (λ (e : Admitted). All (λ (gone : Admitted). names e (txid_of gone.tx) ≡ false) (replaced_of over.entries tx)) (without_below (is_conflict tx) over.entries)

@@ -1,14 +1,16 @@
 -- Laws of the decision and of submissions.
-use Rattle.std.specs.Prelude.{◌≡◌, ℕ, List, [], Option, Some, Result, Ok, Err}
+use Rattle.std.specs.Prelude.{◌≡◌, true, ℕ, List, [], Option, Some, Result, Ok, Err}
+use Rattle.std.specs.List.{list_any}
 use Rattle.gate_bytes.specs.Order.{Rule, NoneFails, IsFirstFailing}
 use Rattle.gate_tx.specs.Tx.{Tx}
 use Rattle.gate_standard.specs.declared.Denial.{Denial}
 use Rattle.gate_chain.specs.History.{History}
+use Rattle.gate_pool.specs.Family.{is_conflict}
 use Rattle.gate_admit.specs.declared.attempt.Attempt.{Attempt}
 use Rattle.gate_admit.specs.declared.attempt.Attempt.TheVariants.{First}
 use Rattle.gate_admit.specs.declared.grant.Grant.{Grant}
 use Rattle.gate_admit.specs.Good.{Limits, IsGood, IsUnconnected}
-use Rattle.gate_admit.specs.Granting.{IsGrantable, Conserves, PaysItsSize}
+use Rattle.gate_admit.specs.Granting.{IsGrantable, Conserves, PaysItsSize, Replaces}
 use Rattle.gate_admit.specs.Rules.{admission_rules, decision_of}
 use Rattle.gate_admit.specs.Standing.{Standing}
 use Rattle.gate_admit.specs.Submission.{submit_of}
@@ -27,6 +29,11 @@ pub record GrantsAreSound : Type 0 where
   pub live : (attempt : Attempt) (over : Standing) (tx : Tx) (grant : Grant) → decision_of attempt over (Some tx) ≡ Ok grant → IsGrantable over tx
   pub conserve : (attempt : Attempt) (over : Standing) (tx : Tx) (grant : Grant) → decision_of attempt over (Some tx) ≡ Ok grant → Conserves over tx grant
   pub paid : (over : Standing) (tx : Tx) (grant : Grant) → decision_of First over (Some tx) ≡ Ok grant → PaysItsSize grant
+
+-- what BIP 125 is for
+abbrev pub ReplacementsPay : Type 0
+ReplacementsPay =
+    (attempt : Attempt) (over : Standing) (tx : Tx) (grant : Grant) → decision_of attempt over (Some tx) ≡ Ok grant → list_any (is_conflict tx) over.entries ≡ true → Replaces over tx grant
 
 -- a pool without entries is good, and each submission of what no block has keeps a pool good
 pub record PoolsStayGood : Type 0 where

@@ -1,5 +1,5 @@
 -- The written order of admission, and the decision: the first rule that fails, or a grant.
-use Rattle.std.specs.Prelude.{ℕ, ◌+◌, ◌-◌, ℤ, nat_lt, Bool, false, not, ◌||◌, ◌&&◌, map, is_some, List, [], ◌∷◌, ◌++◌, sum_by, Option, Some, None, Result, Ok, Err}
+use Rattle.std.specs.Prelude.{ℕ, ◌+◌, ◌-◌, ℤ, nat_lt, Bool, false, not, ◌||◌, ◌&&◌, map, is_some, List, [], ◌∷◌, ◌++◌, sum_by, Option, Some, None, Result, Ok, Err, length}
 use Rattle.std.specs.List.{list_any}
 use Rattle.gate_bytes.specs.Order.{Rule, first_failing}
 use Rattle.gate_tx.specs.Money.{max_money, is_money, amount_or_zero}
@@ -18,11 +18,13 @@ use Rattle.gate_locks.specs.Finality.{is_final_at}
 use Rattle.gate_locks.specs.Locks.{median_at, sequence_locks_met_by}
 use Rattle.gate_admit.specs.declared.grant.Grant.{Grant}
 use Rattle.gate_pool.specs.Pool.{Admitted, entry_by_txid, entry_by_wtxid}
-use Rattle.gate_pool.specs.Family.{is_conflict}
+use Rattle.gate_pool.specs.Family.{replaced_of}
+use Rattle.gate_rbf.specs.Replacing.{is_firm_conflict, replacement_rules}
 use Rattle.gate_admit.specs.declared.attempt.Attempt.{Attempt}
 use Rattle.gate_admit.specs.declared.attempt.Attempt.TheVariants.{First, Again}
 use Rattle.gate_admit.specs.Standing.{Standing}
 use Rattle.gate_admit.specs.Coins.{misses_coin, coins_of}
+use Rattle.gate_admit.specs.Limits.{limit_rules}
 use Rattle.gate_admit.specs.Reports.{reported, sigop_cost, vsize_of, report_rules, verdict_rules}
 
 -- ---- A2 to A19: the transaction alone
@@ -41,7 +43,7 @@ unfoldable pub pool_rules : List Admitted → Tx → List (Rule Denial)
 pool_rules entries tx =
     (AlreadyInMempool, is_some (entry_by_wtxid entries (wtxid_of tx)))
     ∷ (SameNonWitnessData, is_some (entry_by_txid entries (txid_of tx)))
-    ∷ (MempoolConflict, list_any (is_conflict tx) entries)
+    ∷ (MempoolConflict, list_any (is_firm_conflict tx) entries)
     ∷ []
 
 -- ---- A24 and A25: whether each input has a coin
@@ -122,6 +124,8 @@ unfoldable pub admission_rules : Attempt → Standing → Tx → List (Rule Deni
 admission_rules attempt over tx =
     let coins = coins_of over.chain over.entries tx.inputs in
     let answers = reported tx.inputs coins in
+    let fee = coins_value coins - outputs_value tx in
+    let vsize = vsize_of (sigop_cost answers tx.outputs) tx in
     alone_rules tx
     ++ (final_rules over.chain tx
     ++ (pool_rules over.entries tx
@@ -130,8 +134,10 @@ admission_rules attempt over tx =
     ++ (coin_value_rules (tip_of over.chain + 1) 0 coins
     ++ (balance_rules (coins_value coins) (outputs_value tx)
     ++ (report_rules answers tx
-    ++ (payment_rules attempt over.floor (coins_value coins - outputs_value tx) (vsize_of (sigop_cost answers tx.outputs) tx)
-    ++ verdict_rules over.verdicts (wtxid_of tx) 0 tx.inputs))))))))
+    ++ (payment_rules attempt over.floor fee vsize
+    ++ (limit_rules over.entries tx vsize
+    ++ (replacement_rules over.entries tx fee vsize
+    ++ verdict_rules over.verdicts (wtxid_of tx) 0 tx.inputs))))))))))
 
 -- what a grant says of a transaction
 unfoldable pub grant_of : Standing → Tx → Grant
@@ -140,7 +146,7 @@ grant_of over tx =
     record {
       fee = coins_value coins - outputs_value tx;
       vsize = vsize_of (sigop_cost (reported tx.inputs coins) tx.outputs) tx;
-      replaced = 0;
+      replaced = length (replaced_of over.entries tx);
     }
 
 -- the denial by A1, that there is no transaction, or by the rules on a transaction alone

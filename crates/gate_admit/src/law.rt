@@ -1,5 +1,5 @@
 //! Laws of admission, in words apart from its rules.
-ghost use Rattle.gate_admit.specs.Laws.{DecisionsFollow, GrantsAreSound, PoolsStayGood};
+ghost use Rattle.gate_admit.specs.Laws.{DecisionsFollow, GrantsAreSound, PoolsStayGood, ReplacementsPay};
 
 /// Each decision follows the written order: a grant says that no rule fails, and a denial names a rule that fails with
 /// none failing before it.
@@ -7,14 +7,22 @@ pub fn decisions_follow_the_order()
     ensures { DecisionsFollow }
 {}
 
-/// Each grant spends live coins: one for each input, no two alike, that no entry spends, mature, and with their locks met.
-/// What they hold is what the outputs hold and the fee, and the fee pays for the size.
+/// Each grant spends live coins: one for each input, no two alike, that no entry spends which stays, mature, and with their
+/// locks met. What they hold is what the outputs hold and the fee, and the fee pays for the size.
 pub fn grants_are_sound()
     ensures { GrantsAreSound }
 {}
 
-/// Whatever is submitted: no two entries share an id, no outpoint is spent twice, each input has a coin, and no entry has
-/// the txid of a coin that the chain was opened with, or of a connected block's transaction.
+/// What BIP 125 is for: a granted transaction that conflicts with entries pays at least the fees of all that it replaces,
+/// and above these for its own relay; its rate is above that of each entry that it conflicts with; and no entry that stays
+/// spends an output of one that goes.
+pub fn replacements_pay()
+    ensures { ReplacementsPay }
+{}
+
+/// Whatever is submitted: no two entries share an id, no outpoint is spent twice, each input has a coin, no entry has the
+/// txid of a coin that the chain was opened with, or of a connected block's transaction, and each entry's ancestors and
+/// descendants are few and small.
 pub fn pools_stay_good()
     ensures { PoolsStayGood }
 {}

@@ -1,0 +1,135 @@
+-- Limits of families, over ids and over parts of a pool.
+use Rattle.std.proofs.Common.{not, None, ◌≡◌, ◌≢◌, ℕ, ◌+◌, ◌<◌, ◌≤◌, Bool, true, false, cond, ◌&&◌, ◌||◌, List, [], ◌∷◌, length, refl, sym, ap, ◌∙◌, subst, ◌⊎◌, inl, inr, arith}
+use Rattle.std.specs.Prelude.{Contains, filter, sum_by, nat_le, ◌==◌}
+use Rattle.std.specs.List.{list_all, list_any}
+use Rattle.std.proofs.lemmas.Bool.{and_from, and_parts, true≢false}
+use Rattle.std.proofs.lemmas.Bool.Decides.{nat_tests}
+use Rattle.std.proofs.lemmas.List.Sums.{sum_by-cons}
+use Rattle.gate_bytes.specs.Order.{first_failing}
+use Rattle.gate_tx.specs.Ids.{txid_of}
+use Rattle.gate_tx.specs.Tx.{Tx}
+use Rattle.gate_graph.proofs.Members.{Contains-cons_cases, Contains-head, Contains-rest, not_in_none, list_any_of}
+use Rattle.gate_graph.specs.Family.{reaches}
+use Rattle.gate_standard.specs.declared.Denial.TheVariants.{TooLongChain, SpendsConflicting}
+use Rattle.gate_pool.specs.Pool.{Admitted, has_txid, size_of}
+use Rattle.gate_pool.specs.Family.{steps, all_below, descendants_of, ancestors_above, conflicts_of, is_below_some, is_conflict, AreIdsOf}
+use Rattle.gate_pool.proofs.Adding.{passed, length-ones}
+use Rattle.gate_pool.proofs.Ids.{descendants_of_one}
+use Rattle.gate_pool.proofs.Walking.{Contains-from_filter}
+use Rattle.gate_admit.specs.declared.limits.FamilyLimits.{FamilyLimits}
+use Rattle.gate_admit.specs.Limits.{grown, usual_limits, carved_out, has_room, has_room_below, is_within, fits_families, limit_rules}
+
+-- what passes a test weighs no more than what passes a wider one
+pub lighter : {X : Type 0} (w : X → ℕ) (p q : X → Bool) (xs : List X) → ((x : X) → Contains xs x → p x ≡ true → q x ≡ true) → sum_by w (filter p xs) ≤ sum_by w (filter q xs)
+lighter w p q [] h = omega arith
+lighter {X} w p q (x ∷ xs) h = go (p x) (q x) (h x (Contains-head x xs)) (lighter w p q xs (λ y c. h y (Contains-rest x xs y c)))
+  where
+    go : (a b : Bool) → (a ≡ true → b ≡ true) → sum_by w (filter p xs) ≤ sum_by w (filter q xs) → sum_by w (cond a (x ∷ filter p xs) (filter p xs)) ≤ sum_by w (cond b (x ∷ filter q xs) (filter q xs))
+    go true true k ih = omega (arith, ih, sum_by-cons w x (filter p xs), sum_by-cons w x (filter q xs))
+    go true false k ih = absurd (true≢false (sym (k refl)))
+    go false true k ih = omega (arith, ih, sum_by-cons w x (filter q xs))
+    go false false k ih = ih
+
+pub fewer : {X : Type 0} (p q : X → Bool) (xs : List X) → ((x : X) → Contains xs x → p x ≡ true → q x ≡ true) → length (filter p xs) ≤ length (filter q xs)
+fewer {X} p q xs h = omega (arith, lighter (λ (x : X). 1) p q xs h, length-ones (filter p xs), length-ones (filter q xs))
+
+pub list_all_of : {X : Type 0} (p : X → Bool) (xs : List X) → ((x : X) → Contains xs x → p x ≡ true) → list_all p xs ≡ true
+list_all_of p [] h = refl
+list_all_of p (x ∷ xs) h = and_from _ _ (h x (Contains-head x xs)) (list_all_of p xs (λ y c. h y (Contains-rest x xs y c)))
+
+pub list_all_not : {X : Type 0} (p : X → Bool) (xs : List X) (x : X) → Contains xs x → p x ≡ false → list_all p xs ≡ false
+list_all_not p [] x c h = not_in_none x c
+list_all_not {X} p (y ∷ xs) x c h = go (p y) (λ same. ap p same ∙ h) (λ k. list_all_not p xs x k h) (Contains-cons_cases y xs x c)
+  where
+    go : (b : Bool) → (y ≡ x → b ≡ false) → (Contains xs x → list_all p xs ≡ false) → (y ≡ x) ⊎ Contains xs x → (b && list_all p xs) ≡ false
+    go true k ih (inl same) = absurd (true≢false (k same))
+    go true k ih (inr m) = ih m
+    go false k ih c = refl
+
+-- ---- room below an entry
+
+-- fewer entries have room where more do
+pub room_for_fewer : (limits : FamilyLimits) (vsize : ℕ) (p q : Admitted → Bool) (entries : List Admitted) → ((x : Admitted) → Contains entries x → p x ≡ true → q x ≡ true) → has_room limits vsize (filter q entries) ≡ true
+    → has_room limits vsize (filter p entries) ≡ true
+room_for_fewer limits vsize p q entries h room =
+    let parts = and_parts _ _ room in
+    let count = fewer p q entries h in
+    let size : size_of (filter p entries) ≤ size_of (filter q entries) = lighter (λ (e : Admitted). e.vsize) p q entries h in
+    and_from _ _ (le (length (filter p entries) + 1) (length (filter q entries) + 1) limits.descendants (omega (arith, count)) parts.0)
+    (le (size_of (filter p entries) + vsize) (size_of (filter q entries) + vsize) limits.descendants_size (omega (arith, size)) parts.1)
+  where
+    le : (a b c : ℕ) → a ≤ b → nat_le b c ≡ true → nat_le a c ≡ true
+    le a b c h k = grind (arith, nat_tests)
+
+-- where there is room below all, there is room below each
+pub room_for_all : (limits : FamilyLimits) (entries : List Admitted) (vsize : ℕ) (test : Admitted → Bool) → has_room limits vsize (all_below test entries) ≡ true → list_all (has_room_below limits entries vsize) (filter test entries) ≡ true
+room_for_all limits entries vsize test room = list_all_of (has_room_below limits entries vsize) (filter test entries) (λ a c.
+    room_for_fewer limits vsize (λ e. reaches (steps entries) (txid_of a.tx) (txid_of e.tx)) (is_below_some test entries) entries
+    (λ x m r. list_any_of (λ b. test b && reaches (steps entries) (txid_of b.tx) (txid_of x.tx)) entries a (Contains-from_filter test entries a c) (and_from _ _ (passed test entries a c) r)) room)
+
+-- more than the limit have no room for one more
+pub no_room : (limits : FamilyLimits) (vsize : ℕ) (family : List Admitted) → limits.descendants < length family → has_room limits vsize family ≡ false
+no_room limits vsize family many = ap (λ b. b && nat_le (size_of family + vsize) limits.descendants_size) (too_many (length family) limits.descendants many)
+  where
+    too_many : (n m : ℕ) → m < n → nat_le (n + 1) m ≡ false
+    too_many n m h = grind (arith, nat_tests)
+
+-- what is below an id is what is below its entry
+pub below_one : (entries : List Admitted) (a : Admitted) (txid : List ℕ) → Contains entries a → txid_of a.tx ≡ txid → all_below (λ x. has_txid x txid) entries ≡ descendants_of entries (txid_of a.tx)
+below_one entries a txid m is = ap (λ t. all_below (λ x. has_txid x t) entries) (sym is) ∙ descendants_of_one entries a m
+
+-- ---- the tries
+
+-- beside more or fewer conflicts than one nothing grows
+pub grown-other : (entries direct : List Admitted) (limits : FamilyLimits) → ((c : Admitted) → direct ≢ c ∷ []) → grown entries direct limits ≡ limits
+grown-other entries [] limits h = refl
+grown-other entries (c ∷ []) limits h = absurd (h c refl)
+grown-other entries (c ∷ d ∷ rest) limits h = refl
+
+grown_ancestors : (entries direct : List Admitted) (limits : FamilyLimits) → (grown entries direct limits).ancestors ≡ limits.ancestors
+grown_ancestors entries [] limits = refl
+grown_ancestors entries (c ∷ []) limits = refl
+grown_ancestors entries (c ∷ d ∷ rest) limits = refl
+
+-- more ancestors than there may be
+too_many_above : (limits : FamilyLimits) (entries above : List Admitted) (vsize : ℕ) → limits.ancestors < length above + 1 → is_within limits entries above vsize ≡ false
+too_many_above limits entries above vsize h =
+    ap (λ b. b && ((length above == 0 || nat_le (size_of above + vsize) limits.ancestors_size) && list_all (has_room_below limits entries vsize) above)) (too_many (length above) limits.ancestors h)
+  where
+    too_many : (n m : ℕ) → m < n + 1 → nat_le (n + 1) m ≡ false
+    too_many n m h = grind (arith, nat_tests)
+
+pub no_try : (entries : List Admitted) (tx : Tx) (vsize : ℕ) → 25 < length (ancestors_above entries tx.inputs) → fits_families entries tx vsize ≡ false
+no_try entries tx vsize many =
+    let above = ancestors_above entries tx.inputs in
+    let limits = grown entries (conflicts_of entries tx) usual_limits in
+    let first : is_within limits entries above vsize ≡ false = too_many_above limits entries above vsize (omega (arith, many, grown_ancestors entries (conflicts_of entries tx) usual_limits)) in
+    let second : is_within (carved_out limits) entries above vsize ≡ false = too_many_above (carved_out limits) entries above vsize (omega (arith, many)) in
+    ap (λ b. b || (nat_le vsize 10000 && is_within (carved_out limits) entries above vsize)) first ∙ ap (λ b. nat_le vsize 10000 && b) second ∙ and-false (nat_le vsize 10000)
+  where
+    and-false : (b : Bool) → (b && false) ≡ false
+    and-false true = refl
+    and-false false = refl
+
+-- a transaction without ancestors in the pool
+pub alone_fits : (entries : List Admitted) (tx : Tx) (vsize : ℕ) → ancestors_above entries tx.inputs ≡ [] → fits_families entries tx vsize ≡ true
+alone_fits entries tx vsize none =
+    let limits = grown entries (conflicts_of entries tx) usual_limits in
+    let within : is_within limits entries [] vsize ≡ true = ap (λ n. nat_le 1 n && true) (grown_ancestors entries (conflicts_of entries tx) usual_limits) in
+    ap (λ l. is_within limits entries l vsize || (nat_le vsize 10000 && is_within (carved_out limits) entries l vsize)) none
+    ∙ ap (λ b. b || (nat_le vsize 10000 && is_within (carved_out limits) entries [] vsize)) within
+
+pub none_are : (entries : List Admitted) → AreIdsOf [] entries → entries ≡ []
+none_are [] h = refl
+none_are (e ∷ entries) h = not_in_none (txid_of e.tx) (h.all e (Contains-head e entries))
+
+-- what the second try says where the first failed
+pub second_try : (first small second : Bool) → first ≡ false → small ≡ true → second ≡ (first || (small && second))
+second_try first small second h k = sym (ap (λ b. b || (small && second)) h ∙ ap (λ b. b && second) k)
+
+-- no rule on families fails of a transaction without ancestors in the pool
+pub alone_passes : (entries : List Admitted) (tx : Tx) (vsize : ℕ) → ancestors_above entries tx.inputs ≡ [] → first_failing (limit_rules entries tx vsize) ≡ None
+unfolding limit_rules
+alone_passes entries tx vsize none =
+    ap (λ b. first_failing ((TooLongChain, not b) ∷ (SpendsConflicting, list_any (is_conflict tx) (ancestors_above entries tx.inputs)) ∷ [])) (alone_fits entries tx vsize none)
+    ∙ ap (λ l. first_failing ((SpendsConflicting, list_any (is_conflict tx) l) ∷ [])) none

@@ -1,0 +1,60 @@
+-- Families are within their limits once a transaction entered that had room.
+use Rattle.std.proofs.Common.{◌≡◌, ◌≢◌, ◌≤◌, ◌+◌, Bool, true, false, List, length, arith, ⊎_elim}
+use Rattle.std.specs.Prelude.{Contains, filter}
+use Rattle.std.proofs.lemmas.Bool.{cases_Bool}
+use Rattle.gate_tx.specs.Ids.{txid_of}
+use Rattle.gate_graph.specs.Family.{reaches}
+use Rattle.gate_pool.specs.Pool.{Admitted, size_of}
+use Rattle.gate_pool.specs.Family.{steps, is_below_some, is_conflict, ancestors_of, descendants_of, ancestors_above, entered}
+use Rattle.gate_pool.proofs.Entries.{Id}
+use Rattle.gate_admit.specs.Good.{IsLimited}
+use Rattle.gate_admit.proofs.Childless.{IsChildless, sum_above_new, sum_below_new, sum_above_old, sum_below_old, sum_below_apart}
+use Rattle.gate_admit.proofs.Filtering.{length_ones}
+
+-- beside the descendants of an id there is room for a transaction, where some of them go
+pub record HasRoom (entries : List Admitted) (e : Admitted) (b : Id) : Type 0 where
+  pub gone : Admitted → Bool
+  pub under : (a : Admitted) → Contains entries a → gone a ≡ true → reaches (steps entries) b (txid_of a.tx) ≡ true
+  pub goes : (a : Admitted) → Contains entries a → gone a ≡ true → is_below_some (is_conflict e.tx) entries a ≡ true
+  pub count : length (descendants_of entries b) ≤ 25 + length (filter gone entries)
+  pub size : size_of (descendants_of entries b) + e.vsize ≤ 111000 + size_of (filter gone entries)
+
+-- above a transaction there is room for it
+pub record HasRoomAbove (entries : List Admitted) (e : Admitted) : Type 0 where
+  pub count : length (ancestors_above entries e.tx.inputs) ≤ 24
+  pub size : size_of (ancestors_above entries e.tx.inputs) + e.vsize ≤ 101000
+
+-- the family of what enters
+pub limited_new : {entries : List Admitted} {e : Admitted} → IsChildless entries e → HasRoomAbove entries e → IsLimited (entered entries e) (txid_of e.tx)
+limited_new {entries} {e} h room =
+    let after = entered entries e in
+    record {
+      ancestors = omega (arith, room.count, sum_above_new h (λ (a : Admitted). 1), length_ones (ancestors_of after (txid_of e.tx)), length_ones (ancestors_above entries e.tx.inputs));
+      ancestors_size = omega (arith, room.size, sum_above_new h (λ (a : Admitted). a.vsize));
+      descendants = omega (arith, sum_below_new h (λ (a : Admitted). 1), length_ones (descendants_of after (txid_of e.tx)));
+      descendants_size = omega (arith, room.size, sum_below_new h (λ (a : Admitted). a.vsize));
+    }
+
+-- the families of what stays
+pub limited_old : {entries : List Admitted} {e : Admitted} → IsChildless entries e → (b : Id) → b ≢ txid_of e.tx → IsLimited entries b
+    → (reaches (steps (entered entries e)) b (txid_of e.tx) ≡ true → HasRoom entries e b) → IsLimited (entered entries e) b
+limited_old {entries} {e} h b ne old room =
+    let after = entered entries e in
+    let above_count : length (ancestors_of after b) ≤ 25 = omega (arith, old.ancestors, sum_above_old h (λ (a : Admitted). 1) b ne, length_ones (ancestors_of after b), length_ones (ancestors_of entries b)) in
+    let above_size : size_of (ancestors_of after b) ≤ 101000 = omega (arith, old.ancestors_size, sum_above_old h (λ (a : Admitted). a.vsize) b ne) in
+    ⊎_elim
+    (λ (r : reaches (steps after) b (txid_of e.tx) ≡ true).
+    let w = room r in
+    record {
+      ancestors = above_count;
+      ancestors_size = above_size;
+      descendants = omega (arith, w.count, sum_below_old h (λ (a : Admitted). 1) b w.gone w.under w.goes, length_ones (descendants_of after b), length_ones (descendants_of entries b), length_ones (filter w.gone entries));
+      descendants_size = omega (arith, w.size, sum_below_old h (λ (a : Admitted). a.vsize) b w.gone w.under w.goes);
+    })
+    (λ (r : reaches (steps after) b (txid_of e.tx) ≡ false). record {
+      ancestors = above_count;
+      ancestors_size = above_size;
+      descendants = omega (arith, old.descendants, sum_below_apart h (λ (a : Admitted). 1) b r, length_ones (descendants_of after b), length_ones (descendants_of entries b));
+      descendants_size = omega (arith, old.descendants_size, sum_below_apart h (λ (a : Admitted). a.vsize) b r);
+    })
+    (cases_Bool (reaches (steps after) b (txid_of e.tx)))

@@ -1,0 +1,182 @@
+-- What A36 and A40 leave room for: few and small ancestors, and each of them with few and small descendants.
+use Rattle.std.proofs.Common.{◌≡◌, ◌≤◌, ◌+◌, ℕ, Bool, true, false, not, ◌&&◌, ◌||◌, List, [], ◌∷◌, length, refl, sym, ◌∙◌, subst, arith, ◌⊎◌, inl, inr, ⊎_elim}
+use Rattle.std.specs.Prelude.{Contains, filter, is_some, nat_le, ◌==◌}
+use Rattle.std.specs.List.{list_any, list_all}
+use Rattle.std.specs.Cmp.Lexicographic.{bytes_decides}
+use Rattle.std.proofs.lemmas.Bool.{true≢false, and_parts, and_from, or_cases, leb-true, eqb-true, not-false}
+use Rattle.std.proofs.lemmas.List.Elements.{All-contains, filter_passes}
+use Rattle.gate_bytes.specs.Order.{NoneFails}
+use Rattle.gate_tx.specs.declared.TxIn.{TxIn}
+use Rattle.gate_tx.specs.Ids.{txid_of}
+use Rattle.gate_tx.specs.Tx.{Tx}
+use Rattle.gate_graph.specs.Family.{reaches, Leads, here, down}
+use Rattle.gate_graph.proofs.Members.{Contains-cons_cases, Contains-head, not_in_none, any_is, list_any_of}
+use Rattle.gate_graph.proofs.Reaching.{reaches-same, reaches_trans, reaches_step, Leads_from_reaches}
+use Rattle.gate_pool.specs.Pool.{Admitted, has_txid, entry_by_txid, size_of}
+use Rattle.gate_pool.specs.Family.{names, steps, is_conflict, conflicts_of, ancestors_above, descendants_of}
+use Rattle.gate_pool.proofs.Entries.{Id, step_entry}
+use Rattle.gate_pool.proofs.Walking.{Contains-filter, Contains-from_filter}
+use Rattle.gate_rbf.specs.Replacing.{adds_parent, rules_beside}
+use Rattle.gate_rbf.proofs.Conflicting.{is_some-find}
+use Rattle.gate_admit.specs.declared.limits.FamilyLimits.{FamilyLimits}
+use Rattle.gate_admit.specs.Limits.{grown, usual_limits, carved_out, has_room_below, is_within, limit_rules}
+use Rattle.gate_admit.proofs.Filtering.{list_all_of}
+use Rattle.gate_admit.proofs.Limited.{HasRoom, HasRoomAbove}
+use Rattle.gate_admit.proofs.Lists.{none_pass}
+use Rattle.gate_admit.proofs.Staying.{named_step}
+
+-- ---- within limits
+
+record IsWithin (limits : FamilyLimits) (entries above : List Admitted) (vsize : ℕ) : Type 0 where
+  pub count : length above + 1 ≤ limits.ancestors
+  pub size : (length above ≡ 0) ⊎ (size_of above + vsize ≤ limits.ancestors_size)
+  pub room : (a : Admitted) → Contains above a
+      → (length (descendants_of entries (txid_of a.tx)) + 1 ≤ limits.descendants) × (size_of (descendants_of entries (txid_of a.tx)) + vsize ≤ limits.descendants_size)
+
+room_of : (limits : FamilyLimits) (entries above : List Admitted) (vsize : ℕ) → list_all (has_room_below limits entries vsize) above ≡ true → (a : Admitted) → Contains above a
+    → (length (descendants_of entries (txid_of a.tx)) + 1 ≤ limits.descendants) × (size_of (descendants_of entries (txid_of a.tx)) + vsize ≤ limits.descendants_size)
+room_of limits entries above vsize h a m =
+    let parts = and_parts _ _ (list_all_of (has_room_below limits entries vsize) above a h m) in
+    (leb-true _ _ parts.0, leb-true _ _ parts.1)
+
+within : (limits : FamilyLimits) (entries above : List Admitted) (vsize : ℕ) → is_within limits entries above vsize ≡ true → IsWithin limits entries above vsize
+within limits entries above vsize h =
+    let parts = and_parts (nat_le (length above + 1) limits.ancestors) _ h in
+    let rest = and_parts (length above == 0 || nat_le (size_of above + vsize) limits.ancestors_size) (list_all (has_room_below limits entries vsize) above) parts.1 in
+    record {
+      count = leb-true _ _ parts.0;
+      size = ⊎_elim (λ k. inl (eqb-true _ _ k)) (λ k. inr (leb-true _ _ k)) (or_cases (length above == 0) (nat_le (size_of above + vsize) limits.ancestors_size) rest.0);
+      room = room_of limits entries above vsize rest.1;
+    }
+
+-- one of the two tries succeeds
+tried : (entries : List Admitted) (tx : Tx) (vsize : ℕ) → NoneFails (limit_rules entries tx vsize)
+    → IsWithin (grown entries (conflicts_of entries tx) usual_limits) entries (ancestors_above entries tx.inputs) vsize
+    ⊎ IsWithin (carved_out (grown entries (conflicts_of entries tx) usual_limits)) entries (ancestors_above entries tx.inputs) vsize
+unfolding limit_rules
+tried entries tx vsize h =
+    let above = ancestors_above entries tx.inputs in
+    let limits = grown entries (conflicts_of entries tx) usual_limits in
+    ⊎_elim (λ k. inl (within limits entries above vsize k)) (λ k. inr (within (carved_out limits) entries above vsize (and_parts _ _ k).1))
+    (or_cases (is_within limits entries above vsize) _ (not-false _ h.0))
+
+-- ---- above
+
+grown_above : (entries conflicts : List Admitted) → ((grown entries conflicts usual_limits).ancestors ≡ 25) × ((grown entries conflicts usual_limits).ancestors_size ≡ 101000)
+grown_above entries [] = (refl, refl)
+grown_above entries (c ∷ []) = (refl, refl)
+grown_above entries (c ∷ d ∷ rest) = (refl, refl)
+
+nothing_above : (above : List Admitted) → length above ≡ 0 → size_of above ≡ 0
+nothing_above [] h = refl
+nothing_above (a ∷ above) h = absurd (omega (arith, h))
+
+small_above : (above : List Admitted) (vsize limit : ℕ) → limit ≤ 101000 → vsize ≤ 100000 → (length above ≡ 0) ⊎ (size_of above + vsize ≤ limit) → size_of above + vsize ≤ 101000
+small_above above vsize limit low small h =
+    ⊎_elim (λ (e : length above ≡ 0). omega (arith, nothing_above above e, small)) (λ (k : size_of above + vsize ≤ limit). omega (arith, k, low)) h
+
+-- the ancestors of a transaction are few and small
+pub room_above : (entries : List Admitted) (e : Admitted) → e.vsize ≤ 100000 → NoneFails (limit_rules entries e.tx e.vsize) → HasRoomAbove entries e
+room_above entries e small h =
+    let above = ancestors_above entries e.tx.inputs in
+    let limits = grown entries (conflicts_of entries e.tx) usual_limits in
+    let same = grown_above entries (conflicts_of entries e.tx) in
+    ⊎_elim
+    (λ (w : IsWithin limits entries above e.vsize). record { count = omega (arith, w.count, same.0); size = small_above above e.vsize limits.ancestors_size (omega (arith, same.1)) small w.size })
+    (λ (w : IsWithin (carved_out limits) entries above e.vsize). record { count = omega (arith, w.count); size = small_above above e.vsize 101000 (omega arith) small w.size })
+    (tried entries e.tx e.vsize h)
+
+-- ---- below each of them
+
+-- each ancestor's descendants, with the transaction, are within the limits of one of the tries
+room_below : (entries : List Admitted) (tx : Tx) (vsize : ℕ) → NoneFails (limit_rules entries tx vsize) → (conflicts : List Admitted) → conflicts_of entries tx ≡ conflicts → (a : Admitted) → Contains (ancestors_above entries tx.inputs) a
+    → (length (descendants_of entries (txid_of a.tx)) ≤ (grown entries conflicts usual_limits).descendants)
+    × (size_of (descendants_of entries (txid_of a.tx)) + vsize ≤ (grown entries conflicts usual_limits).descendants_size + 10000)
+room_below entries tx vsize h conflicts is a m =
+    let above = ancestors_above entries tx.inputs in
+    let limits = grown entries (conflicts_of entries tx) usual_limits in
+    subst (λ (cs : List Admitted). (length (descendants_of entries (txid_of a.tx)) ≤ (grown entries cs usual_limits).descendants) × (size_of (descendants_of entries (txid_of a.tx)) + vsize ≤ (grown entries cs usual_limits).descendants_size + 10000)) is
+    (⊎_elim
+    (λ (w : IsWithin limits entries above vsize). let r = w.room a m in (omega (arith, r.0), omega (arith, r.1)))
+    (λ (w : IsWithin (carved_out limits) entries above vsize). let r = w.room a m in (omega (arith, r.0), omega (arith, r.1)))
+    (tried entries tx vsize h))
+
+-- what is reached from an entry is an entry
+reached_entry : (entries : List Admitted) {a b : Id} → Leads (steps entries) a b → (a ≡ b) ⊎ ((w : Admitted) × Contains entries w × (txid_of w.tx ≡ b))
+reached_entry entries here = inl refl
+reached_entry entries (down {a = a} {b = c} s l) =
+    ⊎_elim (λ same. let w = step_entry entries a c s in inr (w.entry, w.member, w.child ∙ same)) (λ w. inr w) (reached_entry entries l)
+
+is_entry : (entries : List Admitted) (a : Admitted) (b : Id) → Contains entries a → reaches (steps entries) (txid_of a.tx) b ≡ true → is_some (entry_by_txid entries b) ≡ true
+is_entry entries a b m r =
+    let w : (w : Admitted) × Contains entries w × (txid_of w.tx ≡ b) = ⊎_elim (λ same. (a, m, same)) (λ w. w) (reached_entry entries (Leads_from_reaches (steps entries) (txid_of a.tx) b r)) in
+    is_some-find (λ (x : Admitted). has_txid x b) entries ∙ list_any_of (λ (x : Admitted). has_txid x b) entries w.0 w.1 ((bytes_decides (txid_of w.0.tx) b).1 w.2)
+
+-- a parent in the pool is one of a conflict's too (A40)
+shared_parent : (found named : Bool) → (found && not named) ≡ false → found ≡ true → named ≡ true
+shared_parent true true h e = refl
+shared_parent true false h e = sym h
+shared_parent false named h e = absurd (true≢false (sym e))
+
+-- A40, where a transaction conflicts with entries
+pub no_parent_added : (entries : List Admitted) (tx : Tx) (direct : List Admitted) (paid fee vsize : ℕ) → NoneFails (rules_beside entries direct paid tx fee vsize) → list_any (adds_parent entries direct) tx.inputs ≡ false
+unfolding rules_beside
+no_parent_added entries tx direct paid fee vsize h = h.1.1.0
+
+-- an ancestor of a transaction that conflicts with one entry alone is an ancestor of this
+above_conflict : (entries : List Admitted) (tx : Tx) (c a : Admitted) → conflicts_of entries tx ≡ c ∷ [] → list_any (adds_parent entries (conflicts_of entries tx)) tx.inputs ≡ false
+    → Contains (ancestors_above entries tx.inputs) a → reaches (steps entries) (txid_of a.tx) (txid_of c.tx) ≡ true
+above_conflict entries tx c a is none m =
+    let test : Admitted → Bool = λ x. list_any (λ (i : TxIn). reaches (steps entries) (txid_of x.tx) i.prevout.txid) tx.inputs in
+    let member : Contains entries a = Contains-from_filter test entries a m in
+    let i = any_is (λ (i : TxIn). reaches (steps entries) (txid_of a.tx) i.prevout.txid) tx.inputs (All-contains (λ (x : Admitted). test x ≡ true) (filter test entries) a (filter_passes test entries) m) in
+    let named = shared_parent _ _ (All-contains (λ (j : TxIn). adds_parent entries (conflicts_of entries tx) j ≡ false) tx.inputs i.0 (none_pass (adds_parent entries (conflicts_of entries tx)) tx.inputs none) i.1)
+    (is_entry entries a i.0.prevout.txid member i.2) in
+    let w = any_is (λ (x : Admitted). names x i.0.prevout.txid) (conflicts_of entries tx) named in
+    let same : c ≡ w.0 = ⊎_elim (λ (e : c ≡ w.0). e) (λ k. not_in_none w.0 k) (Contains-cons_cases c [] w.0 (subst (λ (l : List Admitted). Contains l w.0) is w.1)) in
+    let child : names c i.0.prevout.txid ≡ true = subst (λ (x : Admitted). names x i.0.prevout.txid ≡ true) (sym same) w.2 in
+    let stands : Contains entries c = subst (Contains entries) (sym same) (Contains-from_filter (is_conflict tx) entries w.0 w.1) in
+    reaches_trans (steps entries) (txid_of a.tx) i.0.prevout.txid (txid_of c.tx) i.2 (reaches_step (steps entries) i.0.prevout.txid (txid_of c.tx) (named_step entries c i.0.prevout.txid stands child))
+
+some_member : {X : Type 0} (xs : List X) (x : X) → Contains xs x → 1 ≤ length xs
+some_member xs x m = let l = m.1 in omega arith
+
+-- beside no conflict, or several, the usual limits hold
+room_usual : (entries : List Admitted) (e : Admitted) (b : Id) → length (descendants_of entries b) ≤ 25 → size_of (descendants_of entries b) + e.vsize ≤ 101000 + 10000 → HasRoom entries e b
+room_usual entries e b count size = record {
+  gone = λ a. false;
+  under = λ a m t. absurd (true≢false (sym t));
+  goes = λ a m t. absurd (true≢false (sym t));
+  count = omega (arith, count);
+  size = omega (arith, size);
+}
+
+-- beside one conflict they grow, and it goes with its descendants
+room_grown : (entries : List Admitted) (e c : Admitted) (b : Id) → Contains entries c → is_conflict e.tx c ≡ true → reaches (steps entries) b (txid_of c.tx) ≡ true
+    → length (descendants_of entries b) ≤ 25 + 1 → size_of (descendants_of entries b) + e.vsize ≤ (101000 + size_of (descendants_of entries (txid_of c.tx))) + 10000 → HasRoom entries e b
+room_grown entries e c b m conflicts above count size =
+    let itself = some_member (descendants_of entries (txid_of c.tx)) c (Contains-filter (λ (a : Admitted). reaches (steps entries) (txid_of c.tx) (txid_of a.tx)) entries c m (reaches-same (steps entries) (txid_of c.tx))) in
+    record {
+      gone = λ a. reaches (steps entries) (txid_of c.tx) (txid_of a.tx);
+      under = λ a k r. reaches_trans (steps entries) b (txid_of c.tx) (txid_of a.tx) above r;
+      goes = λ a k r. list_any_of (λ (x : Admitted). is_conflict e.tx x && reaches (steps entries) (txid_of x.tx) (txid_of a.tx)) entries c m (and_from _ _ conflicts r);
+      count = omega (arith, count, itself);
+      size = omega (arith, size);
+    }
+
+-- each ancestor has room for a transaction
+pub room_at : (entries : List Admitted) (e : Admitted) → NoneFails (limit_rules entries e.tx e.vsize)
+    → (list_any (is_conflict e.tx) entries ≡ true → list_any (adds_parent entries (conflicts_of entries e.tx)) e.tx.inputs ≡ false)
+    → (a : Admitted) → Contains (ancestors_above entries e.tx.inputs) a → HasRoom entries e (txid_of a.tx)
+room_at entries e limits parents a m = go (conflicts_of entries e.tx) refl
+  where
+    go : (conflicts : List Admitted) → conflicts_of entries e.tx ≡ conflicts → HasRoom entries e (txid_of a.tx)
+    go [] is = let r = room_below entries e.tx e.vsize limits [] is a m in room_usual entries e (txid_of a.tx) r.0 r.1
+    go (c ∷ []) is =
+        let r = room_below entries e.tx e.vsize limits (c ∷ []) is a m in
+        let among : Contains (conflicts_of entries e.tx) c = subst (λ (l : List Admitted). Contains l c) (sym is) (Contains-head c []) in
+        let member : Contains entries c = Contains-from_filter (is_conflict e.tx) entries c among in
+        let conflicts : is_conflict e.tx c ≡ true = All-contains (λ (x : Admitted). is_conflict e.tx x ≡ true) (conflicts_of entries e.tx) c (filter_passes (is_conflict e.tx) entries) among in
+        let none = parents (list_any_of (is_conflict e.tx) entries c member conflicts) in
+        room_grown entries e c (txid_of a.tx) member conflicts (above_conflict entries e.tx c a is none m) r.0 r.1
+    go (c ∷ d ∷ rest) is = let r = room_below entries e.tx e.vsize limits (c ∷ d ∷ rest) is a m in room_usual entries e (txid_of a.tx) r.0 r.1

@@ -1,0 +1,10 @@
+use Rattle.std.proofs.Common.{◌≡◌, true, take}
+use Rattle.std.specs.Prelude.{Contains}
+use Rattle.gate_tx.specs.Ids.{txid_of}
+use Rattle.gate_pool.specs.Pool.{Admitted}
+use Rattle.gate_admit.specs.Limits.{has_room_below}
+use Rattle.gate_admit.proofs.limits.each_has_room.Given as goal
+
+abbrev pub invariant-loop-txid : goal.invariant-loop-txid
+invariant-loop-txid g l =
+    (a : Admitted) → Contains (g.V.PoolView.entries l.pool) a → Contains (take l.txid-index l.above) (txid_of a.tx) → has_room_below l.limits (g.V.PoolView.entries l.pool) l.vsize a ≡ true
