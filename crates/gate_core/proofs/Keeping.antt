@@ -61,7 +61,7 @@ answered_good w peer served None good done = done
 
 pub opened_good : (o : Start) → IsGoodWorld (opened_world o)
 opened_good o = record {
-  chain = record { coinbases = λ b h. absurd (omega arith); spelled = λ tx h. absurd (omega arith) };
+  chain = record { coinbases = λ b h. absurd (omega arith); spelled = λ tx h. absurd (omega arith); founded = λ b h. absurd (omega arith) };
   pool = empty_good (limits_of (opened_world o)) (opened_world o).chain;
 }
 

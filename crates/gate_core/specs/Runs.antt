@@ -1,9 +1,11 @@
 -- Runs: the step over a list of events, and what holds after every one of them.
-use Rattle.std.specs.Prelude.{◌≡◌, ◌≢◌, ℕ, List, [], ◌∷◌, ◌++◌, take, slice_get, Some}
-use Rattle.std.specs.List.{flat_map, AllPairs}
+use Rattle.std.specs.Prelude.{◌≡◌, ◌≢◌, ℕ, List, [], ◌∷◌, ◌++◌, take, slice_get, Some, IsSome}
+use Rattle.std.specs.List.{All, flat_map, AllPairs}
 use Rattle.gate_tx.specs.declared.OutPoint.{OutPoint}
+use Rattle.gate_tx.specs.Ids.{txid_of}
 use Rattle.gate_pool.specs.Pool.{Admitted, spent_by, listing_of}
-use Rattle.gate_admit.specs.Good.{AreApart}
+use Rattle.gate_admit.specs.Coins.{view_coin}
+use Rattle.gate_admit.specs.Good.{AreApart, IsLimited}
 use Rattle.gate_core.specs.declared.event.Event.{Event}
 use Rattle.gate_core.specs.Opening.{Start}
 use Rattle.gate_core.specs.declared.reply.Reply.{Reply}
@@ -49,3 +51,12 @@ ListsThePool w events =
 -- so it is after any events, from any opening
 abbrev pub RunsKeepThePoolSound : Type 0
 RunsKeepThePoolSound = (o : Start) (events : List Event) → SpendsOnce (run_of (opened_world o) events).1.pool × ListsThePool (opened_world o) events
+
+-- each outpoint that an entry spends has a coin, and the ancestors and descendants of each entry are within the limits
+pub record KeepsFamilies (w : World) : Type 0 where
+  pub coins : All (λ (p : OutPoint). IsSome (view_coin w.chain w.pool p)) (spent_by w.pool)
+  pub limited : All (λ (e : Admitted). IsLimited w.pool (txid_of e.tx)) w.pool
+
+-- so it is after any events, from any opening
+abbrev pub RunsKeepFamilies : Type 0
+RunsKeepFamilies = (o : Start) (events : List Event) → KeepsFamilies (run_of (opened_world o) events).1

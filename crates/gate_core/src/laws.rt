@@ -1,7 +1,7 @@
 //! Laws above the definitions.
 ghost use Rattle.gate_core.specs.Addresses.{AddressesAreDotted};
 ghost use Rattle.gate_core.specs.Access.{AccessFollowsTheOrder};
-ghost use Rattle.gate_core.specs.Runs.{RunsKeepThePoolSound, StepsGiveTheRun};
+ghost use Rattle.gate_core.specs.Runs.{RunsKeepFamilies, RunsKeepThePoolSound, StepsGiveTheRun};
 ghost use Rattle.gate_core.specs.SessionLaws.{ClosedStaysClosed, DenialsLeaveThePool, PeersAreSeparate};
 
 /// A text spells an address just where it is what is printed for it.
@@ -41,4 +41,10 @@ pub fn denials_leave_the_pool()
 /// listing among the replies has exactly the txids of the pool at that point, in order of admission.
 pub fn runs_keep_the_pool_sound()
     ensures { RunsKeepThePoolSound }
+{}
+
+/// After any events, from any opening: each input of each entry has a coin, and each entry has at most 25 ancestors of
+/// 101,000 virtual bytes and 26 descendants of 111,000, itself among each.
+pub fn runs_keep_families()
+    ensures { RunsKeepFamilies }
 {}
