@@ -8,7 +8,7 @@
 # rows/      worked rows: input, output and status of one run each
 # tests/     the program's own tests: what no contract can see, and random streams next to a plain model
 # bench/     the streams and figures of make bench
-# examples/  what the examples in the help read
+# examples/  what the examples in the help read, and a replacement
 # tools/     what stands behind these words
 .PHONY: gate demo check test try bench build
 

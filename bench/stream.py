@@ -29,9 +29,15 @@ def count_of(number):
     return number.to_bytes(1, "little").hex() if number < 253 else "fd" + number.to_bytes(2, "little").hex()
 
 
+def outpoint(one):
+    """The outpoint of the coin of a number, or of a hash and an index."""
+    hash, index = one if isinstance(one, tuple) else (hash_of(one), 0)
+    return hash + index.to_bytes(4, "little").hex()
+
+
 def transaction(inputs, values, witness=True):
-    """A transaction in hexadecimal that spends coins by their numbers to outputs of these values."""
-    spent = "".join(hash_of(number) + "00000000" + "00" + "fdffffff" for number in inputs)
+    """A transaction in hexadecimal that spends coins by their numbers, or outputs, to outputs of these values."""
+    spent = "".join(outpoint(one) + "00" + "fdffffff" for one in inputs)
     outputs = "".join(value.to_bytes(8, "little").hex() + "16" + SCRIPT for value in values)
     flag, witnesses = ("0001", WITNESS * len(inputs)) if witness else ("", "")
     return "02000000" + flag + count_of(len(inputs)) + spent + count_of(len(values)) + outputs + witnesses + "00000000"

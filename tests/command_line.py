@@ -3,8 +3,8 @@
 import os
 import subprocess
 
-from bitcoin import padded, payment
-from gate import ROOT, same, true
+from bitcoin import Input, Output, Transaction, WITNESS_KEY_HASH, padded, payment, printed
+from gate import ROOT, lines, same, true
 
 # the transaction of the genesis block
 GENESIS = (
@@ -18,6 +18,7 @@ GENESIS = (
 GENESIS_ID = "4a5e1e4baab89f3a32518a88c31bc87f618f76673e2cc77ab2127b7afdeda33b"
 GENESIS_CHECK = "%s %s 816\ndenied A11 coinbase\n" % (GENESIS_ID, GENESIS_ID)
 UNDECODABLE = b"denied A1 tx-decode\n"
+COIN = b"\x11" * 32
 
 
 def ends(gate, words, stdin, status, stdout):
@@ -100,6 +101,40 @@ def test_examples_in_the_help(gate):
         same("status of " + command, done.returncode, wanted[command])
         same("standard error of " + command, done.stderr, b"")
         true("nothing is printed by " + command, done.stdout)
+
+
+def spending(hash, value):
+    return Transaction([Input(hash, witness=[b"\x30" * 72, b"\x02" * 33])], [Output(value)])
+
+
+def replacement():
+    """The events of examples/replacement.txt, each with what is said of it and its reply."""
+    parent = spending(COIN, 99890)
+    child, cheap, dear = spending(parent.hash(), 99780), spending(COIN, 99671), spending(COIN, 99670)
+    granted = "admitted %s fee %d vsize 110 replaced %d"
+    return [
+        ("a peer comes", "enter 192.0.2.1", "entered none"),
+        ("it spends the coin, and says by its sequence that it may be replaced", "tx 5000 " + parent.hex(), granted % (parent.txid(), 110, 0)),
+        ("a child of that", "tx 5001 " + child.hex(), granted % (child.txid(), 110, 0)),
+        ("it spends the coin again: 329 satoshi pay for the two that would go, and one too few for its own 110 bytes", "tx 5002 " + cheap.hex(), "denied A42 keep insufficient fee"),
+        ("with one satoshi more it takes the place of both", "tx 5003 " + dear.hex(), granted % (dear.txid(), 330, 2)),
+        ("and it alone is left", "mempool", "listing 1 " + dear.txid()),
+    ]
+
+
+def replacement_text():
+    """The text of examples/replacement.txt."""
+    opening = ["# a coin is spent, by a parent and its child, and then by one that pays more than both", "times 101 1000 600"]
+    opening += ["coin %s 0 100000 1 plain %s" % (printed(COIN), WITNESS_KEY_HASH.hex()), "verdict * ok", "bloom 1", "---"]
+    return lines(opening) + lines("# %s\npeer 1 %s" % (about, event) for about, event, _ in replacement())
+
+
+def test_example_of_a_replacement(gate):
+    """examples/replacement.txt stands as it is made here, and each event gets the reply that is told."""
+    with open(os.path.join(ROOT, "examples", "replacement.txt")) as file:
+        text = file.read()
+    same("the example", text, replacement_text())
+    ends(gate, "run", text, 0, lines(reply for _, _, reply in replacement()))
 
 
 def test_check_of_other_digits(gate):

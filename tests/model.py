@@ -1,17 +1,25 @@
-"""A plain model of docs/POLICY.md for transactions whose outputs and coins are all version 0 key hashes.
+"""A plain model of docs/POLICY.md for transactions that spend version 0 key hashes alone.
 
-Its inputs have no scripts, so A14 to A16, A18 and A31 to A33 fail nowhere, and sizes stay far below A4 and A13.
+Their outputs are these too, or bare multisig of one key, or they carry data. Their inputs have no scripts, so A14 to A16, A31
+and A32 fail nowhere, and sizes stay far below A4. The pool is a list, and families are found by asking all of it again and
+again.
 """
 
 import os
 import re
 from dataclasses import dataclass, field
 
+from bitcoin import Transaction
 from gate import ROOT
 
 GREATEST_AMOUNT = 2100000000000000
 NULL = (bytes(32), 0xFFFFFFFF)
-CLOSING = ["A%d" % number for number in list(range(2, 12)) + [28, 29, 30, 45]] + ["P6"]
+CLOSING = ["A%d" % number for number in list(range(2, 12)) + [28, 29, 30, 37, 45]] + ["P6"]
+RETURN = 0x6A
+MULTISIG = bytes.fromhex("5121" + "02" * 33 + "51ae")
+LAST_SIGNAL = 0xFFFFFFFD
+SMALL = 10000
+MOST_REPLACED = 100
 
 
 def tokens():
@@ -40,6 +48,66 @@ class Opening:
     bloom: bool = False
 
 
+@dataclass(eq=False)
+class Entry:
+    """A transaction of the pool, and what is asked of it often."""
+
+    tx: Transaction
+    fee: int
+    size: int
+
+    def __post_init__(self):
+        self.hash, self.wtxid = self.tx.hash(), self.tx.wtxid()
+        self.spent = outpoints(self.tx)
+        self.parents = {one.hash for one in self.tx.inputs}
+
+    def signals(self):
+        """Whether it says itself that it may be replaced."""
+        return any(one.sequence <= LAST_SIGNAL for one in self.tx.inputs)
+
+
+@dataclass
+class Limits:
+    """What a family may come to, the transaction itself counted."""
+
+    ancestors: int
+    ancestors_size: int
+    descendants: int
+    descendants_size: int
+
+
+def outpoints(tx):
+    return {(one.hash, one.index) for one in tx.inputs}
+
+
+def carries_data(output):
+    """Such an output is no coin."""
+    return output.script[:1] == bytes([RETURN])
+
+
+def dust(output):
+    """What an output has at least: what it costs to make and to spend it, at 3,000 satoshi per 1,000 bytes."""
+    return 0 if carries_data(output) else 582 if output.script == MULTISIG else 294
+
+
+def cost_of(tx):
+    """The signature operations: one for each input, 80 for each multisig output."""
+    return len(tx.inputs) + 80 * len([output for output in tx.outputs if output.script == MULTISIG])
+
+
+def size_of(entries):
+    return sum(entry.size for entry in entries)
+
+
+def fees_of(entries):
+    return sum(entry.fee for entry in entries)
+
+
+def rate_of(fee, size):
+    """Satoshi per 1,000 virtual bytes."""
+    return fee * 1000 // size
+
+
 class Model:
     def __init__(self, opening):
         self.opening = opening
@@ -66,15 +134,17 @@ class Model:
         refusal = self.refusal(peer) or (None if self.opening.bloom else "P6")
         if refusal:
             return self.denied(refusal, peer)
-        return " ".join(["listing", str(len(self.pool))] + [tx.txid() for tx in self.pool])
+        return " ".join(["listing", str(len(self.pool))] + [entry.tx.txid() for entry in self.pool])
 
     def submit(self, peer, tx):
         """A transaction, or None for bytes that are none."""
         rule = self.refusal(peer) or self.failing(tx)
         if rule:
             return self.denied(rule, peer)
-        self.pool.append(tx)
-        return "admitted %s fee %d vsize %d replaced 0" % (tx.txid(), self.fee(tx), tx.virtual_size(len(tx.inputs)))
+        entry = Entry(tx, self.fee(tx), self.size(tx))
+        replaced = self.below(self.conflicts(tx))
+        self.pool = [one for one in self.pool if one not in replaced] + [entry]
+        return "admitted %s fee %d vsize %d replaced %d" % (tx.txid(), entry.fee, entry.size, len(replaced))
 
     def denied(self, rule, peer):
         closes = rule in CLOSING
@@ -93,12 +163,14 @@ class Model:
         """The first rule that fails."""
         if tx is None:
             return "A1"
-        if any(entry.wtxid() == tx.wtxid() for entry in self.pool):
+        wtxid = tx.wtxid()
+        if any(entry.wtxid == wtxid for entry in self.pool):
             return "P5"
-        return next((rule for rules in (self.alone, self.in_pool_and_chain, self.amounts, self.judged) for rule in rules(tx)), None)
+        order = (self.alone, self.in_pool_and_chain, self.amounts, self.families, self.replacement, self.judged)
+        return next((rule for rules in order for rule in rules(tx)), None)
 
     def alone(self, tx):
-        outpoints = [(one.hash, one.index) for one in tx.inputs]
+        points = [(one.hash, one.index) for one in tx.inputs]
         if not tx.inputs:
             yield "A2"
         if not tx.outputs:
@@ -112,28 +184,34 @@ class Model:
             total += output.value
             if total > GREATEST_AMOUNT:
                 yield "A7"
-        if len(set(outpoints)) < len(outpoints):
+        if len(set(points)) < len(points):
             yield "A8"
-        if outpoints == [NULL]:
+        if points == [NULL]:
             yield "A11" if 2 <= len(tx.inputs[0].script) <= 100 else "A9"
-        if NULL in outpoints:
+        if NULL in points:
             yield "A10"
         if tx.version not in (1, 2):
             yield "A12"
-        if any(output.value < 294 for output in tx.outputs):
+        if tx.weight() > 400000:
+            yield "A13"
+        if any(output.value < dust(output) for output in tx.outputs):
             yield "A17"
+        if len([output for output in tx.outputs if carries_data(output)]) > 1:
+            yield "A18"
+        if len(tx.stripped()) < 82:
+            yield "A19"
 
     def in_pool_and_chain(self, tx):
         if not self.is_final(tx):
             yield "A20"
-        if any(entry.txid() == tx.txid() for entry in self.pool):
+        hash = tx.hash()
+        if any(entry.hash == hash for entry in self.pool):
             yield "A22"
-        spent = [(one.hash, one.index) for entry in self.pool for one in entry.inputs]
-        if any((one.hash, one.index) in spent for one in tx.inputs):
+        if not all(entry.signals() for entry in self.conflicts(tx)):
             yield "A23"
         lacks = any(self.coin(one) is None for one in tx.inputs)
-        own = any((tx.hash(), index) in self.opening.coins for index in range(len(tx.outputs)))
-        if lacks and own or any(outpoint[0] == tx.hash() for outpoint in self.opening.coins):
+        own = any((hash, index) in self.opening.coins for index in range(len(tx.outputs)))
+        if lacks and own or any(point[0] == hash for point in self.opening.coins):
             yield "A24"
         if lacks:
             yield "A25"
@@ -151,8 +229,35 @@ class Model:
                 yield "A28"
         if self.fee(tx) < 0:
             yield "A29"
-        if self.fee(tx) < tx.virtual_size(len(tx.inputs)):
+        if cost_of(tx) > 16000:
+            yield "A33"
+        if self.fee(tx) < self.size(tx):
             yield "A35"
+
+    def families(self, tx):
+        above, direct = self.above(tx), self.conflicts(tx)
+        if all(self.passed(limits, above, self.size(tx)) for limits in self.tries(tx)):
+            yield "A36"
+        if any(entry in direct for entry in above):
+            yield "A37"
+
+    def replacement(self, tx):
+        direct = self.conflicts(tx)
+        if not direct:
+            return
+        fee, size = self.fee(tx), self.size(tx)
+        if any(rate_of(fee, size) <= rate_of(entry.fee, entry.size) for entry in direct):
+            yield "A38"
+        if sum(len(self.below([entry])) for entry in direct) > MOST_REPLACED:
+            yield "A39"
+        spent = {hash for entry in direct for hash in entry.parents}
+        if any(entry.hash not in spent for entry in self.parents(tx)):
+            yield "A40"
+        paid = fees_of(self.below(direct))
+        if fee < paid:
+            yield "A41"
+        if fee - paid < size:
+            yield "A42"
 
     def judged(self, tx):
         verdicts, failing = self.opening.verdicts, {None: "A43", "soft": "A44", "hard": "A45"}
@@ -164,7 +269,65 @@ class Model:
     # --- their words
 
     def coin(self, one):
+        """The coin of an input: an output of the pool, as though it were in the next block, else the chain's."""
+        for entry in self.pool:
+            outputs = entry.tx.outputs
+            if entry.hash == one.hash and one.index < len(outputs) and not carries_data(outputs[one.index]):
+                return Coin(outputs[one.index].value, self.tip + 1, False)
         return self.opening.coins.get((one.hash, one.index))
+
+    def size(self, tx):
+        return tx.virtual_size(cost_of(tx))
+
+    def conflicts(self, tx):
+        """The entries that spend what it spends."""
+        points = outpoints(tx)
+        return [entry for entry in self.pool if entry.spent & points]
+
+    def parents(self, tx):
+        """The entries whose outputs it spends."""
+        hashes = {one.hash for one in tx.inputs}
+        return [entry for entry in self.pool if entry.hash in hashes]
+
+    def above(self, tx):
+        """The set of its parents, their parents, and so on."""
+        found, more = set(), set(self.parents(tx))
+        while found != more:
+            found, hashes = more, {hash for entry in more for hash in entry.parents}
+            more = found | {entry for entry in self.pool if entry.hash in hashes}
+        return found
+
+    def below(self, entries):
+        """The set of these entries, their children, the children of these, and so on."""
+        found, more = set(), set(entries)
+        while found != more:
+            found, hashes = more, {entry.hash for entry in more}
+            more = found | {entry for entry in self.pool if entry.parents & hashes}
+        return found
+
+    def tries(self, tx):
+        """The limits of its family: the usual ones, and for a small transaction those of the carve-out."""
+        direct, descendants, size = self.conflicts(tx), 25, 101000
+        if len(direct) == 1:
+            descendants, size = descendants + 1, size + size_of(self.below(direct))
+        usual = Limits(25, 101000, descendants, size)
+        carved_out = Limits(2, 101000, descendants + 1, size + SMALL)
+        return [usual, carved_out] if self.size(tx) <= SMALL else [usual]
+
+    def passed(self, limits, above, size):
+        """Which of the limits a transaction with these ancestors passes."""
+        found = set()
+        if len(above) + 1 > limits.ancestors:
+            found.add("ancestors")
+        if above and size_of(above) + size > limits.ancestors_size:
+            found.add("ancestors size")
+        for entry in above:
+            family = self.below([entry])
+            if len(family) + 1 > limits.descendants:
+                found.add("descendants")
+            if size_of(family) + size > limits.descendants_size:
+                found.add("descendants size")
+        return found
 
     def fee(self, tx):
         return sum(self.coin(one).value for one in tx.inputs) - sum(output.value for output in tx.outputs)

@@ -3,7 +3,13 @@
 #![tactic(auto)]
 
 #[cfg(test)]
+mod families;
+#[cfg(test)]
+mod large_families;
+#[cfg(test)]
 mod locking;
+#[cfg(test)]
+mod parts;
 mod program;
 #[cfg(test)]
 mod repeating;

@@ -1,23 +1,13 @@
 //! The row `too-many-sigops`, whose two transactions repeat one output 200 and 199 times: its text is put together here,
 //! since the prover reads each text in full.
 use crate::outcome;
+use crate::parts::{COINS, ENTER, MULTISIG, WITNESS};
 use std::alloc::{AllocError, Global};
 use std::test::Fail;
-
-const OPENING: &str =
-    "budget 1000000\ntimes 101 1000 600\ncoin 1111111111111111111111111111111111111111111111111111111111111111 0 100000 1 plain 00142222222222222222222222222222222222222222\ncoin 1212121212121212121212121212121212121212121212121212121212121212 0 100000 1 plain 00142222222222222222222222222222222222222222\ncoin 1313131313131313131313131313131313131313131313131313131313131313 0 100000 1 plain 00142222222222222222222222222222222222222222\ncoin 1414141414141414141414141414141414141414141414141414141414141414 0 100000 1 plain 00142222222222222222222222222222222222222222\nverdict * ok\n---\npeer 1 enter 192.0.2.1\n";
 
 /// Version, marker and flag, and the four inputs.
 const INPUTS: &str =
     "0200000000010411111111111111111111111111111111111111111111111111111111111111110000000000fdffffff12121212121212121212121212121212121212121212121212121212121212120000000000fdffffff13131313131313131313131313131313131313131313131313131313131313130000000000fdffffff14141414141414141414141414141414141414141414141414141414141414140000000000fdffffff";
-
-/// An output of 600 satoshi to one of one key.
-const OUTPUT: &str =
-    "580200000000000025512102020202020202020202020202020202020202020202020202020202020202020251ae";
-
-/// A witness of a signature's and a key's length.
-const WITNESS: &str =
-    "024830303030303030303030303030303030303030303030303030303030303030303030303030303030303030303030303030303030303030303030303030303030303030303030303021020202020202020202020202020202020202020202020202020202020202020202";
 
 const REPLIES: &str =
     "entered none\ndenied A33 keep bad-txns-too-many-sigops\nadmitted a7b4008e91858670bd3a3d6b7863759ffaa2854ff6482055e3ca414b5eed4020 fee 280600 vsize 79620 replaced 0\n";
@@ -27,7 +17,7 @@ fn push_submission(input: &mut String, count: &str, outputs: u32) -> Result<(), 
     input.push_str(INPUTS)?;
     input.push_str(count)?;
     for _ in 0..outputs {
-        input.push_str(OUTPUT)?;
+        input.push_str(MULTISIG)?;
     }
     for _ in 0..4 {
         input.push_str(WITNESS)?;
@@ -36,7 +26,8 @@ fn push_submission(input: &mut String, count: &str, outputs: u32) -> Result<(), 
 }
 
 fn row(alloc: Global) -> Result<String, AllocError> {
-    let mut input = String::from_str(alloc, OPENING)?;
+    let mut input = String::from_str(alloc, COINS)?;
+    input.push_str(ENTER)?;
     push_submission(&mut input, "c8", 200)?;
     push_submission(&mut input, "c7", 199)?;
     Ok(input)
