@@ -1,4 +1,4 @@
-//! Families over any view of a pool: found by walking from entry to entry, so that they cost what they come to.
+//! Families over any view of a pool: found by walking from entry to entry, so that no search goes through the pool.
 ghost use Rattle.std.specs.Prelude.{◌≡◌, ◌<◌, ◌^◌, ◌≤◌, Bool, Some, None, [], ◌∷◌, IfOk, IfSome, length, filter, vec_len};
 ghost use Rattle.gate_pool.specs.Pool.{Admitted, entry_by_txid};
 ghost use Rattle.gate_pool.specs.Family.{ancestors_above, all_below, AreIdsOf, sums_of};
