@@ -5,10 +5,11 @@ use crate::printed::{digits_of, hash_of};
 use gate_bytes::{Copied, Exact, Memory};
 use std::alloc::Global;
 use std::fmt;
+use std::hash::{Hash, Hasher};
 use std::marker::Model;
 
 /// The id of a transaction with its witnesses (BIP 141): 32 bytes in hash order, printed reversed.
-#[derive(Clone, Copy, Debug, PartialEq, Eq, PartialOrd, Ord, Hash)]
+#[derive(Clone, Copy, Debug, PartialEq, Eq, PartialOrd, Ord)]
 pub struct Wtxid {
     hash: [u8; 32],
 }
@@ -52,6 +53,21 @@ impl Exact for Wtxid {
     ghost use Rattle.std.proofs.lemmas.Slice.Eq.{bytes_eq-Decides};
 
     ghost exact = { λ a b. bytes_eq-Decides a b };
+}
+
+/// One write of all 32 bytes, so that a table hashes an id in one go.
+impl Hash for Wtxid {
+    ghost use Rattle.std.specs.Prelude.{◌∷◌, []};
+    ghost use Rattle.std.specs.Cmp.Rules.{hashing};
+    ghost use Rattle.std.proofs.Common.{rules};
+
+    ghost hash_input = { λ id. id ∷ [] };
+
+    ghost respects_eq = { Prim.search (hashing, rules) };
+
+    fn hash<H: Hasher>(&self, state: &mut H) {
+        state.write(&self.hash);
+    }
 }
 
 impl Copied for Wtxid {
