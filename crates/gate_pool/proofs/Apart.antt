@@ -18,7 +18,7 @@ use Rattle.gate_pool.proofs.Closing.{AreOne}
 
 module _ {E : Type 0} where
   -- an entry stands at some place
-  place_of : (slots : List (Option E)) (e : E) → Contains (entries_of slots) e → (i : ℕ) × (at slots i ≡ Some e)
+  pub place_of : (slots : List (Option E)) (e : E) → Contains (entries_of slots) e → (i : ℕ) × (at slots i ≡ Some e)
   place_of [] e m = not_in_none e m
   place_of (None ∷ slots) e m = let w = place_of slots e m in (suc w.0, w.1)
   place_of (Some x ∷ slots) e m =

@@ -7,7 +7,7 @@ use Rattle.gate_tx.specs.Ids.{txid_of, wtxid_of}
 use Rattle.gate_tx.specs.Coins.{point_eq}
 use Rattle.gate_tx.specs.Equality.{out_point_decides}
 use Rattle.gate_graph.proofs.Members.{Contains-cons_cases, Contains-head, Contains-rest, any_is, not_in_none}
-use Rattle.gate_pool.specs.Pool.{Admitted, has_txid, has_wtxid, size_of, spender_of, largest_vsize}
+use Rattle.gate_pool.specs.Pool.{Admitted, IsBounded, has_txid, has_wtxid, size_of, spender_of, largest_vsize}
 use Rattle.gate_pool.specs.Keeping.{IsNew, IsKept, has_point}
 use Rattle.gate_pool.specs.Slots.{entries_of, at, passes, Indexes}
 use Rattle.gate_pool.proofs.Indexing.{unknown, Indexes-push, entries_of-push, Indexes-take, entries_of-take, length-take_one, only_place, all_stay}
@@ -31,10 +31,10 @@ size_of-take_one (Some x ∷ slots) zero e h =
 size_of-take_one (Some x ∷ slots) (suc i) e h =
     omega (arith, size_of-take_one slots i e h, sum_by-cons (λ (y : Admitted). y.vsize) x (entries_of slots), sum_by-cons (λ (y : Admitted). y.vsize) x (entries_of (slice_set slots i None)))
 
-pub size_of-le : (entries : List Admitted) → ((e : Admitted) → Contains entries e → e.vsize ≤ largest_vsize) → size_of entries ≤ largest_vsize * length entries
+pub size_of-le : (entries : List Admitted) → ((e : Admitted) → Contains entries e → IsBounded e) → size_of entries ≤ largest_vsize * length entries
 size_of-le [] h = omega arith
 size_of-le (e ∷ entries) h =
-    omega (arith, size_of-le entries (λ d m. h d (Contains-rest e entries d m)), h e (Contains-head e entries), sum_by-cons (λ (y : Admitted). y.vsize) e entries)
+    omega (arith, size_of-le entries (λ d m. h d (Contains-rest e entries d m)), (h e (Contains-head e entries)).most, sum_by-cons (λ (y : Admitted). y.vsize) e entries)
 
 pub entries_le : (slots : List (Option Admitted)) → length (entries_of slots) ≤ length slots
 entries_le [] = omega arith
@@ -68,7 +68,7 @@ module _ {slots : List (Option Admitted)} {n sum : ℕ} {txids wtxids : Places} 
       → ((k : List ℕ) → txids' k ≡ cond (has_txid e k) (Some place) (txids k))
       → ((k : List ℕ) → wtxids' k ≡ cond (has_wtxid e k) (Some place) (wtxids k))
       → ((k : OutPoint) → spent' k ≡ cond (has_point e k) (Some place) (spent k))
-      → (txids (txid_of e.tx) ≡ None → n' ≡ n + 1) → sum' ≡ sum + e.vsize → e.vsize ≤ largest_vsize
+      → (txids (txid_of e.tx) ≡ None → n' ≡ n + 1) → sum' ≡ sum + e.vsize → IsBounded e
       → IsKept slots' n' sum' txids' wtxids' spent'
   IsKept-push {slots'} {n'} {sum'} {txids'} {wtxids'} {spent'} e place h new end is at_txid at_wtxid at_point more sum_is bound =
       let fresh = unknown h.txids (txid_of e.tx) new.txid in
@@ -86,10 +86,10 @@ module _ {slots : List (Option Admitted)} {n sum : ℕ} {txids wtxids : Places} 
             ∙ (let l : length (entries_of slots) + 1 ≡ length (entries_of slots ++ e ∷ []) = omega (arith, length-append (entries_of slots) (e ∷ [])) in l)
             ∙ ap length (sym (entries_of-push slots e)) ∙ ap (λ l. length (entries_of l)) (sym is);
         size = sum_is ∙ ap (λ m. m + e.vsize) h.size ∙ sym (size_of-push (entries_of slots) e) ∙ ap size_of (sym (entries_of-push slots e)) ∙ ap (λ l. size_of (entries_of l)) (sym is);
-        vsizes = λ d m.
+        bounded = λ d m.
             elim (Contains-append_cases (entries_of slots) (e ∷ []) d (subst (λ l. Contains l d) (ap entries_of is ∙ entries_of-push slots e) m)) [
-              | inl old ↦ h.vsizes d old
-              | inr new ↦ elim (Contains-cons_cases e [] d new) [ inl same ↦ subst (λ (x : Admitted). x.vsize ≤ largest_vsize) same bound | inr none ↦ not_in_none d none ]
+              | inl old ↦ h.bounded d old
+              | inr new ↦ elim (Contains-cons_cases e [] d new) [ inl same ↦ subst IsBounded same bound | inr none ↦ not_in_none d none ]
             ];
       }
 
@@ -107,7 +107,7 @@ module _ {slots : List (Option Admitted)} {n sum : ℕ} {txids wtxids : Places} 
     points = subst (λ l. Indexes has_point l spent') (sym is) (Indexes-take e place h.points there at_point);
     count = omega (arith, less, h.count, length-take_one slots place e there, ap (λ l. length (entries_of l)) is);
     size = omega (arith, sum_is, h.size, size_of-take_one slots place e there, ap (λ l. size_of (entries_of l)) is);
-    vsizes = λ d m. h.vsizes d (entry_among slots place e d (subst (λ l. Contains (entries_of l) d) is m));
+    bounded = λ d m. h.bounded d (entry_among slots place e d (subst (λ l. Contains (entries_of l) d) is m));
   }
 
   -- what the index of the txids says of an entry

@@ -1,5 +1,7 @@
 pub mod Adding
+pub mod Admission
 pub mod Apart
+pub mod Bounding
 pub mod Children
 pub mod Closing
 pub mod Conflicts
@@ -12,5 +14,6 @@ pub mod Keeping
 pub mod Removals
 pub mod Searching
 pub mod Noting
+pub mod Passing
 pub mod Points
 pub mod Walking

@@ -1,4 +1,4 @@
--- A walk down from an id takes out its family.
+-- A walk down from ids takes out all that is below them.
 use Rattle.std.proofs.Common.{◌≡◌, ℕ, ◌==◌, Bool, true, false, cond, not, ◌||◌, List, [], ◌∷◌, ◌++◌, refl, sym, ap, ◌∙◌, subst, ◌⊎◌, inl, inr, true≢false, arith}
 use Rattle.std.specs.Prelude.{Contains, filter, find, length, ◌<◌, ◌≤◌, None, Some, Option}
 use Rattle.gate_tx.specs.declared.OutPoint.{OutPoint}
@@ -15,7 +15,7 @@ use Rattle.gate_tx.specs.declared.TxIn.{TxIn}
 use Rattle.gate_graph.specs.Family.{reaches, Leads, here, down}
 use Rattle.gate_pool.specs.Pool.{Admitted, has_txid, spender_of}
 use Rattle.gate_pool.specs.Family.{steps, without_family}
-use Rattle.gate_pool.specs.Walk.{Walk}
+use Rattle.gate_pool.specs.Walk.{IsUnder, Walk}
 use Rattle.gate_pool.specs.Keeping.{IsNoted}
 use Rattle.std.proofs.lemmas.Option.{none-some, same_Some}
 use Rattle.std.proofs.lemmas.Bool.Decides.{nat_tests}
@@ -48,7 +48,7 @@ module _ {X : Type 0} (p : X → Bool) where
       go ih false k = Contains-rest y xs x (ih k)
 
 -- one filter after another
-filter_both : {X : Type 0} (p q : X → Bool) (xs : List X) → filter (λ x. not (p x)) (filter (λ x. not (q x)) xs) ≡ filter (λ x. not (q x || p x)) xs
+pub filter_both : {X : Type 0} (p q : X → Bool) (xs : List X) → filter (λ x. not (p x)) (filter (λ x. not (q x)) xs) ≡ filter (λ x. not (q x || p x)) xs
 filter_both p q [] = refl
 filter_both {X} p q (x ∷ xs) = go (q x) (p x) (filter_both p q xs)
   where
@@ -64,19 +64,21 @@ filter_both {X} p q (x ∷ xs) = go (q x) (p x) (filter_both p q xs)
 pub same_id : (a : Id) → bytes_eq a a ≡ true
 same_id a = (bytes_decides a a).1 refl
 
-pub Walk-start : (g : List Admitted) (x : Id) → Walk g x (x ∷ []) (filter (λ e. not (has_txid e x)) g)
-Walk-start g x = record {
-  out = λ b. bytes_eq b x;
-  start = same_id x;
-  sound = λ b h. subst (λ z. reaches (steps g) x z ≡ true) (sym ((bytes_decides b x).0 h)) (reaches-same (steps g) x);
-  opened = λ a k. elim (Contains-cons_cases x [] a k) [ inl e ↦ (bytes_decides a x).1 (sym e) | inr n ↦ not_in_none a n ];
-  closed = λ a b s o. inr (subst (Contains (x ∷ [])) (sym ((bytes_decides a x).0 o)) (Contains-head x []));
+-- the ids at the top are found, and their entries gone
+pub Walk-start : (g : List Admitted) (top : Id → Bool) (found : List Id) → ((a : Id) → top a ≡ true → Contains found a) → ((a : Id) → Contains found a → top a ≡ true)
+    → Walk g top found (filter (λ e. not (top (txid_of e.tx))) g)
+Walk-start g top found all only = record {
+  out = top;
+  start = λ a t. t;
+  sound = λ b t. (b, t, reaches-same (steps g) b);
+  opened = only;
+  closed = λ a b s o. inr (all a o);
   is = refl;
 }
 
-module _ {g : List Admitted} {x : Id} {rest : List Admitted} where
+module _ {g : List Admitted} {top : Id → Bool} {rest : List Admitted} where
   -- the order of what is found does not matter
-  pub Walk-same : {found found' : List Id} → ((a : Id) → Contains found a → Contains found' a) → ((a : Id) → Contains found' a → Contains found a) → Walk g x found rest → Walk g x found' rest
+  pub Walk-same : {found found' : List Id} → ((a : Id) → Contains found a → Contains found' a) → ((a : Id) → Contains found' a → Contains found a) → Walk g top found rest → Walk g top found' rest
   Walk-same f h w = record {
     out = w.out;
     start = w.start;
@@ -87,21 +89,22 @@ module _ {g : List Admitted} {x : Id} {rest : List Admitted} where
   }
 
   -- a child of one that was found is found and goes
-  pub Walk-child : {a : Id} {found : List Id} → Walk g x (a ∷ found) rest → (c : Admitted) → Contains rest c → names c a ≡ true → Walk g x (a ∷ (found ++ (txid_of c.tx) ∷ [])) (filter (λ e. not (has_txid e (txid_of c.tx))) rest)
+  pub Walk-child : {a : Id} {found : List Id} → Walk g top (a ∷ found) rest → (c : Admitted) → Contains rest c → names c a ≡ true → Walk g top (a ∷ (found ++ (txid_of c.tx) ∷ [])) (filter (λ e. not (has_txid e (txid_of c.tx))) rest)
   Walk-child {a} {found} w c m n =
       let member : Contains g c = Contains-from_filter (λ e. not (w.out (txid_of e.tx))) g c (subst (λ l. Contains l c) w.is m) in
       let p = any_is (λ (i : TxIn). bytes_eq i.prevout.txid a) c.tx.inputs n in
       let s : Contains (steps g) (a, (txid_of c.tx)) = subst (λ z. Contains (steps g) (z, (txid_of c.tx))) ((bytes_decides p.0.prevout.txid a).0 p.2) (entry_step g c p.0 member p.1) in
-      let down_to : reaches (steps g) x (txid_of c.tx) ≡ true = reaches_trans (steps g) x a (txid_of c.tx) (w.sound a (w.opened a (Contains-head a found))) (reaches_step (steps g) a (txid_of c.tx) s) in
+      let above = w.sound a (w.opened a (Contains-head a found)) in
+      let down_to : IsUnder g top (txid_of c.tx) = (above.0, above.1, reaches_trans (steps g) above.0 a (txid_of c.tx) above.2 (reaches_step (steps g) a (txid_of c.tx) s)) in
       let more : (b : Id) → Contains (a ∷ found) b → Contains (a ∷ (found ++ (txid_of c.tx) ∷ [])) b = λ b k. Contains-append_left (a ∷ found) ((txid_of c.tx) ∷ []) b k in
       let last : Contains (a ∷ (found ++ (txid_of c.tx) ∷ [])) (txid_of c.tx) = Contains-append_right (a ∷ found) ((txid_of c.tx) ∷ []) (txid_of c.tx) (Contains-head (txid_of c.tx) []) in
       record {
         out = λ b. w.out b || bytes_eq b (txid_of c.tx);
-        start = or_left _ _ w.start;
+        start = λ b t. or_left _ _ (w.start b t);
         sound = λ b h.
             elim (or_cases (w.out b) (bytes_eq b (txid_of c.tx)) h) [
               | inl o ↦ w.sound b o
-              | inr e ↦ subst (λ z. reaches (steps g) x z ≡ true) (sym ((bytes_decides b (txid_of c.tx)).0 e)) down_to
+              | inr e ↦ subst (IsUnder g top) (sym ((bytes_decides b (txid_of c.tx)).0 e)) down_to
             ];
         opened = λ b k.
             elim (Contains-append_cases (a ∷ found) ((txid_of c.tx) ∷ []) b k) [
@@ -117,7 +120,7 @@ module _ {g : List Admitted} {x : Id} {rest : List Admitted} where
       }
 
   -- one that has no children left is done
-  pub Walk-close : {a : Id} {found : List Id} → Walk g x (a ∷ found) rest → ((c : Admitted) → Contains rest c → names c a ≡ false) → Walk g x found rest
+  pub Walk-close : {a : Id} {found : List Id} → Walk g top (a ∷ found) rest → ((c : Admitted) → Contains rest c → names c a ≡ false) → Walk g top found rest
   Walk-close {a} {found} w none = record {
     out = w.out;
     start = w.start;
@@ -146,14 +149,20 @@ module _ {g : List Admitted} {x : Id} {rest : List Admitted} where
                 absurd (true≢false (sym named ∙ none v.entry stays))
           ]
 
-  -- at the end the family is out
-  pub Walk-end : Walk g x [] rest → rest ≡ without_family g x
-  Walk-end w = w.is ∙ filter_agree (λ (e : Admitted). not (w.out (txid_of e.tx))) (λ (e : Admitted). not (reaches (steps g) x (txid_of e.tx)))
-      (λ e. ap not (same_bool _ _ (w.sound (txid_of e.tx)) (λ r. follow (Leads_from_reaches (steps g) x (txid_of e.tx) r) w.start))) g
+  -- at the end all that is below the top is out
+  pub Walk-end : Walk g top [] rest → (test : Admitted → Bool) → ((e : Admitted) → test e ≡ true → IsUnder g top (txid_of e.tx)) → ((e : Admitted) → IsUnder g top (txid_of e.tx) → test e ≡ true)
+      → rest ≡ filter (λ e. not (test e)) g
+  Walk-end w test under below = w.is ∙ filter_agree (λ (e : Admitted). not (w.out (txid_of e.tx))) (λ (e : Admitted). not (test e))
+      (λ e. ap not (same_bool _ _ (λ o. below e (w.sound (txid_of e.tx) o)) (λ t. let u = under e t in follow (Leads_from_reaches (steps g) u.0 (txid_of e.tx) u.2) (w.start u.0 u.1)))) g
     where
       follow : {a b : Id} → Leads (steps g) a b → w.out a ≡ true → w.out b ≡ true
       follow here o = o
       follow (down {a = a} {b = b} s l) o = follow l (elim (w.closed a b s o) [ inl p ↦ p | inr n ↦ not_in_none a n ])
+
+-- the family of an id is what is below it alone
+pub Walk-family : {g : List Admitted} {x : Id} {rest : List Admitted} → Walk g (λ b. bytes_eq b x) [] rest → rest ≡ without_family g x
+Walk-family {g} {x} w =
+    Walk-end w (λ (e : Admitted). reaches (steps g) x (txid_of e.tx)) (λ e r. (x, same_id x, r)) (λ e u. subst (λ z. reaches (steps g) z (txid_of e.tx) ≡ true) ((bytes_decides u.0 x).0 u.1) u.2)
 
 pub shorter : {X : Type 0} (p : X → Bool) (ys : List X) → length (filter p ys) ≤ length ys
 shorter p [] = omega arith
@@ -236,7 +245,7 @@ module _ {look : Id → Option ℕ} where
       none-some w.0 (none ∙ ap look (sym ((bytes_decides i.0.prevout.txid a).0 i.2)) ∙ w.1))
 
 -- the last that was found comes first
-pub Walk-popped : {g : List Admitted} {x : Id} {rest : List Admitted} (found front : List Id) (a : Id) → found ≡ front ++ a ∷ [] → Walk g x found rest → Walk g x (a ∷ front) rest
+pub Walk-popped : {g : List Admitted} {top : Id → Bool} {rest : List Admitted} (found front : List Id) (a : Id) → found ≡ front ++ a ∷ [] → Walk g top found rest → Walk g top (a ∷ front) rest
 Walk-popped found front a is w =
     Walk-same
     (λ b k.

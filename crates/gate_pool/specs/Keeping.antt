@@ -4,7 +4,7 @@ use Rattle.gate_tx.specs.declared.TxIn.{TxIn}
 use Rattle.gate_tx.specs.declared.OutPoint.{OutPoint}
 use Rattle.gate_tx.specs.Ids.{txid_of, wtxid_of}
 use Rattle.gate_tx.specs.Coins.{spends}
-use Rattle.gate_pool.specs.Pool.{Admitted, largest_vsize, has_txid, has_wtxid, entry_by_txid, entry_by_wtxid, spender_of, size_of}
+use Rattle.gate_pool.specs.Pool.{Admitted, IsBounded, most_entries, has_txid, has_wtxid, entry_by_txid, entry_by_wtxid, spender_of, size_of}
 use Rattle.gate_pool.specs.Slots.{entries_of, Indexes}
 
 abbrev pub has_point : Admitted → OutPoint → Bool
@@ -17,7 +17,7 @@ pub record IsKept (slots : List (Option Admitted)) (n : ℕ) (sum : ℕ) (by_txi
   pub points : Indexes has_point slots by_point
   pub count : n ≡ length (entries_of slots)
   pub size : sum ≡ size_of (entries_of slots)
-  pub vsizes : (e : Admitted) → Contains (entries_of slots) e → e.vsize ≤ largest_vsize
+  pub bounded : (e : Admitted) → Contains (entries_of slots) e → IsBounded e
 
 -- an entry of fewer inputs than `room` has a place in each index and among the slots
 pub record HasRoom (room : ℕ) (txid_spare wtxid_spare point_spare : ℕ) (len capacity : ℕ) : Type 0 where
@@ -40,10 +40,13 @@ IsUpTo known m = (n : ℕ) × (known ≡ Some n) × (m ≤ n)
 pub record IsNoted (entries : List Admitted) (bound : List ℕ → Option ℕ) : Type 0 where
   pub noted : (e : Admitted) → Contains entries e → (i : TxIn) → Contains e.tx.inputs i → IsUpTo (bound i.prevout.txid) i.prevout.index
 
--- room to find families now, and for an entry of fewer inputs than `room`
-pub record IsReady (entries : List Admitted) (bound : List ℕ → Option ℕ) (places : ℕ) (spares : ℕ) (slots : ℕ) (room : ℕ) : Type 0 where
+-- room to find families now, and for an entry of fewer inputs than `room`; no entry is older than the oldest
+pub record IsReady (entries : List Admitted) (bound : List ℕ → Option ℕ) (places : ℕ) (spares : ℕ) (slots : ℕ) (room : ℕ) (oldest : ℕ) : Type 0 where
   pub noted : IsNoted entries bound
   pub now : length entries + 1 ≤ places
+  pub few : length entries ≤ most_entries
+  pub times : (e : Admitted) → Contains entries e → oldest ≤ e.time
   pub next : 0 < room → length entries + 2 ≤ places
+  pub next_few : 0 < room → length entries < most_entries
   pub bounds : room ≤ spares + 1
   pub slots_room : room ≤ slots

@@ -1,5 +1,7 @@
 pub mod Pool
 pub mod Family
+pub mod Removal
+pub mod Scores
 pub mod Distinct
 pub mod Walk
 pub mod Search

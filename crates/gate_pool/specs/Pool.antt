@@ -1,5 +1,5 @@
 -- The pool: its entries in order of admission, and what a search of them finds.
-use Rattle.std.specs.Prelude.{◌≤◌, ℕ, Bool, List, Option, find, map, sum_by}
+use Rattle.std.specs.Prelude.{◌≤◌, ℕ, nat_lt, Bool, List, Option, find, map, sum_by}
 use Rattle.std.specs.List.{flat_map}
 use Rattle.std.specs.Str.{bytes_eq}
 use Rattle.gate_tx.specs.declared.OutPoint.{OutPoint}
@@ -25,6 +25,14 @@ pub record IsBounded (entry : Admitted) : Type 0 where
   pub fee : entry.fee ≤ max_money
   pub least : 1 ≤ entry.vsize
   pub most : entry.vsize ≤ largest_vsize
+
+-- no pool has more entries
+abbrev pub most_entries : ℕ
+most_entries = 50_000_000
+
+-- an entry was admitted before this second
+abbrev pub is_before : ℕ → Admitted → Bool
+is_before time e = nat_lt e.time time
 
 -- a pool: its entries in order of admission, and the room that was taken beforehand: an entry of fewer inputs enters without memory
 pub record Pooled : Type 0 where

@@ -13,6 +13,11 @@ parents_of inputs = map (λ (i : TxIn). i.prevout.txid) inputs
 abbrev pub IsEntry : List Admitted → List ℕ → Type 0
 IsEntry entries txid = (e : Admitted) × Contains entries e × (txid_of e.tx ≡ txid)
 
+-- the ids are entries', each once
+pub record AreEntries (entries : List Admitted) (txids : List (List ℕ)) : Type 0 where
+  pub once : AllPairs (λ (a : List ℕ) (b : List ℕ). a ≢ b) txids
+  pub only : (txid : List ℕ) → Contains txids txid → IsEntry entries txid
+
 -- ids were added to those found before, each once: of `txids` those of entries, all of them where still no more than `most`
 -- are found
 pub record IsFound (most : ℕ) (entries : List Admitted) (txids before after : List (List ℕ)) (within : Bool) : Type 0 where

@@ -4,8 +4,9 @@ ghost use Rattle.gate_tx.specs.Money.{max_money};
 ghost use Rattle.gate_tx.specs.Coins.{spends};
 ghost use Rattle.gate_pool.specs.Pool.{IsBounded, largest_vsize};
 
-use gate_bytes::Counted;
+use gate_bytes::{Copied, Counted, Memory};
 use gate_tx::{Identified, OutPoint, Transaction, Txid, Wtxid};
+use std::alloc::Global;
 use std::marker::Model;
 
 /// No entry is larger, in virtual bytes.
@@ -108,5 +109,17 @@ impl Entry {
             .inputs()
             .iter()
             .any(|input| input.prevout == *point)
+    }
+}
+
+/// One more owner of the same transaction, which takes no memory.
+impl Copied for Entry {
+    fn copy(&self, alloc: Global) -> Result<Entry, Memory> {
+        Ok(Entry {
+            identified: self.identified.copy(alloc)?,
+            fee: self.fee,
+            vsize: self.vsize,
+            time: self.time,
+        })
     }
 }

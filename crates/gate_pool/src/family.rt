@@ -1,4 +1,4 @@
-ghost use Rattle.std.specs.Prelude.{◌≡◌, ◌≤◌, ◌+◌, ℕ, Bool, true, None, List, ◌∷◌, length, Contains, vec_len, IfOk};
+ghost use Rattle.std.specs.Prelude.{◌≡◌, ◌≤◌, ◌+◌, ℕ, Bool, true, None, List, [], ◌∷◌, length, Contains, vec_len, IfOk};
 ghost use Rattle.std.specs.Str.{bytes_eq};
 ghost use Rattle.std.specs.Vec.{vec_capacity};
 ghost use Rattle.gate_tx.specs.declared.TxIn.{TxIn as Input};
@@ -57,7 +57,7 @@ fn take_children<S: BuildHasher + Drop>(
 )
     requires reach { (e : Admitted) → Contains slots.old.entries e → (i : Input) → Contains e.tx.inputs i → bytes_eq i.prevout.txid parent.now ≡ true → i.prevout.index ≤ bound }
     requires places { vec_len found.old + length slots.old.entries ≤ vec_capacity found.old }
-    ensures walk { (g : List Admitted) (x : List ℕ) → Walk g x (parent.now ∷ found.old.items) slots.old.entries → Walk g x found.new.items slots.new.entries }
+    ensures walk { (g : List Admitted) (top : List ℕ → Bool) → Walk g top (parent.now ∷ found.old.items) slots.old.entries → Walk g top found.new.items slots.new.entries }
     ensures fewer { vec_len found.new + length slots.new.entries ≤ vec_len found.old + length slots.old.entries }
     ensures among { (e : Admitted) → Contains slots.new.entries e → Contains slots.old.entries e }
     ensures room { slots.new.room ≡ slots.old.room }
@@ -89,7 +89,7 @@ fn take_noted<S: BuildHasher + Drop>(
 )
     requires noted { IsNoted slots.old.entries (get bytes_eq bounds.now) }
     requires places { vec_len found.old + length slots.old.entries ≤ vec_capacity found.old }
-    ensures walk { (g : List Admitted) (x : List ℕ) → Walk g x (parent.now ∷ found.old.items) slots.old.entries → Walk g x found.new.items slots.new.entries }
+    ensures walk { (g : List Admitted) (top : List ℕ → Bool) → Walk g top (parent.now ∷ found.old.items) slots.old.entries → Walk g top found.new.items slots.new.entries }
     ensures fewer { vec_len found.new + length slots.new.entries ≤ vec_len found.old + length slots.old.entries }
     ensures among { (e : Admitted) → Contains slots.new.entries e → Contains slots.old.entries e }
     ensures room { slots.new.room ≡ slots.old.room }
@@ -102,14 +102,14 @@ fn take_noted<S: BuildHasher + Drop>(
 }
 
 /// Takes out what is below what was found.
-fn walk_down<S: BuildHasher + Drop>(
+pub(crate) fn walk_down<S: BuildHasher + Drop>(
     slots: &mut Slots<S>,
     found: &mut Vec<Txid>,
     bounds: &IndexMap<Txid, u32, S>,
 )
     requires noted { IsNoted slots.old.entries (get bytes_eq bounds.now) }
     requires places { vec_len found.old + length slots.old.entries ≤ vec_capacity found.old }
-    ensures walk { (g : List Admitted) (x : List ℕ) → Walk g x found.old.items slots.old.entries → slots.new.entries ≡ without_family g x }
+    ensures walk { (g : List Admitted) (top : List ℕ → Bool) → Walk g top found.old.items slots.old.entries → Walk g top [] slots.new.entries }
     ensures room { slots.new.room ≡ slots.old.room }
     ensures capacity { vec_capacity found.new ≡ vec_capacity found.old }
 {

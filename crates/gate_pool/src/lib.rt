@@ -4,18 +4,24 @@
 //! the place of all that conflicts with it, and of all that is below that, without memory.
 #![tactic(auto)]
 
+mod below;
 mod bounds;
+mod changes;
 mod closures;
 mod entry;
 mod family;
 mod places;
 mod pool;
+mod scores;
 mod slots;
 mod view;
+mod weighing;
 
+pub use below::Test;
 pub use closures::{Sums, add_up, ancestors, descendants};
 pub use entry::{Entry, LARGEST_VSIZE};
-pub use pool::Pool;
+pub use pool::{MOST_ENTRIES, Pool};
+pub use scores::Score;
 pub use view::PoolView;
 
 #[cfg(test)]

@@ -1,7 +1,8 @@
 ghost use Rattle.std.specs.Prelude.{◌≡◌, ◌≤◌, ℕ, cond, true, is_some, IsSome, Some, None, List, slice_set, filter, length, vec_len};
 ghost use Rattle.std.specs.Vec.{vec_capacity};
 ghost use Rattle.std.specs.Str.{bytes_eq};
-ghost use Rattle.std.specs.Option.{option_copied, option_and_then};
+ghost use Rattle.std.specs.Option.{option_copied, option_and_then, unwrap_or};
+ghost use Rattle.std.specs.List.Sorted.{IsPermutation, IsNonDecreasingBy};
 ghost use Rattle.gate_tx.specs.Coins.{point_eq, spends};
 ghost use Rattle.gate_tx.specs.declared.OutPoint.{OutPoint as Point};
 ghost use Rattle.indexmap.specs.IndexMap.{get, spare, index_map_len};
@@ -112,4 +113,20 @@ pub(crate) fn renumber<S: BuildHasher>(
             None => {}
         }
     }
+}
+
+/// The place of an id, or 0.
+fn place_of<S: BuildHasher>(places: &IndexMap<Txid, usize, S>, txid: &Txid) -> usize
+    ensures { result ≡ unwrap_or (get bytes_eq places.now txid.now) 0 }
+{
+    places.get(txid).copied().unwrap_or(0)
+}
+
+/// Puts ids in the order of their places.
+pub(crate) fn sort_by_place<S: BuildHasher>(places: &IndexMap<Txid, usize, S>, txids: &mut [Txid])
+    ensures same { IsPermutation txids.old txids.new }
+    ensures len { length txids.new ≡ length txids.old }
+    ensures order { IsNonDecreasingBy (λ (txid : List ℕ). unwrap_or (get bytes_eq places.now txid) 0) txids.new }
+{
+    txids.sort_unstable_by_key(|txid| place_of(places, txid));
 }

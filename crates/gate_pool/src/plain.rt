@@ -67,6 +67,21 @@ impl Plain {
         self.drop_below(ids)
     }
 
+    /// Takes out the row of an id and all below it, and gives their ids; nothing for an id that no row has.
+    pub fn remove_family(&mut self, alloc: Global, txid: Txid) -> Result<Vec<Txid>, Memory> {
+        let mut gone = Vec::new(alloc);
+        if self.has(&txid) {
+            let before = Vec::from_slice(alloc, self.rows.as_slice())?;
+            self.take_family(alloc, txid)?;
+            for row in before.as_slice() {
+                if !self.has(&row.txid) {
+                    gone.push(row.txid)?;
+                }
+            }
+        }
+        Ok(gone)
+    }
+
     pub fn replace(&mut self, alloc: Global, entering: Row) -> Result<(), Memory> {
         let mut ids = Vec::new(alloc);
         for row in self.rows.as_slice() {
@@ -78,6 +93,39 @@ impl Plain {
         self.drop_below(ids)?;
         self.rows.push(entering)?;
         Ok(())
+    }
+
+    /// Takes out the rows that are smaller, which stands for an earlier time, and what is below them.
+    pub fn take_before(&mut self, alloc: Global, vsize: u64) -> Result<(), Memory> {
+        let mut ids = Vec::new(alloc);
+        for row in self.rows.as_slice() {
+            if row.vsize < vsize {
+                ids.push(row.txid)?;
+            }
+        }
+        self.rows.retain(|row| row.vsize >= vsize);
+        self.drop_below(ids)
+    }
+
+    /// The id of the row of least score, of equals the last, where each pays a fee of 1,000.
+    pub fn least(&self, alloc: Global) -> Result<Option<Txid>, Memory> {
+        let mut least = None;
+        let (mut fees, mut size) = (0_u128, 0_u128);
+        for row in self.rows.as_slice() {
+            let family = self.sums(self.below(alloc, &[row.txid])?.as_slice());
+            let vsize = u128::from(row.vsize);
+            let own = family.fees.wrapping_mul(vsize) <= family.size.wrapping_mul(1000);
+            let (paid, taken) = if own {
+                (1000, vsize)
+            } else {
+                (family.fees, family.size)
+            };
+            if least.is_none() || paid.wrapping_mul(size) <= fees.wrapping_mul(taken) {
+                least = Some(row.txid);
+                (fees, size) = (paid, taken);
+            }
+        }
+        Ok(least)
     }
 
     /// Whether a view finds of one transaction what a search of the list finds.
@@ -119,7 +167,7 @@ impl Plain {
         )
     }
 
-    fn has(&self, txid: &Txid) -> bool {
+    pub fn has(&self, txid: &Txid) -> bool {
         self.rows.iter().any(|row| row.txid == *txid)
     }
 
@@ -181,6 +229,24 @@ impl Plain {
             }
         }
         Ok(found)
+    }
+
+    /// Whether a pool puts the ids of rows in their order.
+    pub fn agrees_on_order<S: BuildHasher + Copy + Drop>(
+        &self,
+        alloc: Global,
+        pool: &Pool<S>,
+        roots: &[Txid],
+    ) -> Result<bool, Memory> {
+        let mut txids = self.below(alloc, roots)?;
+        let mut wanted = Vec::new(alloc);
+        for row in self.rows.as_slice() {
+            if txids.contains(&row.txid) {
+                wanted.push(row.txid)?;
+            }
+        }
+        pool.sort_by_admission(txids.as_mut_slice());
+        Ok(txids.as_slice() == wanted.as_slice())
     }
 
     fn sums(&self, txids: &[Txid]) -> Sums {

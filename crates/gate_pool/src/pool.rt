@@ -1,21 +1,29 @@
-ghost use Rattle.std.specs.Prelude.{◌≡◌, ◌<◌, None, [], length, IfOk, OnOk};
+ghost use Rattle.std.specs.Prelude.{◌≡◌, ◌<◌, Bool, None, [], filter, length, IfOk, IfSome, OnOk};
+ghost use Rattle.std.specs.List.Sorted.{IsPermutation};
 ghost use Rattle.std.specs.Option.{option_copied};
 ghost use Rattle.gate_tx.specs.Ids.{txid_of, wtxid_of};
-ghost use Rattle.gate_pool.specs.Pool.{entry_by_txid, entry_by_wtxid, spender_of, listing_of, size_of};
-ghost use Rattle.gate_pool.specs.Family.{without_family, entered};
+ghost use Rattle.gate_pool.specs.Pool.{Admitted, entry_by_txid, entry_by_wtxid, spender_of, listing_of, size_of, is_before};
+ghost use Rattle.gate_pool.specs.Family.{without_family, without_below, entered, AreIdsOf};
+ghost use Rattle.gate_pool.specs.Scores.{AreBounded, least_of};
 ghost use Rattle.gate_pool.specs.Distinct.{AreDistinct};
 
+use crate::below::{Before, Test, take_passing};
 use crate::bounds::note;
 use crate::entry::Entry;
 use crate::family::{children_up_to, take_conflicts, take_out};
+use crate::scores::Score;
 use crate::slots::Slots;
 use crate::view::PoolView;
+use crate::weighing::least_score;
 use gate_bytes::{Kept, Memory};
 use gate_tx::{OutPoint, Txid, Wtxid};
 use indexmap::IndexMap;
 use std::alloc::Global;
 use std::hash::BuildHasher;
 use std::marker::Model;
+
+/// No pool has more entries.
+pub const MOST_ENTRIES: usize = 50_000_000;
 
 /// The transactions that wait for a block, in order of admission.
 #[derive(Drop)]
@@ -25,6 +33,8 @@ pub struct Pool<S: BuildHasher + Copy + Drop> {
     bounds: IndexMap<Txid, u32, S>,
     /// Room for the ids of a family.
     found: Vec<Txid>,
+    /// No entry was admitted before this second.
+    oldest: u64,
     room: usize,
 }
 
@@ -39,7 +49,7 @@ impl<S: BuildHasher + Copy + Drop> Model for Pool<S> {
 
     ghost view = { λ p. record { entries = p.slots.entries; room = p.room } };
 
-    ghost invariant = { λ p. IsReady p.slots.entries (get bytes_eq p.bounds) (vec_capacity p.found) (spare p.bounds) p.slots.room p.room };
+    ghost invariant = { λ p. IsReady p.slots.entries (get bytes_eq p.bounds) (vec_capacity p.found) (spare p.bounds) p.slots.room p.room p.oldest };
 }
 
 impl<S: BuildHasher + Copy + Drop> Pool<S> {
@@ -52,6 +62,7 @@ impl<S: BuildHasher + Copy + Drop> Pool<S> {
             slots: Slots::new(alloc, hasher),
             bounds: IndexMap::with_hasher(alloc, hasher),
             found,
+            oldest: u64::MAX,
             room: 0,
         })
     }
@@ -95,6 +106,29 @@ impl<S: BuildHasher + Copy + Drop> Pool<S> {
         self.slots.listing(alloc)
     }
 
+    /// Puts the ids of entries in order of admission, in place.
+    pub fn sort_by_admission(&self, txids: &mut [Txid])
+        ensures order { (test : Admitted → Bool) → AreIdsOf txids.old (filter test self.now.entries) → txids.new ≡ listing_of (filter test self.now.entries) }
+        ensures same { IsPermutation txids.old txids.new }
+        ensures len { length txids.new ≡ length txids.old }
+    {
+        self.slots.sort_by_admission(txids);
+    }
+
+    pub(crate) fn slots(&self) -> &Slots<S>
+        ensures { result.now.entries ≡ self.now.entries }
+    {
+        &self.slots
+    }
+
+    pub(crate) fn hasher(&self) -> S {
+        *self.bounds.hasher()
+    }
+
+    pub(crate) fn allocator(&self) -> Global {
+        *self.bounds.allocator()
+    }
+
     /// That no two entries share an id or spend one outpoint: it does nothing.
     pub fn tells_distinct(&self)
         ensures { AreDistinct self.now.entries }
@@ -102,7 +136,7 @@ impl<S: BuildHasher + Copy + Drop> Pool<S> {
         self.slots.tells_distinct();
     }
 
-    /// Takes the memory for an entry of this many inputs.
+    /// Takes the memory for an entry of this many inputs. A pool of `MOST_ENTRIES` entries has none for another.
     pub fn reserve(&mut self, inputs: usize) -> Result<(), Memory>
         ensures entries { self.new.entries ≡ self.old.entries }
         ensures room { OnOk result (inputs < self.new.room) }
@@ -133,10 +167,11 @@ impl<S: BuildHasher + Copy + Drop> Pool<S> {
         let Some(room) = inputs.checked_add(1) else {
             return Err(Memory);
         };
-        let Some(places) = self.slots.count().checked_add(2) else {
+        let count = self.slots.count();
+        if count >= MOST_ENTRIES {
             return Err(Memory);
-        };
-        self.found.reserve(places)?;
+        }
+        self.found.reserve(count + 2)?;
         self.bounds.reserve(inputs)?;
         self.slots.reserve(inputs)?;
         self.room = room;
@@ -155,6 +190,7 @@ impl<S: BuildHasher + Copy + Drop> Pool<S> {
         let inputs = entry.transaction().inputs();
         take_conflicts(&mut self.slots, &mut self.found, &self.bounds, inputs);
         note(&mut self.bounds, inputs);
+        self.oldest = self.oldest.min(entry.time());
         self.slots.put(entry);
         self.slots.tidy();
     }
@@ -166,6 +202,38 @@ impl<S: BuildHasher + Copy + Drop> Pool<S> {
         self.room = 0;
         take_out(&mut self.slots, &mut self.found, &self.bounds, txid);
         self.slots.tidy();
+    }
+
+    /// Takes out the entries that pass a test and all that is below them. It takes no memory, and gives up the room that was
+    /// taken.
+    pub fn take_below<T: Test>(&mut self, test: &T)
+        ensures { self.new.entries ≡ without_below (T.chosen test.now) self.old.entries }
+    {
+        self.room = 0;
+        take_passing(&mut self.slots, &mut self.found, &self.bounds, test);
+        self.slots.tidy();
+    }
+
+    /// The same for the entries that were admitted before a second. It looks through the pool only where one that old has
+    /// entered, or was left there when it last did.
+    pub fn take_before(&mut self, time: u64)
+        ensures { self.new.entries ≡ without_below (is_before time) self.old.entries }
+    {
+        if self.oldest < time {
+            self.take_below(&Before { time });
+            self.oldest = self.slots.oldest();
+        }
+    }
+
+    /// The entry of least score, of equals the one that was admitted last. It takes no memory, and looks at each entry's
+    /// family.
+    pub fn least(&mut self) -> Option<Score>
+        ensures value { result ≡ least_of self.old.entries }
+        ensures bounded { IfSome result (λ score. AreBounded score.family) }
+        ensures entries { self.new.entries ≡ self.old.entries }
+        ensures room { self.new.room ≡ self.old.room }
+    {
+        least_score(&self.slots, &mut self.found, &self.bounds)
     }
 }
 

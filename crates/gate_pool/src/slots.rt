@@ -1,14 +1,17 @@
-ghost use Rattle.std.specs.Prelude.{◌≡◌, ◌<◌, ◌≤◌, [], ◌∷◌, ◌++◌, not, filter, length, IfOk, OnOk};
+ghost use Rattle.std.specs.Prelude.{◌≡◌, ◌<◌, ◌≤◌, [], ◌∷◌, ◌++◌, Bool, not, filter, length, IfOk, OnOk, Contains};
+ghost use Rattle.std.specs.List.Sorted.{IsPermutation};
 ghost use Rattle.std.specs.Option.{option_copied};
 ghost use Rattle.std.specs.Str.{bytes_eq};
 ghost use Rattle.indexmap.specs.IndexMap.{get};
-ghost use Rattle.gate_pool.specs.Pool.{entry_by_txid, entry_by_wtxid, spender_of, listing_of, size_of, has_txid};
+ghost use Rattle.gate_pool.specs.Pool.{Admitted, IsBounded, entry_by_txid, entry_by_wtxid, spender_of, listing_of, size_of, has_txid};
+ghost use Rattle.gate_pool.specs.Family.{AreIdsOf};
 ghost use Rattle.gate_pool.specs.Distinct.{AreDistinct};
 ghost use Rattle.gate_pool.specs.Keeping.{IsNew, IsNoted};
+ghost use Rattle.gate_pool.specs.Slots.{entries_of};
 
 use crate::bounds::note;
 use crate::entry::Entry;
-use crate::places::{close, drop_points, empty, found, put_points, renumber};
+use crate::places::{close, drop_points, empty, found, put_points, renumber, sort_by_place};
 use gate_bytes::{Kept, Memory};
 use gate_tx::{OutPoint, Txid, Wtxid};
 use indexmap::IndexMap;
@@ -127,6 +130,42 @@ impl<S: BuildHasher + Drop> Slots<S> {
         Ok(Kept::from_vec(txids))
     }
 
+    /// The entries, with holes between them.
+    pub(crate) fn as_slice(&self) -> &[Option<Entry>]
+        ensures { entries_of result.now ≡ self.now.entries }
+    {
+        self.slots.as_slice()
+    }
+
+    pub(crate) fn sort_by_admission(&self, txids: &mut [Txid])
+        ensures order { (test : Admitted → Bool) → AreIdsOf txids.old (filter test self.now.entries) → txids.new ≡ listing_of (filter test self.now.entries) }
+        ensures same { IsPermutation txids.old txids.new }
+        ensures len { length txids.new ≡ length txids.old }
+    {
+        sort_by_place(&self.txids, txids);
+    }
+
+    /// The second at which the oldest entry was admitted, and the last second of all where there is none.
+    pub(crate) fn oldest(&self) -> u64
+        ensures { (e : Admitted) → Contains self.now.entries e → result ≤ e.time }
+    {
+        let mut oldest = u64::MAX;
+        for slot in self.slots.as_slice() {
+            match slot {
+                Some(entry) => oldest = oldest.min(entry.time()),
+                None => {}
+            }
+        }
+        oldest
+    }
+
+    /// The bounds of the entries' numbers: it does nothing.
+    pub(crate) fn tells_bounds(&self)
+        ensures { (e : Admitted) → Contains self.now.entries e → IsBounded e }
+    {
+        let _room = self.room;
+    }
+
     pub(crate) fn tells_distinct(&self)
         ensures { AreDistinct self.now.entries }
     {
@@ -158,6 +197,7 @@ impl<S: BuildHasher + Drop> Slots<S> {
     {
         self.room = 0;
         let place = self.slots.as_slice().len();
+        entry.tells_bounds();
         self.size += u128::from(entry.vsize());
         let put_txid: Result<_, _> = self.txids.insert(entry.txid(), place);
         let _ = put_txid.unwrap();

@@ -13,6 +13,18 @@ struct Made {
     row: Row,
 }
 
+impl Made {
+    fn entry(&self, alloc: Global) -> Result<Entry, Memory> {
+        let identified = self.identified.copy(alloc)?;
+        Ok(Entry::new(
+            identified,
+            1000,
+            self.row.vsize.clamp(1, 1000),
+            self.row.vsize,
+        ))
+    }
+}
+
 /// The same numbers each time.
 #[derive(Drop)]
 struct Draw {
@@ -90,26 +102,34 @@ fn sixty(alloc: Global, draw: &mut Draw) -> Result<Vec<Made>, Memory> {
     Ok(made)
 }
 
-/// Takes a transaction's family out if it stands there, and else lets it enter.
+/// Lets an entry enter, unless its ids are known.
+fn enter<S: BuildHasher + Copy + Drop>(pool: &mut Pool<S>, entry: Entry) -> Result<(), Memory> {
+    if pool.is_new(&entry) {
+        return pool.admit(entry);
+    }
+    if pool.entry(&entry.txid()).is_some() || pool.by_wtxid(&entry.wtxid()).is_some() {
+        return Ok(());
+    }
+    pool.reserve(entry.transaction().inputs().len())?;
+    pool.replace(entry);
+    Ok(())
+}
+
+/// Takes a transaction's family out if it stands there, and else lets it enter. Tells whether the same ids went.
 fn edit<S: BuildHasher + Copy + Drop>(
     alloc: Global,
     pool: &mut Pool<S>,
     plain: &mut Plain,
     one: &Made,
-) -> Result<(), Memory> {
-    let entry = Entry::new(
-        one.identified.copy(alloc)?,
-        1000,
-        one.row.vsize.clamp(1, 1000),
-        0,
-    );
-    if pool.entry(&entry.txid()).is_some() || pool.by_wtxid(&entry.wtxid()).is_some() {
-        pool.take_family(&one.row.txid);
-        return plain.take_family(alloc, one.row.txid);
+) -> Result<bool, Memory> {
+    let stood = plain.has(&one.row.txid);
+    let gone = pool.remove_family(&one.row.txid)?;
+    let wanted = plain.remove_family(alloc, one.row.txid)?;
+    if !stood {
+        enter(pool, one.entry(alloc)?)?;
+        plain.replace(alloc, one.row)?;
     }
-    pool.reserve(entry.transaction().inputs().len())?;
-    pool.replace(entry);
-    plain.replace(alloc, one.row)
+    Ok(gone.as_slice() == wanted.as_slice())
 }
 
 /// Whether the pool finds the families of two transactions that passes over the list find.
@@ -131,32 +151,87 @@ fn families_agree<S: BuildHasher + Copy + Drop>(
     )
 }
 
-#[test]
-fn indexes_find_what_searches_find(rt: HostRuntime) -> Result<(), Fail> {
-    let alloc = rt.alloc();
+/// Whether a copy of the pool has the same listing, and puts the ids of all its entries in that order.
+fn copy_agrees<S: BuildHasher + Copy + Drop>(
+    alloc: Global,
+    pool: &Pool<S>,
+    plain: &Plain,
+    made: &[Made],
+) -> Result<bool, Memory> {
+    let copy = pool.copy(alloc)?;
+    if !plain.is_listed(alloc, &copy)? {
+        return Ok(false);
+    }
+    let mut txids = Vec::new(alloc);
+    for one in made {
+        txids.push(one.row.txid)?;
+    }
+    plain.agrees_on_order(alloc, &copy, txids.as_slice())
+}
+
+/// One edit, and now and then the oldest go. Tells whether the same ids went by the edit.
+fn edit_some<S: BuildHasher + Copy + Drop>(
+    alloc: Global,
+    draw: &mut Draw,
+    made: &[Made],
+    pool: &mut Pool<S>,
+    plain: &mut Plain,
+) -> Result<bool, Memory> {
+    let mut same = true;
+    if let Some(one) = made.get(draw.below(60) as usize) {
+        same = edit(alloc, pool, plain, one)?;
+    }
+    if draw.below(12) == 0 {
+        let vsize = 100 + u64::from(draw.below(30));
+        pool.take_before(vsize);
+        plain.take_before(alloc, vsize)?;
+    }
+    Ok(same)
+}
+
+/// Whether each index, the least score and two families are those that searches of the list find.
+fn all_agree<S: BuildHasher + Copy + Drop>(
+    alloc: Global,
+    draw: &mut Draw,
+    made: &[Made],
+    pool: &mut Pool<S>,
+    plain: &Plain,
+) -> Result<bool, Memory> {
+    let least = pool.least().map(|score| score.txid);
+    let (one, other) = (draw.below(60) as usize, draw.below(60) as usize);
+    let families = match (made.get(one), made.get(other)) {
+        (Some(one), Some(other)) => families_agree(alloc, pool, plain, one, other)?,
+        _ => true,
+    };
+    Ok(
+        families
+            && least == plain.least(alloc)?
+            && made.iter().all(|one| plain.agrees(pool, &one.row))
+            && plain.is_listed(alloc, pool)?,
+    )
+}
+
+/// Three hundred edits of a list that is the same each time. Gives the first after which something differs.
+fn first_difference(alloc: Global) -> Result<Option<u32>, Memory> {
+    let hasher: BuildHasherDefault<DefaultHasher> = BuildHasherDefault::new();
     let mut draw = Draw { last: 7 };
     let made = sixty(alloc, &mut draw)?;
-    assert_eq!(rt; made.len(), 60);
-    let hasher: BuildHasherDefault<DefaultHasher> = BuildHasherDefault::new();
     let mut pool = Pool::new(alloc, hasher)?;
     let mut plain = Plain {
         rows: Vec::new(alloc),
     };
     for number in 0..300 {
-        if let Some(one) = made.get(draw.below(60) as usize) {
-            edit(alloc, &mut pool, &mut plain, one)?;
-        }
-        let agree = made.iter().all(|one| plain.agrees(&pool, &one.row));
-        assert!(rt; agree, "after edit {number}");
-        assert!(rt; plain.is_listed(alloc, &pool)?, "after edit {number}");
-        let asked = (
-            made.get(draw.below(60) as usize),
-            made.get(draw.below(60) as usize),
-        );
-        if let (Some(one), Some(other)) = asked {
-            let agree = families_agree(alloc, &pool, &plain, one, other)?;
-            assert!(rt; agree, "families after edit {number}");
+        let same = edit_some(alloc, &mut draw, &made, &mut pool, &mut plain)?;
+        if !same || !all_agree(alloc, &mut draw, &made, &mut pool, &plain)? {
+            return Ok(Some(number));
         }
     }
+    let copied = copy_agrees(alloc, &pool, &plain, &made)?;
+    Ok(if copied { None } else { Some(300) })
+}
+
+#[test]
+fn indexes_find_what_searches_find(rt: HostRuntime) -> Result<(), Fail> {
+    assert!(rt; first_difference(rt.alloc())? == None);
     Ok(())
 }

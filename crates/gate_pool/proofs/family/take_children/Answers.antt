@@ -21,10 +21,10 @@ loop-index-preserved-in-Some g c =
     let pulled = rw c.txid-txid.ensures at c.pull.ensures.entries in
     let pushed : c.push_reserved.new.self.items ≡ c.loop-index.found.items ++ (txid_of child.tx) ∷ [] = c.push_reserved.ensures.items ∙ ap (λ t. c.loop-index.found.items ++ t ∷ []) c.txid-txid.ensures in
     record {
-      walk = λ g x w.
-          subst (λ fs. Walk g x (parent ∷ fs) c.pull.new.self.entries) (sym pushed)
-          (subst (λ r. Walk g x (parent ∷ (c.loop-index.found.items ++ (txid_of child.tx) ∷ [])) r) (sym pulled)
-          (Walk-child (c.loop-index.invariant.walk g x w) child kid.member kid.named));
+      walk = λ g top w.
+          subst (λ fs. Walk g top (parent ∷ fs) c.pull.new.self.entries) (sym pushed)
+          (subst (λ r. Walk g top (parent ∷ (c.loop-index.found.items ++ (txid_of child.tx) ∷ [])) r) (sym pulled)
+          (Walk-child (c.loop-index.invariant.walk g top w) child kid.member kid.named));
       none = λ j l. ap (λ r. spender_of r (point_of parent j)) pulled ∙ still_none before child (point_of parent j) (c.loop-index.invariant.none j l);
       among = λ e m. c.loop-index.invariant.among e (Contains-from_filter (λ (e : Admitted). not (has_txid e (txid_of child.tx))) before e (subst (λ r. Contains r e) pulled m));
       fewer = omega (arith, c.push_reserved.ensures.len, kid.less, ap length pulled, c.loop-index.invariant.fewer);
@@ -33,8 +33,8 @@ loop-index-preserved-in-Some g c =
     }
 
 pub returns-clause-walk : goal.returns-clause-walk
-returns-clause-walk g c = λ g x w.
+returns-clause-walk g c = λ g top w.
     let inv = c.loop-index.invariant in
-    Walk-close (inv.walk g x w) (none_names c.loop-index.slots.entries c.args.parent.now c.args.bound
+    Walk-close (inv.walk g top w) (none_names c.loop-index.slots.entries c.args.parent.now c.args.bound
     (λ j l. inv.none j (omega (arith, l, c.loop-index-test.false, c.from.ensures)))
     (λ e m i k t. c.requires.reach e (inv.among e m) i k t))

@@ -5,4 +5,4 @@ pub take_children-requires-clause-reach : goal.take_children-requires-clause-rea
 take_children-requires-clause-reach g c = noted_reach c.requires.noted c.args.parent.now c.in-Some.bound.now c.in-Some.ensures.value
 
 pub returns-in-None-clause-walk : goal.returns-in-None-clause-walk
-returns-in-None-clause-walk g c = λ g x w. Walk-close w (noted_none c.requires.noted c.args.parent.now c.in-None.ensures.value)
+returns-in-None-clause-walk g c = λ g top w. Walk-close w (noted_none c.requires.noted c.args.parent.now c.in-None.ensures.value)

@@ -1,7 +1,7 @@
 use Rattle.std.proofs.Common.{◌≡◌, [], subst, ◌∙◌, arith}
 use Rattle.std.proofs.lemmas.List.{nil_from_length}
 use Rattle.gate_pool.specs.Walk.{Walk}
-use Rattle.gate_pool.proofs.Walking.{IsNoted-less, Walk-popped, Walk-end}
+use Rattle.gate_pool.proofs.Walking.{IsNoted-less, Walk-popped}
 use Rattle.gate_pool.proofs.family.walk_down.Goals as goal
 
 pub take_noted-requires-clause-noted : goal.take_noted-requires-clause-noted
@@ -11,7 +11,7 @@ pub loop-parent-preserved : goal.loop-parent-preserved
 loop-parent-preserved g c =
     let inv = c.loop-parent.invariant in
     record {
-      walk = λ g x w. c.take_noted.ensures.walk g x (Walk-popped c.loop-parent.found.items c.pop.new.self.items c.in-Some.parent c.in-Some.ensures.items (inv.walk g x w));
+      walk = λ g top w. c.take_noted.ensures.walk g top (Walk-popped c.loop-parent.found.items c.pop.new.self.items c.in-Some.parent c.in-Some.ensures.items (inv.walk g top w));
       among = λ e m. inv.among e (c.take_noted.ensures.among e m);
       fewer = omega (arith, c.take_noted.ensures.fewer, inv.fewer, c.in-Some.ensures.len);
       room = c.take_noted.ensures.room ∙ inv.room;
@@ -19,6 +19,6 @@ loop-parent-preserved g c =
     }
 
 pub returns-clause-walk : goal.returns-clause-walk
-returns-clause-walk g c = λ g x w.
+returns-clause-walk g c = λ g top w.
     let empty : c.loop-parent.found.items ≡ [] = nil_from_length c.loop-parent.found.items (omega (arith, c.loop-parent.found.ok, c.in_default.ensures.variant, c.in_default.ensures.len, c.in_default.ensures.cases)) in
-    Walk-end (subst (λ fs. Walk g x fs c.loop-parent.slots.entries) empty (c.loop-parent.invariant.walk g x w))
+    subst (λ fs. Walk g top fs c.loop-parent.slots.entries) empty (c.loop-parent.invariant.walk g top w)

@@ -1,6 +1,7 @@
-use Rattle.std.proofs.Common.{◌≡◌, ◌++◌, ◌∷◌, [], ap, subst, ◌∙◌, not, arith, length, length-append}
+use Rattle.std.proofs.Common.{◌≡◌, ◌++◌, ◌∷◌, [], ap, subst, ◌∙◌, inl, inr, not, arith, length, length-append}
 use Rattle.std.specs.Str.{bytes_eq}
 use Rattle.std.specs.Prelude.{Contains}
+use Rattle.std.proofs.lemmas.List.Elements.{Contains-append_cases}
 use Rattle.indexmap.specs.IndexMap.{get}
 use Rattle.gate_tx.specs.Ids.{txid_of, wtxid_of}
 use Rattle.gate_pool.specs.Pool.{Admitted, Pooled, entry_by_txid, entry_by_wtxid}
@@ -9,6 +10,7 @@ use Rattle.gate_pool.specs.Keeping.{IsNoted}
 use Rattle.gate_pool.proofs.Conflicts.{IsNew-left}
 use Rattle.gate_pool.proofs.Noting.{IsNoted-grown, IsNoted-push}
 use Rattle.gate_pool.proofs.Walking.{IsNoted-less, Contains-from_filter, shorter}
+use Rattle.gate_graph.proofs.Members.{Contains-cons_cases, not_in_none}
 use Rattle.gate_pool.proofs.pool.Pool.replace.Goals as goal
 
 pub put-requires-clause-new : goal.put-requires-clause-new
@@ -27,10 +29,18 @@ invariant_of-self g c =
     let old = c.self.inside.slots.entries in
     let rest : c.take_conflicts.new.slots.entries ≡ without_below (spends_one_of e.tx.inputs) old = rw (c.inputs-inputs.ensures, c.transaction.ensures) at c.take_conflicts.ensures.rest in
     let kept : IsNoted c.take_conflicts.new.slots.entries (get bytes_eq c.self.inside.bounds) = IsNoted-less c.self.invariant.noted (λ d m. Contains-from_filter (λ (d : Admitted). not (is_below_some (spends_one_of e.tx.inputs) old d)) old d (subst (λ l. Contains l d) rest m)) in
+    let left : c.tidy.new.self.entries ≡ c.take_conflicts.new.slots.entries ++ e ∷ [] = c.tidy.ensures ∙ c.put.ensures in
     record {
-      noted = IsNoted-push e (IsNoted-grown c.note.ensures.grown kept) (λ i m. (rw (c.inputs-inputs.ensures, c.transaction.ensures) at c.note.ensures.noted) i m) (c.tidy.ensures ∙ c.put.ensures);
+      noted = IsNoted-push e (IsNoted-grown c.note.ensures.grown kept) (λ i m. (rw (c.inputs-inputs.ensures, c.transaction.ensures) at c.note.ensures.noted) i m) left;
       now = omega (arith, c.self.invariant.next, c.self.ranges, shorter (λ (d : Admitted). not (is_below_some (spends_one_of e.tx.inputs) old d)) old, ap length rest, ap length (c.tidy.ensures ∙ c.put.ensures), length-append c.take_conflicts.new.slots.entries (e ∷ []), c.take_conflicts.ensures.capacity, c.requires.room, ap (λ (p : Pooled). p.room) c.self.view_is);
+      few = omega (arith, c.self.invariant.next_few, c.self.ranges, shorter (λ (d : Admitted). not (is_below_some (spends_one_of e.tx.inputs) old d)) old, ap length rest, ap length left, length-append c.take_conflicts.new.slots.entries (e ∷ []), c.requires.room, ap (λ (p : Pooled). p.room) c.self.view_is);
+      times = λ d m.
+          elim (Contains-append_cases c.take_conflicts.new.slots.entries (e ∷ []) d (subst (λ l. Contains l d) left m)) [
+            | inl stays ↦ omega (arith, c.self.invariant.times d (Contains-from_filter (λ (d : Admitted). not (is_below_some (spends_one_of e.tx.inputs) old d)) old d (subst (λ l. Contains l d) rest stays)), c.min-self-inside.ensures)
+            | inr new ↦ elim (Contains-cons_cases e [] d new) [ inl same ↦ omega (arith, c.min-self-inside.ensures, c.time.ensures, ap (λ (x : Admitted). x.time) same) | inr none ↦ not_in_none d none ]
+          ];
       next = λ l. absurd (omega (arith, l));
+      next_few = λ l. absurd (omega (arith, l));
       bounds = omega arith;
       slots_room = omega arith;
     }

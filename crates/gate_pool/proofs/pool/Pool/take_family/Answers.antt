@@ -15,7 +15,10 @@ invariant_of-self g c =
     record {
       noted = IsNoted-less c.self.invariant.noted (λ e m. Contains-from_filter (λ (e : Admitted). not (reaches (steps old) x (txid_of e.tx))) old e (subst (λ l. Contains l e) left m));
       now = omega (arith, shorter (λ (e : Admitted). not (reaches (steps old) x (txid_of e.tx))) old, ap length left, c.self.invariant.now, c.take_out.ensures.capacity);
+      few = omega (arith, shorter (λ (e : Admitted). not (reaches (steps old) x (txid_of e.tx))) old, ap length left, c.self.invariant.few);
+      times = λ e m. c.self.invariant.times e (Contains-from_filter (λ (e : Admitted). not (reaches (steps old) x (txid_of e.tx))) old e (subst (λ l. Contains l e) left m));
       next = λ l. absurd (omega (arith, l));
+      next_few = λ l. absurd (omega (arith, l));
       bounds = omega arith;
       slots_room = omega arith;
     }

@@ -27,7 +27,7 @@ invariant_of-self g c =
         points = subst (λ l. Indexes has_point l (get point_eq c.renumber.new.spent)) c.deref.ensures.value c.renumber.ensures.spent;
         count = c.renumber.ensures.count ∙ kept.count ∙ ap length (sym (entries_of-closed c.self.inside.slots.items)) ∙ ap (λ l. length (entries_of l)) (sym c.close.ensures);
         size = kept.size ∙ ap size_of (sym (entries_of-closed c.self.inside.slots.items)) ∙ ap (λ l. size_of (entries_of l)) (sym c.close.ensures);
-        vsizes = λ e m. kept.vsizes e (subst (λ l. Contains l e) (ap entries_of c.close.ensures ∙ entries_of-closed c.self.inside.slots.items) m);
+        bounded = λ e m. kept.bounded e (subst (λ l. Contains l e) (ap entries_of c.close.ensures ∙ entries_of-closed c.self.inside.slots.items) m);
       },
       record {
         txids = λ l. absurd (omega (arith, l));

@@ -11,7 +11,7 @@ use Rattle.gate_pool.proofs.slots.Slots.put.Goals as goal
 pub overflow_add-self : goal.overflow_add-self
 overflow_add-self g c =
     let slots = c.self.inside.slots in
-    let sum = size_of-le (entries_of slots.items) c.self.invariant.0.vsizes in
+    let sum = size_of-le (entries_of slots.items) c.self.invariant.0.bounded in
     let fits : c.self.inside.size + c.from.result < 2 ^ 128 = omega (arith, sum, entries_le slots.items, c.self.invariant.0.size, slots.ok, slots.small, c.from.ensures, c.vsize.ensures.most) in
     search rules
 
@@ -33,7 +33,7 @@ invariant_of-self g c =
           let more = rw c.unwrap.ensures at c.insert-put_txid.ensures.len in
           more ∙ ap (λ o. index_map_len txids + (if is_some o then 0 else 1)) before)
           (ap (λ v. c.self.inside.size + v) (c.from.ensures ∙ c.vsize.ensures.value))
-          (omega (arith, c.vsize.ensures.value, c.vsize.ensures.most)),
+          c.tells_bounds.ensures,
       record {
         txids = λ l. absurd (omega (arith, l));
         wtxids = λ l. absurd (omega (arith, l));

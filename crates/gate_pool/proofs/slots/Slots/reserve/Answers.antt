@@ -18,7 +18,7 @@ invariant_of-self-in_err-reserve-4 g c =
         points = Indexes-same kept.points same (λ k. ap (lookup (point_eq k)) c.in_ok-reserve-3.ensures.entries);
         count = ap length c.in_ok-reserve.ensures.entries ∙ kept.count ∙ ap (λ l. length (entries_of l)) (sym same);
         size = kept.size ∙ ap (λ l. size_of (entries_of l)) (sym same);
-        vsizes = λ e m. kept.vsizes e (subst (λ l. Contains (entries_of l) e) same m);
+        bounded = λ e m. kept.bounded e (subst (λ l. Contains (entries_of l) e) same m);
       },
       record {
         txids = λ l. absurd (omega (arith, l));
@@ -38,7 +38,7 @@ invariant_of-self-2 g c =
         points = Indexes-same kept.points same (λ k. ap (lookup (point_eq k)) c.in_ok-reserve-3.ensures.entries);
         count = ap length c.in_ok-reserve.ensures.entries ∙ kept.count ∙ ap (λ l. length (entries_of l)) (sym same);
         size = kept.size ∙ ap (λ l. size_of (entries_of l)) (sym same);
-        vsizes = λ e m. kept.vsizes e (subst (λ l. Contains (entries_of l) e) same m);
+        bounded = λ e m. kept.bounded e (subst (λ l. Contains (entries_of l) e) same m);
       },
       record {
         txids = λ l. omega (arith, c.in_ok-reserve.ensures.ok);

@@ -1,0 +1,37 @@
+-- What entries within their bounds come to.
+use Rattle.std.proofs.Common.{◌*◌, ◌≤◌, List, [], ◌∷◌, length, arith}
+use Rattle.std.specs.Prelude.{Contains}
+use Rattle.std.proofs.lemmas.List.Sums.{sum_by-cons}
+use Rattle.gate_tx.specs.Money.{max_money}
+use Rattle.gate_graph.proofs.Members.{Contains-head, Contains-rest, not_in_none}
+use Rattle.gate_pool.specs.Pool.{Admitted, IsBounded, most_entries, size_of}
+use Rattle.gate_pool.specs.Family.{fees_of, sums_of}
+use Rattle.gate_pool.specs.Scores.{AreBounded}
+use Rattle.gate_pool.proofs.Keeping.{size_of-le}
+
+abbrev All : List Admitted → Type 0
+All entries = (e : Admitted) → Contains entries e → IsBounded e
+
+fees_of-le : (entries : List Admitted) → All entries → fees_of entries ≤ max_money * length entries
+fees_of-le [] h = omega arith
+fees_of-le (e ∷ entries) h =
+    omega (arith, fees_of-le entries (λ d m. h d (Contains-rest e entries d m)), (h e (Contains-head e entries)).fee, sum_by-cons (λ (y : Admitted). y.fee) e entries)
+
+-- no virtual byte pays more than all money
+fees_of-rate : (entries : List Admitted) → All entries → fees_of entries ≤ max_money * size_of entries
+fees_of-rate [] h = omega arith
+fees_of-rate (e ∷ entries) h =
+    let own = h e (Contains-head e entries) in
+    omega (arith, fees_of-rate entries (λ d m. h d (Contains-rest e entries d m)), own.fee, own.least, sum_by-cons (λ (y : Admitted). y.fee) e entries, sum_by-cons (λ (y : Admitted). y.vsize) e entries)
+
+one_of : (entries : List Admitted) → All entries → (e : Admitted) → Contains entries e → 1 ≤ size_of entries
+one_of [] h e m = not_in_none e m
+one_of (d ∷ entries) h e m = omega (arith, (h d (Contains-head d entries)).least, sum_by-cons (λ (y : Admitted). y.vsize) d entries)
+
+pub sums_bounded : (entries : List Admitted) → All entries → length entries ≤ most_entries → (e : Admitted) → Contains entries e → AreBounded (sums_of entries)
+sums_bounded entries h few e m = record {
+  least = one_of entries h e m;
+  size = omega (arith, size_of-le entries h, few);
+  fees = omega (arith, fees_of-le entries h, few);
+  rate = fees_of-rate entries h;
+}
