@@ -1,0 +1,4 @@
+pub mod Aging
+pub mod Choosing
+pub mod Picking
+pub mod Trimmings

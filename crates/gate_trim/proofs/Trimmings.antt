@@ -1,0 +1,163 @@
+-- Trimming, one entry after another.
+use Rattle.std.proofs.Common.{◌≡◌, ℕ, zero, suc, ◌<◌, ◌≤◌, Bool, true, false, cond, List, [], ◌∷◌, length, refl, sym, ap, ◌∙◌, subst, arith, Option, Some, None}
+use Rattle.std.specs.Prelude.{Contains, nat_le}
+use Rattle.std.proofs.lemmas.Bool.{cond-true, cond-false}
+use Rattle.std.proofs.lemmas.Bool.Decides.{nat_tests}
+use Rattle.std.proofs.lemmas.Option.{none-some, same_Some}
+use Rattle.gate_tx.specs.Ids.{txid_of}
+use Rattle.gate_graph.proofs.Members.{Contains-head, Contains-rest}
+use Rattle.gate_pool.specs.Pool.{Admitted, size_of}
+use Rattle.gate_pool.specs.Family.{without_family}
+use Rattle.gate_pool.specs.Scores.{is_cheaper, score_of, lesser, least_among, least_of}
+use Rattle.gate_pool.specs.declared.Score.{Score}
+use Rattle.gate_pool.proofs.Removals.{family_falls}
+use Rattle.gate_trim.specs.Trimming.{Trimmed, raised, on_least, trim_steps, trim_of}
+
+-- the least score is an entry's
+pub record IsScored (entries some : List Admitted) (s : Score) : Type 0 where
+  pub entry : Admitted
+  pub member : Contains some entry
+  pub is : s ≡ score_of entries entry
+
+pub least_is : (entries some : List Admitted) (s : Score) → least_among entries some ≡ Some s → IsScored entries some s
+least_is entries [] s h = absurd (none-some s h)
+least_is entries (e ∷ some) s h = go (least_among entries some) (least_is entries some) (same_Some _ _ h)
+  where
+    here : (score_of entries e ≡ s) → IsScored entries (e ∷ some) s
+    here k = record { entry = e; member = Contains-head e some; is = sym k }
+
+    pick : (t : Score) (b : Bool) → IsScored entries some t → cond b (score_of entries e) t ≡ s → IsScored entries (e ∷ some) s
+    pick t true w k = here k
+    pick t false w k = record { entry = w.entry; member = Contains-rest e some w.entry w.member; is = sym k ∙ w.is }
+
+    go : (o : Option Score) → ((t : Score) → o ≡ Some t → IsScored entries some t) → lesser (score_of entries e) o ≡ s → IsScored entries (e ∷ some) s
+    go None ih k = here k
+    go (Some t) ih k = pick t (is_cheaper (score_of entries e).fees (score_of entries e).size t.fees t.size) (ih t refl) k
+
+-- by its id
+pub score_txid : (entries : List Admitted) (e : Admitted) → (score_of entries e).txid ≡ txid_of e.tx
+unfolding score_of
+score_txid entries e = refl
+
+pub least_falls : (entries : List Admitted) (s : Score) → least_of entries ≡ Some s → length (without_family entries s.txid) < length entries
+least_falls entries s h =
+    let w = least_is entries entries s h in
+    subst (λ x. length (without_family entries x) < length entries) (sym (ap (λ (t : Score). t.txid) w.is ∙ score_txid entries w.entry)) (family_falls entries w.entry w.member)
+
+abbrev stop : List Admitted → ℕ → Trimmed
+stop entries floor = record { entries = entries; floor = floor }
+
+none_left : (entries : List Admitted) → length entries ≤ 0 → entries ≡ []
+none_left [] h = refl
+none_left (e ∷ entries) h = absurd (omega (arith, h))
+
+empty_steps : (n budget floor : ℕ) → trim_steps n budget [] floor ≡ stop [] floor
+unfolding trim_steps
+empty_steps zero budget floor = refl
+empty_steps (suc n) budget floor = by (nat_le (size_of []) budget)
+  where
+    by : (b : Bool) → cond b (stop [] floor) (stop [] floor) ≡ stop [] floor
+    by true = refl
+    by false = refl
+
+-- any number of steps that is enough gives the same
+pub enough : (n m budget : ℕ) (entries : List Admitted) (floor : ℕ) → length entries ≤ n → length entries ≤ m → trim_steps n budget entries floor ≡ trim_steps m budget entries floor
+unfolding trim_steps
+enough zero m budget entries floor h k =
+    let e = none_left entries h in
+    ap (λ l. trim_steps zero budget l floor) e ∙ empty_steps zero budget floor ∙ sym (empty_steps m budget floor) ∙ ap (λ l. trim_steps m budget l floor) (sym e)
+enough (suc n) zero budget entries floor h k =
+    let e = none_left entries k in
+    ap (λ l. trim_steps (suc n) budget l floor) e ∙ empty_steps (suc n) budget floor ∙ sym (empty_steps zero budget floor) ∙ ap (λ l. trim_steps zero budget l floor) (sym e)
+enough (suc n) (suc m) budget entries floor h k =
+    ap (λ t. cond (nat_le (size_of entries) budget) (stop entries floor) t) (go (λ l f p q. enough n m budget l f p q) (least_of entries) refl)
+  where
+    go : ((l : List Admitted) (f : ℕ) → length l ≤ n → length l ≤ m → trim_steps n budget l f ≡ trim_steps m budget l f) → (o : Option Score) → least_of entries ≡ o
+        → on_least o (stop entries floor) (λ s. trim_steps n budget (without_family entries s.txid) (raised floor s.family)) ≡ on_least o (stop entries floor) (λ s. trim_steps m budget (without_family entries s.txid) (raised floor s.family))
+    go ih None e = refl
+    go ih (Some s) e = let l = least_falls entries s e in ih (without_family entries s.txid) (raised floor s.family) (omega (arith, l, h)) (omega (arith, l, k))
+
+-- one step, where any are left
+one_step : (n budget : ℕ) (entries : List Admitted) (floor : ℕ) (s : Score) → nat_le (size_of entries) budget ≡ false → least_of entries ≡ Some s
+    → trim_steps (suc n) budget entries floor ≡ trim_steps n budget (without_family entries s.txid) (raised floor s.family)
+unfolding trim_steps
+one_step n budget entries floor s h e =
+    cond-false (nat_le (size_of entries) budget) (stop entries floor) (on_least (least_of entries) (stop entries floor) (λ s. trim_steps n budget (without_family entries s.txid) (raised floor s.family))) h
+    ∙ ap (λ o. on_least o (stop entries floor) (λ s. trim_steps n budget (without_family entries s.txid) (raised floor s.family))) e
+
+ends_step : (n budget : ℕ) (entries : List Admitted) (floor : ℕ) → nat_le (size_of entries) budget ≡ true → trim_steps n budget entries floor ≡ stop entries floor
+unfolding trim_steps
+ends_step zero budget entries floor h = refl
+ends_step (suc n) budget entries floor h = cond-true (nat_le (size_of entries) budget) (stop entries floor) (on_least (least_of entries) (stop entries floor) (λ s. trim_steps n budget (without_family entries s.txid) (raised floor s.family))) h
+
+-- within the budget nothing goes
+pub trim_ends : (budget : ℕ) (entries : List Admitted) (floor : ℕ) → nat_le (size_of entries) budget ≡ true → trim_of budget entries floor ≡ record { entries = entries; floor = floor }
+unfolding trim_of
+trim_ends budget entries floor h = ends_step (length entries) budget entries floor h
+
+-- above it the entry of least score goes first
+pub trim_goes : (budget : ℕ) (entries : List Admitted) (floor : ℕ) (s : Score) → nat_le (size_of entries) budget ≡ false → least_of entries ≡ Some s
+    → trim_of budget entries floor ≡ trim_of budget (without_family entries s.txid) (raised floor s.family)
+unfolding trim_of
+trim_goes budget entries floor s h e =
+    let l = least_falls entries s e in
+    enough (length entries) (suc (length entries)) budget entries floor (omega arith) (omega arith)
+    ∙ one_step (length entries) budget entries floor s h e
+    ∙ enough (length entries) (length (without_family entries s.txid)) budget (without_family entries s.txid) (raised floor s.family) (omega (arith, l)) (omega arith)
+
+-- and where there is none, nothing does
+pub trim_stops : (budget : ℕ) (entries : List Admitted) (floor : ℕ) → least_of entries ≡ None → trim_of budget entries floor ≡ record { entries = entries; floor = floor }
+unfolding trim_of
+trim_stops budget [] floor h = empty_steps 0 budget floor
+trim_stops budget (e ∷ entries) floor h = absurd (none-some (lesser (score_of (e ∷ entries) e) (least_among (e ∷ entries) entries)) (sym h))
+
+pub above : (n b : ℕ) → b < n → nat_le n b ≡ false
+above n b h = grind (arith, nat_tests)
+
+pub within : (n b : ℕ) → n ≤ b → nat_le n b ≡ true
+within n b h = grind (arith, nat_tests)
+
+in_budget : (n b : ℕ) → nat_le n b ≡ true → n ≤ b
+in_budget n b h = grind (arith, nat_tests)
+
+past_budget : (n b : ℕ) → nat_le n b ≡ false → b < n
+past_budget n b h = grind (arith, nat_tests)
+
+pub empty_fits : (entries : List Admitted) → least_of entries ≡ None → size_of entries ≤ 0
+empty_fits [] h = omega arith
+empty_fits (e ∷ entries) h = absurd (none-some (lesser (score_of (e ∷ entries) e) (least_among (e ∷ entries) entries)) (sym h))
+
+-- what holds of entries and the floor where trimming stops, and before a step where it holds after it, holds of what it makes of them
+module _ (budget : ℕ) (P : List Admitted → ℕ → Trimmed → Type 0)
+    (stops : (entries : List Admitted) (floor : ℕ) → size_of entries ≤ budget → P entries floor (record { entries = entries; floor = floor }))
+    (steps : (entries : List Admitted) (floor : ℕ) (s : Score) (t : Trimmed) → budget < size_of entries → least_of entries ≡ Some s → P (without_family entries s.txid) (raised floor s.family) t → P entries floor t) where
+  trims_once : (entries : List Admitted) (floor : ℕ) → ((s : Score) → least_of entries ≡ Some s → P (without_family entries s.txid) (raised floor s.family) (trim_of budget (without_family entries s.txid) (raised floor s.family))) → P entries floor (trim_of budget entries floor)
+  trims_once entries floor rest = go (nat_le (size_of entries) budget) refl (least_of entries) refl
+    where
+      end : trim_of budget entries floor ≡ stop entries floor → size_of entries ≤ budget → P entries floor (trim_of budget entries floor)
+      end is fits = subst (P entries floor) (sym is) (stops entries floor fits)
+
+      go : (b : Bool) → nat_le (size_of entries) budget ≡ b → (o : Option Score) → least_of entries ≡ o → P entries floor (trim_of budget entries floor)
+      go true e o r = end (trim_ends budget entries floor e) (in_budget (size_of entries) budget e)
+      go false e None r = end (trim_stops budget entries floor r) (omega (arith, empty_fits entries r))
+      go false e (Some s) r = subst (P entries floor) (sym (trim_goes budget entries floor s e r))
+          (steps entries floor s (trim_of budget (without_family entries s.txid) (raised floor s.family)) (past_budget (size_of entries) budget e) r (rest s r))
+
+  trims_by : (n : ℕ) (entries : List Admitted) (floor : ℕ) → length entries ≤ n → P entries floor (trim_of budget entries floor)
+  trims_by zero entries floor h = trims_once entries floor (λ s r. absurd (omega (arith, h, least_falls entries s r)))
+  trims_by (suc n) entries floor h = trims_once entries floor (λ s r. trims_by n (without_family entries s.txid) (raised floor s.family) (omega (arith, h, least_falls entries s r)))
+
+  pub trims : (entries : List Admitted) (floor : ℕ) → P entries floor (trim_of budget entries floor)
+  trims entries floor = trims_by (length entries) entries floor (omega arith)
+
+-- what each removal of a family keeps, trimming keeps
+pub trim_keeps : (P : List Admitted → Type 0) → ((entries : List Admitted) (txid : List ℕ) → P entries → P (without_family entries txid)) → (budget : ℕ) (entries : List Admitted) (floor : ℕ) → P entries → P (trim_of budget entries floor).entries
+trim_keeps P keeps budget entries floor h = trims budget (λ l f t. P l → P t.entries) (λ l f fits p. p) (λ l f s t over r k p. k (keeps l s.txid p)) entries floor h
+
+-- what is left is within the budget
+pub trim_within : (budget : ℕ) (entries : List Admitted) (floor : ℕ) → size_of (trim_of budget entries floor).entries ≤ budget
+trim_within budget entries floor = trims budget (λ l f t. size_of t.entries ≤ budget) (λ l f fits. fits) (λ l f s t over r k. k) entries floor
+
+-- the floor doesn't fall
+pub trim_rises : (budget : ℕ) (entries : List Admitted) (floor : ℕ) → floor ≤ (trim_of budget entries floor).floor
+trim_rises budget entries floor = trims budget (λ l f t. f ≤ t.floor) (λ l f fits. omega arith) (λ l f s t over r k. omega (arith, k)) entries floor

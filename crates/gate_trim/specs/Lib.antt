@@ -1,0 +1,3 @@
+pub mod Expiry
+pub mod Trimming
+pub mod Laws

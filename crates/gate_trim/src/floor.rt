@@ -1,0 +1,50 @@
+ghost use Rattle.std.specs.Prelude.{◌≡◌};
+ghost use Rattle.gate_pool.specs.Scores.{AreBounded};
+ghost use Rattle.gate_trim.specs.Trimming.{raised};
+
+use gate_pool::Sums;
+use std::marker::Model;
+
+/// What the floor rises by above the rate of what was trimmed, in satoshi per 1,000 virtual bytes (Bitcoin Core 22.0's
+/// `-incrementalrelayfee`).
+pub const FLOOR_STEP: u64 = 1000;
+
+/// The rate that the pool asks of what comes in, beside the one for every relay: in satoshi per 1,000 virtual bytes.
+#[derive(Clone, Copy, Debug, PartialEq, Eq)]
+pub struct Floor {
+    rate: u64,
+}
+
+impl Model for Floor {
+    ghost use Rattle.std.specs.Prelude.{ℕ};
+
+    ghost Value = { ℕ };
+
+    ghost view = { λ f. f.rate };
+
+    ghost inverse = { λ rate. record { rate = rate } };
+}
+
+impl Floor {
+    pub fn new(rate: u64) -> Floor
+        ensures { result ≡ rate }
+    {
+        Floor { rate }
+    }
+
+    pub fn rate(&self) -> u64
+        ensures { result ≡ self.now }
+    {
+        self.rate
+    }
+
+    /// Rises above the rate of entries that were trimmed and come to this. It never falls.
+    #[tactic(auto, unfolding(gate_standard::specs::Amounts::feerate))]
+    pub fn raise(&mut self, family: Sums)
+        requires { AreBounded family }
+        ensures { self.new ≡ raised self.old family }
+    {
+        let rate = family.fees * 1000 / family.size;
+        self.rate = self.rate.max(rate as u64 + FLOOR_STEP);
+    }
+}

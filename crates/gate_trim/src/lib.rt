@@ -1,0 +1,21 @@
+//! What leaves a pool by itself: what came too long ago, what pays least where the pool is over its budget, and the floor
+//! that rises when something was trimmed.
+//!
+//! The main clauses are those of `expire` and `trim`: the entries that are left, and the floor, exactly, without memory.
+#![tactic(auto)]
+
+mod expiry;
+mod floor;
+mod law;
+mod trimming;
+
+pub use expiry::{LONGEST_STAY, expire, try_expire};
+pub use floor::{FLOOR_STEP, Floor};
+pub use law::{
+    expiry_leaves_the_young, trimming_keeps_the_budget, trimming_raises_the_floor,
+    trimming_takes_the_least,
+};
+pub use trimming::{trim, try_trim};
+
+#[cfg(test)]
+mod tests;

@@ -1,0 +1,35 @@
+ghost use Rattle.std.specs.Prelude.{◌≡◌, IsOk};
+ghost use Rattle.gate_trim.specs.Trimming.{trim_of};
+
+use crate::floor::Floor;
+use gate_bytes::Memory;
+use gate_pool::Pool;
+use std::hash::BuildHasher;
+
+/// Takes out the entry of least score, with all that is below it, until the rest is within the budget in virtual bytes. Each
+/// time the floor rises above the rate of what went. It takes no memory, and gives up the room that the pool had taken where
+/// something goes.
+pub fn trim<S: BuildHasher + Copy + Drop>(pool: &mut Pool<S>, floor: &mut Floor, budget: u64)
+    ensures { trim_of budget pool.old.entries floor.old ≡ record { entries = pool.new.entries; floor = floor.new } }
+{
+    while pool.size() > u128::from(budget) {
+        let Some(score) = pool.least() else {
+            return;
+        };
+        pool.take_family(&score.txid);
+        floor.raise(score.family);
+    }
+}
+
+/// The same for callers to whom each change of a pool may want memory: this one never does.
+pub fn try_trim<S: BuildHasher + Copy + Drop>(
+    pool: &mut Pool<S>,
+    floor: &mut Floor,
+    budget: u64,
+) -> Result<(), Memory>
+    ensures done { IsOk result }
+    ensures trimmed { trim_of budget pool.old.entries floor.old ≡ record { entries = pool.new.entries; floor = floor.new } }
+{
+    trim(pool, floor, budget);
+    Ok(())
+}
