@@ -18,11 +18,10 @@ use Rattle.gate_chain.specs.Coins.{has_txid as opened_by, has_transaction, is_sp
 use Rattle.gate_chain.specs.History.{History}
 use Rattle.gate_chain.specs.Times.{tip_of}
 use Rattle.gate_pool.specs.Pool.{Admitted, has_txid, entry_by_txid}
-use Rattle.gate_pool.specs.Family.{is_below_some, without_below}
-use Rattle.gate_pool.proofs.Entries.{find_some}
+use Rattle.gate_pool.proofs.Entries.{Id, find_some}
+use Rattle.gate_pool.proofs.Removals.{kept}
 use Rattle.gate_admit.specs.Coins.{view_coin}
 use Rattle.gate_admit.proofs.Filtering.{find-filter_same}
-use Rattle.gate_admit.proofs.Staying.{is_below}
 
 -- ---- the chain knows the transaction of each of its coins
 
@@ -103,13 +102,12 @@ coin_elsewhere chain entries txid new unknown p h = λ same.
 pub coin_as_before : (chain : History) (old new : List Admitted) (p : OutPoint) → entry_by_txid new p.txid ≡ entry_by_txid old p.txid → IsSome (view_coin chain old p) → IsSome (view_coin chain new p)
 coin_as_before chain old new p same h = ap (λ found. is_some (coin_with chain p found)) same ∙ h
 
--- where none that goes is above it
-pub coin_stays : (chain : History) (test : Admitted → Bool) (entries : List Admitted) (p : OutPoint) → is_below test entries p.txid ≡ false
-    → IsSome (view_coin chain entries p) → IsSome (view_coin chain (without_below test entries) p)
-coin_stays chain test entries p beside h =
-    coin_as_before chain entries (without_below test entries) p
-    (find-filter_same (λ (e : Admitted). has_txid e p.txid) (λ (e : Admitted). not (is_below_some test entries e)) entries
-    (λ a m t. ap not (ap (is_below test entries) ((bytes_decides (txid_of a.tx) p.txid).0 t) ∙ beside))) h
+-- where its transaction doesn't go
+pub coin_stays : (chain : History) (D : Id → Bool) (entries : List Admitted) (p : OutPoint) → D p.txid ≡ false → IsSome (view_coin chain entries p) → IsSome (view_coin chain (kept D entries) p)
+coin_stays chain D entries p beside h =
+    coin_as_before chain entries (kept D entries) p
+    (find-filter_same (λ (e : Admitted). has_txid e p.txid) (λ (e : Admitted). not (D (txid_of e.tx))) entries
+    (λ a m t. ap not (ap D ((bytes_decides (txid_of a.tx) p.txid).0 t) ∙ beside))) h
 
 -- where an entry of another txid enters
 pub coin_beside : (chain : History) (entries : List Admitted) (e : Admitted) (p : OutPoint) → p.txid ≢ txid_of e.tx → IsSome (view_coin chain entries p) → IsSome (view_coin chain (entries ++ e ∷ []) p)

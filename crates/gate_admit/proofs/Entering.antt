@@ -1,4 +1,4 @@
--- A granted transaction that enters keeps a pool good.
+-- A granted transaction that enters keeps entries sound over their chain.
 use Rattle.std.proofs.Common.{◌≡◌, ◌≢◌, ◌≤◌, ◌||◌, ◌&&◌, ℕ, Bool, true, false, not, List, [], ◌∷◌, ◌++◌, get_or, Option, Some, None, refl, sym, ap, ◌∙◌, subst, append-nil}
 use Rattle.std.specs.Option.{option_to_list}
 use Rattle.std.specs.Prelude.{Contains, IsSome, IfSome}
@@ -12,7 +12,6 @@ use Rattle.gate_tx.specs.declared.TxIn.{TxIn}
 use Rattle.gate_tx.specs.Ids.{txid_of, wtxid_of}
 use Rattle.gate_tx.specs.Text.{IsTx}
 use Rattle.gate_tx.specs.Tx.{Tx}
-use Rattle.gate_standard.specs.declared.Denial.{Denial}
 use Rattle.gate_chain.specs.Coins.{has_txid, has_transaction, is_known_txid, opened_with_of}
 use Rattle.gate_chain.specs.History.{History}
 use Rattle.gate_graph.specs.Family.{reaches}
@@ -24,19 +23,19 @@ use Rattle.gate_pool.proofs.Walking.{Contains-filter}
 use Rattle.gate_rbf.specs.Replacing.{adds_parent}
 use Rattle.gate_admit.specs.declared.attempt.Attempt.TheVariants.{First}
 use Rattle.gate_admit.specs.Coins.{view_coin}
-use Rattle.gate_admit.specs.Good.{Limits, IsGood, IsLimited, IsSettled, IsUnconnected, AreApart, connected_transactions}
+use Rattle.gate_admit.specs.Good.{IsSound, IsLimited, IsSettled, IsUnconnected, AreApart, connected_transactions}
 use Rattle.gate_admit.specs.Granting.{IsGrantable}
 use Rattle.gate_admit.specs.Limits.{limit_rules}
-use Rattle.gate_admit.specs.Rules.{admission_rules, grant_of, denied_or, decision_of}
+use Rattle.gate_admit.specs.Rules.{admission_rules, grant_of}
 use Rattle.gate_admit.specs.Standing.{Standing}
-use Rattle.gate_admit.specs.Submission.{Submitted, admitted, entries_after, submit_of}
+use Rattle.gate_admit.specs.Submission.{admitted}
 use Rattle.gate_admit.proofs.Childless.{IsChildless, left_by, left_within, above_new}
 use Rattle.gate_admit.proofs.Coining.{coin_elsewhere, coin_stays, coin_beside}
 use Rattle.gate_admit.proofs.Granted.{Differ, rules_grant, small}
 use Rattle.gate_admit.proofs.Limited.{limited_new, limited_old}
 use Rattle.gate_admit.proofs.Lists.{AllPairs-nil, AllPairs-one, AllPairs-append, All-one}
 use Rattle.gate_admit.proofs.Passing.{Passes, passes}
-use Rattle.gate_admit.proofs.Removing.{DifferByTxid, DifferByWtxid, below_good, spent_at}
+use Rattle.gate_admit.proofs.Removing.{DifferByTxid, DifferByWtxid, below_sound, spent_at}
 use Rattle.gate_admit.proofs.Replacing.{beside_conflict}
 use Rattle.gate_admit.proofs.Rooms.{no_parent_added, room_above, room_at}
 use Rattle.gate_admit.proofs.Staying.{is_below}
@@ -54,7 +53,7 @@ unknown chain txid h k = neither (has_txid txid chain.coins) (list_any (has_tran
 
 -- ---- what is granted has no children, and its coins stay
 
-module _ (limits : Limits) (over : Standing) (e : Admitted) (good : IsGood limits over.chain over.entries) (k : IsGrantable over e.tx) (fresh : is_known_txid over.chain (txid_of e.tx) ≡ false) where
+module _ (over : Standing) (e : Admitted) (good : IsSound over.chain over.entries) (k : IsGrantable over e.tx) (fresh : is_known_txid over.chain (txid_of e.tx) ≡ false) where
   new : (a : Admitted) → Contains over.entries a → txid_of a.tx ≢ txid_of e.tx
   new a m = All-contains (λ (x : Admitted). txid_of x.tx ≢ txid_of e.tx) over.entries a k.txid m
 
@@ -95,7 +94,7 @@ module _ (limits : Limits) (over : Standing) (e : Admitted) (good : IsGood limit
   new_coins n d l =
       let w = Contains-from_map (λ (i : TxIn). i.prevout) e.tx.inputs (get_or (spends_of e.tx) n d) (Contains-get_or (spends_of e.tx) n d l) in
       subst (λ (p : OutPoint). IsSome (view_coin over.chain (entered over.entries e) p)) w.is
-      (coin_after w.item.prevout (coin_stays over.chain (is_conflict e.tx) over.entries w.item.prevout (own_beside w.item w.among) (own_coin w.item w.among)) (elsewhere w.item.prevout (own_coin w.item w.among)))
+      (coin_after w.item.prevout (coin_stays over.chain (is_below (is_conflict e.tx) over.entries) over.entries w.item.prevout (own_beside w.item w.among) (own_coin w.item w.among)) (elsewhere w.item.prevout (own_coin w.item w.among)))
 
   -- ---- the pool
 
@@ -111,14 +110,14 @@ module _ (limits : Limits) (over : Standing) (e : Admitted) (good : IsGood limit
       (Contains-filter (λ (x : Admitted). list_any (λ (i : TxIn). reaches (steps over.entries) (txid_of x.tx) i.prevout.txid) e.tx.inputs) over.entries a m (above_new childless_grant a m r))))
       (All-one (λ (a : Admitted). IsLimited (entered over.entries e) (txid_of a.tx)) e (limited_new childless_grant (room_above over.entries e small room)))
 
-  -- the pool after it entered
-  pub granted_good : e.vsize ≤ 100000 → NoneFails (limit_rules over.entries e.tx e.vsize) → (list_any (is_conflict e.tx) over.entries ≡ true → list_any (adds_parent over.entries (conflicts_of over.entries e.tx)) e.tx.inputs ≡ false)
-      → IsGood limits over.chain (entered over.entries e)
-  granted_good small room parents =
+  -- the entries after it entered
+  pub granted_sound : e.vsize ≤ 100000 → NoneFails (limit_rules over.entries e.tx e.vsize) → (list_any (is_conflict e.tx) over.entries ≡ true → list_any (adds_parent over.entries (conflicts_of over.entries e.tx)) e.tx.inputs ≡ false)
+      → IsSound over.chain (entered over.entries e)
+  granted_sound small room parents =
       let kept = left_by over.entries e in
       let chain = over.chain in
       let stays : Admitted → Bool = λ a. not (is_below_some (is_conflict e.tx) over.entries a) in
-      let h : IsGood limits chain kept = below_good limits chain (is_conflict e.tx) over.entries good in
+      let h : IsSound chain kept = below_sound chain (is_conflict e.tx) over.entries good in
       record {
         txids = AllPairs-append DifferByTxid kept (e ∷ []) h.txids (AllPairs-one DifferByTxid e)
             (λ n d l. All-one (λ (b : Admitted). txid_of (get_or kept n d).tx ≢ txid_of b.tx) e (All-filter stays (λ (a : Admitted). txid_of a.tx ≢ txid_of e.tx) over.entries k.txid n d l));
@@ -140,55 +139,35 @@ room_granted over tx p = p.limits
 parents_granted : (over : Standing) (tx : Tx) → Passes First over tx → list_any (is_conflict tx) over.entries ≡ true → list_any (adds_parent over.entries (conflicts_of over.entries tx)) tx.inputs ≡ false
 parents_granted over tx p conflicts = no_parent_added over.entries tx (conflicts_of over.entries tx) _ (grant_of over tx).fee (grant_of over tx).vsize (beside_conflict First over tx p conflicts)
 
-entered_good : (limits : Limits) (over : Standing) (tx : Tx) (found : Option Denial) (now : ℕ) → (found ≡ None → IsGrantable over tx × Passes First over tx × IsUnconnected over.chain (Some tx))
-    → IsGood limits over.chain over.entries → IsGood limits over.chain (entries_after over.entries (denied_or found (grant_of over tx)) (Some tx) now)
-entered_good limits over tx (Some denial) now h good = good
-entered_good limits over tx None now h good =
-    let all = h refl in
-    granted_good limits over (admitted tx (grant_of over tx) now) good all.0 (unknown over.chain (txid_of tx) all.0.fresh all.2) (small First over tx all.1) (room_granted over tx all.1) (parents_granted over tx all.1)
-
--- what is granted over a good pool is in no connected block
+-- what is granted over sound entries is in no connected block
 abbrev pub StaysUnconnected : Standing → Option Tx → Type 0
 StaysUnconnected over None = Unit {0}
 StaysUnconnected over (Some tx) =
     All (λ (e : Admitted). is_known_txid over.chain (txid_of e.tx) ≡ false) over.entries → first_failing (admission_rules First over tx) ≡ None → IsUnconnected over.chain (Some tx)
 
--- a submission keeps a pool good
-pub submission_good : (limits : Limits) (over : Standing) (tx : Option Tx) (now budget : ℕ) → StaysUnconnected over tx → IsGood limits over.chain over.entries → IsGood limits over.chain (submit_of over tx now budget).entries
-unfolding submit_of decision_of
-submission_good limits over None now budget new good = good
-submission_good limits over (Some tx) now budget new good =
-    entered_good limits over tx (first_failing (admission_rules First over tx)) now (λ h. (rules_grant First over tx h, passes First over tx h, new good.fresh h)) good
+entered_sound : (over : Standing) (tx : Tx) (now : ℕ) → (IsGrantable over tx × Passes First over tx × IsUnconnected over.chain (Some tx)) → IsSound over.chain over.entries
+    → IsSound over.chain (entered over.entries (admitted tx (grant_of over tx) now))
+entered_sound over tx now all h =
+    granted_sound over (admitted tx (grant_of over tx) now) h all.0 (unknown over.chain (txid_of tx) all.0.fresh all.2) (small First over tx all.1) (room_granted over tx all.1) (parents_granted over tx all.1)
+
+-- a granted transaction enters a sound list
+pub grant_sound : (over : Standing) (tx : Tx) (now : ℕ) → StaysUnconnected over (Some tx) → IsSound over.chain over.entries → first_failing (admission_rules First over tx) ≡ None
+    → IsSound over.chain (entered over.entries (admitted tx (grant_of over tx) now))
+grant_sound over tx now new h granted = entered_sound over tx now (rules_grant First over tx granted, passes First over tx granted, new h.fresh granted) h
 
 -- what is in no connected block
 pub stays_if_unconnected : (over : Standing) (tx : Option Tx) → IsUnconnected over.chain tx → StaysUnconnected over tx
 stays_if_unconnected over None new = tt
 stays_if_unconnected over (Some tx) new = λ fresh h. new
 
--- a submission of what is in no connected block keeps a pool good
-pub unconnected_good : (limits : Limits) (over : Standing) (tx : Option Tx) (now budget : ℕ) → IsUnconnected over.chain tx → IsGood limits over.chain over.entries → IsGood limits over.chain (submit_of over tx now budget).entries
-unconnected_good limits over tx now budget new good = submission_good limits over tx now budget (stays_if_unconnected over tx new) good
-
 -- where transactions are told apart by their ids
 pub stays_if_apart : (over : Standing) (tx : Option Tx) → IsSettled over.chain → IfSome tx IsTx → AreApart (option_to_list tx ++ connected_transactions over.chain) → StaysUnconnected over tx
 stays_if_apart over None settled is_tx apart = tt
 stays_if_apart over (Some tx) settled is_tx apart = λ fresh. unconnected First over tx settled fresh is_tx apart
 
--- a submission keeps a pool good there
-pub apart_good : (limits : Limits) (over : Standing) (tx : Option Tx) (now budget : ℕ) → IsSettled over.chain → IfSome tx IsTx → AreApart (option_to_list tx ++ connected_transactions over.chain)
-    → IsGood limits over.chain over.entries → IsGood limits over.chain (submit_of over tx now budget).entries
-apart_good limits over tx now budget settled is_tx apart good = submission_good limits over tx now budget (stays_if_apart over tx settled is_tx apart) good
-
--- the same of what a submission comes to
-pub kept_good : (limits : Limits) (over : Standing) (tx : Option Tx) (now budget : ℕ) (after : Submitted)
-    → submit_of over tx now budget ≡ after → IsSettled over.chain → IfSome tx IsTx → AreApart (option_to_list tx ++ connected_transactions over.chain)
-    → IsGood limits over.chain over.entries → IsGood limits over.chain after.entries
-kept_good limits over tx now budget after is settled is_tx apart good =
-    subst (λ (s : Submitted). IsGood limits over.chain s.entries) is (apart_good limits over tx now budget settled is_tx apart good)
-
--- a pool without entries is good
-pub empty_good : (limits : Limits) (chain : History) → IsGood limits chain []
-empty_good limits chain =
+-- no entries are sound
+pub empty_sound : (chain : History) → IsSound chain []
+empty_sound chain =
     record {
       txids = AllPairs-nil DifferByTxid;
       wtxids = AllPairs-nil DifferByWtxid;

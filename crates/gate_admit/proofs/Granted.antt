@@ -170,13 +170,13 @@ conserved attempt over tx p =
     let both = balanced (coins_value (coins_of over.chain over.entries tx.inputs)) (outputs_value tx) p.balance in
     record { balanced = both.0; money = both.1 }
 
-paid : (floor fee vsize : ℕ) → NoneFails (payment_rules First floor fee vsize) → required_fee min_relay_rate vsize ≤ fee
+paid : (floor fee vsize : ℕ) → NoneFails (payment_rules First floor fee vsize) → (required_fee floor vsize ≤ fee) × (required_fee min_relay_rate vsize ≤ fee)
 unfolding fee_rules
-paid floor fee vsize h = ltb-false _ _ h.0
+paid floor fee vsize h = (ltb-false _ _ h.0, ltb-false _ _ h.1.0)
 
-pays : (over : Standing) (tx : Tx) → Passes First over tx → PaysItsSize (grant_of over tx)
+pays : (over : Standing) (tx : Tx) → Passes First over tx → PaysItsSize over.floor (grant_of over tx)
 unfolding grant_of
-pays over tx p = paid over.floor _ _ p.payment
+pays over tx p = let both = paid over.floor _ _ p.payment in record { relay = both.1; pool = both.0 }
 
 -- ---- sizes
 
@@ -229,11 +229,11 @@ decided_conserve attempt over tx grant h =
     let both = granted (first_failing (admission_rules attempt over tx)) (grant_of over tx) grant h in
     subst (Conserves over tx) both.1 (conserved attempt over tx (passes attempt over tx both.0))
 
-pub decided_pay : (over : Standing) (tx : Tx) (grant : Grant) → decision_of First over (Some tx) ≡ Ok grant → PaysItsSize grant
+pub decided_pay : (over : Standing) (tx : Tx) (grant : Grant) → decision_of First over (Some tx) ≡ Ok grant → PaysItsSize over.floor grant
 unfolding decision_of
 decided_pay over tx grant h =
     let both = granted (first_failing (admission_rules First over tx)) (grant_of over tx) grant h in
-    subst PaysItsSize both.1 (pays over tx (passes First over tx both.0))
+    subst (PaysItsSize over.floor) both.1 (pays over tx (passes First over tx both.0))
 
 pub decided_fit : (attempt : Attempt) (over : Standing) (tx : Option Tx) → FitsAnEntry (decision_of attempt over tx)
 unfolding decision_of

@@ -19,3 +19,4 @@ pub mod Following
 pub mod Unconnected
 pub mod Entering
 pub mod Submitting
+pub mod Submissions

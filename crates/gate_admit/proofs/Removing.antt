@@ -1,9 +1,9 @@
--- A pool stays good where entries go with all that is below them.
+-- Entries stay sound over a chain where some go with all that is below them.
 use Rattle.std.proofs.Common.{◌≡◌, ◌≢◌, ◌≤◌, ℕ, Bool, true, false, not, List, sym, ◌∙◌, subst, arith, get_or}
 use Rattle.std.specs.Prelude.{Contains, filter, sum_by, IsSome}
 use Rattle.std.specs.List.{All}
-use Rattle.std.proofs.lemmas.Bool.{true≢false, false_from_ne_true}
-use Rattle.std.proofs.lemmas.List.Elements.{All-contains, All-filter, All-weaker, Contains-get_or}
+use Rattle.std.proofs.lemmas.Bool.{true≢false, false_from_ne_true, not-true}
+use Rattle.std.proofs.lemmas.List.Elements.{All-contains, All-filter, All-weaker, Contains-get_or, filter_passes}
 use Rattle.std.proofs.lemmas.List.Kept.{AllPairs-filter}
 use Rattle.gate_tx.specs.declared.OutPoint.{OutPoint}
 use Rattle.gate_tx.specs.declared.TxIn.{TxIn}
@@ -13,15 +13,16 @@ use Rattle.gate_graph.proofs.Reaching.{reaches_from_Leads, Leads_from_reaches, L
 use Rattle.gate_chain.specs.Coins.{is_known_txid}
 use Rattle.gate_chain.specs.History.{History}
 use Rattle.gate_pool.specs.Pool.{Admitted, spends_of, spent_by}
-use Rattle.gate_pool.specs.Family.{steps, is_below_some, without_below, ancestors_of, descendants_of}
+use Rattle.gate_pool.specs.Family.{steps, without_below, without_family, ancestors_of, descendants_of}
 use Rattle.gate_pool.proofs.Entries.{Id, entry_step, step_entry, Contains-map, Contains-from_map}
+use Rattle.gate_pool.proofs.Removals.{kept, below_closed}
 use Rattle.gate_pool.proofs.Walking.{Contains-from_filter}
 use Rattle.gate_admit.specs.Coins.{view_coin}
-use Rattle.gate_admit.specs.Good.{Limits, IsGood, IsLimited}
+use Rattle.gate_admit.specs.Good.{IsSound, IsLimited}
 use Rattle.gate_admit.proofs.Coining.{coin_stays}
 use Rattle.gate_admit.proofs.Filtering.{length_ones, sum_by-fewer, All-flat_map, All-flat_map_at, AllPairs-flat_map_filter}
 use Rattle.gate_admit.proofs.Granted.{Differ}
-use Rattle.gate_admit.proofs.Staying.{is_below, below_some_closed, stays_beside, stays_within}
+use Rattle.gate_admit.proofs.Staying.{is_below, below_some_closed}
 
 -- entries of different ids
 abbrev pub DifferByTxid : Admitted → Admitted → Type 0
@@ -75,33 +76,46 @@ pub spent_at : (P : OutPoint → Type 0) (entries : List Admitted) (a : Admitted
 spent_at P entries a i h m c =
     All-contains P (spends_of a.tx) i.prevout (All-flat_map_at (λ (e : Admitted). spends_of e.tx) P entries a h m) (Contains-map (λ (j : TxIn). j.prevout) a.tx.inputs i c)
 
--- what an entry that stays spends is below none that goes
-input_beside : (test : Admitted → Bool) (entries : List Admitted) (e : Admitted) (i : TxIn) → Contains (without_below test entries) e → Contains e.tx.inputs i → is_below test entries i.prevout.txid ≡ false
-input_beside test entries e i m c = false_from_ne_true _ (λ t.
-    true≢false (sym (below_some_closed test entries i.prevout.txid (txid_of e.tx) (entry_step entries e i (stays_within test entries e m) c) t) ∙ stays_beside test entries e m))
+module _ (chain : History) (D : Id → Bool) (entries : List Admitted) (closed : (a b : Id) → Contains (steps entries) (a, b) → D a ≡ true → D b ≡ true) where
+  within : (e : Admitted) → Contains (kept D entries) e → Contains entries e
+  within e m = Contains-from_filter (λ (a : Admitted). not (D (txid_of a.tx))) entries e m
 
-coins_stay : (chain : History) (test : Admitted → Bool) (entries : List Admitted) → All (λ (p : OutPoint). IsSome (view_coin chain entries p)) (spent_by entries)
-    → All (λ (p : OutPoint). IsSome (view_coin chain (without_below test entries) p)) (spent_by (without_below test entries))
-coins_stay chain test entries h =
-    All-flat_map (λ (e : Admitted). spends_of e.tx) (λ (p : OutPoint). IsSome (view_coin chain (without_below test entries) p)) (without_below test entries)
-    (λ e m k d l.
-    let w = Contains-from_map (λ (i : TxIn). i.prevout) e.tx.inputs (get_or (spends_of e.tx) k d) (Contains-get_or (spends_of e.tx) k d l) in
-    subst (λ (p : OutPoint). IsSome (view_coin chain (without_below test entries) p)) w.is
-    (coin_stays chain test entries w.item.prevout (input_beside test entries e w.item m w.among)
-    (spent_at (λ (p : OutPoint). IsSome (view_coin chain entries p)) entries e w.item h (stays_within test entries e m) w.among)))
+  stays : (e : Admitted) → Contains (kept D entries) e → D (txid_of e.tx) ≡ false
+  stays e m = not-true _ (All-contains (λ (a : Admitted). not (D (txid_of a.tx)) ≡ true) (kept D entries) e (filter_passes (λ (a : Admitted). not (D (txid_of a.tx))) entries) m)
 
--- ---- the pool
+  -- what an entry that stays spends is of none that goes
+  input_beside : (e : Admitted) (i : TxIn) → Contains (kept D entries) e → Contains e.tx.inputs i → D i.prevout.txid ≡ false
+  input_beside e i m c = false_from_ne_true _ (λ t. true≢false (sym (closed i.prevout.txid (txid_of e.tx) (entry_step entries e i (within e m) c) t) ∙ stays e m))
+
+  coins_stay : All (λ (p : OutPoint). IsSome (view_coin chain entries p)) (spent_by entries) → All (λ (p : OutPoint). IsSome (view_coin chain (kept D entries) p)) (spent_by (kept D entries))
+  coins_stay h =
+      All-flat_map (λ (e : Admitted). spends_of e.tx) (λ (p : OutPoint). IsSome (view_coin chain (kept D entries) p)) (kept D entries)
+      (λ e m k d l.
+      let w = Contains-from_map (λ (i : TxIn). i.prevout) e.tx.inputs (get_or (spends_of e.tx) k d) (Contains-get_or (spends_of e.tx) k d l) in
+      subst (λ (p : OutPoint). IsSome (view_coin chain (kept D entries) p)) w.is
+      (coin_stays chain D entries w.item.prevout (input_beside e w.item m w.among)
+      (spent_at (λ (p : OutPoint). IsSome (view_coin chain entries p)) entries e w.item h (within e m) w.among)))
+
+  -- ---- the entries
+
+  -- ids go, with all that is below them
+  pub kept_sound : IsSound chain entries → IsSound chain (kept D entries)
+  kept_sound h =
+      let k : Admitted → Bool = λ a. not (D (txid_of a.tx)) in
+      record {
+        txids = AllPairs-filter DifferByTxid k entries h.txids;
+        wtxids = AllPairs-filter DifferByWtxid k entries h.wtxids;
+        spends = AllPairs-flat_map_filter (λ (e : Admitted). spends_of e.tx) Differ k entries h.spends;
+        coins = coins_stay h.coins;
+        fresh = All-filter k (λ (e : Admitted). is_known_txid chain (txid_of e.tx) ≡ false) entries h.fresh;
+        limited = All-weaker (λ (e : Admitted). IsLimited entries (txid_of e.tx)) (λ (e : Admitted). IsLimited (kept D entries) (txid_of e.tx))
+            (λ e. limited_part k entries (txid_of e.tx)) (kept D entries) (All-filter k (λ (e : Admitted). IsLimited entries (txid_of e.tx)) entries h.limited);
+      }
 
 -- entries that pass a test go, with all that is below
-pub below_good : (limits : Limits) (chain : History) (test : Admitted → Bool) (entries : List Admitted) → IsGood limits chain entries → IsGood limits chain (without_below test entries)
-below_good limits chain test entries h =
-    let k : Admitted → Bool = λ a. not (is_below_some test entries a) in
-    record {
-      txids = AllPairs-filter DifferByTxid k entries h.txids;
-      wtxids = AllPairs-filter DifferByWtxid k entries h.wtxids;
-      spends = AllPairs-flat_map_filter (λ (e : Admitted). spends_of e.tx) Differ k entries h.spends;
-      coins = coins_stay chain test entries h.coins;
-      fresh = All-filter k (λ (e : Admitted). is_known_txid chain (txid_of e.tx) ≡ false) entries h.fresh;
-      limited = All-weaker (λ (e : Admitted). IsLimited entries (txid_of e.tx)) (λ (e : Admitted). IsLimited (without_below test entries) (txid_of e.tx))
-          (λ e. limited_part k entries (txid_of e.tx)) (without_below test entries) (All-filter k (λ (e : Admitted). IsLimited entries (txid_of e.tx)) entries h.limited);
-    }
+pub below_sound : (chain : History) (test : Admitted → Bool) (entries : List Admitted) → IsSound chain entries → IsSound chain (without_below test entries)
+below_sound chain test entries h = kept_sound chain (is_below test entries) entries (below_some_closed test entries) h
+
+-- an id goes, with all that is below it
+pub family_sound : (chain : History) (entries : List Admitted) (txid : Id) → IsSound chain entries → IsSound chain (without_family entries txid)
+family_sound chain entries txid h = kept_sound chain (reaches (steps entries) txid) entries (below_closed entries txid) h

@@ -14,7 +14,7 @@ use Rattle.gate_pool.specs.Pool.{Admitted, spent_by, size_of}
 use Rattle.gate_pool.specs.Family.{ancestors_of, descendants_of}
 use Rattle.gate_admit.specs.Coins.{view_coin}
 
--- what a pool may hold, in virtual bytes; entries are not trimmed to it yet, so nothing below asks for it
+-- what a pool may hold, in virtual bytes
 pub record Limits : Type 0 where
   pub budget : ℕ
 
@@ -25,7 +25,8 @@ pub record IsLimited (entries : List Admitted) (txid : List ℕ) : Type 0 where
   pub descendants : length (descendants_of entries txid) ≤ 26
   pub descendants_size : size_of (descendants_of entries txid) ≤ 111000
 
-pub record IsGood (limits : Limits) (chain : History) (entries : List Admitted) : Type 0 where
+-- what holds of entries over a chain, however many they are
+pub record IsSound (chain : History) (entries : List Admitted) : Type 0 where
   -- no two entries share an id
   pub txids : AllPairs (λ (a : Admitted) (b : Admitted). txid_of a.tx ≢ txid_of b.tx) entries
   pub wtxids : AllPairs (λ (a : Admitted) (b : Admitted). wtxid_of a.tx ≢ wtxid_of b.tx) entries
@@ -37,6 +38,11 @@ pub record IsGood (limits : Limits) (chain : History) (entries : List Admitted) 
   pub fresh : All (λ (e : Admitted). is_known_txid chain (txid_of e.tx) ≡ false) entries
   -- the family of each entry is within the limits
   pub limited : All (λ (e : Admitted). IsLimited entries (txid_of e.tx)) entries
+
+-- a good pool is sound, and within its budget
+pub record IsGood (limits : Limits) (chain : History) (entries : List Admitted) : Type 0 where
+  pub sound : IsSound chain entries
+  pub size : size_of entries ≤ limits.budget
 
 -- the transactions of the connected blocks, in their order
 abbrev pub connected_transactions : History → List Tx

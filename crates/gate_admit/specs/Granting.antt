@@ -42,9 +42,10 @@ pub record Conserves (over : Standing) (tx : Tx) (grant : Grant) : Type 0 where
   pub balanced : coins_value (coins_of over.chain over.entries tx.inputs) ≡ outputs_value tx + grant.fee
   pub money : grant.fee ≤ max_money
 
--- the fee pays for the size at the rate that is asked of every transaction
-abbrev pub PaysItsSize : Grant → Type 0
-PaysItsSize grant = required_fee min_relay_rate grant.vsize ≤ grant.fee
+-- the fee pays for the size at the rate that is asked of every transaction, and at the pool's floor
+pub record PaysItsSize (floor : ℕ) (grant : Grant) : Type 0 where
+  pub relay : required_fee min_relay_rate grant.vsize ≤ grant.fee
+  pub pool : required_fee floor grant.vsize ≤ grant.fee
 
 -- a replacement pays at least what all that it replaces pay, and its own relay above that; its rate, rounded down, is above
 -- that of each entry that it conflicts with; and no entry that stays spends an output of one that goes

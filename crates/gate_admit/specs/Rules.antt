@@ -8,7 +8,7 @@ use Rattle.gate_tx.specs.declared.TxOut.{TxOut}
 use Rattle.gate_tx.specs.Tx.{Tx}
 use Rattle.gate_tx.specs.Ids.{txid_of, wtxid_of}
 use Rattle.gate_standard.specs.declared.Denial.{Denial}
-use Rattle.gate_standard.specs.declared.Denial.TheVariants.{Decode, NonFinal, AlreadyInMempool, SameNonWitnessData, MempoolConflict, AlreadyKnown, MissingOrSpent, NonBip68Final, PrematureSpend, InputValues, InBelowOut, FeeOutOfRange, MinRelayFee}
+use Rattle.gate_standard.specs.declared.Denial.TheVariants.{Decode, NonFinal, AlreadyInMempool, SameNonWitnessData, MempoolConflict, AlreadyKnown, MissingOrSpent, NonBip68Final, PrematureSpend, InputValues, InBelowOut, FeeOutOfRange, MempoolMinFee, MinRelayFee}
 use Rattle.gate_standard.specs.Amounts.{required_fee}
 use Rattle.gate_standard.specs.Rules.{transaction_rules, standard_rules}
 use Rattle.gate_chain.specs.History.{History}
@@ -89,7 +89,7 @@ unfoldable pub coin_value_rules : ℕ → ℕ → List Coin → List (Rule Denia
 coin_value_rules next_height sum [] = []
 coin_value_rules next_height sum (coin ∷ coins) = rules_of_coin next_height sum coin ++ coin_value_rules next_height (sum + amount_or_zero coin.value) coins
 
--- ---- A29, A30 and A35: what is paid
+-- ---- A29, A30, A34 and A35: what is paid
 
 -- in satoshi: what the coins hold, and what the outputs hold
 abbrev pub coins_value : List Coin → ℕ
@@ -109,8 +109,12 @@ balance_rules paid_in paid_out =
     ∷ (FeeOutOfRange, nat_lt max_money (paid_in - paid_out))
     ∷ []
 
+-- what the pool's floor asks for the size, and then what every relay does; a floor of 0 asks for nothing
 unfoldable pub fee_rules : ℕ → ℕ → ℕ → List (Rule Denial)
-fee_rules floor fee vsize = (MinRelayFee, nat_lt fee (required_fee min_relay_rate vsize)) ∷ []
+fee_rules floor fee vsize =
+    (MempoolMinFee, nat_lt fee (required_fee floor vsize))
+    ∷ (MinRelayFee, nat_lt fee (required_fee min_relay_rate vsize))
+    ∷ []
 
 -- a transaction that is tried again paid its way into a block before
 abbrev pub payment_rules : Attempt → ℕ → ℕ → ℕ → List (Rule Denial)

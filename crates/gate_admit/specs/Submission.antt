@@ -1,9 +1,13 @@
 -- A submission: the decision, and what the pool and its floor are after it.
-use Rattle.std.specs.Prelude.{ℕ, List, Option, Some, None, Result, Ok, Err}
+use Rattle.std.specs.Prelude.{ℕ, Bool, is_some, if◌then◌else◌, List, Option, Some, None, Result, Ok, Err}
 use Rattle.gate_tx.specs.Tx.{Tx}
+use Rattle.gate_tx.specs.Ids.{txid_of}
 use Rattle.gate_standard.specs.declared.Denial.{Denial}
-use Rattle.gate_pool.specs.Pool.{Admitted}
+use Rattle.gate_standard.specs.declared.Denial.TheVariants.{MempoolFull}
+use Rattle.gate_pool.specs.Pool.{Admitted, entry_by_txid}
 use Rattle.gate_pool.specs.Family.{entered}
+use Rattle.gate_trim.specs.Expiry.{expired}
+use Rattle.gate_trim.specs.Trimming.{Trimmed, trim_of}
 use Rattle.gate_admit.specs.declared.attempt.Attempt.TheVariants.{First}
 use Rattle.gate_admit.specs.declared.grant.Grant.{Grant}
 use Rattle.gate_admit.specs.Rules.{decision_of}
@@ -18,15 +22,29 @@ pub record Submitted : Type 0 where
 abbrev pub admitted : Tx → Grant → ℕ → Admitted
 admitted tx grant now = record { tx = tx; fee = grant.fee; vsize = grant.vsize; time = now }
 
--- the entries after a decision: what a granted transaction replaces goes with all that is below it, and the transaction
--- stands at the end
-abbrev pub entries_after : List Admitted → Result Grant Denial → Option Tx → ℕ → List Admitted
-entries_after entries (Err denial) tx now = entries
-entries_after entries (Ok grant) None now = entries
-entries_after entries (Ok grant) (Some tx) now = entered entries (admitted tx grant now)
+-- An entry enters with this budget of virtual bytes, over these entries and this floor. What it conflicts with goes out with
+-- all that is below, and it stands at the end. Then entries expire at its second, and then the pool is trimmed.
+unfoldable pub entry_of : ℕ → List Admitted → ℕ → Admitted → Trimmed
+entry_of budget entries floor e = trim_of budget (expired e.time (entered entries e)) floor
+
+abbrev pub holds : List Admitted → List ℕ → Bool
+holds entries txid = is_some (entry_by_txid entries txid)
+
+-- what a granted transaction comes to: where it is gone again it is denied (A46), and pool and floor stay as its entry left
+-- them
+abbrev pub entered_by : Grant → List ℕ → Trimmed → Submitted
+entered_by grant txid after = record {
+  decision = if holds after.entries txid then Ok grant else Err MempoolFull;
+  entries = after.entries;
+  floor = after.floor;
+}
+
+-- what a decision comes to: a denial changes nothing
+abbrev pub submitted_by : Standing → Option Tx → ℕ → ℕ → Result Grant Denial → Submitted
+submitted_by over tx now budget (Err denial) = record { decision = Err denial; entries = over.entries; floor = over.floor }
+submitted_by over None now budget (Ok grant) = record { decision = Ok grant; entries = over.entries; floor = over.floor }
+submitted_by over (Some tx) now budget (Ok grant) = entered_by grant (txid_of tx) (entry_of budget over.entries over.floor (admitted tx grant now))
 
 -- the submission at this second, with this budget of virtual bytes
 unfoldable pub submit_of : Standing → Option Tx → ℕ → ℕ → Submitted
-submit_of over tx now budget =
-    let decision = decision_of First over tx in
-    record { decision = decision; entries = entries_after over.entries decision tx now; floor = over.floor }
+submit_of over tx now budget = submitted_by over tx now budget (decision_of First over tx)

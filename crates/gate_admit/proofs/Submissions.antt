@@ -1,0 +1,140 @@
+-- What a submission leaves: a good pool, in which what was granted stands and nothing is stale, and a floor that did not fall.
+use Rattle.std.proofs.Common.{◌≡◌, ◌≤◌, ℕ, Bool, true, false, List, [], ◌++◌, Option, None, Some, Result, Ok, Err, refl, sym, ap, ◌∙◌, subst, arith}
+use Rattle.std.specs.Prelude.{Contains, not, if◌then◌else◌, IfSome}
+use Rattle.std.specs.Option.{option_to_list}
+use Rattle.std.specs.List.{All}
+use Rattle.std.proofs.lemmas.List.Elements.{All-filter, Contains-get_or}
+use Rattle.gate_bytes.specs.Order.{first_failing}
+use Rattle.gate_tx.specs.Ids.{txid_of}
+use Rattle.gate_tx.specs.Text.{IsTx}
+use Rattle.gate_tx.specs.Tx.{Tx}
+use Rattle.gate_standard.specs.declared.Denial.{Denial}
+use Rattle.gate_standard.specs.declared.Denial.TheVariants.{MempoolFull}
+use Rattle.gate_chain.specs.History.{History}
+use Rattle.gate_graph.specs.Family.{reaches}
+use Rattle.gate_pool.specs.Pool.{Admitted}
+use Rattle.gate_pool.specs.Family.{steps, entered}
+use Rattle.gate_pool.proofs.Walking.{Contains-from_filter}
+use Rattle.gate_trim.specs.Expiry.{expired, is_stale}
+use Rattle.gate_trim.specs.Laws.{IsYoung}
+use Rattle.gate_trim.proofs.Aging.{one_young}
+use Rattle.gate_trim.proofs.Trimmings.{trim_keeps, trim_rises, trim_within}
+use Rattle.gate_admit.specs.declared.attempt.Attempt.TheVariants.{First}
+use Rattle.gate_admit.specs.declared.grant.Grant.{Grant}
+use Rattle.gate_admit.specs.Good.{AreApart, IsGood, IsSettled, IsSound, IsUnconnected, Limits, connected_transactions}
+use Rattle.gate_admit.specs.Rules.{admission_rules, decision_of, denied_or, grant_of}
+use Rattle.gate_admit.specs.Standing.{Standing}
+use Rattle.gate_admit.specs.Submission.{Submitted, admitted, entered_by, entry_of, holds, submitted_by, submit_of}
+use Rattle.gate_admit.proofs.Entering.{StaysUnconnected, empty_sound, grant_sound, stays_if_apart, stays_if_unconnected}
+use Rattle.gate_admit.proofs.Removing.{below_sound, family_sound}
+use Rattle.gate_admit.proofs.Staying.{stays_within}
+
+-- ---- entries
+
+-- what enters a sound list leaves a good pool
+entry_good : (limits : Limits) (chain : History) (entries : List Admitted) (floor : ℕ) (e : Admitted) → IsSound chain (entered entries e) → IsGood limits chain (entry_of limits.budget entries floor e).entries
+unfolding entry_of
+entry_good limits chain entries floor e h =
+    record {
+      sound = trim_keeps (IsSound chain) (family_sound chain) limits.budget (expired e.time (entered entries e)) floor (below_sound chain (is_stale e.time) (entered entries e) h);
+      size = trim_within limits.budget (expired e.time (entered entries e)) floor;
+    }
+
+-- no entry is left that came too long ago
+abbrev pub AreYoung : ℕ → List Admitted → Type 0
+AreYoung now entries = All (IsYoung now) entries
+
+expired_young : (now : ℕ) (entries : List Admitted) → AreYoung now (expired now entries)
+expired_young now entries k d l = one_young now entries _ (Contains-get_or (expired now entries) k d l)
+
+entry_young : (budget : ℕ) (entries : List Admitted) (floor : ℕ) (e : Admitted) → AreYoung e.time (entry_of budget entries floor e).entries
+unfolding entry_of
+entry_young budget entries floor e =
+    trim_keeps (AreYoung e.time) (λ l txid. All-filter (λ (a : Admitted). not (reaches (steps l) txid (txid_of a.tx))) (IsYoung e.time) l)
+    budget (expired e.time (entered entries e)) floor (expired_young e.time (entered entries e))
+
+entry_floor : (budget : ℕ) (entries : List Admitted) (floor : ℕ) (e : Admitted) → floor ≤ (entry_of budget entries floor e).floor
+unfolding entry_of
+entry_floor budget entries floor e = trim_rises budget (expired e.time (entered entries e)) floor
+
+-- what is left was there, or came
+pub entry_within : (budget : ℕ) (entries : List Admitted) (floor : ℕ) (e a : Admitted) → Contains (entry_of budget entries floor e).entries a → Contains (entered entries e) a
+unfolding entry_of
+entry_within budget entries floor e =
+    trim_keeps (λ l. (a : Admitted) → Contains l a → Contains (entered entries e) a) (λ l txid h a m. h a (Contains-from_filter (λ (x : Admitted). not (reaches (steps l) txid (txid_of x.tx))) l a m))
+    budget (expired e.time (entered entries e)) floor (λ a m. stays_within (is_stale e.time) (entered entries e) a m)
+
+-- ---- submissions
+
+-- over a good pool what was decided leaves a good pool
+found_good : (limits : Limits) (over : Standing) (tx : Tx) (now : ℕ) (found : Option Denial) → (found ≡ None → IsSound over.chain (entered over.entries (admitted tx (grant_of over tx) now)))
+    → IsGood limits over.chain over.entries → IsGood limits over.chain (submitted_by over (Some tx) now limits.budget (denied_or found (grant_of over tx))).entries
+found_good limits over tx now (Some denial) h good = good
+found_good limits over tx now None h good = entry_good limits over.chain over.entries over.floor (admitted tx (grant_of over tx) now) (h refl)
+
+-- a submission keeps a pool good
+pub submission_good : (limits : Limits) (over : Standing) (tx : Option Tx) (now : ℕ) → StaysUnconnected over tx → IsGood limits over.chain over.entries
+    → IsGood limits over.chain (submit_of over tx now limits.budget).entries
+unfolding submit_of decision_of
+submission_good limits over None now new good = good
+submission_good limits over (Some tx) now new good = found_good limits over tx now (first_failing (admission_rules First over tx)) (grant_sound over tx now new good.sound) good
+
+-- a submission of what is in no connected block does
+pub unconnected_good : (limits : Limits) (over : Standing) (tx : Option Tx) (now : ℕ) → IsUnconnected over.chain tx → IsGood limits over.chain over.entries
+    → IsGood limits over.chain (submit_of over tx now limits.budget).entries
+unconnected_good limits over tx now new good = submission_good limits over tx now (stays_if_unconnected over tx new) good
+
+-- so does what a submission comes to, where transactions are told apart by their ids
+pub kept_good : (over : Standing) (tx : Option Tx) (now budget : ℕ) (after : Submitted)
+    → submit_of over tx now budget ≡ after → IsSettled over.chain → IfSome tx IsTx → AreApart (option_to_list tx ++ connected_transactions over.chain)
+    → IsGood (record { budget = budget }) over.chain over.entries → IsGood (record { budget = budget }) over.chain after.entries
+kept_good over tx now budget after is settled is_tx apart good =
+    subst (λ (s : Submitted). IsGood (record { budget = budget }) over.chain s.entries) is (submission_good (record { budget = budget }) over tx now (stays_if_apart over tx settled is_tx apart) good)
+
+-- a pool without entries is good
+pub empty_good : (limits : Limits) (chain : History) → IsGood limits chain []
+empty_good limits chain = record { sound = empty_sound chain; size = omega arith }
+
+-- ---- what a grant says
+
+granted_here : (b : Bool) (made grant : Grant) → (if b then Ok made else Err MempoolFull) ≡ Ok grant → b ≡ true
+granted_here true made grant h = refl
+granted_here false made grant h = cc
+
+denied_here : (b : Bool) (grant : Grant) → (if b then Ok grant else Err MempoolFull) ≡ Err MempoolFull → b ≡ false
+denied_here true grant h = cc
+denied_here false grant h = refl
+
+pub granted_held : (over : Standing) (tx : Tx) (now budget : ℕ) (grant : Grant) → (submit_of over (Some tx) now budget).decision ≡ Ok grant → holds (submit_of over (Some tx) now budget).entries (txid_of tx) ≡ true
+unfolding submit_of
+granted_held over tx now budget grant h = go (decision_of First over (Some tx)) h
+  where
+    go : (decision : Result Grant Denial) → (submitted_by over (Some tx) now budget decision).decision ≡ Ok grant → holds (submitted_by over (Some tx) now budget decision).entries (txid_of tx) ≡ true
+    go (Err denial) k = cc
+    go (Ok made) k = granted_here (holds (entry_of budget over.entries over.floor (admitted tx made now)).entries (txid_of tx)) made grant k
+
+pub granted_young : (over : Standing) (tx : Tx) (now budget : ℕ) (grant : Grant) → (submit_of over (Some tx) now budget).decision ≡ Ok grant → AreYoung now (submit_of over (Some tx) now budget).entries
+unfolding submit_of
+granted_young over tx now budget grant h = go (decision_of First over (Some tx)) h
+  where
+    go : (decision : Result Grant Denial) → (submitted_by over (Some tx) now budget decision).decision ≡ Ok grant → AreYoung now (submitted_by over (Some tx) now budget decision).entries
+    go (Err denial) k = cc
+    go (Ok made) k = entry_young budget over.entries over.floor (admitted tx made now)
+
+pub full_gone : (over : Standing) (tx : Tx) (now budget : ℕ) (grant : Grant) → decision_of First over (Some tx) ≡ Ok grant → (submit_of over (Some tx) now budget).decision ≡ Err MempoolFull
+    → holds (submit_of over (Some tx) now budget).entries (txid_of tx) ≡ false
+unfolding submit_of
+full_gone over tx now budget grant d h =
+    ap (λ x. holds (submitted_by over (Some tx) now budget x).entries (txid_of tx)) d
+    ∙ denied_here (holds (entry_of budget over.entries over.floor (admitted tx grant now)).entries (txid_of tx)) grant (sym (ap (λ x. (submitted_by over (Some tx) now budget x).decision) d) ∙ h)
+
+-- ---- the floor
+
+pub submission_floor : (over : Standing) (tx : Option Tx) (now budget : ℕ) → over.floor ≤ (submit_of over tx now budget).floor
+unfolding submit_of
+submission_floor over tx now budget = go tx (decision_of First over tx)
+  where
+    go : (tx : Option Tx) (decision : Result Grant Denial) → over.floor ≤ (submitted_by over tx now budget decision).floor
+    go tx (Err denial) = omega arith
+    go None (Ok grant) = omega arith
+    go (Some tx) (Ok grant) = entry_floor budget over.entries over.floor (admitted tx grant now)
