@@ -6,9 +6,9 @@ use Rattle.std.proofs.lemmas.Bool.Decides.{eqb_tells}
 use Rattle.gate_bytes.specs.Order.{Rule, first_failing}
 use Rattle.gate_standard.specs.declared.Denial.TheVariants.{Decode}
 use Rattle.gate_core.specs.declared.caller.Caller.{Caller}
-use Rattle.gate_core.specs.declared.caller.Caller.TheVariants.{Peer}
+use Rattle.gate_core.specs.declared.caller.Caller.TheVariants.{Operator, Peer}
 use Rattle.gate_core.specs.declared.event.Event.{Event}
-use Rattle.gate_core.specs.declared.event.Event.TheVariants.{Enter, Leave, Tx as Submit, Mempool}
+use Rattle.gate_core.specs.declared.event.Event.TheVariants.{Enter, Leave, Tx as Submit, Mempool, SetFloor}
 use Rattle.gate_core.specs.declared.refusal.Refusal.{Refusal}
 use Rattle.gate_core.specs.declared.refusal.Refusal.TheVariants.{PeerUnknown, PeerClosed, PeerKnown, AlreadyInMempool, MempoolNoBloom, Admission}
 use Rattle.gate_core.specs.declared.reply.Reply.{Reply}
@@ -34,6 +34,7 @@ closed_first sessions peer s rest h shut = ap (λ (o : Option Session). by_sessi
 
 abbrev number_of : Caller → ℕ
 number_of (Peer peer) = peer
+number_of Operator = 0
 
 own_session : (w : World) (number peer : ℕ) (s : Session) → Peer number ≡ Peer peer → session_of w.sessions peer ≡ Some s → session_of w.sessions number ≡ Some s
 own_session w number peer s own h = ap (λ n. session_of w.sessions n) (ap number_of own) ∙ h
@@ -45,11 +46,13 @@ step_closed w (Leave number) peer s own h shut = ap (λ r. answered w number (le
 step_closed w (Submit number now transaction) peer s own h shut =
     ap (λ r. answered w number (submitted w number now transaction) r) (closed_first w.sessions number s ((Admission Decode, is_none transaction) ∷ (AlreadyInMempool, is_pooled w.pool transaction) ∷ []) (own_session w number peer s own h) shut)
 step_closed w (Mempool number) peer s own h shut = ap (λ r. answered w number (listed w) r) (closed_first w.sessions number s ((MempoolNoBloom, not w.bloom) ∷ []) (own_session w number peer s own h) shut)
+step_closed w (SetFloor rate) peer s own h shut = cc
 
 by_caller : (event : Event) (peer : ℕ) → (caller_of event ≡ Peer peer) ⊎ (caller_of event ≢ Peer peer)
 by_caller event peer = told (caller_of event)
   where
     told : (c : Caller) → (c ≡ Peer peer) ⊎ (c ≢ Peer peer)
+    told Operator = inr (λ h. cc)
     told (Peer number) = ⊎_elim (λ k. inl (ap Peer k.1)) (λ k. inr (λ h. k.1 (ap number_of h))) (eqb_tells number peer)
 
 step_shut : (w : World) (event : Event) (peer : ℕ) (s : Session) → session_of w.sessions peer ≡ Some s → s.is_open ≡ false → session_of (step_of w event).1.sessions peer ≡ Some s

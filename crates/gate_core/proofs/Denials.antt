@@ -1,20 +1,22 @@
 -- What denied events leave.
-use Rattle.std.proofs.Common.{◌≡◌, ℕ, List, [], ◌∷◌, All, Option, Some, None, Result, Ok, Err, refl, ◌∙◌}
+use Rattle.std.proofs.Common.{◌≡◌, ℕ, Bool, true, false, if◌then◌else◌, List, [], ◌∷◌, All, Option, Some, None, Result, Ok, Err, refl, ◌∙◌}
 use Rattle.std.proofs.lemmas.List.Elements.{All-head, All-tail}
 use Rattle.gate_bytes.specs.Order.{first_failing}
+use Rattle.gate_tx.specs.Ids.{txid_of}
 use Rattle.gate_tx.specs.Tx.{Tx}
 use Rattle.gate_standard.specs.declared.Denial.{Denial}
+use Rattle.gate_standard.specs.declared.Denial.TheVariants.{MempoolFull}
 use Rattle.gate_admit.specs.declared.Attempt.TheVariants.{First}
 use Rattle.gate_admit.specs.declared.Grant.{Grant}
 use Rattle.gate_admit.specs.Rules.{decision_of}
-use Rattle.gate_admit.specs.Submission.{entries_after, submit_of}
+use Rattle.gate_admit.specs.Submission.{admitted, entry_of, holds, submitted_by, submit_of}
 use Rattle.gate_core.specs.declared.event.Event.{Event}
-use Rattle.gate_core.specs.declared.event.Event.TheVariants.{Enter, Leave, Tx as Submit, Mempool}
+use Rattle.gate_core.specs.declared.event.Event.TheVariants.{Enter, Leave, Tx as Submit, Mempool, SetFloor}
 use Rattle.gate_core.specs.declared.refusal.Refusal.{Refusal}
 use Rattle.gate_core.specs.declared.reply.Reply.{Reply}
 use Rattle.gate_core.specs.World.{World, standing_of}
 use Rattle.gate_core.specs.Access.{entering_rules, session_rules, submission_rules, listing_rules}
-use Rattle.gate_core.specs.PeerSteps.{concluded, answered, entered, left, submitted, listed}
+use Rattle.gate_core.specs.PeerSteps.{concluded, decided, answered, entered, left, submitted, listed}
 use Rattle.gate_core.specs.Steps.{step_of}
 use Rattle.gate_core.specs.Runs.{run_of}
 use Rattle.gate_core.specs.SessionLaws.{IsDenied}
@@ -23,13 +25,20 @@ use Rattle.gate_core.specs.SessionLaws.{IsDenied}
 abbrev pub IsAsIn : World → World → Type 0
 IsAsIn w v = (v.chain ≡ w.chain) × (v.pool ≡ w.pool) × (v.floor ≡ w.floor)
 
+-- what was granted is admitted, or denied by A46
+granted_denied : (w : World) (peer : ℕ) (tx : Tx) (grant : Grant) (b : Bool) → IsDenied (decided w peer (Some tx) (if b then Ok grant else Err MempoolFull)).0 → ⊥
+granted_denied w peer tx grant true h = h
+granted_denied w peer tx grant false h = h refl
+
 concluded_denied : (w : World) (peer now : ℕ) (transaction : Option Tx) (decision : Result Grant Denial)
-    → IsDenied (concluded w peer transaction (record { decision = decision; entries = entries_after w.pool decision transaction now; floor = w.floor })).0
-    → IsAsIn w (concluded w peer transaction (record { decision = decision; entries = entries_after w.pool decision transaction now; floor = w.floor })).1
+    → IsDenied (concluded w peer transaction (submitted_by (standing_of w) transaction now w.budget decision)).0
+    → IsAsIn w (concluded w peer transaction (submitted_by (standing_of w) transaction now w.budget decision)).1
 concluded_denied w peer now None (Ok grant) h = (refl, refl, refl)
 concluded_denied w peer now None (Err denial) h = (refl, refl, refl)
-concluded_denied w peer now (Some tx) (Ok grant) h = absurd h
 concluded_denied w peer now (Some tx) (Err denial) h = (refl, refl, refl)
+concluded_denied w peer now (Some tx) (Ok grant) h =
+    let after = entry_of w.budget w.pool w.floor (admitted tx grant now) in
+    absurd (granted_denied (record w { pool = after.entries; floor = after.floor }) peer tx grant (holds after.entries (txid_of tx)) h)
 
 submitted_denied : (w : World) (peer now : ℕ) (transaction : Option Tx) → IsDenied (submitted w peer now transaction).0 → IsAsIn w (submitted w peer now transaction).1
 unfolding submit_of
@@ -47,6 +56,7 @@ step_denied w (Leave peer) h = answered_denied w peer (left w peer) (first_faili
 step_denied w (Submit peer now transaction) h =
     answered_denied w peer (submitted w peer now transaction) (first_failing (submission_rules w peer transaction)) (submitted_denied w peer now transaction) h
 step_denied w (Mempool peer) h = answered_denied w peer (listed w) (first_failing (listing_rules w peer)) (λ k. absurd k) h
+step_denied w (SetFloor rate) h = absurd h
 
 pub run_denied : (events : List Event) (w : World) → All IsDenied (run_of w events).0 → IsAsIn w (run_of w events).1
 run_denied [] w h = (refl, refl, refl)

@@ -1,27 +1,28 @@
 -- A step keeps the pool good, and brings in no transaction but its event's.
-use Rattle.std.proofs.Common.{◌≡◌, ℕ, Bool, true, false, cond, not, List, [], ◌∷◌, ◌++◌, map, filter, Contains, IfOk, ⊎_elim, Option, Some, None, Result, Ok, Err, refl, sym, ap, subst, arith}
+use Rattle.std.proofs.Common.{◌≡◌, ℕ, not, List, [], ◌∷◌, ◌++◌, map, Contains, IfOk, ⊎_elim, Option, Some, None, Result, Ok, Err, refl, sym, ap, subst, arith}
 use Rattle.std.specs.Option.{option_to_list}
 use Rattle.std.specs.List.{list_any}
 use Rattle.std.proofs.lemmas.List.Elements.{Contains-append_left, Contains-append_right, Contains-append_cases}
-use Rattle.std.proofs.lemmas.List.{map-append}
 use Rattle.gate_bytes.specs.Order.{first_failing}
 use Rattle.gate_tx.specs.Ids.{txid_of}
 use Rattle.gate_tx.specs.Tx.{Tx}
 use Rattle.gate_standard.specs.declared.Denial.{Denial}
 use Rattle.gate_chain.specs.Coins.{has_transaction}
 use Rattle.gate_chain.specs.History.{History}
-use Rattle.gate_graph.proofs.Members.{Contains-cons_cases, Contains-head, Contains-rest}
 use Rattle.gate_pool.specs.Pool.{Admitted}
-use Rattle.gate_pool.specs.Family.{is_below_some, is_conflict, without_below}
+use Rattle.gate_pool.specs.Family.{is_below_some, is_conflict, without_below, entered as entered_with}
+use Rattle.gate_pool.proofs.Entries.{Contains-map, Contains-from_map}
+use Rattle.gate_pool.proofs.Walking.{Contains-from_filter}
 use Rattle.gate_admit.specs.declared.Attempt.TheVariants.{First}
 use Rattle.gate_admit.specs.declared.Grant.{Grant}
 use Rattle.gate_admit.specs.Good.{IsGood, IsSettled, IsUnconnected, AreApart, connected_transactions}
 use Rattle.gate_admit.specs.Rules.{decision_of}
 use Rattle.gate_admit.specs.Standing.{Standing}
-use Rattle.gate_admit.specs.Submission.{admitted, entries_after, submit_of}
-use Rattle.gate_admit.proofs.Entering.{StaysUnconnected, empty_good, stays_if_apart, stays_if_unconnected, submission_good}
+use Rattle.gate_admit.specs.Submission.{admitted, entry_of, submitted_by, submit_of}
+use Rattle.gate_admit.proofs.Entering.{StaysUnconnected, stays_if_apart, stays_if_unconnected}
+use Rattle.gate_admit.proofs.Submissions.{empty_good, entry_within, submission_good}
 use Rattle.gate_core.specs.declared.event.Event.{Event}
-use Rattle.gate_core.specs.declared.event.Event.TheVariants.{Enter, Leave, Tx as Submit, Mempool}
+use Rattle.gate_core.specs.declared.event.Event.TheVariants.{Enter, Leave, Tx as Submit, Mempool, SetFloor}
 use Rattle.gate_core.specs.Opening.{Start}
 use Rattle.gate_core.specs.declared.refusal.Refusal.{Refusal}
 use Rattle.gate_core.specs.declared.reply.Reply.{Reply}
@@ -43,6 +44,7 @@ StaysApart w (Enter peer address) = Unit {0}
 StaysApart w (Leave peer) = Unit {0}
 StaysApart w (Submit peer now transaction) = StaysUnconnected (standing_of w) transaction
 StaysApart w (Mempool peer) = Unit {0}
+StaysApart w (SetFloor rate) = Unit {0}
 
 decided_good : (w : World) (peer : ℕ) (transaction : Option Tx) (decision : Result Grant Denial) → IsGoodWorld w → IsGoodWorld (decided w peer transaction decision).1
 decided_good w peer None decision good = same_good w _ refl refl refl good
@@ -53,7 +55,7 @@ submitted_good : (w : World) (peer now : ℕ) (transaction : Option Tx) → Stay
 submitted_good w peer now transaction new good =
     let s = submit_of (standing_of w) transaction now w.budget in
     decided_good (record w { pool = s.entries; floor = s.floor }) peer transaction s.decision
-    (record { chain = good.chain; pool = submission_good (limits_of w) (standing_of w) transaction now w.budget new good.pool })
+    (record { chain = good.chain; pool = submission_good (limits_of w) (standing_of w) transaction now new good.pool })
 
 answered_good : (w : World) (peer : ℕ) (served : Reply × World) (refusal : Option Refusal) → IsGoodWorld w → IsGoodWorld served.1 → IsGoodWorld (answered w peer served refusal).1
 answered_good w peer served (Some refusal) good done = same_good w _ refl refl refl good
@@ -76,6 +78,7 @@ step_good w (Leave peer) new good = answered_good w peer (left w peer) (first_fa
 step_good w (Submit peer now transaction) new good =
     answered_good w peer (submitted w peer now transaction) (first_failing (submission_rules w peer transaction)) good (submitted_good w peer now transaction new good)
 step_good w (Mempool peer) new good = answered_good w peer (listed w) (first_failing (listing_rules w peer)) good good
+step_good w (SetFloor rate) new good = same_good w _ refl refl refl good
 
 -- a part of what is apart is
 pub apart_part : (part whole : List Tx) → ((tx : Tx) → Contains part tx → Contains whole tx) → AreApart whole → AreApart part
@@ -94,6 +97,7 @@ apart_stays w (Submit peer now transaction) settled spelled apart =
     (λ tx h. ⊎_elim (λ k. Contains-append_right (blocks ++ entries) more tx k) (λ k. Contains-append_left (blocks ++ entries) more tx (Contains-append_left blocks entries tx k)) (Contains-append_cases more blocks tx h))
     apart)
 apart_stays w (Mempool peer) settled spelled apart = tt
+apart_stays w (SetFloor rate) settled spelled apart = tt
 
 no_blocks : (w : World) (transaction : Option Tx) → w.chain.blocks ≡ [] → IsUnconnected w.chain transaction
 no_blocks w None h = tt
@@ -105,48 +109,52 @@ opened_stays w (Enter peer address) h = tt
 opened_stays w (Leave peer) h = tt
 opened_stays w (Submit peer now transaction) h = stays_if_unconnected (standing_of w) transaction (no_blocks w transaction h)
 opened_stays w (Mempool peer) h = tt
+opened_stays w (SetFloor rate) h = tt
 
-decided_chain : (w : World) (peer : ℕ) (transaction : Option Tx) (decision : Result Grant Denial) → (decided w peer transaction decision).1.chain ≡ w.chain
-decided_chain w peer None decision = refl
-decided_chain w peer (Some tx) (Ok grant) = refl
-decided_chain w peer (Some tx) (Err denial) = refl
+-- chain and budget are those of another state
+abbrev pub IsOver : World → World → Type 0
+IsOver w v = (v.chain ≡ w.chain) × (v.budget ≡ w.budget)
 
-answered_chain : (w : World) (peer : ℕ) (served : Reply × World) (refusal : Option Refusal) → served.1.chain ≡ w.chain → (answered w peer served refusal).1.chain ≡ w.chain
-answered_chain w peer served (Some refusal) h = refl
-answered_chain w peer served None h = h
+decided_over : (w : World) (peer : ℕ) (transaction : Option Tx) (decision : Result Grant Denial) → IsOver w (decided w peer transaction decision).1
+decided_over w peer None decision = (refl, refl)
+decided_over w peer (Some tx) (Ok grant) = (refl, refl)
+decided_over w peer (Some tx) (Err denial) = (refl, refl)
 
--- no event changes the chain yet
-pub step_chain : (w : World) (event : Event) → (step_of w event).1.chain ≡ w.chain
+answered_over : (w : World) (peer : ℕ) (served : Reply × World) (refusal : Option Refusal) → IsOver w served.1 → IsOver w (answered w peer served refusal).1
+answered_over w peer served (Some refusal) h = (refl, refl)
+answered_over w peer served None h = h
+
+-- no event changes the chain yet, or the budget
+pub step_over : (w : World) (event : Event) → IsOver w (step_of w event).1
 unfolding step_of
-step_chain w (Enter peer address) = answered_chain w peer (entered w peer address) (first_failing (entering_rules w.sessions peer)) refl
-step_chain w (Leave peer) = answered_chain w peer (left w peer) (first_failing (session_rules w.sessions peer)) refl
-step_chain w (Submit peer now transaction) =
+step_over w (Enter peer address) = answered_over w peer (entered w peer address) (first_failing (entering_rules w.sessions peer)) (refl, refl)
+step_over w (Leave peer) = answered_over w peer (left w peer) (first_failing (session_rules w.sessions peer)) (refl, refl)
+step_over w (Submit peer now transaction) =
     let s = submit_of (standing_of w) transaction now w.budget in
-    answered_chain w peer (submitted w peer now transaction) (first_failing (submission_rules w peer transaction)) (decided_chain (record w { pool = s.entries; floor = s.floor }) peer transaction s.decision)
-step_chain w (Mempool peer) = answered_chain w peer (listed w) (first_failing (listing_rules w peer)) refl
+    answered_over w peer (submitted w peer now transaction) (first_failing (submission_rules w peer transaction)) (decided_over (record w { pool = s.entries; floor = s.floor }) peer transaction s.decision)
+step_over w (Mempool peer) = answered_over w peer (listed w) (first_failing (listing_rules w peer)) (refl, refl)
+step_over w (SetFloor rate) = (refl, refl)
 
-Contains-map_filter : {X Y : Type 0} (f : X → Y) (p : X → Bool) (xs : List X) (y : Y) → Contains (map f (filter p xs)) y → Contains (map f xs) y
-Contains-map_filter f p [] y h = h
-Contains-map_filter {X} {Y} f p (x ∷ xs) y h = go (Contains-map_filter f p xs y) (p x) h
-  where
-    go : (Contains (map f (filter p xs)) y → Contains (map f xs) y) → (b : Bool) → Contains (map f (cond b (x ∷ filter p xs) (filter p xs))) y → Contains (f x ∷ map f xs) y
-    go ih true k = ⊎_elim (λ (e : f x ≡ y). subst (λ (z : Y). Contains (f x ∷ map f xs) z) e (Contains-head (f x) (map f xs))) (λ c. Contains-rest (f x) (map f xs) y (ih c)) (Contains-cons_cases (f x) (map f (filter p xs)) y k)
-    go ih false k = Contains-rest (f x) (map f xs) y (ih k)
+entered_from : (entries : List Admitted) (e a : Admitted) → Contains (entered_with entries e) a → Contains (map (λ (x : Admitted). x.tx) entries ++ e.tx ∷ []) a.tx
+entered_from entries e a h =
+    let tx_of : Admitted → Tx = λ x. x.tx in
+    ⊎_elim (λ k. Contains-append_left (map tx_of entries) (e.tx ∷ []) a.tx (Contains-map tx_of entries a (Contains-from_filter (λ x. not (is_below_some (is_conflict e.tx) entries x)) entries a k)))
+    (λ k. Contains-append_right (map tx_of entries) (e.tx ∷ []) a.tx (Contains-map tx_of (e ∷ []) a k))
+    (Contains-append_cases (without_below (is_conflict e.tx) entries) (e ∷ []) a h)
 
-entered_from : (entries : List Admitted) (decision : Result Grant Denial) (transaction : Option Tx) (now : ℕ) (tx : Tx)
-    → Contains (map (λ (e : Admitted). e.tx) (entries_after entries decision transaction now)) tx → Contains (map (λ (e : Admitted). e.tx) entries ++ option_to_list transaction) tx
-entered_from entries (Err denial) transaction now tx h = Contains-append_left _ _ tx h
-entered_from entries (Ok grant) None now tx h = Contains-append_left _ _ tx h
-entered_from entries (Ok grant) (Some other) now tx h =
-    let stays = without_below (is_conflict other) entries in
-    ⊎_elim (λ k. Contains-append_left (map (λ (e : Admitted). e.tx) entries) (other ∷ []) tx (Contains-map_filter (λ (e : Admitted). e.tx) (λ e. not (is_below_some (is_conflict other) entries e)) entries tx k))
-    (λ k. Contains-append_right (map (λ (e : Admitted). e.tx) entries) (other ∷ []) tx k)
-    (Contains-append_cases (map (λ (e : Admitted). e.tx) stays) (other ∷ []) tx (subst (λ l. Contains l tx) (map-append (λ (e : Admitted). e.tx) stays (admitted other grant now ∷ [])) h))
+decision_from : (over : Standing) (transaction : Option Tx) (now budget : ℕ) (decision : Result Grant Denial) (tx : Tx)
+    → Contains (map (λ (e : Admitted). e.tx) (submitted_by over transaction now budget decision).entries) tx → Contains (map (λ (e : Admitted). e.tx) over.entries ++ option_to_list transaction) tx
+decision_from over transaction now budget (Err denial) tx h = Contains-append_left _ _ tx h
+decision_from over None now budget (Ok grant) tx h = Contains-append_left _ _ tx h
+decision_from over (Some other) now budget (Ok grant) tx h =
+    let e = admitted other grant now in
+    let w = Contains-from_map (λ (a : Admitted). a.tx) (entry_of budget over.entries over.floor e).entries tx h in
+    subst (λ (t : Tx). Contains (map (λ (a : Admitted). a.tx) over.entries ++ other ∷ []) t) w.is (entered_from over.entries e w.item (entry_within budget over.entries over.floor e w.item w.among))
 
 submission_from : (over : Standing) (transaction : Option Tx) (now budget : ℕ) (tx : Tx)
     → Contains (map (λ (e : Admitted). e.tx) (submit_of over transaction now budget).entries) tx → Contains (map (λ (e : Admitted). e.tx) over.entries ++ option_to_list transaction) tx
 unfolding submit_of
-submission_from over transaction now budget tx h = entered_from over.entries (decision_of First over transaction) transaction now tx h
+submission_from over transaction now budget tx h = decision_from over transaction now budget (decision_of First over transaction) tx h
 
 -- what comes from behind a list that stays
 behind : (stays new old more : List Tx) (tx : Tx) → (Contains new tx → Contains (old ++ more) tx) → Contains (stays ++ new) tx → Contains ((stays ++ old) ++ more) tx
@@ -179,3 +187,4 @@ step_from w (Leave peer) tx h = answered_from w peer (left w peer) (first_failin
 step_from w (Submit peer now transaction) tx h =
     answered_from w peer (submitted w peer now transaction) (first_failing (submission_rules w peer transaction)) (option_to_list transaction) tx (submitted_from w peer now transaction tx) h
 step_from w (Mempool peer) tx h = answered_from w peer (listed w) (first_failing (listing_rules w peer)) [] tx (λ k. Contains-append_left _ _ tx k) h
+step_from w (SetFloor rate) tx h = Contains-append_left _ _ tx h

@@ -1,6 +1,7 @@
 mod ClosedSessions
 mod Denials
 mod Dotted
+mod Floors
 pub mod Keeping
 mod Listings
 mod Names

@@ -7,7 +7,7 @@ use Rattle.gate_admit.specs.declared.Grant.{Grant}
 use Rattle.gate_pool.specs.Pool.{listing_of}
 use Rattle.gate_admit.specs.Submission.{submit_of}
 use Rattle.gate_core.specs.declared.event.Event.{Event}
-use Rattle.gate_core.specs.declared.event.Event.TheVariants.{Enter, Leave, Tx as Submit, Mempool}
+use Rattle.gate_core.specs.declared.event.Event.TheVariants.{Enter, Leave, Tx as Submit, Mempool, SetFloor}
 use Rattle.gate_core.specs.declared.refusal.Refusal.{Refusal}
 use Rattle.gate_core.specs.declared.reply.Reply.{Reply}
 use Rattle.gate_core.specs.declared.reply.Reply.TheVariants.{Listing}
@@ -39,6 +39,7 @@ step_lists w (Leave peer) txids h = answered_lists w peer (left w peer) (first_f
 step_lists w (Submit peer now transaction) txids h =
     answered_lists w peer (submitted w peer now transaction) (first_failing (submission_rules w peer transaction)) txids (submitted_lists w peer now transaction txids) h
 step_lists w (Mempool peer) txids h = answered_lists w peer (listed w) (first_failing (listing_rules w peer)) txids (λ k. cc) h
+step_lists w (SetFloor rate) txids h = cc
 
 some_is : (reply other : Reply) → Some reply ≡ Some other → reply ≡ other
 some_is reply other h = cc

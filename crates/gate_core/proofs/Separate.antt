@@ -10,7 +10,7 @@ use Rattle.gate_admit.specs.declared.Grant.{Grant}
 use Rattle.gate_admit.specs.Submission.{submit_of}
 use Rattle.gate_core.specs.declared.caller.Caller.TheVariants.{Peer}
 use Rattle.gate_core.specs.declared.event.Event.{Event}
-use Rattle.gate_core.specs.declared.event.Event.TheVariants.{Enter, Leave, Tx as Submit, Mempool}
+use Rattle.gate_core.specs.declared.event.Event.TheVariants.{Enter, Leave, Tx as Submit, Mempool, SetFloor}
 use Rattle.gate_core.specs.declared.refusal.Refusal.{Refusal}
 use Rattle.gate_core.specs.declared.refusal.Refusal.TheVariants.{Admission}
 use Rattle.gate_core.specs.declared.refusal.Then.{Then}
@@ -81,6 +81,7 @@ step_leaves w (Submit peer now transaction) other h =
     let apart = another peer other h in
     answered_leaves w peer other (submitted w peer now transaction) (first_failing (submission_rules w peer transaction)) apart (submitted_leaves w peer other now transaction apart)
 step_leaves w (Mempool peer) other h = answered_leaves w peer other (listed w) (first_failing (listing_rules w peer)) (another peer other h) refl
+step_leaves w (SetFloor rate) other h = refl
 
 pub run_leaves : (events : List Event) (w : World) (peer : ℕ) → All (λ (e : Event). caller_of e ≢ Peer peer) events → session_of (run_of w events).1.sessions peer ≡ session_of w.sessions peer
 run_leaves [] w peer others = refl

@@ -7,7 +7,7 @@ use Rattle.gate_tx.specs.Ids.{wtxid_of}
 use Rattle.gate_standard.specs.declared.Denial.TheVariants.{Decode}
 use Rattle.gate_pool.specs.Pool.{Admitted, entry_by_wtxid}
 use Rattle.gate_core.specs.declared.event.Event.{Event}
-use Rattle.gate_core.specs.declared.event.Event.TheVariants.{Enter, Leave, Tx as Submit, Mempool}
+use Rattle.gate_core.specs.declared.event.Event.TheVariants.{Enter, Leave, Tx as Submit, Mempool, SetFloor}
 use Rattle.gate_core.specs.declared.refusal.Refusal.{Refusal}
 use Rattle.gate_core.specs.declared.refusal.Refusal.TheVariants.{PeerUnknown, PeerClosed, PeerKnown, AlreadyInMempool, MempoolNoBloom, Admission}
 use Rattle.gate_core.specs.Sessions.{Session, session_of}
@@ -36,11 +36,13 @@ submission_rules w peer transaction = session_rules w.sessions peer ++ (Admissio
 abbrev pub listing_rules : World → ℕ → List (Rule Refusal)
 listing_rules w peer = session_rules w.sessions peer ++ (MempoolNoBloom, not w.bloom) ∷ []
 
+-- nothing is asked of the operator
 abbrev pub caller_rules : World → Event → List (Rule Refusal)
 caller_rules w (Enter peer address) = entering_rules w.sessions peer
 caller_rules w (Leave peer) = session_rules w.sessions peer
 caller_rules w (Submit peer now transaction) = submission_rules w peer transaction
 caller_rules w (Mempool peer) = listing_rules w peer
+caller_rules w (SetFloor rate) = []
 
 -- a refusal names a rule that fails, with none failing before it; without one no rule fails
 abbrev pub AccessFollowsTheOrder : Type 0

@@ -1,10 +1,10 @@
 -- The step and what it rests on at small values, by computation.
 use Rattle.std.specs.Prelude.{◌≡◌, Bool, true, false, List, [], ◌∷◌, None, codes}
 use Rattle.gate_standard.specs.declared.Denial.TheVariants.{Decode, VinEmpty}
-use Rattle.gate_core.specs.declared.event.Event.TheVariants.{Enter, Leave, Tx as Submit, Mempool}
+use Rattle.gate_core.specs.declared.event.Event.TheVariants.{Enter, Leave, Tx as Submit, Mempool, SetFloor}
 use Rattle.gate_core.specs.declared.refusal.Then.TheVariants.{Keep, Close, Relay}
 use Rattle.gate_core.specs.declared.refusal.Refusal.TheVariants.{PeerUnknown, PeerClosed, PeerKnown, AlreadyInMempool, MempoolNoBloom, Admission}
-use Rattle.gate_core.specs.declared.reply.Reply.TheVariants.{Entered, Left, Listing, Denied}
+use Rattle.gate_core.specs.declared.reply.Reply.TheVariants.{Entered, Left, Listing, Denied, Set}
 use Rattle.gate_core.specs.Permissions.{Permissions, no_permissions, permissions_text}
 use Rattle.gate_core.specs.Sessions.{Session, session}
 use Rattle.gate_core.specs.World.{World}
@@ -45,6 +45,7 @@ pub record SmallSteps : Type 0 where
   pub closed : step_of (two_peers true true) (Mempool 8) ≡ (Denied PeerClosed Keep, two_peers true true)
   pub lists : step_of (two_peers true true) (Mempool 7) ≡ (Listing [], two_peers true true)
   pub no_bloom : step_of (two_peers false true) (Mempool 7) ≡ (Denied MempoolNoBloom Close, two_peers false false)
+  pub sets_the_floor : step_of (two_peers true true) (SetFloor 5000) ≡ (Set, record (two_peers true true) { floor = 5000 })
   pub undecodable : step_of (two_peers true true) (Submit 7 5000 None) ≡ (Denied (Admission Decode) Keep, two_peers true true)
 
 -- what permissions change

@@ -6,7 +6,7 @@ use Rattle.gate_tx.specs.Tx.{Tx}
 use Rattle.gate_pool.specs.Pool.{Admitted}
 use Rattle.gate_admit.specs.Good.{Limits, IsGood, IsSettled, AreApart, connected_transactions}
 use Rattle.gate_core.specs.declared.event.Event.{Event}
-use Rattle.gate_core.specs.declared.event.Event.TheVariants.{Enter, Leave, Tx as Submit, Mempool}
+use Rattle.gate_core.specs.declared.event.Event.TheVariants.{Enter, Leave, Tx as Submit, Mempool, SetFloor}
 use Rattle.gate_core.specs.declared.reply.Reply.{Reply}
 use Rattle.gate_core.specs.World.{World}
 use Rattle.gate_core.specs.Steps.{step_of}
@@ -29,6 +29,7 @@ transactions_of (Enter peer address) = []
 transactions_of (Leave peer) = []
 transactions_of (Submit peer now transaction) = option_to_list transaction
 transactions_of (Mempool peer) = []
+transactions_of (SetFloor rate) = []
 
 -- the event's transaction has a text, as each that was read has
 abbrev pub IsSpelled : Event → Type 0
@@ -36,6 +37,7 @@ IsSpelled (Enter peer address) = Unit {0}
 IsSpelled (Leave peer) = Unit {0}
 IsSpelled (Submit peer now transaction) = IfSome transaction IsTx
 IsSpelled (Mempool peer) = Unit {0}
+IsSpelled (SetFloor rate) = Unit {0}
 
 -- no two transactions of the state and the event share a txid, unless their forms without witnesses are the same
 abbrev pub IsApartFrom : World → Event → Type 0

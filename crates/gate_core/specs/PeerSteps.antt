@@ -54,6 +54,7 @@ decided w peer None decision = refused w peer (Admission Decode)
 decided w peer (Some tx) (Ok grant) = (Admitted (txid_of tx) grant.fee grant.vsize grant.replaced, w)
 decided w peer (Some tx) (Err denial) = refused w peer (Admission denial)
 
+-- what a submission came to: pool and floor are as it left them, whatever the reply
 abbrev pub concluded : World → ℕ → Option Tx → Submitted → Reply × World
 concluded w peer transaction s = decided (record w { pool = s.entries; floor = s.floor }) peer transaction s.decision
 

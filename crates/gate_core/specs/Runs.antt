@@ -1,15 +1,20 @@
 -- Runs: the step over a list of events, and what holds after every one of them.
-use Rattle.std.specs.Prelude.{◌≡◌, ◌≢◌, ℕ, List, [], ◌∷◌, ◌++◌, take, slice_get, Some, IsSome}
+use Rattle.std.specs.Prelude.{◌≡◌, ◌≢◌, ◌≤◌, ℕ, List, [], ◌∷◌, ◌++◌, take, slice_get, Option, Some, IsSome}
 use Rattle.std.specs.List.{All, flat_map, AllPairs}
 use Rattle.gate_tx.specs.declared.OutPoint.{OutPoint}
 use Rattle.gate_tx.specs.Ids.{txid_of}
-use Rattle.gate_pool.specs.Pool.{Admitted, spent_by, listing_of}
+use Rattle.gate_tx.specs.Tx.{Tx}
+use Rattle.gate_pool.specs.Pool.{Admitted as Entry, spent_by, listing_of, size_of}
+use Rattle.gate_trim.specs.Laws.{IsYoung}
 use Rattle.gate_admit.specs.Coins.{view_coin}
 use Rattle.gate_admit.specs.Good.{AreApart, IsLimited}
+use Rattle.gate_core.specs.declared.caller.Caller.TheVariants.{Operator}
 use Rattle.gate_core.specs.declared.event.Event.{Event}
+use Rattle.gate_core.specs.declared.event.Event.TheVariants.{Tx as Submit}
+use Rattle.gate_core.specs.Callers.{caller_of}
 use Rattle.gate_core.specs.Opening.{Start}
 use Rattle.gate_core.specs.declared.reply.Reply.{Reply}
-use Rattle.gate_core.specs.declared.reply.Reply.TheVariants.{Listing}
+use Rattle.gate_core.specs.declared.reply.Reply.TheVariants.{Admitted, Listing}
 use Rattle.gate_core.specs.World.{World, opened_world}
 use Rattle.gate_core.specs.Steps.{step_of}
 use Rattle.gate_core.specs.Good.{IsGoodWorld, StepGives, transactions_in, transactions_of}
@@ -40,7 +45,7 @@ StepsGiveTheRun =
     → ((replies, end) ≡ run_of w events) × IsGoodWorld end
 
 -- no outpoint is spent by two entries, nor twice by one
-abbrev pub SpendsOnce : List Admitted → Type 0
+abbrev pub SpendsOnce : List Entry → Type 0
 SpendsOnce pool = AllPairs (λ (p : OutPoint) (q : OutPoint). p ≢ q) (spent_by pool)
 
 -- each reply that is a listing has the txids of the pool at that point, in order of admission
@@ -55,8 +60,22 @@ RunsKeepThePoolSound = (o : Start) (events : List Event) → SpendsOnce (run_of 
 -- each outpoint that an entry spends has a coin, and the ancestors and descendants of each entry are within the limits
 pub record KeepsFamilies (w : World) : Type 0 where
   pub coins : All (λ (p : OutPoint). IsSome (view_coin w.chain w.pool p)) (spent_by w.pool)
-  pub limited : All (λ (e : Admitted). IsLimited w.pool (txid_of e.tx)) w.pool
+  pub limited : All (λ (e : Entry). IsLimited w.pool (txid_of e.tx)) w.pool
 
 -- so it is after any events, from any opening
 abbrev pub RunsKeepFamilies : Type 0
 RunsKeepFamilies = (o : Start) (events : List Event) → KeepsFamilies (run_of (opened_world o) events).1
+
+-- after any events, from any opening, the entries are within the opening's budget
+abbrev pub RunsKeepTheBudget : Type 0
+RunsKeepTheBudget = (o : Start) (events : List Event) → size_of (run_of (opened_world o) events).1.pool ≤ o.budget
+
+-- events of no operator never lower the floor
+abbrev pub OnlyOperatorsLowerTheFloor : Type 0
+OnlyOperatorsLowerTheFloor = (w : World) (events : List Event) → All (λ (e : Event). caller_of e ≢ Operator) events → w.floor ≤ (run_of w events).1.floor
+
+-- after a submission that is admitted no entry came more than two weeks before it
+abbrev pub AdmissionsLeaveNothingStale : Type 0
+AdmissionsLeaveNothingStale =
+    (w : World) (peer now : ℕ) (transaction : Option Tx) (txid : List ℕ) (fee vsize replaced : ℕ) → (step_of w (Submit peer now transaction)).0 ≡ Admitted txid fee vsize replaced
+    → All (IsYoung now) (step_of w (Submit peer now transaction)).1.pool

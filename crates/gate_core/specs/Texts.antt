@@ -5,7 +5,7 @@ use Rattle.std.specs.Fmt.{decimal}
 use Rattle.gate_tx.specs.Ids.{id_text}
 use Rattle.gate_core.specs.declared.refusal.Refusal.{Refusal}
 use Rattle.gate_core.specs.declared.reply.Reply.{Reply}
-use Rattle.gate_core.specs.declared.reply.Reply.TheVariants.{Entered, Left, Admitted, Listing, Denied}
+use Rattle.gate_core.specs.declared.reply.Reply.TheVariants.{Entered, Left, Admitted, Listing, Denied, Set}
 use Rattle.gate_core.specs.Permissions.{Permissions, permissions_text}
 use Rattle.gate_core.specs.Refusals.{rule_text, refusal_token, then_text}
 
@@ -29,3 +29,4 @@ reply_text Left = codes "left"
 reply_text (Admitted txid fee vsize replaced) = admitted_text txid fee vsize replaced
 reply_text (Listing txids) = listing_text txids
 reply_text (Denied refusal then) = denied_text refusal (then_text then)
+reply_text Set = codes "set"

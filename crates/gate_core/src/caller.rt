@@ -5,4 +5,6 @@
 pub enum Caller {
     /// The peer of this number.
     Peer(u64),
+    /// The one that runs the node.
+    Operator,
 }

@@ -29,6 +29,10 @@ pub enum Event {
     Mempool {
         peer: u64,
     },
+    /// The operator sets the pool's floor, in satoshi per 1,000 virtual bytes.
+    SetFloor {
+        rate: u64,
+    },
 }
 
 impl Event {
@@ -43,6 +47,7 @@ impl Event {
             Event::Leave { peer } => Caller::Peer(*peer),
             Event::Tx { peer, .. } => Caller::Peer(*peer),
             Event::Mempool { peer } => Caller::Peer(*peer),
+            Event::SetFloor { .. } => Caller::Operator,
         }
     }
 }
@@ -78,6 +83,7 @@ impl Copied for Event {
                 transaction: transaction.copy(alloc)?,
             }),
             Event::Mempool { peer } => Ok(Event::Mempool { peer: *peer }),
+            Event::SetFloor { rate } => Ok(Event::SetFloor { rate: *rate }),
         }
     }
 }

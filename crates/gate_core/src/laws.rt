@@ -1,7 +1,7 @@
 //! Laws above the definitions.
 ghost use Rattle.gate_core.specs.Addresses.{AddressesAreDotted};
 ghost use Rattle.gate_core.specs.Access.{AccessFollowsTheOrder};
-ghost use Rattle.gate_core.specs.Runs.{RunsKeepFamilies, RunsKeepThePoolSound, StepsGiveTheRun};
+ghost use Rattle.gate_core.specs.Runs.{AdmissionsLeaveNothingStale, OnlyOperatorsLowerTheFloor, RunsKeepFamilies, RunsKeepTheBudget, RunsKeepThePoolSound, StepsGiveTheRun};
 ghost use Rattle.gate_core.specs.SessionLaws.{ClosedStaysClosed, DenialsLeaveThePool, PeersAreSeparate};
 
 /// A text spells an address just where it is what is printed for it.
@@ -32,7 +32,7 @@ pub fn peers_are_separate()
     ensures { PeersAreSeparate }
 {}
 
-/// Events that are denied leave the chain, the pool and its floor as they were.
+/// Events that are denied, by other rules than A46, leave the chain, the pool and its floor as they were.
 pub fn denials_leave_the_pool()
     ensures { DenialsLeaveThePool }
 {}
@@ -47,4 +47,19 @@ pub fn runs_keep_the_pool_sound()
 /// 101,000 virtual bytes and 26 descendants of 111,000, itself among each.
 pub fn runs_keep_families()
     ensures { RunsKeepFamilies }
+{}
+
+/// After any events, from any opening, the entries of the pool together are within the opening's budget.
+pub fn runs_keep_the_budget()
+    ensures { RunsKeepTheBudget }
+{}
+
+/// Over any events in which no operator's is, the floor does not fall.
+pub fn only_operators_lower_the_floor()
+    ensures { OnlyOperatorsLowerTheFloor }
+{}
+
+/// After a submission that is admitted, no entry of the pool is older than two weeks.
+pub fn admissions_leave_nothing_stale()
+    ensures { AdmissionsLeaveNothingStale }
 {}

@@ -21,8 +21,10 @@ pub use address::Address;
 pub use caller::Caller;
 pub use event::Event;
 pub use laws::{
-    access_follows_the_order, addresses_are_dotted, closed_stays_closed, denials_leave_the_pool,
-    peers_are_separate, runs_keep_families, runs_keep_the_pool_sound, steps_give_the_run,
+    access_follows_the_order, addresses_are_dotted, admissions_leave_nothing_stale,
+    closed_stays_closed, denials_leave_the_pool, only_operators_lower_the_floor,
+    peers_are_separate, runs_keep_families, runs_keep_the_budget, runs_keep_the_pool_sound,
+    steps_give_the_run,
 };
 pub use opening::Opening;
 pub use permissions::Permissions;

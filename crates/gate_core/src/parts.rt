@@ -1,14 +1,15 @@
 //! What a state is made of, and its step in two: a plan that takes all memory and changes nothing, and its change.
-ghost use Rattle.std.specs.Prelude.{◌≡◌, IfOk};
+ghost use Rattle.std.specs.Prelude.{◌≡◌, IfOk, Ok};
 ghost use Rattle.gate_bytes.specs.Order.{first_failing};
 ghost use Rattle.gate_core.specs.World.{flags_at};
 ghost use Rattle.gate_core.specs.Access.{entering_rules, listing_rules, session_rules, submission_rules};
 ghost use Rattle.gate_core.specs.PeerSteps.{entered, left, listed, peer_step, refused, submitted};
 ghost use Rattle.gate_core.specs.Steps.{step_of};
 ghost use Rattle.gate_pool.specs.Pool.{Pooled};
+ghost use Rattle.gate_admit.specs.Planning.{planned_of};
 ghost use Rattle.gate_core.specs.Sessions.{Seated};
 ghost use Rattle.gate_core.specs.Quiet.{HasList};
-ghost use Rattle.gate_core.specs.Planning.{Fits, Plans, after, world_of};
+ghost use Rattle.gate_core.specs.Planning.{Fits, Plans, admitted_as, made, world_of};
 
 use crate::address::Address;
 use crate::event::Event;
@@ -16,7 +17,9 @@ use crate::permissions::Permissions;
 use crate::refusal::{Refusal, Then};
 use crate::reply::Reply;
 use crate::session::Sessions;
-use gate_admit::{Chain, Coming, Entry, Floor, Pool, Prepared, Verdicts, plan_submission};
+use gate_admit::{
+    Chain, Coming, Floor, Pool, Prepared, Verdicts, commit_submission, plan_submission,
+};
 use gate_bytes::Memory;
 use gate_standard::Denial;
 use std::alloc::Global;
@@ -28,10 +31,11 @@ pub(crate) enum Change {
     Nothing,
     Enter { peer: u64, flags: Permissions },
     Close { peer: u64 },
-    Admit { entry: Entry },
+    SetFloor { rate: u64 },
+    Admit { coming: Coming },
 }
 
-/// The reply to an event, and what it changes.
+/// What an event changes, and the reply to it; a denial takes the reply's place where what comes does not stay in the pool.
 #[derive(Drop)]
 pub(crate) struct Plan {
     pub(crate) reply: Reply,
@@ -200,18 +204,15 @@ impl<S: BuildHasher + Copy + Drop> Parts<S> {
             self.budget,
         )?;
         match decision {
-            Ok(coming) => {
-                let Coming { grant, entry } = coming;
-                Ok(Plan {
-                    reply: Reply::Admitted {
-                        txid,
-                        fee: grant.fee,
-                        vsize: grant.vsize,
-                        replaced: grant.replaced,
-                    },
-                    change: Change::Admit { entry },
-                })
-            }
+            Ok(coming) => Ok(Plan {
+                reply: Reply::Admitted {
+                    txid,
+                    fee: coming.grant.fee,
+                    vsize: coming.grant.vsize,
+                    replaced: coming.grant.replaced,
+                },
+                change: Change::Admit { coming },
+            }),
             Err(denial) => Ok(self.refusing(peer, Refusal::Admission(denial))),
         }
     }
@@ -233,19 +234,40 @@ impl<S: BuildHasher + Copy + Drop> Parts<S> {
                 transaction,
             } => self.submission(alloc, *peer, *now, transaction),
             Event::Mempool { peer } => self.listing(alloc, *peer),
+            Event::SetFloor { rate } => Ok(Plan {
+                reply: Reply::Set,
+                change: Change::SetFloor { rate: *rate },
+            }),
         }
     }
 
-    /// Makes a change that fits, without memory.
-    pub(crate) fn commit(&mut self, change: Change)
-        requires { Fits change self.old.sessions self.old.pool }
-        ensures { world_of self.new ≡ after change (world_of self.old) }
+    /// Makes the change of a plan that fits, without memory, and gives the reply.
+    pub(crate) fn commit(&mut self, plan: Plan) -> Reply
+        requires { Fits plan.change self.old.sessions self.old.pool }
+        ensures { (result, world_of self.new) ≡ made plan (world_of self.old) }
     {
+        let Plan { reply, change } = plan;
         match change {
             Change::Nothing => (),
             Change::Enter { peer, flags } => self.sessions.enter(peer, flags),
             Change::Close { peer } => self.sessions.close(peer),
-            Change::Admit { entry } => self.pool.replace(entry),
+            Change::SetFloor { rate } => self.floor = Floor::new(rate),
+            Change::Admit { coming } => return self.admit(coming, reply),
+        }
+        reply
+    }
+
+    /// Enters what was granted; the reply, or the denial where it is gone again.
+    fn admit(&mut self, coming: Coming, reply: Reply) -> Reply
+        requires { Fits (Change.Admit coming) self.old.sessions self.old.pool }
+        ensures { (result, world_of self.new) ≡ admitted_as (world_of self.old) reply (planned_of self.old.budget self.old.pool.entries self.old.floor (Ok coming)) }
+    {
+        match commit_submission(&mut self.pool, &mut self.floor, coming, self.budget) {
+            Ok(_grant) => reply,
+            Err(denial) => Reply::Denied {
+                refusal: Refusal::Admission(denial),
+                then: Then::Keep,
+            },
         }
     }
 }

@@ -9,7 +9,7 @@ ghost use Rattle.gate_core.specs.Good.{IsGoodWorld, StepGives};
 
 use crate::event::Event;
 use crate::opening::Opening;
-use crate::parts::{Parts, Plan};
+use crate::parts::Parts;
 use crate::reply::Reply;
 use crate::session::Sessions;
 use gate_admit::{Chain, Floor, OpenFault, Pool};
@@ -92,9 +92,8 @@ impl<S: BuildHasher + Copy + Drop> State<S> {
         ensures err { OnErr result (self.new ≡ self.old) }
         ensures quiet { IfOk result (λ reply. HasList reply → self.new ≡ self.old) }
     {
-        let Plan { reply, change } = self.parts.plan(alloc, event)?;
-        self.parts.commit(change);
-        Ok(reply)
+        let plan = self.parts.plan(alloc, event)?;
+        Ok(self.parts.commit(plan))
     }
 
     /// One step: the reply to an event, and the state after it. After `Memory` the state is what it was.

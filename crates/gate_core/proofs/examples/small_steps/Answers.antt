@@ -12,6 +12,7 @@ returns-clause-small c = record {
   closed = refl;
   lists = refl;
   no_bloom = refl;
+  sets_the_floor = refl;
   undecodable = refl;
 }
 

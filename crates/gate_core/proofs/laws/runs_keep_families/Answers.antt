@@ -5,4 +5,4 @@ use Rattle.gate_core.proofs.Running.{run_good}
 use Rattle.gate_core.proofs.laws.runs_keep_families.Goals as goal
 
 pub returns : goal.returns
-returns c = λ o events. let good = (run_good events (opened_world o) refl (opened_good o)).pool in record { coins = good.coins; limited = good.limited }
+returns c = λ o events. let good = (run_good events (opened_world o) refl (opened_good o)).pool.sound in record { coins = good.coins; limited = good.limited }

@@ -6,4 +6,4 @@ use Rattle.gate_core.proofs.Running.{run_good}
 use Rattle.gate_core.proofs.laws.runs_keep_the_pool_sound.Goals as goal
 
 pub returns : goal.returns
-returns c = λ o events. ((run_good events (opened_world o) refl (opened_good o)).pool.spends, lists_the_pool events (opened_world o))
+returns c = λ o events. ((run_good events (opened_world o) refl (opened_good o)).pool.sound.spends, lists_the_pool events (opened_world o))
