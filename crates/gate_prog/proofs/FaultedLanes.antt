@@ -5,7 +5,7 @@ use Rattle.gate_core.specs.Texts.{reply_text}
 use Rattle.gate_core.specs.World.{World}
 use Rattle.gate_core.specs.declared.event.Event.{Event}
 use Rattle.gate_core.specs.declared.reply.Reply.{Reply}
-use Rattle.gate_core.specs.declared.reply.Reply.TheVariants.{Entered, Left, Admitted, Listing, Denied}
+use Rattle.gate_core.specs.declared.reply.Reply.TheVariants.{Entered, Left, Admitted, Listing, Denied, Set}
 use Rattle.gate_lines.specs.Lines.{count_limit, line_limit, is_skipped}
 use Rattle.gate_prog.specs.EventLines.{line_event}
 use Rattle.gate_prog.specs.Lanes.{Run, LineAnswered, EventAnswered, fault_memory, line_too_long, too_many_lines}
@@ -29,6 +29,7 @@ text_is_no_fault Left e = let h : 108 ≡ 102 = first_byte (reply_text Left) fau
 text_is_no_fault (Admitted txid fee vsize replaced) e = let h : 97 ≡ 102 = first_byte (reply_text (Admitted txid fee vsize replaced)) fault_memory e in omega (arith, h)
 text_is_no_fault (Listing txids) e = let h : 108 ≡ 102 = first_byte (reply_text (Listing txids)) fault_memory e in omega (arith, h)
 text_is_no_fault (Denied refusal followed) e = let h : 100 ≡ 102 = first_byte (reply_text (Denied refusal followed)) fault_memory e in omega (arith, h)
+text_is_no_fault Set e = let h : 115 ≡ 102 = first_byte (reply_text Set) fault_memory e in omega (arith, h)
 
 -- a step that is answered so leaves the state
 stays : (old mid : World) (event : Option Event) (reply : List ℕ) → EventAnswered old event reply mid → reply ≡ fault_memory → mid ≡ old

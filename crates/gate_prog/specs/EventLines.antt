@@ -58,8 +58,18 @@ peer_event p =
 abbrev pub peer_event_of : List ℕ → Option Event
 peer_event_of text = option_and_then peer_event (numbered_of text)
 
+abbrev pub setting_event : List ℕ × List ℕ → Option Event
+setting_event p = if bytes_eq p.0 (codes "floor") then option_map events.SetFloor (number_of p.1) else None
+
+-- `floor RATE`
+abbrev pub operator_event_of : List ℕ → Option Event
+operator_event_of text = option_and_then setting_event (part_of text)
+
 abbrev pub called_event : List ℕ × List ℕ → Option Event
-called_event p = if bytes_eq p.0 (codes "peer") then peer_event_of p.1 else None
+called_event p =
+    if bytes_eq p.0 (codes "peer") then peer_event_of p.1
+    else if bytes_eq p.0 (codes "operator") then operator_event_of p.1
+    else None
 
 -- the event of a text
 abbrev pub event_of : List ℕ → Option Event

@@ -1,6 +1,6 @@
 //! The event that a line spells.
 ghost use Rattle.std.specs.Prelude.{◌≡◌, IfOk, MatchOption, None, Some};
-ghost use Rattle.gate_prog.specs.EventLines.{event_of, numbered_of, peer_event_of, enter_event_of, tx_event_of, prepared_of};
+ghost use Rattle.gate_prog.specs.EventLines.{event_of, numbered_of, peer_event_of, enter_event_of, tx_event_of, operator_event_of, prepared_of};
 
 use gate_admit::Prepared;
 use gate_bytes::Memory;
@@ -16,6 +16,8 @@ pub(crate) fn read_event(alloc: Global, line: &str) -> Result<Option<Event>, Mem
     match next_word(line) {
         Some((caller, rest)) => if caller == "peer" {
             peer_event(alloc, rest)
+        } else if caller == "operator" {
+            Ok(operator_event(rest))
         } else {
             Ok(None)
         },
@@ -79,6 +81,18 @@ fn tx_event(alloc: Global, peer: u64, rest: &str) -> Result<Option<Event>, Memor
         now,
         transaction,
     }))
+}
+
+/// `floor RATE`.
+fn operator_event(rest: &str) -> Option<Event>
+    ensures { result ≡ operator_event_of rest.now }
+{
+    let (word, rest) = next_word(rest)?;
+    if word != "floor" {
+        return None;
+    }
+    let rate = read_number(rest)?;
+    Some(Event::SetFloor { rate })
 }
 
 /// The transaction that a text of hex spells; a text that isn't hex spells none.

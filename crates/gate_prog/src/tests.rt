@@ -80,12 +80,12 @@ fn hasher() -> BuildHasherDefault<FoldHasher> {
     BuildHasherDefault::new()
 }
 
-/// What `gate run` writes for an input, and its status.
-fn run(alloc: Global, input: &[u8]) -> Result<(u8, Vec<u8>), LaneFault> {
+/// Whether `gate run` reads an input to its end, writes this and has this status.
+fn runs(alloc: Global, input: &[u8], status: u8, text: &str) -> Result<bool, LaneFault> {
     let mut reader = input;
     let mut written = Vec::new(alloc);
-    let status = run_job(alloc, hasher(), &Job::Run, &mut reader, &mut written)?;
-    Ok((status, written))
+    let found = run_job(alloc, hasher(), &Job::Run, &mut reader, &mut written)?;
+    Ok(found == status && written.as_slice() == text.as_bytes())
 }
 
 /// One submission of a coin, and one listing.
@@ -102,75 +102,63 @@ peer 1 mempool
 
 #[test]
 fn the_first_path(rt: HostRuntime) -> Result<(), Fail> {
-    let (status, written) = run(rt.alloc(), FIRST_PATH)?;
-    assert_eq!(rt; status, 0);
-    assert_eq!(rt;
-        std::str::from_utf8(written.as_slice())?,
-        "entered none
+    let replies = "entered none
 admitted 5ab0eb89aa597c4c79ebb7cd83e361997309eb27e186bc95d794fe37e6453fc2 fee 110 vsize 110 replaced 0
 listing 1 5ab0eb89aa597c4c79ebb7cd83e361997309eb27e186bc95d794fe37e6453fc2
-"
-    );
+";
+    assert!(rt; runs(rt.alloc(), FIRST_PATH, 0, replies)?);
     Ok(())
 }
 
 #[test]
 fn lines_of_all_kinds(rt: HostRuntime) -> Result<(), Fail> {
-    let input: &[u8] =
+    let input =
         b"# settings\n\ntimes 1 0 0\n---\n# \xff\n\n \n\xff\npeer 1 leave\r\n---\npeer 01 leave\npeer 1 tx 0 0\npeer 1 leave";
-    let mut reader = BufReader::new(rt.alloc(), input)?;
-    let mut written = Vec::new(rt.alloc());
-    assert_eq!(rt;
-        run_job(rt.alloc(), hasher(), &Job::Run, &mut reader, &mut written),
-        Ok(0)
-    );
-    assert_eq!(rt;
-        std::str::from_utf8(written.as_slice())?,
-        "refused L1 bad-line
+    let replies = "refused L1 bad-line
 refused L1 bad-line
 refused L1 bad-line
 refused L1 bad-line
 refused L1 bad-line
 denied P1 keep peer-unknown
 denied P1 keep peer-unknown
-"
-    );
+";
+    assert!(rt; runs(rt.alloc(), input, 0, replies)?);
     Ok(())
 }
 
 #[test]
 fn faults_of_openings(rt: HostRuntime) -> Result<(), Fail> {
-    let coin =
-        "coin 1111111111111111111111111111111111111111111111111111111111111111 0 1 0 plain -";
-    let wtxid = "abababababababababababababababababababababababababababababababab";
     let cases = [
-        ("budget 5", "opening 0 no-times"),
-        ("times 1 4294967296 1", "opening 1 bad-line"),
-        ("times 2 4294967295 1", "opening 1 times-limit"),
-        ("times 1000000 0 0\ntimes 1 0 0", "opening 2 times-limit"),
-        ("bloom 1\n\nbloom 1", "opening 3 bad-line"),
-        ("times 1 0 0\n===", "opening 2 bad-line"),
+        ("budget 5", "opening 0 no-times\n"),
+        ("times 1 4294967296 1", "opening 1 bad-line\n"),
+        ("times 2 4294967295 1", "opening 1 times-limit\n"),
+        ("times 1000000 0 0\ntimes 1 0 0", "opening 2 times-limit\n"),
+        ("bloom 1\n\nbloom 1", "opening 3 bad-line\n"),
+        ("times 1 0 0\n===", "opening 2 bad-line\n"),
     ];
     for (input, line) in cases {
-        let (status, written) = run(rt.alloc(), input.as_bytes())?;
-        assert_eq!(rt; status, 2);
-        assert_eq!(rt; std::str::from_utf8(written.as_slice())?.trim_end(), line);
+        assert!(rt; runs(rt.alloc(), input.as_bytes(), 2, line)?, "{input}");
     }
+    Ok(())
+}
+
+/// A coin, and a coin again.
+#[test]
+fn a_coin_stands_once(rt: HostRuntime) -> Result<(), Fail> {
+    let coin =
+        "coin 1111111111111111111111111111111111111111111111111111111111111111 0 1 0 plain -";
     let twice = format!(in rt.alloc(); "times 1 0 0\n{coin}\n# again\n{coin}\n")?;
-    let (status, written) = run(rt.alloc(), twice.as_bytes())?;
-    assert_eq!(rt; status, 2);
-    assert_eq!(rt;
-        std::str::from_utf8(written.as_slice())?,
-        "opening 4 coin-twice\n"
-    );
+    assert!(rt; runs(rt.alloc(), twice.as_bytes(), 2, "opening 4 coin-twice\n")?);
+    Ok(())
+}
+
+#[test]
+fn a_verdict_stands_once(rt: HostRuntime) -> Result<(), Fail> {
+    let wtxid = "abababababababababababababababababababababababababababababababab";
     let rows = format!(in rt.alloc();
         "verdict {wtxid} 0 ok\nverdict {wtxid} 1 ok\nverdict {wtxid} 0 hard\n"
     )?;
-    let (_, written) = run(rt.alloc(), rows.as_bytes())?;
-    assert_eq!(rt;
-        std::str::from_utf8(written.as_slice())?,
-        "opening 3 bad-line\n"
-    );
+    assert!(rt; runs(rt.alloc(), rows.as_bytes(), 2, "opening 3 bad-line\n")?);
     Ok(())
 }
 
@@ -178,18 +166,23 @@ fn faults_of_openings(rt: HostRuntime) -> Result<(), Fail> {
 fn the_rest_of_the_reader(rt: HostRuntime) -> Result<(), Fail> {
     let mut reader: &[u8] = b"times 1 0 0\n---\npeer 1 leave";
     assert!(rt; read_opening(rt.alloc(), hasher(), &mut reader).is_ok());
-    assert_eq!(rt; std::str::from_utf8(reader)?, "peer 1 leave");
-    let mut broken = BufReader::new(rt.alloc(), Interrupted(b"times 1 0 0\n--"))?;
-    assert_eq!(rt;
-        read_opening(rt.alloc(), hasher(), &mut broken).err(),
-        Some(OpeningFault::Read)
-    );
-    let mut empty: &[u8] = b"";
-    assert_eq!(rt;
-        read_opening(rt.alloc(), hasher(), &mut empty).err(),
-        Some(OpeningFault::Line(0, OpeningToken::NoTimes))
-    );
+    assert!(rt; reader == b"peer 1 leave".as_slice());
     Ok(())
+}
+
+#[test]
+fn an_opening_that_breaks(rt: HostRuntime) -> Result<(), Fail> {
+    let mut broken = BufReader::new(rt.alloc(), Interrupted(b"times 1 0 0\n--"))?;
+    let fault = read_opening(rt.alloc(), hasher(), &mut broken).err();
+    assert!(rt; fault == Some(OpeningFault::Read));
+    Ok(())
+}
+
+#[test]
+fn an_opening_without_lines(rt: HostRuntime) {
+    let mut empty: &[u8] = b"";
+    let fault = read_opening(rt.alloc(), hasher(), &mut empty).err();
+    assert!(rt; fault == Some(OpeningFault::Line(0, OpeningToken::NoTimes)));
 }
 
 #[test]
@@ -197,15 +190,20 @@ fn a_reader_that_breaks(rt: HostRuntime) -> Result<(), Fail> {
     let input = Interrupted(b"times 1 0 0\n---\npeer 1 leave\npeer 1 leave");
     let mut reader = BufReader::new(rt.alloc(), input)?;
     let mut written = Vec::new(rt.alloc());
-    assert_eq!(rt;
-        run_job(rt.alloc(), hasher(), &Job::Run, &mut reader, &mut written),
-        Err(LaneFault::Read)
-    );
-    assert_eq!(rt;
-        std::str::from_utf8(written.as_slice())?,
-        "denied P1 keep peer-unknown\n"
-    );
+    let end = run_job(rt.alloc(), hasher(), &Job::Run, &mut reader, &mut written);
+    assert!(rt; end == Err(LaneFault::Read));
+    assert!(rt; written.as_slice() == b"denied P1 keep peer-unknown\n".as_slice());
     Ok(())
+}
+
+/// Runs the gate on input that comes in two parts.
+fn run_halves(
+    alloc: Global,
+    halves: Halves<'_>,
+    writer: &mut BufWriter<Writes>,
+) -> Result<u8, Fail> {
+    let mut reader = BufReader::new(alloc, halves)?;
+    Ok(run_gate(alloc, hasher(), &mut reader, writer)?)
 }
 
 /// The replies to the first part go out in one write before the second is read, and no reply is left in the buffer.
@@ -215,37 +213,29 @@ fn replies_before_a_wait(rt: HostRuntime) -> Result<(), Fail> {
         b"times 1 0 0\n---\npeer 1 leave\npeer 1 leave\npeer 1",
         b" leave\n",
     );
-    let mut reader = BufReader::new(rt.alloc(), halves)?;
     let kept = Writes {
         bytes: Vec::new(rt.alloc()),
         count: 0,
     };
     let mut writer = BufWriter::new(rt.alloc(), kept)?;
-    assert_eq!(rt;
-        run_gate(rt.alloc(), hasher(), &mut reader, &mut writer),
-        Ok(0)
-    );
+    assert!(rt; run_halves(rt.alloc(), halves, &mut writer)? == 0);
     assert!(rt; writer.buffer().is_empty());
-    assert_eq!(rt; writer.get_ref().count, 2);
-    assert_eq!(rt; writer.get_ref().bytes.len(), 84);
+    assert!(rt; writer.get_ref().count == 2 && writer.get_ref().bytes.len() == 84);
     Ok(())
+}
+
+/// How a run of three events ends where the writer takes so many bytes, one at a time, and how much is left to read.
+fn run_into(alloc: Global, left: usize) -> Result<(Result<u8, LaneFault>, usize), Fail> {
+    let mut reader: &[u8] = b"times 1 0 0\n---\npeer 1 leave\npeer 1 leave\npeer 1 leave\n";
+    let mut writer = BufWriter::with_capacity(alloc, 0, Drops { left })?;
+    let end = run_job(alloc, hasher(), &Job::Run, &mut reader, &mut writer);
+    Ok((end, reader.len()))
 }
 
 #[test]
 fn a_writer_of_single_bytes(rt: HostRuntime) -> Result<(), Fail> {
-    let mut reader: &[u8] = b"times 1 0 0\n---\npeer 1 leave\npeer 1 leave\npeer 1 leave\n";
-    let mut writer = BufWriter::with_capacity(rt.alloc(), 0, Drops { left: 56 })?;
-    assert_eq!(rt;
-        run_job(rt.alloc(), hasher(), &Job::Run, &mut reader, &mut writer),
-        Err(LaneFault::Write)
-    );
-    assert_eq!(rt; reader.len(), 0);
-    let mut reader: &[u8] = b"times 1 0 0\n---\npeer 1 leave\npeer 1 leave\npeer 1 leave\n";
-    let mut writer = BufWriter::with_capacity(rt.alloc(), 0, Drops { left: 84 })?;
-    assert_eq!(rt;
-        run_job(rt.alloc(), hasher(), &Job::Run, &mut reader, &mut writer),
-        Ok(0)
-    );
+    assert!(rt; run_into(rt.alloc(), 56)? == (Err(LaneFault::Write), 0));
+    assert!(rt; run_into(rt.alloc(), 84)? == (Ok(0), 0));
     Ok(())
 }
 
@@ -253,57 +243,42 @@ fn a_writer_of_single_bytes(rt: HostRuntime) -> Result<(), Fail> {
 const GENESIS: &str =
     "01000000010000000000000000000000000000000000000000000000000000000000000000ffffffff4d04ffff001d0104455468652054696d65732030332f4a616e2f32303039204368616e63656c6c6f72206f6e206272696e6b206f66207365636f6e64206261696c6f757420666f722062616e6b73ffffffff0100f2052a01000000434104678afdb0fe5548271967f1a67130b7105cd6a828e03909a67962e0ea1f61deb649f6bc3f4cef38c4f35504e51ec112de5c384df7ba0b8d578a4c702b6bf11d5fac00000000";
 
+/// Whether `gate check` writes this, with status 1.
+fn checks(alloc: Global, digits: &str, text: &str) -> Result<bool, Fail> {
+    let mut reader: &[u8] = b"";
+    let mut written = Vec::new(alloc);
+    let job = read_args(alloc, &["check", digits])?;
+    let status = run_job(alloc, hasher(), &job, &mut reader, &mut written)?;
+    Ok(status == 1 && written.as_slice() == text.as_bytes())
+}
+
 #[test]
 fn checks_of_transactions(rt: HostRuntime) -> Result<(), Fail> {
-    let mut reader: &[u8] = b"";
-    let mut written = Vec::new(rt.alloc());
-    let job = read_args(rt.alloc(), &["check", GENESIS])?;
-    assert_eq!(rt;
-        run_job(rt.alloc(), hasher(), &job, &mut reader, &mut written),
-        Ok(1)
-    );
-    assert_eq!(rt;
-        std::str::from_utf8(written.as_slice())?,
+    let text =
         "4a5e1e4baab89f3a32518a88c31bc87f618f76673e2cc77ab2127b7afdeda33b 4a5e1e4baab89f3a32518a88c31bc87f618f76673e2cc77ab2127b7afdeda33b 816
 denied A11 coinbase
-"
-    );
-    let mut written = Vec::new(rt.alloc());
-    let job = read_args(rt.alloc(), &["check", "zz"])?;
-    assert_eq!(rt;
-        run_job(rt.alloc(), hasher(), &job, &mut reader, &mut written),
-        Ok(1)
-    );
-    assert_eq!(rt;
-        std::str::from_utf8(written.as_slice())?,
-        "denied A1 tx-decode\n"
-    );
+";
+    assert!(rt; checks(rt.alloc(), GENESIS, text)?);
+    assert!(rt; checks(rt.alloc(), "zz", "denied A1 tx-decode\n")?);
     Ok(())
+}
+
+fn is_usage_fault(alloc: Global, words: &[&str]) -> bool {
+    matches!(read_args(alloc, words), Err(ArgsFault::Usage(_)))
+}
+
+fn asks_for_help(alloc: Global, words: &[&str]) -> bool {
+    matches!(read_args(alloc, words), Err(ArgsFault::Help(_)))
 }
 
 #[test]
 fn words_of_the_command_line(rt: HostRuntime) -> Result<(), Fail> {
     assert!(rt; read_args(rt.alloc(), &["run"])? == Job::Run);
-    assert!(rt; matches!(read_args(rt.alloc(), &["--help"]), Err(ArgsFault::Help(_))));
-    assert!(rt;
-        matches!(
-            read_args(rt.alloc(), &["help", "run"]),
-            Err(ArgsFault::Help(_))
-        )
-    );
-    assert!(rt;
-        matches!(
-            read_args(rt.alloc(), &["run", "more"]),
-            Err(ArgsFault::Usage(_))
-        )
-    );
-    assert!(rt; matches!(read_args(rt.alloc(), &["check"]), Err(ArgsFault::Usage(_))));
-    assert!(rt;
-        matches!(
-            read_args(rt.alloc(), &["nothing"]),
-            Err(ArgsFault::Usage(_))
-        )
-    );
-    assert!(rt; matches!(read_args(rt.alloc(), &[]), Err(ArgsFault::Usage(_))));
+    assert!(rt; asks_for_help(rt.alloc(), &["--help"]));
+    assert!(rt; asks_for_help(rt.alloc(), &["help", "run"]));
+    assert!(rt; is_usage_fault(rt.alloc(), &["run", "more"]));
+    assert!(rt; is_usage_fault(rt.alloc(), &["check"]));
+    assert!(rt; is_usage_fault(rt.alloc(), &["nothing"]));
+    assert!(rt; is_usage_fault(rt.alloc(), &[]));
     Ok(())
 }
