@@ -10,6 +10,7 @@ ghost use Rattle.gate_chain.specs.Times.{tip_of, time_of, mtp_of};
 
 use crate::block::Block;
 use crate::connected::Connected;
+use crate::copying::{copy_coins, copy_ids};
 use crate::denial::ChainDenial;
 use crate::entering;
 use crate::fault::{ChainFault, OpenFault};
@@ -18,6 +19,7 @@ use crate::keeping::{Coins, keep};
 use crate::marked::{Marked, unspent};
 use crate::median::mtp_in;
 use crate::opening::OpeningCoin;
+use gate_bytes::{Copied, Memory};
 use gate_tx::{Coin, OutPoint, Txid};
 use indexmap::{IndexMap, IndexSet};
 use std::alloc::Global;
@@ -110,6 +112,28 @@ impl<S: BuildHasher + Copy + Drop> Chain<S> {
             coins: kept,
             txids: IndexSet::with_hasher(alloc, hasher),
         })
+    }
+
+    /// A chain of the same history. It copies every coin.
+    pub fn copy(&self, alloc: Global) -> Result<Chain<S>, Memory>
+        ensures { IfOk result (λ chain. chain ≡ self.now) }
+    {
+        Ok(Chain {
+            opening_coins: self.opening_coins,
+            opening_times: self.opening_times,
+            opening_txids: copy_ids(alloc, &self.opening_txids)?,
+            times: u32::copy_list(self.times.as_slice(), alloc)?,
+            blocks: Connected::copy_list(self.blocks.as_slice(), alloc)?,
+            coins: copy_coins(alloc, &self.coins)?,
+            txids: copy_ids(alloc, &self.txids)?,
+        })
+    }
+
+    /// How many blocks are connected.
+    pub fn connected(&self) -> usize
+        ensures { result ≡ length self.now.blocks }
+    {
+        self.blocks.len()
     }
 
     /// The coin at an outpoint.

@@ -8,6 +8,7 @@
 mod block;
 mod chain;
 mod connected;
+mod copying;
 mod denial;
 mod entering;
 mod examples;

@@ -6,8 +6,10 @@ ghost use Rattle.gate_tx.specs.declared.OutPoint.{OutPoint as Point};
 ghost use Rattle.gate_chain.specs.Connecting.{missing};
 ghost use Rattle.gate_chain.specs.Marking.{coins_in, is_marked, unspent_in};
 
+use gate_bytes::{Copied, Memory};
 use gate_tx::{Coin, OutPoint, TxIn};
 use indexmap::IndexMap;
+use std::alloc::Global;
 use std::hash::BuildHasher;
 
 /// A coin, and whether a connected block spends it.
@@ -15,6 +17,15 @@ use std::hash::BuildHasher;
 pub(crate) struct Marked {
     pub coin: Coin,
     pub spent: bool,
+}
+
+impl Copied for Marked {
+    fn copy(&self, alloc: Global) -> Result<Marked, Memory> {
+        Ok(Marked {
+            coin: self.coin.copy(alloc)?,
+            spent: self.spent,
+        })
+    }
 }
 
 /// The coin at an outpoint, if nothing spends it.

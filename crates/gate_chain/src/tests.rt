@@ -61,12 +61,11 @@ fn value_at(chain: &Chain<Hasher>, outpoint: &OutPoint) -> Option<i64> {
 fn the_median_of_eleven_times(rt: HostRuntime) -> Result<(), Fail> {
     let times = [100, 30, 70, 20, 90, 10, 80, 40, 60, 50, 110, 5, 65];
     let chain = opened(rt.alloc(), &[], &times)?;
-    assert_eq!(rt; chain.tip(), 12);
-    assert_eq!(rt; chain.time(12), Some(65));
-    assert_eq!(rt; chain.mtp(1), Some(100));
-    assert_eq!(rt; chain.mtp(10), Some(60));
-    assert_eq!(rt; chain.mtp(11), Some(50));
-    assert_eq!(rt; chain.mtp(13), None);
+    assert!(rt; chain.tip() == 12 && chain.time(12) == Some(65));
+    let medians = [(1, Some(100)), (10, Some(60)), (11, Some(50)), (13, None)];
+    for (height, median) in medians {
+        assert!(rt; chain.mtp(height) == median, "{height}");
+    }
     Ok(())
 }
 
@@ -87,17 +86,33 @@ fn second_fault(
 
 #[test]
 fn the_first_fault_is_named(rt: HostRuntime) {
-    let alloc = rt.alloc();
-    let value = second_fault(alloc, point(2, 0), 2_100_000_000_000_001, 0, &[]);
-    assert_eq!(rt; value, Some(OpenFault::CoinValue(1)));
-    let script = second_fault(alloc, point(1, 0), 0, 2, &[0x6a, 0x50]);
-    assert_eq!(rt; script, Some(OpenFault::CoinUnspendable(1)));
-    let height = second_fault(alloc, point(1, 0), 0, 2, &SCRIPT);
-    assert_eq!(rt; height, Some(OpenFault::CoinAboveTip(1)));
-    let twice = second_fault(alloc, point(1, 0), 0, 1, &[]);
-    assert_eq!(rt; twice, Some(OpenFault::CoinTwice(1)));
-    let times = fault_of(alloc, &[(point(1, 0), -1, 0, &[])], &[]);
-    assert_eq!(rt; times, Some(OpenFault::NoTimes));
+    let cases: [(OutPoint, i64, u32, &[u8], OpenFault); 4] = [
+        (
+            point(2, 0),
+            2_100_000_000_000_001,
+            0,
+            &[],
+            OpenFault::CoinValue(1),
+        ),
+        (
+            point(1, 0),
+            0,
+            2,
+            &[0x6a, 0x50],
+            OpenFault::CoinUnspendable(1),
+        ),
+        (point(1, 0), 0, 2, &SCRIPT, OpenFault::CoinAboveTip(1)),
+        (point(1, 0), 0, 1, &[], OpenFault::CoinTwice(1)),
+    ];
+    for (outpoint, value, height, script, fault) in cases {
+        assert!(rt; second_fault(rt.alloc(), outpoint, value, height, script) == Some(fault));
+    }
+}
+
+#[test]
+fn a_chain_has_times(rt: HostRuntime) {
+    let fault = fault_of(rt.alloc(), &[(point(1, 0), -1, 0, &[])], &[]);
+    assert!(rt; fault == Some(OpenFault::NoTimes));
 }
 
 /// A transaction that spends these outpoints and pays each value to a key hash.
@@ -176,34 +191,45 @@ fn two_coins(alloc: Global) -> Result<Chain<Hasher>, OpenFault> {
 
 #[test]
 fn blocks_are_denied(rt: HostRuntime) -> Result<(), Fail> {
-    let alloc = rt.alloc();
-    let mut chain = two_coins(alloc)?;
-    let twice = denial(
-        alloc,
-        &mut chain,
-        9,
-        &[point(1, 7), point(1, 0), point(1, 0)],
-    )?;
-    assert_eq!(rt; twice, Some(ChainDenial::BlockInputs));
-    let old = denial(alloc, &mut chain, 6, &[point(1, 0)])?;
-    assert_eq!(rt; old, Some(ChainDenial::TimeTooOld));
-    let new = denial(alloc, &mut chain, 9, &[point(1, 0)])?;
-    assert_eq!(rt; new, None);
-    let repeated = denial(alloc, &mut chain, 9, &[point(1, 7)])?;
-    assert_eq!(rt; repeated, Some(ChainDenial::TxidRepeated));
+    let mut chain = two_coins(rt.alloc())?;
+    let cases: [(u8, &[OutPoint], Option<ChainDenial>); 4] = [
+        (
+            9,
+            &[point(1, 7), point(1, 0), point(1, 0)],
+            Some(ChainDenial::BlockInputs),
+        ),
+        (6, &[point(1, 0)], Some(ChainDenial::TimeTooOld)),
+        (9, &[point(1, 0)], None),
+        (9, &[point(1, 7)], Some(ChainDenial::TxidRepeated)),
+    ];
+    for (time, spent, wanted) in cases {
+        assert!(rt;
+            denial(rt.alloc(), &mut chain, time, spent)? == wanted,
+            "{time}"
+        );
+    }
     Ok(())
+}
+
+/// Whether the block at height 2 has this time, and the two coins these values.
+fn holds(
+    chain: &Chain<Hasher>,
+    time: Option<u32>,
+    first: Option<i64>,
+    second: Option<i64>,
+) -> bool {
+    chain.time(2) == time
+        && value_at(chain, &point(1, 0)) == first
+        && value_at(chain, &point(1, 7)) == second
 }
 
 #[test]
 fn a_block_comes_and_goes(rt: HostRuntime) -> Result<(), Fail> {
-    let alloc = rt.alloc();
-    let mut chain = two_coins(alloc)?;
-    assert_eq!(rt; denial(alloc, &mut chain, 9, &[point(1, 0)])?, None);
-    assert_eq!(rt; chain.time(2), Some(9));
-    assert_eq!(rt; value_at(&chain, &point(1, 0)), None);
-    assert_eq!(rt; value_at(&chain, &point(1, 7)), Some(70));
+    let mut chain = two_coins(rt.alloc())?;
+    assert!(rt; denial(rt.alloc(), &mut chain, 9, &[point(1, 0)])?.is_none());
+    assert!(rt; holds(&chain, Some(9), None, Some(70)));
     assert!(rt; chain.disconnect().is_ok());
-    assert_eq!(rt; value_at(&chain, &point(1, 0)), Some(50));
-    assert_eq!(rt; chain.disconnect().err(), Some(ChainDenial::NoUndo));
+    assert!(rt; holds(&chain, None, Some(50), Some(70)));
+    assert!(rt; chain.disconnect().err() == Some(ChainDenial::NoUndo));
     Ok(())
 }
