@@ -1,0 +1,15 @@
+pub mod Bools
+pub mod Dotted
+pub mod Colons
+pub mod Elided
+pub mod Parted
+pub mod Spelled
+pub mod Lengths
+pub mod Written
+pub mod Contained
+pub mod Given
+pub mod Shown
+pub mod Names
+pub mod Printed
+pub mod Entries
+pub mod Flags

@@ -1,0 +1,8 @@
+pub mod Addresses
+pub mod Spelling
+pub mod Subnets
+pub mod Permissions
+pub mod Denials
+pub mod Whitelists
+pub mod Laws
+pub mod Examples

@@ -1,0 +1,24 @@
+//! Laws above the definitions.
+ghost use Rattle.gate_net.specs.Spelling.{AddressesAreSpelled, AddressesReadBack};
+ghost use Rattle.gate_net.specs.Laws.{FlagsAreGiven, EntriesTakeNothing};
+
+/// A text is read as an address just where it spells one by the grammars of RFC 3986 and RFC 4291, and as that one; an
+/// IPv4-mapped IPv6 address as its IPv4 address.
+pub fn addresses_are_spelled()
+    ensures { AddressesAreSpelled }
+{}
+
+/// What is printed for an address is read as it.
+pub fn addresses_read_back()
+    ensures { AddressesReadBack }
+{}
+
+/// An address has a flag just where an entry whose subnet has the address gives it.
+pub fn flags_are_given()
+    ensures { FlagsAreGiven }
+{}
+
+/// With more entries, in whatever order, no address loses a flag.
+pub fn entries_take_nothing()
+    ensures { EntriesTakeNothing }
+{}
