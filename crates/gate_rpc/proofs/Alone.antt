@@ -1,0 +1,18 @@
+-- The parameters as a list of values.
+use Rattle.std.proofs.Common.{◌≡◌, List, [], ◌∷◌, length, None, refl, arith}
+use Rattle.std.specs.Prelude.{◌≢◌, ◌==◌}
+use Rattle.std.proofs.lemmas.Bool.Decides.{nat_tests}
+use Rattle.serde_json.specs.Data.{Data}
+use Rattle.serde_json.specs.View.{items_view}
+use Rattle.serde_json.specs.declared.value.Value.{Value}
+use Rattle.gate_rpc.specs.Calls.{only, is_none}
+
+-- a list of none or of several has no item alone
+pub not_alone : (vs : List Value) → length vs ≢ 1 → None ≡ only (items_view vs)
+not_alone [] other = refl
+not_alone (v ∷ []) other = absurd (other refl)
+not_alone (v ∷ w ∷ vs) other = refl
+
+pub none_is_empty : (vs : List Value) → (length vs == 0) ≡ is_none (items_view vs)
+none_is_empty [] = refl
+none_is_empty (v ∷ vs) = grind (arith, nat_tests)

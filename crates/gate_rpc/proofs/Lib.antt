@@ -1,0 +1,6 @@
+pub mod Listings
+pub mod Alone
+pub mod Digits
+pub mod Listed
+pub mod Objects
+pub mod Narrowing

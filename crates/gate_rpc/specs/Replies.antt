@@ -1,0 +1,169 @@
+-- Answers as values of JSON, and their texts.
+use Rattle.std.specs.Prelude.{ℕ, ℤ, pos, neg_ℤ, true, false, List, [], ◌∷◌, ◌++◌, codes}
+use Rattle.std.specs.Fmt.{decimal}
+use Rattle.serde_json.specs.Data.{Num, unsigned, negative, Data, null, boolean, number, string, array, object, Items, no_items, item, Members, no_members, member}
+use Rattle.serde_json.specs.Find.{of_integer}
+use Rattle.serde_json.specs.Written.{compact_text}
+use Rattle.gate_tx.specs.Ids.{id_text}
+use Rattle.gate_standard.specs.declared.denial.Denial.{Denial}
+use Rattle.gate_standard.specs.declared.denial.Denial.TheVariants.{Decode, MissingOrSpent}
+use Rattle.gate_standard.specs.Denials.{rule_of, token_of}
+use Rattle.gate_rpc.specs.declared.id.Id.{Id}
+use Rattle.gate_rpc.specs.declared.id.Id.TheVariants as ids
+use Rattle.gate_rpc.specs.declared.error.RpcError.{RpcError}
+use Rattle.gate_rpc.specs.declared.error.RpcError.TheVariants.{ParseError, InvalidRequest, MethodNotFound, InvalidParams, NotInMempool, Denied}
+use Rattle.gate_rpc.specs.declared.result.EntryInfo.{EntryInfo}
+use Rattle.gate_rpc.specs.declared.result.RpcResult.{RpcResult}
+use Rattle.gate_rpc.specs.declared.result.RpcResult.TheVariants as results
+use Rattle.gate_rpc.specs.declared.reply.RpcReply.{RpcReply}
+use Rattle.gate_rpc.specs.declared.reply.RpcReply.TheVariants.{NotAllowed, Answer, Failure}
+
+-- ---- errors
+
+abbrev pub status_of : RpcError → ℕ
+status_of ParseError = 500
+status_of InvalidRequest = 400
+status_of MethodNotFound = 404
+status_of InvalidParams = 500
+status_of NotInMempool = 500
+status_of (Denied denial) = 500
+
+-- A1 and A25 have codes of their own
+abbrev pub denial_code : Denial → ℕ
+denial_code Decode = 22
+denial_code MissingOrSpent = 25
+denial_code denial = 26
+
+-- all codes are negative
+abbrev pub code_below_zero : RpcError → ℕ
+code_below_zero ParseError = 32700
+code_below_zero InvalidRequest = 32600
+code_below_zero MethodNotFound = 32601
+code_below_zero InvalidParams = 32602
+code_below_zero NotInMempool = 5
+code_below_zero (Denied denial) = denial_code denial
+
+abbrev pub code_of : RpcError → ℤ
+code_of error = neg_ℤ (pos (code_below_zero error))
+
+abbrev pub message_of : RpcError → List ℕ
+message_of ParseError = codes "Parse error"
+message_of InvalidRequest = codes "Invalid Request"
+message_of MethodNotFound = codes "Method not found"
+message_of InvalidParams = codes "Invalid params"
+message_of NotInMempool = codes "Transaction not in mempool"
+message_of (Denied denial) = token_of denial
+
+-- ---- values
+
+abbrev pub integer : ℕ → Data
+integer n = number (unsigned n)
+
+-- `A17`
+abbrev pub rule_json : Denial → Data
+rule_json denial = string (codes "A" ++ decimal (rule_of denial))
+
+abbrev pub rules_of : RpcError → Members
+rules_of (Denied denial) = member (codes "rule") (rule_json denial) no_members
+rules_of error = no_members
+
+-- only a denial names its rule
+abbrev pub error_json : RpcError → Data
+error_json error =
+    object (member (codes "code") (number (of_integer (code_of error)))
+    (member (codes "message") (string (message_of error))
+    (rules_of error)))
+
+abbrev pub id_json : Id → Data
+id_json ids.Null = null
+id_json (ids.Text text) = string text
+id_json (ids.Unsigned n) = number (unsigned n)
+id_json (ids.Signed z) = number (of_integer z)
+
+abbrev pub txid_json : List ℕ → Data
+txid_json id = string (id_text id)
+
+abbrev pub txid_items : List (List ℕ) → Items
+txid_items [] = no_items
+txid_items (id ∷ ids) = item (txid_json id) (txid_items ids)
+
+abbrev pub txids_json : List (List ℕ) → Data
+txids_json ids = array (txid_items ids)
+
+-- why a transaction would be denied
+abbrev pub reject_reason : Denial → List ℕ
+reject_reason MissingOrSpent = codes "missing-inputs"
+reject_reason denial = token_of denial
+
+abbrev pub allowed_json : List ℕ → List ℕ → ℕ → ℕ → Data
+allowed_json txid wtxid fee vsize =
+    object (member (codes "allowed") (boolean true)
+    (member (codes "fees") (object (member (codes "base") (integer fee) no_members))
+    (member (codes "txid") (txid_json txid)
+    (member (codes "vsize") (integer vsize)
+    (member (codes "wtxid") (txid_json wtxid)
+    no_members)))))
+
+abbrev pub rejected_json : List ℕ → List ℕ → Denial → Data
+rejected_json txid wtxid denial =
+    object (member (codes "allowed") (boolean false)
+    (member (codes "reject-reason") (string (reject_reason denial))
+    (member (codes "rule") (rule_json denial)
+    (member (codes "txid") (txid_json txid)
+    (member (codes "wtxid") (txid_json wtxid)
+    no_members)))))
+
+abbrev pub entry_json : EntryInfo → Data
+entry_json entry =
+    object (member (codes "ancestorcount") (integer entry.ancestor_count)
+    (member (codes "ancestorfees") (integer entry.ancestor_fees)
+    (member (codes "ancestorsize") (integer entry.ancestor_size)
+    (member (codes "bip125-replaceable") (boolean entry.is_replaceable)
+    (member (codes "depends") (txids_json entry.depends)
+    (member (codes "descendantcount") (integer entry.descendant_count)
+    (member (codes "descendantfees") (integer entry.descendant_fees)
+    (member (codes "descendantsize") (integer entry.descendant_size)
+    (member (codes "fee") (integer entry.fee)
+    (member (codes "spentby") (txids_json entry.spent_by)
+    (member (codes "time") (integer entry.time)
+    (member (codes "vsize") (integer entry.vsize)
+    (member (codes "weight") (integer entry.weight)
+    (member (codes "wtxid") (txid_json entry.wtxid)
+    no_members))))))))))))))
+
+abbrev pub info_json : ℕ → ℕ → ℕ → ℕ → ℕ → Data
+info_json size budget least_rate relay_rate count =
+    object (member (codes "bytes") (integer size)
+    (member (codes "maxmempool") (integer budget)
+    (member (codes "mempoolminfee") (integer least_rate)
+    (member (codes "minrelaytxfee") (integer relay_rate)
+    (member (codes "size") (integer count)
+    no_members)))))
+
+abbrev pub result_json : RpcResult → Data
+result_json (results.Sent txid) = txid_json txid
+result_json (results.Allowed txid wtxid fee vsize) = array (item (allowed_json txid wtxid fee vsize) no_items)
+result_json (results.Rejected txid wtxid denial) = array (item (rejected_json txid wtxid denial) no_items)
+result_json (results.Txids txids) = txids_json txids
+result_json (results.Entry entry) = entry_json entry
+result_json (results.Info size budget least_rate relay_rate count) = info_json size budget least_rate relay_rate count
+
+abbrev pub answer_json : Data → Data → Data → Data
+answer_json error id result =
+    object (member (codes "error") error
+    (member (codes "id") id
+    (member (codes "result") result
+    no_members)))
+
+-- ---- answers
+
+abbrev pub reply_status : RpcReply → ℕ
+reply_status NotAllowed = 403
+reply_status (Answer id result) = 200
+reply_status (Failure id error) = status_of error
+
+-- what stands after the status
+abbrev pub reply_text : RpcReply → List ℕ
+reply_text NotAllowed = codes "denied U1 rpc-whitelist"
+reply_text (Answer id result) = compact_text (answer_json null (id_json id) (result_json result))
+reply_text (Failure id error) = compact_text (answer_json (error_json error) (id_json id) null)

@@ -1,0 +1,59 @@
+//! The errors of calls.
+ghost use Rattle.std.specs.Prelude.{◌≡◌};
+ghost use Rattle.gate_rpc.specs.Replies.{status_of, code_of, message_of};
+
+use gate_standard::Denial;
+
+/// Why a call has no result, as its answer tells it: by the codes of JSON-RPC 2.0 and of Bitcoin Core 22.0.
+#[derive(Clone, Copy, Debug, PartialEq, Eq)]
+pub enum RpcError {
+    ParseError,
+    InvalidRequest,
+    MethodNotFound,
+    InvalidParams,
+    /// The pool has no transaction of the txid that the call names.
+    NotInMempool,
+    /// The transaction fails a rule of admission.
+    Denied(Denial),
+}
+
+impl RpcError {
+    /// The status of HTTP.
+    pub fn status(&self) -> u16
+        ensures { result ≡ status_of self.now }
+    {
+        match self {
+            RpcError::InvalidRequest => 400,
+            RpcError::MethodNotFound => 404,
+            _ => 500,
+        }
+    }
+
+    pub fn code(&self) -> i64
+        ensures { result ≡ code_of self.now }
+    {
+        match self {
+            RpcError::ParseError => -32_700,
+            RpcError::InvalidRequest => -32_600,
+            RpcError::MethodNotFound => -32_601,
+            RpcError::InvalidParams => -32_602,
+            RpcError::NotInMempool => -5,
+            RpcError::Denied(Denial::Decode) => -22,
+            RpcError::Denied(Denial::MissingOrSpent) => -25,
+            RpcError::Denied(_) => -26,
+        }
+    }
+
+    pub fn message(&self) -> &'static str
+        ensures { result.now ≡ message_of self.now }
+    {
+        match self {
+            RpcError::ParseError => "Parse error",
+            RpcError::InvalidRequest => "Invalid Request",
+            RpcError::MethodNotFound => "Method not found",
+            RpcError::InvalidParams => "Invalid params",
+            RpcError::NotInMempool => "Transaction not in mempool",
+            RpcError::Denied(denial) => denial.token(),
+        }
+    }
+}

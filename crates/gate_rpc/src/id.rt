@@ -1,0 +1,26 @@
+//! The id of a call.
+use gate_bytes::{Copied, Memory, Text};
+use std::alloc::Global;
+
+/// What a caller names its call by (JSON-RPC 2.0): the answer has it as it came.
+#[derive(Debug, Drop, PartialEq, Eq)]
+pub enum Id {
+    /// None, or `null`.
+    Null,
+    Text(Text),
+    /// A whole number from 0 on.
+    Unsigned(u64),
+    /// A whole number below 0.
+    Signed(i64),
+}
+
+impl Copied for Id {
+    fn copy(&self, alloc: Global) -> Result<Id, Memory> {
+        match self {
+            Id::Null => Ok(Id::Null),
+            Id::Text(text) => Ok(Id::Text(text.copy(alloc)?)),
+            Id::Unsigned(number) => Ok(Id::Unsigned(*number)),
+            Id::Signed(number) => Ok(Id::Signed(*number)),
+        }
+    }
+}

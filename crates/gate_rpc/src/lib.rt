@@ -1,0 +1,35 @@
+//! Requests by RPC: who may call what, what a text asks for, and the texts of the answers.
+//!
+//! The main clauses are those of `RpcWhitelist::allows`, of `Command::read`, which gives the request that a text of JSON
+//! spells or the first fault in the written order, and of `reply_text`, which gives each answer its one text.
+#![tactic(auto)]
+
+mod entry;
+mod error;
+mod fault;
+mod id;
+mod law;
+mod method;
+mod params;
+mod reading;
+mod reply;
+mod request;
+mod result;
+mod submission;
+mod whitelist;
+mod writing;
+
+pub use entry::RpcEntry;
+pub use error::RpcError;
+pub use fault::{CallError, RpcFault};
+pub use id::Id;
+pub use law::lists_only_narrow;
+pub use method::Method;
+pub use reply::{RpcReply, reply_text};
+pub use request::{Command, Request};
+pub use result::{EntryInfo, RpcResult};
+pub use submission::Submission;
+pub use whitelist::RpcWhitelist;
+
+#[cfg(test)]
+mod tests;

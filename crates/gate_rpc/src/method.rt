@@ -1,0 +1,54 @@
+//! The methods that there are.
+ghost use Rattle.std.specs.Prelude.{◌≡◌};
+ghost use Rattle.gate_rpc.specs.Methods.{method_named, method_name};
+
+/// What can be called, under the names of Bitcoin Core 22.0.
+#[derive(Clone, Copy, Debug, PartialEq, Eq)]
+pub enum Method {
+    SendRawTransaction,
+    TestMempoolAccept,
+    GetRawMempool,
+    GetMempoolEntry,
+    GetMempoolAncestors,
+    GetMempoolDescendants,
+    GetMempoolInfo,
+}
+
+impl Method {
+    /// The method of this name.
+    pub fn named(name: &str) -> Option<Method>
+        ensures { result ≡ method_named name.now }
+    {
+        if name == "sendrawtransaction" {
+            Some(Method::SendRawTransaction)
+        } else if name == "testmempoolaccept" {
+            Some(Method::TestMempoolAccept)
+        } else if name == "getrawmempool" {
+            Some(Method::GetRawMempool)
+        } else if name == "getmempoolentry" {
+            Some(Method::GetMempoolEntry)
+        } else if name == "getmempoolancestors" {
+            Some(Method::GetMempoolAncestors)
+        } else if name == "getmempooldescendants" {
+            Some(Method::GetMempoolDescendants)
+        } else if name == "getmempoolinfo" {
+            Some(Method::GetMempoolInfo)
+        } else {
+            None
+        }
+    }
+
+    pub fn name(&self) -> &'static str
+        ensures { result.now ≡ method_name self.now }
+    {
+        match self {
+            Method::SendRawTransaction => "sendrawtransaction",
+            Method::TestMempoolAccept => "testmempoolaccept",
+            Method::GetRawMempool => "getrawmempool",
+            Method::GetMempoolEntry => "getmempoolentry",
+            Method::GetMempoolAncestors => "getmempoolancestors",
+            Method::GetMempoolDescendants => "getmempooldescendants",
+            Method::GetMempoolInfo => "getmempoolinfo",
+        }
+    }
+}

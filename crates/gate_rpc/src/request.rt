@@ -1,0 +1,79 @@
+//! What a call asks for.
+ghost use Rattle.std.specs.Prelude.{◌≡◌};
+ghost use Rattle.gate_rpc.specs.Calls.{method_of};
+
+use crate::id::Id;
+use crate::method::Method;
+use crate::submission::Submission;
+use gate_bytes::{Copied, Memory};
+use gate_tx::Txid;
+use std::alloc::Global;
+
+/// A method with its parameters.
+#[derive(Debug, Drop, PartialEq, Eq)]
+pub enum Command {
+    /// Lets a transaction enter the pool.
+    SendRawTransaction(Submission),
+    /// Tells whether it would enter.
+    TestMempoolAccept(Submission),
+    /// The txids in the pool.
+    GetRawMempool,
+    /// What the pool knows of an entry.
+    GetMempoolEntry(Txid),
+    /// The txids of an entry's ancestors.
+    GetMempoolAncestors(Txid),
+    /// The txids of an entry's descendants.
+    GetMempoolDescendants(Txid),
+    /// The pool's size and its rates.
+    GetMempoolInfo,
+}
+
+impl Command {
+    pub fn method(&self) -> Method
+        ensures { result ≡ method_of self.now }
+    {
+        match self {
+            Command::SendRawTransaction(_) => Method::SendRawTransaction,
+            Command::TestMempoolAccept(_) => Method::TestMempoolAccept,
+            Command::GetRawMempool => Method::GetRawMempool,
+            Command::GetMempoolEntry(_) => Method::GetMempoolEntry,
+            Command::GetMempoolAncestors(_) => Method::GetMempoolAncestors,
+            Command::GetMempoolDescendants(_) => Method::GetMempoolDescendants,
+            Command::GetMempoolInfo => Method::GetMempoolInfo,
+        }
+    }
+}
+
+impl Copied for Command {
+    fn copy(&self, alloc: Global) -> Result<Command, Memory> {
+        match self {
+            Command::SendRawTransaction(submission) => {
+                Ok(Command::SendRawTransaction(submission.copy(alloc)?))
+            }
+            Command::TestMempoolAccept(submission) => {
+                Ok(Command::TestMempoolAccept(submission.copy(alloc)?))
+            }
+            Command::GetRawMempool => Ok(Command::GetRawMempool),
+            Command::GetMempoolEntry(txid) => Ok(Command::GetMempoolEntry(*txid)),
+            Command::GetMempoolAncestors(txid) => Ok(Command::GetMempoolAncestors(*txid)),
+            Command::GetMempoolDescendants(txid) => Ok(Command::GetMempoolDescendants(*txid)),
+            Command::GetMempoolInfo => Ok(Command::GetMempoolInfo),
+        }
+    }
+}
+
+/// A call that can be made.
+#[derive(Debug, Drop, PartialEq, Eq)]
+pub struct Request {
+    pub id: Id,
+    pub command: Command,
+}
+
+impl Copied for Request {
+    fn copy(&self, alloc: Global) -> Result<Request, Memory> {
+        Ok(Request {
+            id: self.id.copy(alloc)?,
+            command: self.command.copy(alloc)?,
+        })
+    }
+}

@@ -1,0 +1,128 @@
+//! What calls result in.
+use gate_bytes::{Copied, Kept, Memory};
+use gate_standard::Denial;
+use gate_tx::{Txid, Wtxid};
+use std::alloc::Global;
+
+/// What the pool knows of an entry. Sizes are in virtual bytes, fees in satoshi; the counts and sums of ancestors and of
+/// descendants have the entry itself.
+#[derive(Debug, Drop, PartialEq, Eq)]
+pub struct EntryInfo {
+    pub wtxid: Wtxid,
+    pub fee: u64,
+    pub vsize: u64,
+    pub weight: u64,
+    /// When it entered, in seconds.
+    pub time: u64,
+    pub ancestor_count: u64,
+    pub ancestor_size: u128,
+    pub ancestor_fees: u128,
+    pub descendant_count: u64,
+    pub descendant_size: u128,
+    pub descendant_fees: u128,
+    /// Whether it or an ancestor signals that it may be replaced (BIP 125).
+    pub is_replaceable: bool,
+    /// Its parents in the pool, in order of admission.
+    pub depends: Kept<Txid>,
+    /// Its children, in the same order.
+    pub spent_by: Kept<Txid>,
+}
+
+impl Copied for EntryInfo {
+    fn copy(&self, alloc: Global) -> Result<EntryInfo, Memory> {
+        let depends = self.depends.copy(alloc)?;
+        let spent_by = self.spent_by.copy(alloc)?;
+        Ok(EntryInfo {
+            wtxid: self.wtxid,
+            fee: self.fee,
+            vsize: self.vsize,
+            weight: self.weight,
+            time: self.time,
+            ancestor_count: self.ancestor_count,
+            ancestor_size: self.ancestor_size,
+            ancestor_fees: self.ancestor_fees,
+            descendant_count: self.descendant_count,
+            descendant_size: self.descendant_size,
+            descendant_fees: self.descendant_fees,
+            is_replaceable: self.is_replaceable,
+            depends,
+            spent_by,
+        })
+    }
+}
+
+/// What a call results in.
+#[derive(Debug, Drop, PartialEq, Eq)]
+pub enum RpcResult {
+    /// The transaction is in the pool.
+    Sent(Txid),
+    /// The transaction would enter: it pays `fee` satoshi, and takes `vsize` virtual bytes.
+    Allowed {
+        txid: Txid,
+        wtxid: Wtxid,
+        fee: u64,
+        vsize: u64,
+    },
+    /// The transaction would be denied.
+    Rejected {
+        txid: Txid,
+        wtxid: Wtxid,
+        denial: Denial,
+    },
+    /// Transactions in the pool.
+    Txids(Kept<Txid>),
+    /// An entry of the pool.
+    Entry(EntryInfo),
+    /// The pool's virtual bytes, the most that it may have, the rate in satoshi per 1,000 virtual bytes that it asks for,
+    /// the rate that is asked for to relay, and the number of its entries.
+    Info {
+        size: u128,
+        budget: u64,
+        least_rate: u64,
+        relay_rate: u64,
+        count: u64,
+    },
+}
+
+impl Copied for RpcResult {
+    fn copy(&self, alloc: Global) -> Result<RpcResult, Memory> {
+        match self {
+            RpcResult::Sent(txid) => Ok(RpcResult::Sent(*txid)),
+            RpcResult::Allowed {
+                txid,
+                wtxid,
+                fee,
+                vsize,
+            } => Ok(RpcResult::Allowed {
+                txid: *txid,
+                wtxid: *wtxid,
+                fee: *fee,
+                vsize: *vsize,
+            }),
+            RpcResult::Rejected {
+                txid,
+                wtxid,
+                denial,
+            } => Ok(RpcResult::Rejected {
+                txid: *txid,
+                wtxid: *wtxid,
+                denial: *denial,
+            }),
+            RpcResult::Txids(txids) => Ok(RpcResult::Txids(txids.copy(alloc)?)),
+            RpcResult::Entry(entry) => Ok(RpcResult::Entry(entry.copy(alloc)?)),
+            RpcResult::Info {
+                size,
+                budget,
+                least_rate,
+                relay_rate,
+                count,
+            } => Ok(RpcResult::Info {
+                size: *size,
+                budget: *budget,
+                least_rate: *least_rate,
+                relay_rate: *relay_rate,
+                count: *count,
+            }),
+        }
+    }
+}

@@ -1,0 +1,313 @@
+//! Values of JSON, written compactly.
+ghost use Rattle.std.specs.Prelude.{◌≡◌, [], ◌∷◌, ◌++◌, codes, IfOk, string_bytes};
+ghost use Rattle.std.specs.Fmt.{decimal};
+ghost use Rattle.serde_json.specs.View.{view};
+ghost use Rattle.serde_json.specs.Written.{compact_text};
+ghost use Rattle.gate_rpc.specs.Replies.{error_json, id_json, txids_json, allowed_json, rejected_json, entry_json, info_json, result_json, reject_reason};
+ghost use Rattle.gate_standard.specs.Denials.{rule_of};
+ghost use Rattle.gate_tx.specs.Ids.{id_text};
+ghost use Rattle.gate_rpc.specs.Texts.{rejected_text, entry_text, entry_start, entry_middle, entry_end};
+ghost use Rattle.hex.specs.Hex.{IsBytes};
+ghost use Rattle.json.specs.Print.{quoted};
+
+use crate::error::RpcError;
+use crate::id::Id;
+use crate::result::{EntryInfo, RpcResult};
+use gate_bytes::Memory;
+use gate_standard::Denial;
+use gate_tx::{Txid, Wtxid};
+use serde_json::{Value, json};
+use std::alloc::{AllocError, Global};
+
+pub(crate) fn error_json(alloc: Global, error: &RpcError) -> Result<String, Memory>
+    ensures { IfOk result (λ text. string_bytes text ≡ compact_text (error_json error.now)) }
+{
+    let value = error_value(alloc, error)?;
+    Ok(value.to_string(alloc)?)
+}
+
+fn error_value(alloc: Global, error: &RpcError) -> Result<Value, AllocError>
+    ensures { IfOk result (λ value. view value ≡ error_json error.now) }
+{
+    let code = error.code();
+    let message = error.message();
+    match error {
+        RpcError::Denied(denial) => {
+            let rule = rule_text(alloc, denial)?;
+            json!(in alloc; {"code": code, "message": message, "rule": rule})
+        }
+        _ => json!(in alloc; {"code": code, "message": message}),
+    }
+}
+
+/// `A17`
+fn rule_text(alloc: Global, denial: &Denial) -> Result<String, AllocError>
+    ensures { IfOk result (λ text. string_bytes text ≡ codes "A" ++ decimal (rule_of denial.now)) }
+{
+    let rule = denial.rule();
+    format!(in alloc; "A{rule}")
+}
+
+fn quoted_text(alloc: Global, text: &str) -> Result<String, AllocError>
+    ensures { IfOk result (λ json. string_bytes json ≡ quoted text.now) }
+{
+    Value::try_from_str(alloc, text)?.to_string(alloc)
+}
+
+pub(crate) fn id_json(alloc: Global, id: &Id) -> Result<String, Memory>
+    ensures { IfOk result (λ text. string_bytes text ≡ compact_text (id_json id.now)) }
+{
+    let value = id_value(alloc, id)?;
+    Ok(value.to_string(alloc)?)
+}
+
+fn id_value(alloc: Global, id: &Id) -> Result<Value, AllocError>
+    ensures { IfOk result (λ value. view value ≡ id_json id.now) }
+{
+    match id {
+        Id::Null => Ok(Value::Null),
+        Id::Text(text) => Value::try_from_str(alloc, text.as_str()),
+        Id::Unsigned(number) => Ok(Value::from(*number)),
+        Id::Signed(number) => Ok(Value::from(*number)),
+    }
+}
+
+pub(crate) fn result_json(alloc: Global, outcome: &RpcResult) -> Result<String, Memory>
+    ensures { IfOk result (λ text. string_bytes text ≡ compact_text (result_json outcome.now)) }
+{
+    match outcome {
+        RpcResult::Sent(txid) => Ok(txid_text(alloc, txid)?),
+        RpcResult::Allowed {
+            txid,
+            wtxid,
+            fee,
+            vsize,
+        } => {
+            let object = allowed_json(alloc, txid, wtxid, *fee, *vsize)?;
+            Ok(listed(alloc, object.as_str())?)
+        }
+        RpcResult::Rejected {
+            txid,
+            wtxid,
+            denial,
+        } => {
+            let object = rejected_json(alloc, txid, wtxid, denial)?;
+            Ok(listed(alloc, object.as_str())?)
+        }
+        RpcResult::Txids(txids) => txids_json(alloc, txids.as_slice()),
+        RpcResult::Entry(entry) => entry_json(alloc, entry),
+        RpcResult::Info {
+            size,
+            budget,
+            least_rate,
+            relay_rate,
+            count,
+        } => info_json(alloc, *size, *budget, *least_rate, *relay_rate, *count),
+    }
+}
+
+/// A list of one, given the text of its item.
+fn listed(alloc: Global, item: &str) -> Result<String, AllocError>
+    ensures { IfOk result (λ text. string_bytes text ≡ 91 ∷ (item.now ++ 93 ∷ [])) }
+{
+    format!(in alloc; "[{item}]")
+}
+
+/// That a list of bytes has bytes: it does nothing.
+fn tells_bytes(bytes: &[u8])
+    ensures { IsBytes bytes.now }
+{}
+
+/// The digits of an id in quotes, after a text.
+fn txid_after(alloc: Global, before: &str, txid: &Txid) -> Result<String, AllocError>
+    ensures { IfOk result (λ text. string_bytes text ≡ before.now ++ quoted (id_text txid.now)) }
+{
+    tells_bytes(txid.as_bytes());
+    format!(in alloc; "{before}\"{txid}\"")
+}
+
+fn txid_text(alloc: Global, txid: &Txid) -> Result<String, AllocError>
+    ensures { IfOk result (λ text. string_bytes text ≡ quoted (id_text txid.now)) }
+{
+    txid_after(alloc, "", txid)
+}
+
+fn wtxid_text(alloc: Global, wtxid: &Wtxid) -> Result<String, AllocError>
+    ensures { IfOk result (λ text. string_bytes text ≡ quoted (id_text wtxid.now)) }
+{
+    tells_bytes(wtxid.as_bytes());
+    format!(in alloc; "\"{wtxid}\"")
+}
+
+#[tactic(auto, unfolding(serde_json::proofs::OnLiterals::serde_json_on_literals))]
+fn allowed_json(
+    alloc: Global,
+    txid: &Txid,
+    wtxid: &Wtxid,
+    fee: u64,
+    vsize: u64,
+) -> Result<String, AllocError>
+    ensures { IfOk result (λ text. string_bytes text ≡ compact_text (allowed_json txid.now wtxid.now fee vsize)) }
+{
+    let txid = txid_text(alloc, txid)?;
+    let wtxid = wtxid_text(alloc, wtxid)?;
+    format!(in alloc;
+        "{{\"allowed\":true,\"fees\":{{\"base\":{fee}}},\"txid\":{txid},\"vsize\":{vsize},\"wtxid\":{wtxid}}}"
+    )
+}
+
+fn rejected_json(
+    alloc: Global,
+    txid: &Txid,
+    wtxid: &Wtxid,
+    denial: &Denial,
+) -> Result<String, AllocError>
+    ensures { IfOk result (λ text. string_bytes text ≡ compact_text (rejected_json txid.now wtxid.now denial.now)) }
+{
+    let reason = quoted_text(alloc, reject_reason(denial))?;
+    let rule = rule_json(alloc, denial)?;
+    let txid = txid_text(alloc, txid)?;
+    let wtxid = wtxid_text(alloc, wtxid)?;
+    rejected_text(
+        alloc,
+        reason.as_str(),
+        rule.as_str(),
+        txid.as_str(),
+        wtxid.as_str(),
+    )
+}
+
+fn rejected_text(
+    alloc: Global,
+    reason: &str,
+    rule: &str,
+    txid: &str,
+    wtxid: &str,
+) -> Result<String, AllocError>
+    ensures { IfOk result (λ text. string_bytes text ≡ rejected_text reason.now rule.now txid.now wtxid.now) }
+{
+    format!(in alloc;
+        "{{\"allowed\":false,\"reject-reason\":{reason},\"rule\":{rule},\"txid\":{txid},\"wtxid\":{wtxid}}}"
+    )
+}
+
+fn rule_json(alloc: Global, denial: &Denial) -> Result<String, AllocError>
+    ensures { IfOk result (λ text. string_bytes text ≡ quoted (codes "A" ++ decimal (rule_of denial.now))) }
+{
+    let rule = rule_text(alloc, denial)?;
+    quoted_text(alloc, rule.as_str())
+}
+
+/// Why a transaction would be denied, as Bitcoin Core's `testmempoolaccept` names it.
+fn reject_reason(denial: &Denial) -> &'static str
+    ensures { result.now ≡ reject_reason denial.now }
+{
+    match denial {
+        Denial::MissingOrSpent => "missing-inputs",
+        _ => denial.token(),
+    }
+}
+
+fn txids_json(alloc: Global, txids: &[Txid]) -> Result<String, Memory>
+    ensures { IfOk result (λ text. string_bytes text ≡ compact_text (txids_json txids.now)) }
+{
+    match txids.split_first() {
+        Some((first, others)) => some_txids_json(alloc, first, others),
+        None => Ok(String::from_str(alloc, "[]")?),
+    }
+}
+
+fn some_txids_json(alloc: Global, first: &Txid, others: &[Txid]) -> Result<String, Memory>
+    ensures { IfOk result (λ text. string_bytes text ≡ compact_text (txids_json (first.now ∷ others.now))) }
+{
+    let mut text = txid_after(alloc, "[", first)?;
+    for txid in others {
+        let later = txid_after(alloc, ",", txid)?;
+        text.push_str(later.as_str())?;
+    }
+    text.push_str("]")?;
+    Ok(text)
+}
+
+#[tactic(auto, unfolding(serde_json::proofs::OnLiterals::serde_json_on_literals))]
+fn info_json(
+    alloc: Global,
+    size: u128,
+    budget: u64,
+    least_rate: u64,
+    relay_rate: u64,
+    count: u64,
+) -> Result<String, Memory>
+    ensures { IfOk result (λ text. string_bytes text ≡ compact_text (info_json size budget least_rate relay_rate count)) }
+{
+    Ok(format!(in alloc;
+        "{{\"bytes\":{size},\"maxmempool\":{budget},\"mempoolminfee\":{least_rate},\"minrelaytxfee\":{relay_rate},\"size\":{count}}}"
+    )?)
+}
+
+fn entry_json(alloc: Global, entry: &EntryInfo) -> Result<String, Memory>
+    ensures { IfOk result (λ text. string_bytes text ≡ compact_text (entry_json entry.now)) }
+{
+    let depends = txids_json(alloc, entry.depends.as_slice())?;
+    let spent_by = txids_json(alloc, entry.spent_by.as_slice())?;
+    let wtxid = wtxid_text(alloc, &entry.wtxid)?;
+    Ok(entry_text(
+        alloc,
+        entry,
+        depends.as_str(),
+        spent_by.as_str(),
+        wtxid.as_str(),
+    )?)
+}
+
+/// An entry with the texts of its lists and of its id.
+fn entry_text(
+    alloc: Global,
+    entry: &EntryInfo,
+    depends: &str,
+    spent_by: &str,
+    wtxid: &str,
+) -> Result<String, AllocError>
+    ensures { IfOk result (λ text. string_bytes text ≡ entry_text entry.now depends.now spent_by.now wtxid.now) }
+{
+    let rest = entry_end(alloc, entry, wtxid)?;
+    let rest = entry_middle(alloc, entry, spent_by, rest.as_str())?;
+    entry_start(alloc, entry, depends, rest.as_str())
+}
+
+fn entry_end(alloc: Global, entry: &EntryInfo, wtxid: &str) -> Result<String, AllocError>
+    ensures { IfOk result (λ text. string_bytes text ≡ entry_end entry.now wtxid.now) }
+{
+    format!(in alloc;
+        ",\"time\":{},\"vsize\":{},\"weight\":{},\"wtxid\":{wtxid}}}",
+        entry.time, entry.vsize, entry.weight,
+    )
+}
+
+fn entry_middle(
+    alloc: Global,
+    entry: &EntryInfo,
+    spent_by: &str,
+    rest: &str,
+) -> Result<String, AllocError>
+    ensures { IfOk result (λ text. string_bytes text ≡ entry_middle entry.now spent_by.now rest.now) }
+{
+    format!(in alloc;
+        ",\"descendantcount\":{},\"descendantfees\":{},\"descendantsize\":{},\"fee\":{},\"spentby\":{spent_by}{rest}",
+        entry.descendant_count, entry.descendant_fees, entry.descendant_size, entry.fee,
+    )
+}
+
+fn entry_start(
+    alloc: Global,
+    entry: &EntryInfo,
+    depends: &str,
+    rest: &str,
+) -> Result<String, AllocError>
+    ensures { IfOk result (λ text. string_bytes text ≡ entry_start entry.now depends.now rest.now) }
+{
+    format!(in alloc;
+        "{{\"ancestorcount\":{},\"ancestorfees\":{},\"ancestorsize\":{},\"bip125-replaceable\":{},\"depends\":{depends}{rest}",
+        entry.ancestor_count, entry.ancestor_fees, entry.ancestor_size, entry.is_replaceable,
+    )
+}
