@@ -6,6 +6,7 @@ import hashlib
 import stream
 
 PAYMENT = 110
+VSIZE = 110
 CHAIN = 25
 CHILDREN = 24
 SPENT_TOGETHER = 100
@@ -89,6 +90,14 @@ def denied_beside_many(count):
     fee = SPENT_TOGETHER * PAYMENT + size // 3
     event = paying(numbers, [value - fee])
     return "A42 beside %d conflicts" % SPENT_TOGETHER, coins(SPENT_TOGETHER), before, [event] * count, {"entered": 1, "admitted": SPENT_TOGETHER, "denied A42": count}
+
+
+def trimming(pool, count):
+    """A pool at its budget: each submission pays a little more than the least entry, which then goes."""
+    before = [paying([number], [stream.VALUE - 2000 - number]) for number in range(1, pool + 1)]
+    events = [paying([pool + number], [stream.VALUE - 2120 - number]) for number in range(1, count + 1)]
+    name = "a pool of %d entries at its budget, of which one goes" % pool
+    return name, coins(pool + count), before, events, {"entered": 1, "admitted": pool + count}
 
 
 def coins(count):

@@ -10,9 +10,14 @@ import sys
 SCRIPT = "0014" + "22" * 20
 WITNESS = "02" + "48" + "30" * 72 + "21" + "02" * 33
 VALUE = 100000
-SETTINGS = "budget 1000000000\ntimes 101 1000 600\nverdict * %s\nbloom 1\n"
+BUDGET = 1000000000
 BREAK = "---\n"
 ENTER = "peer 1 enter 192.0.2.1\n"
+
+
+def settings(verdict, budget=BUDGET):
+    """The lines of an opening but for its coins, with a budget of virtual bytes."""
+    return "budget %d\ntimes 101 1000 600\nverdict * %s\nbloom 1\n" % (budget, verdict)
 
 
 def hash_of(number):
@@ -54,7 +59,7 @@ def submission(digits):
 
 def main(count, fee=110):
     out = sys.stdout
-    out.write(SETTINGS % "ok")
+    out.write(settings("ok"))
     out.writelines(coins(count))
     out.write(BREAK + ENTER)
     out.writelines(submission(transaction([number], [VALUE - fee])) for number in range(1, count + 1))

@@ -1,4 +1,4 @@
-"""Random families and replacements, each reply next to that of the plain model.
+"""Random families, replacements and full pools, each reply next to that of the plain model.
 
 Each transaction is made for what the pool holds at that moment, so that streams come close to every limit.
 """
@@ -8,7 +8,7 @@ from collections import Counter
 
 from bitcoin import Input, Output, Transaction, WITNESS_KEY_HASH, number_hash, printed
 from gate import Differs, same, true
-from model import MULTISIG, RETURN, SMALL, Coin, Limits, Model, Opening, carries_data, fees_of, rate_of, size_of
+from model import MULTISIG, RETURN, SMALL, TWO_WEEKS, Coin, Limits, Model, Opening, carries_data, fee_at, fees_of, rate_of, size_of
 
 STREAMS = 20
 EVENTS = 110
@@ -27,6 +27,12 @@ SHAPES = {
     "ladders": {"fresh": 2, "ladder": 45, "instead_of_many": 12, "instead": 2, "odd": 2},
     "sizes": {"fresh": 5, "longer": 12, "wider": 36, "joined": 8, "instead": 8, "instead_of_the_last": 8, "odd": 2},
     "replacements": {"fresh": 12, "longer": 8, "wider": 8, "joined": 6, "instead": 30, "instead_of_many": 15, "below_a_conflict": 8, "beside_another": 8, "odd": 5},
+}
+# the same for a pool that is full, and its budgets
+FULL = {"fresh": 30, "longer": 25, "wider": 20, "joined": 15, "instead": 10, "instead_of_the_last": 3, "beside_another": 3}
+BUDGETS = (0, 110, 500, 900, 1500, 1500, 2500, 4000)
+FULL_FLOORS = {
+    "A34": 200, "A35": 50, "A46": 700, "set": 300, "replaced 0": 1200, "replaced 1": 100, "expired": 500, "trimmed": 1200, "trimmed as a family": 150, "at the floor": 500, "at two weeks": 80,
 }
 MANY = 5000
 HOLES = {"fresh": 6, "longer": 10, "wider": 10, "instead": 60, "beside_another": 2}
@@ -47,10 +53,11 @@ class Families:
 
     def __init__(self, seed, shape):
         self.random = random.Random(seed)
-        self.shape, self.kinds = shape, SHAPES.get(shape, HOLES)
-        self.opening = opened()
+        self.shape, self.kinds = shape, {"holes": HOLES, "full": FULL, **SHAPES}[shape]
+        self.opening = opened(self.random.choice(BUDGETS) if shape == "full" else 1000000000)
         self.model = Model(self.opening)
         self.peer = 0
+        self.now = 0
         self.told = {}
         self.met = Counter()
 
@@ -64,13 +71,33 @@ class Families:
             return "peer %d enter 192.0.2.1" % self.peer, self.model.enter(self.peer)
         if self.random.random() < 0.04:
             return "peer %d mempool" % self.peer, self.model.mempool(self.peer)
+        if self.shape == "full" and self.random.random() < 0.1:
+            return self.operator_event()
         tx = self.transaction()
         self.judge_scripts(tx)
         self.told[tx.wtxid()] = tx
         about = [] if closed else self.about(tx)
-        reply = self.model.submit(self.peer, tx)
+        now = self.time()
+        reply = self.model.submit(self.peer, now, tx)
         self.count(reply, about)
-        return "peer %d tx %d %s" % (self.peer, self.random.randint(0, 10000), tx.hex()), reply
+        return "peer %d tx %d %s" % (self.peer, now, tx.hex()), reply
+
+    def operator_event(self):
+        """A floor, which is 0 again more often than not."""
+        rate = self.random.choice((0, 0, 0, 1, 1000, 1001, 3000, self.model.floor, self.model.floor // 2))
+        self.met["set"] += 1
+        return "operator floor %d" % rate, self.model.set_floor(rate)
+
+    def time(self):
+        """A second, in a full pool one that goes on, and sometimes two weeks after an entry or a second more."""
+        if self.shape != "full":
+            return self.random.randint(0, 10000)
+        self.now += self.random.choice((0, 1, 600, 600, 40000, 100000))
+        if self.model.pool and self.random.random() < 0.1:
+            more = self.random.choice((-1, 0, 0, 1, 1))
+            self.met["at two weeks"] += more == 0
+            return self.random.choice(self.model.pool).time + TWO_WEEKS + more
+        return self.now
 
     def judge_scripts(self, tx):
         """A verdict of its own for a transaction that was never told."""
@@ -167,6 +194,8 @@ class Families:
     def fee(self, tx):
         """A fee round one of the limits, or enough."""
         direct, size = self.model.conflicts(tx), self.model.size(tx)
+        if not direct and self.shape == "full":
+            return self.fee_in_a_full_pool(size)
         if not direct:
             return self.random.choice((size,) * 8 + (size + 1, 2 * size, 3 * size, 10 * size, size - 1))
         paid = fees_of(self.model.below(direct))
@@ -174,6 +203,18 @@ class Families:
         higher = -(-(rate + 1) * size // 1000)
         enough = max(higher, paid + size)
         return self.random.choice((enough,) * (60 if self.shape == "holes" else 12) + (enough + size, 2 * enough, paid + size, paid + size - 1, paid, paid - 1, higher, higher - 1, higher - 1))
+
+    def fee_in_a_full_pool(self, size):
+        """A fee of any rate, or round what the floor asks for, or what another entry pays."""
+        asked = max(size, fee_at(self.model.floor, size))
+        draw = self.random.random()
+        if draw < 0.3:
+            self.met["at the floor"] += self.model.floor > 1000
+            return asked + self.random.choice((-1, 0, 0, 1))
+        if draw < 0.5 and self.model.pool:
+            entry = self.random.choice(self.model.pool)
+            return entry.fee * size // entry.size
+        return asked * self.random.randint(100, 400) // 100
 
     def told_again(self):
         """A transaction as it was told, or with another witness."""
@@ -265,14 +306,14 @@ class Families:
         return [(number_hash(COINS + 1), 0)]
 
 
-def opened():
+def opened(budget):
     coins = {(number_hash(number), 0): Coin(VALUE, 1, False) for number in range(1, COINS + 1)}
-    return Opening([1000 + 600 * number for number in range(101)], coins, {"*": "ok"}, True)
+    return Opening([1000 + 600 * number for number in range(101)], coins, {"*": "ok"}, True, budget)
 
 
 def opening_lines(opening):
     """The opening as it stands when all transactions are made, since some have a verdict of their own."""
-    told = ["times 101 1000 600", "bloom 1", "budget 1000000000"]
+    told = ["times 101 1000 600", "bloom 1", "budget %d" % opening.budget]
     told += ["coin %s %d %d %d plain %s" % (printed(hash), index, coin.value, coin.height, WITNESS_KEY_HASH.hex()) for (hash, index), coin in opening.coins.items()]
     return told + ["verdict %s %s" % ("*" if pair == "*" else "%s %d" % pair, verdict) for pair, verdict in opening.verdicts.items()]
 
@@ -285,13 +326,19 @@ def stream(gate, seed, shape, count):
         gate.answers(opening_lines(made.opening), events)
     except Differs as error:
         raise Differs("seed %d, %s\n%s" % (seed, shape, error))
-    return made.met
+    return made.met + made.model.gone
 
 
 def test_families(gate):
     """Each reply is that of the model, and each limit is met from both sides."""
     met = sum((stream(gate, seed, shape, EVENTS) for shape in SHAPES for seed in range(STREAMS)), Counter())
     same("met too seldom", {kind: met[kind] for kind, floor in FLOORS.items() if met[kind] < floor}, {})
+
+
+def test_full_pools(gate):
+    """Expiry, trim and the floor: each reply is that of the model, and each of them is met often enough."""
+    met = sum((stream(gate, seed, "full", EVENTS) for seed in range(2 * STREAMS)), Counter())
+    same("met too seldom", {kind: met[kind] for kind, floor in FULL_FLOORS.items() if met[kind] < floor}, {})
 
 
 def test_a_pool_with_holes(gate):

@@ -7,7 +7,9 @@ again.
 
 import os
 import re
+from collections import Counter
 from dataclasses import dataclass, field
+from fractions import Fraction
 
 from bitcoin import Transaction
 from gate import ROOT
@@ -20,6 +22,7 @@ MULTISIG = bytes.fromhex("5121" + "02" * 33 + "51ae")
 LAST_SIGNAL = 0xFFFFFFFD
 SMALL = 10000
 MOST_REPLACED = 100
+TWO_WEEKS = 1209600
 
 
 def tokens():
@@ -46,6 +49,7 @@ class Opening:
     coins: dict = field(default_factory=dict)
     verdicts: dict = field(default_factory=dict)
     bloom: bool = False
+    budget: int = 300000000
 
 
 @dataclass(eq=False)
@@ -55,6 +59,7 @@ class Entry:
     tx: Transaction
     fee: int
     size: int
+    time: int
 
     def __post_init__(self):
         self.hash, self.wtxid = self.tx.hash(), self.tx.wtxid()
@@ -108,12 +113,19 @@ def rate_of(fee, size):
     return fee * 1000 // size
 
 
+def fee_at(rate, size):
+    """What a rate asks of a size: 1 where it asks for less than that, and for anything."""
+    return rate * size // 1000 or min(1, rate)
+
+
 class Model:
     def __init__(self, opening):
         self.opening = opening
         self.tip = len(opening.times) - 1
         self.sessions = {}
         self.pool = []
+        self.floor = 0
+        self.gone = Counter()
 
     # --- events
 
@@ -136,15 +148,44 @@ class Model:
             return self.denied(refusal, peer)
         return " ".join(["listing", str(len(self.pool))] + [entry.tx.txid() for entry in self.pool])
 
-    def submit(self, peer, tx):
+    def set_floor(self, rate):
+        self.floor = rate
+        return "set"
+
+    def submit(self, peer, now, tx):
         """A transaction, or None for bytes that are none."""
         rule = self.refusal(peer) or self.failing(tx)
         if rule:
             return self.denied(rule, peer)
-        entry = Entry(tx, self.fee(tx), self.size(tx))
-        replaced = self.below(self.conflicts(tx))
-        self.pool = [one for one in self.pool if one not in replaced] + [entry]
+        entry = Entry(tx, self.fee(tx), self.size(tx), now)
+        replaced = self.remove(self.conflicts(tx), "replaced")
+        self.pool.append(entry)
+        self.remove([one for one in self.pool if one.time + TWO_WEEKS < now], "expired")
+        self.trim()
+        if entry not in self.pool:
+            return self.denied("A46", peer)
         return "admitted %s fee %d vsize %d replaced %d" % (tx.txid(), entry.fee, entry.size, len(replaced))
+
+    def remove(self, entries, why):
+        """Takes out entries with all that is below them, and gives these."""
+        family = self.below(entries)
+        self.pool = [one for one in self.pool if one not in family]
+        self.gone[why] += len(family)
+        return family
+
+    def trim(self):
+        while size_of(self.pool) > self.opening.budget:
+            family = self.remove([self.least()], "trimmed")
+            self.floor = max(self.floor, rate_of(fees_of(family), size_of(family)) + 1000)
+            self.gone["trimmed as a family"] += len(family) > 1
+
+    def least(self):
+        """The entry of least score, of equals the later."""
+        return min(reversed(self.pool), key=self.score)
+
+    def score(self, entry):
+        family = self.below([entry])
+        return max(Fraction(entry.fee, entry.size), Fraction(fees_of(family), size_of(family)))
 
     def denied(self, rule, peer):
         closes = rule in CLOSING
@@ -231,7 +272,9 @@ class Model:
             yield "A29"
         if cost_of(tx) > 16000:
             yield "A33"
-        if self.fee(tx) < self.size(tx):
+        if self.fee(tx) < fee_at(self.floor, self.size(tx)):
+            yield "A34"
+        if self.fee(tx) < fee_at(1000, self.size(tx)):
             yield "A35"
 
     def families(self, tx):

@@ -4,13 +4,15 @@ import random
 
 from bitcoin import Input, Output, Transaction, WITNESS_KEY_HASH, number_hash, printed
 from gate import Differs, same, same_lines
-from model import GREATEST_AMOUNT, NULL, TOKENS, Coin, Model, Opening
+from model import GREATEST_AMOUNT, NULL, TOKENS, TWO_WEEKS, Coin, Model, Opening
 
 STREAMS = 400
 EVENTS = 60
+BAD_LINES = ("peer", "peer 1 Leave", "peer -1 leave", "x", "peer 1 enter 1.2.3", "operator", "operator floor", "operator floor -1", "operator Floor 1", "operator floor 1 2")
 VERDICTS = ("ok", "soft", "hard")
 LOCKTIMES = (0, 0, 0, 0, 1, 19, 20, 21, 99, 100, 499999999, 500000000, 500003000, 500010000, 4294967295)
 SEQUENCES = (0xFFFFFFFF, 0xFFFFFFFF, 0xFFFFFFFE, 0xFFFFFFFD, 0xFFFFFFFD, 0x80000000, 0, 1, 2, 10, 19, 20, 21, 22, 100, 0x10001)
+FLOORS = (0, 0, 1, 999, 1000, 1001, 5000, 2**53 - 1)
 AMOUNTS = (0, 1, 293, 294, 1000, 5000, 99000, 99889, 99890, 99891, 100000, GREATEST_AMOUNT // 2, GREATEST_AMOUNT)
 
 
@@ -82,6 +84,8 @@ class Stream:
     def opened(self):
         told, times = self.times()
         opening = Opening(times, bloom=self.random.random() < 0.8)
+        if self.random.random() < 0.4:
+            opening.budget = self.random.choice((0, 109, 110, 200, 300, 500, 1000, 1000000000))
         for outpoint in self.outpoints[:6]:
             value = self.random.choice(AMOUNTS if self.random.random() < 0.2 else (100000, 100000, 200000))
             opening.coins[outpoint] = Coin(value, self.random.randint(0, len(times) - 1), self.random.random() < 0.15)
@@ -103,8 +107,8 @@ class Stream:
             told.append("verdict %s %s" % ("*" if pair == "*" else "%s %d" % pair, verdict))
         if self.opening.bloom or self.random.random() < 0.5:
             told.append("bloom %d" % self.opening.bloom)
-        if self.random.random() < 0.3:
-            told.append("budget %d" % self.random.randint(0, 1000000000))
+        if self.opening.budget != Opening.budget or self.random.random() < 0.5:
+            told.append("budget %d" % self.opening.budget)
         told += ["", "# a comment"]
         self.random.shuffle(told)
         place = self.random.randint(0, len(told))
@@ -123,18 +127,22 @@ class Stream:
         if draw < 0.03:
             return self.random.choice(("", "#", "# peer 1 leave")), None
         if draw < 0.06:
-            return self.random.choice(("peer", "peer 1 Leave", "peer -1 leave", "x", "peer 1 enter 1.2.3")), "refused L1 bad-line"
+            return self.random.choice(BAD_LINES), "refused L1 bad-line"
         if draw < 0.2:
             return "peer %d enter 192.0.2.1" % peer, model.enter(peer)
         if draw < 0.23:
             return "peer %d leave" % peer, model.leave(peer)
         if draw < 0.33:
             return "peer %d mempool" % peer, model.mempool(peer)
+        if draw < 0.36:
+            rate = self.random.choice(FLOORS)
+            return "operator floor %d" % rate, model.set_floor(rate)
         tx = self.random.choice(self.transactions)
         digits = tx.hex()
-        if draw < 0.37:
+        if draw < 0.4:
             tx, digits = None, self.random.choice((digits[:-1], digits[:-2], digits + "00", digits + "x", "00"))
-        return "peer %d tx %d %s" % (peer, self.random.randint(0, 10000), digits), model.submit(peer, tx)
+        now = self.random.choice((0, 1, 5000)) + self.random.choice((0, 0, 0, TWO_WEEKS))
+        return "peer %d tx %d %s" % (peer, now, digits), model.submit(peer, now, tx)
 
 
 def stream(gate, seed):
@@ -157,7 +165,7 @@ def test_random_streams(gate):
     met = set()
     for seed in range(STREAMS):
         met |= {line.split()[1] if line.startswith("denied") else line.split()[0] for line in stream(gate, seed)}
-    rules = ["A%d" % number for number in (1, 2, 3, 5, 6, 7, 8, 9, 10, 11, 12, 17, 20, 22, 23, 24, 25, 26, 27, 28, 29, 35, 43, 44, 45)]
-    never = [word for word in rules + ["P1", "P2", "P3", "P5", "P6", "admitted", "listing", "entered", "left", "refused"] if word not in met]
+    rules = ["A%d" % number for number in (1, 2, 3, 5, 6, 7, 8, 9, 10, 11, 12, 17, 20, 22, 23, 24, 25, 26, 27, 28, 29, 34, 35, 43, 44, 45, 46)]
+    never = [word for word in rules + ["P1", "P2", "P3", "P5", "P6", "admitted", "listing", "entered", "left", "set", "refused"] if word not in met]
     same("rules that no stream met", never, [])
     same("rules that the policy does not name", [rule for rule in met if rule[0] in "AP" and rule not in TOKENS], [])

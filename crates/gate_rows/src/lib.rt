@@ -19,5 +19,7 @@ mod row;
 mod spending;
 #[cfg(test)]
 mod standardness;
+#[cfg(test)]
+mod trimming;
 
 pub use program::outcome;
