@@ -24,6 +24,3 @@ pub use laws::{
 };
 pub use opening::read_opening;
 pub use opening_fault::{OpeningFault, OpeningToken};
-
-#[cfg(test)]
-mod tests;

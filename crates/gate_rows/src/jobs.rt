@@ -1,5 +1,5 @@
 //! Openings and lanes over readers and writers in memory, and over some that break.
-use crate::{
+use gate_prog::{
     ArgsFault, Job, LaneFault, OpeningFault, OpeningToken, read_args, read_opening, run_gate,
     run_job,
 };
