@@ -1,6 +1,6 @@
 -- Entries of a map, by what they stand for: look-ups, writes, one entry more, and entries taken out.
-use Rattle.std.proofs.Common.{◌≡◌, ℕ, Bool, true, false, cond, not, ◌||◌, List, [], ◌∷◌, ◌++◌, Option, Some, None, is_some, refl, sym, ap, ◌∙◌, subst, map, true≢false, append_assoc}
-use Rattle.std.specs.Prelude.{All, Contains, filter}
+use Rattle.std.proofs.Common.{◌≡◌, ℕ, Bool, true, false, cond, not, ◌&&◌, ◌||◌, length, List, [], ◌∷◌, ◌++◌, Option, Some, None, is_some, refl, sym, ap, ◌∙◌, subst, map, true≢false, append_assoc}
+use Rattle.std.specs.Prelude.{All, Contains, filter, ◌==◌}
 use Rattle.std.specs.Str.{bytes_eq}
 use Rattle.std.specs.Map.{lookup, set_value, keys_of}
 use Rattle.std.specs.Map.Calls.{RetainsPairs}
@@ -9,7 +9,7 @@ use Rattle.std.proofs.lemmas.Bool.{not-true, or_parts, and_parts}
 use Rattle.std.proofs.lemmas.List.Elements.{All-head, All-tail, All-cons, All-nil}
 use Rattle.std.proofs.lemmas.List.{map-append}
 use Rattle.gate_graph.specs.Family.{Node}
-use Rattle.gate_graph.specs.Families.{has, are_apart, ids_of}
+use Rattle.gate_graph.specs.Families.{has, are_apart, is_root, ids_of}
 use Rattle.gate_graph.specs.declared.held.Held.{Held}
 use Rattle.gate_graph.specs.Holding.{Linked, Entry, linked_of, linked_in, nodes_in, nodes_of, without_gone, at_id}
 use Rattle.gate_graph.proofs.Members.{Contains-head, Contains-rest}
@@ -119,9 +119,9 @@ module _ {F : Type 0} (T : F → Id → Held → Bool → Held → F → Type 0)
       by false w left k r = λ i. k i ∷ r i
 
 -- a write of a value that stands for the same changes nothing
-pub linked_same : (x : Id) (es : List Entry) (h w : Held) → are_apart (nodes_in es) ≡ true → lookup (bytes_eq x) es ≡ Some h → w.size ≡ h.size → w.fee ≡ h.fee → w.parents.items ≡ h.parents.items → w.children.items ≡ h.children.items → linked_in (set_value (bytes_eq x) es w) ≡ linked_in es
-linked_same x es h w a e size fee parents children =
-    linked_write x (λ l. l) es h w a e (λ i. record { node = record { id = x; size = size i; fee = fee i; parents = parents i }; children = children i })
+pub linked_same : (x : Id) (es : List Entry) (h w : Held) → are_apart (nodes_in es) ≡ true → lookup (bytes_eq x) es ≡ Some h → linked_of (x, w) ≡ linked_of (x, h) → linked_in (set_value (bytes_eq x) es w) ≡ linked_in es
+linked_same x es h w a e stands =
+    linked_write x (λ l. l) es h w a e stands
     ∙ same es
   where
     same : (es : List Entry) → map (at_id x (λ l. l)) (linked_in es) ≡ linked_in es
@@ -152,3 +152,32 @@ copied_more es copies rest x h w same is =
     ap (λ l. l ++ linked_in rest) (linked-push copies (x, w) ∙ ap (λ l. linked_in copies ++ l ∷ []) same)
     ∙ append_assoc (linked_in copies) (linked_of (x, h) ∷ []) (linked_in rest)
     ∙ is
+
+-- an id that no node has is no root's
+pub no_root : (es : List Entry) (x : Id) → has (nodes_in es) x ≡ false → is_root (nodes_in es) x ≡ false
+no_root [] x h = refl
+no_root (e ∷ es) x h =
+    let q = or_parts _ _ h in
+    ap (λ b. (b && (length e.1.parents.items == 0)) || is_root (nodes_in es) x) q.0 ∙ no_root es x q.1
+
+-- a look-up tells whether a node has no parents
+pub root_seen : (es : List Entry) (x : Id) (h : Held) → are_apart (nodes_in es) ≡ true → lookup (bytes_eq x) es ≡ Some h → (length h.parents.items == 0) ≡ is_root (nodes_in es) x
+root_seen [] x h a e = cc
+root_seen (f ∷ es) x h a e =
+    let q = and_parts _ _ a in
+    go (bytes_eq x f.0) (bytes_eq f.0 x) refl (bytes_eq-sym x f.0) e (root_seen es x h q.1)
+    (λ t. no_root es x (ap (has (nodes_in es)) ((bytes_decides x f.0).0 t) ∙ not-true _ q.0))
+  where
+    none : Bool
+    none = length f.1.parents.items == 0
+
+    or_none : (b : Bool) → b ≡ (b || false)
+    or_none true = refl
+    or_none false = refl
+
+    go : (b d : Bool) → bytes_eq x f.0 ≡ b → b ≡ d → cond b (Some f.1) (lookup (bytes_eq x) es) ≡ Some h → (lookup (bytes_eq x) es ≡ Some h → (length h.parents.items == 0) ≡ is_root (nodes_in es) x) → (bytes_eq x f.0 ≡ true → is_root (nodes_in es) x ≡ false)
+        → (length h.parents.items == 0) ≡ ((d && none) || is_root (nodes_in es) x)
+    go true true t s k ih absent = ap (λ (v : Held). length v.parents.items == 0) (sym (same_some f.1 h k)) ∙ or_none none ∙ ap (λ b. none || b) (sym (absent t))
+    go true false t s k ih absent = absurd (true≢false s)
+    go false true t s k ih absent = absurd (true≢false (sym s))
+    go false false t s k ih absent = ih k

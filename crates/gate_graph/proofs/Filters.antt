@@ -50,6 +50,11 @@ module _ {X : Type 0} where
   filter_none p [] h = refl
   filter_none p (x ∷ xs) h = cond-false (p x) (x ∷ filter p xs) (filter p xs) (h x (Contains-head x xs)) ∙ filter_none p xs (λ y c. h y (Contains-rest x xs y c))
 
+-- two filters by which the same pass
+pub filter_same_on : {X : Type 0} (p q : X → Bool) (xs : List X) → ((x : X) → Contains xs x → p x ≡ q x) → filter p xs ≡ filter q xs
+filter_same_on p q [] h = refl
+filter_same_on p q (x ∷ xs) h = λ i. cond (h x (Contains-head x xs) i) (x ∷ filter_same_on p q xs (λ y c. h y (Contains-rest x xs y c)) i) (filter_same_on p q xs (λ y c. h y (Contains-rest x xs y c)) i)
+
 -- what passes of images is the image of what passes
 pub filter-map : {X Y : Type 0} (f : X → Y) (p : Y → Bool) (xs : List X) → filter p (map f xs) ≡ map f (filter (λ x. p (f x)) xs)
 filter-map f p [] = refl

@@ -3,11 +3,15 @@ pub mod Reaching
 pub mod Steps
 pub mod Filters
 pub mod Apart
-pub mod Leaf
+pub mod Between
 pub mod Removal
 pub mod Entries
+pub mod Endings
 pub mod Linking
 pub mod Walking
-pub mod Adding
 pub mod Removing
 pub mod Places
+pub mod Adding
+pub mod Root
+pub mod Rooting
+pub mod Joining

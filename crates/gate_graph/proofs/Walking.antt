@@ -1,5 +1,5 @@
 -- A walk finds all that a chain leads to.
-use Rattle.std.proofs.Common.{◌≡◌, ℕ, ◌+◌, ◌<◌, ◌≤◌, Bool, true, false, if◌then◌else◌, List, [], ◌∷◌, ◌++◌, length, get_or, drop, drop-cons, add-one, refl, sym, ap, ◌∙◌, subst, ◌⊎◌, inl, inr, arith, length-append, Some, None, is_some, true≢false}
+use Rattle.std.proofs.Common.{◌≡◌, ℕ, ◌+◌, ◌<◌, ◌≤◌, Bool, true, false, ◌||◌, if◌then◌else◌, List, [], ◌∷◌, ◌++◌, length, get_or, drop, drop-cons, add-one, refl, sym, ap, ◌∙◌, subst, ◌⊎◌, inl, inr, arith, length-append, Some, None, is_some, true≢false}
 use Rattle.std.specs.Prelude.{Contains, filter}
 use Rattle.std.specs.Map.{lookup}
 use Rattle.std.specs.Str.{bytes_eq}
@@ -11,8 +11,8 @@ use Rattle.gate_graph.specs.Families.{among, has, children_of}
 use Rattle.gate_graph.specs.declared.held.Held.{Held}
 use Rattle.gate_graph.specs.declared.held.Way.{Way}
 use Rattle.gate_graph.specs.declared.held.Way.TheVariants.{Up, Down}
-use Rattle.gate_graph.specs.Holding.{Linked, Entry, linked_of, linked_in, nodes_in, IsHeld, next_of, is_led}
-use Rattle.gate_graph.proofs.Members.{Contains-cons_cases, Contains-head, Contains-rest, not_in_none}
+use Rattle.gate_graph.specs.Holding.{Linked, Entry, linked_of, linked_in, nodes_in, IsHeld, next_of, is_led, are_led}
+use Rattle.gate_graph.proofs.Members.{Contains-cons_cases, Contains-head, Contains-rest, not_in_none, any_is, list_any_of}
 use Rattle.gate_graph.proofs.Reaching.{Leads_from_reaches, reaches-same, reaches_trans, reaches_step}
 use Rattle.gate_graph.proofs.Steps.{same_bool, step_node, node_step}
 use Rattle.gate_graph.proofs.Filters.{Contains-map, Contains-from_map, Contains-filter, Contains-from_filter}
@@ -49,7 +49,7 @@ led_closed Down g p closed x b r h = follow (Leads_from_reaches (steps_of g) x b
     follow (down {a = a} {b = b} s l) h = follow l (closed a b s h)
 
 -- the children of what is found at an id
-held_children : (es : List Entry) (x : Id) (h : Held) → IsHeld (linked_in es) → lookup (bytes_eq x) es ≡ Some h → h.children.items ≡ children_of (nodes_in es) x
+pub held_children : (es : List Entry) (x : Id) (h : Held) → IsHeld (linked_in es) → lookup (bytes_eq x) es ≡ Some h → h.children.items ≡ children_of (nodes_in es) x
 held_children es x h ok e =
     let l = Contains-linked es (x, h) (Contains-found es x h e) in
     let w = Contains-from_map (λ (n : Node). record { node = n; children = children_of (nodes_in es) n.id }) (nodes_in es) (linked_of (x, h)) (subst (λ ls. Contains ls (linked_of (x, h))) ok.children l) in
@@ -126,27 +126,33 @@ front_stays xs (y ∷ ys) k d h =
 pub insert_more : (found ids : List Id) (i : ℕ) (d : Id) → i < length ids → insert_all bytes_eq found (drop i ids) ≡ insert_all bytes_eq (insert_key bytes_eq found (get_or ids i d)) (drop (i + 1) ids)
 insert_more found ids i d h = ap (insert_all bytes_eq found) (drop-cons ids i d h) ∙ ap (λ k. insert_all bytes_eq (insert_key bytes_eq found (get_or ids i d)) (drop k ids)) (sym (add-one i))
 
--- what stays true of a walk that has looked at the first `place` ids
-pub record Walk (way : Way) (g : List Node) (x : Id) (found : List Id) (place : ℕ) : Type 0 where
-  pub start : Contains found x
-  pub sound : (a : Id) → Contains found a → is_led way g x a ≡ true
+-- what stays true of a walk from ids that has looked at the first `place` that it found
+pub record Walk (way : Way) (g : List Node) (ids found : List Id) (place : ℕ) : Type 0 where
+  pub start : (a : Id) → Contains ids a → Contains found a
+  pub sound : (a : Id) → Contains found a → are_led way g ids a ≡ true
   pub done : (k : ℕ) (d : Id) → k < place → (b : Id) → Next way g (get_or found k d) b → Contains found b
   pub within : place ≤ length found
 
-pub Walk-start : (way : Way) (g : List Node) (x : Id) → Walk way g x (x ∷ []) 0
-Walk-start way g x = record {
-  start = Contains-head x [];
-  sound = λ a c. elim (Contains-cons_cases x [] a c) [ inl e ↦ subst (λ z. is_led way g x z ≡ true) e (led-same way g x) | inr n ↦ not_in_none a n ];
+-- a step goes on from what is led to
+led_on : (way : Way) (g : List Node) (ids : List Id) (a b : Id) → are_led way g ids a ≡ true → Next way g a b → are_led way g ids b ≡ true
+led_on way g ids a b h s =
+    let w = any_is (λ x. is_led way g x a) ids h in
+    list_any_of (λ x. is_led way g x b) ids w.0 w.1 (led_next way g w.0 a b w.2 s)
+
+pub Walk-start : (way : Way) (g : List Node) (ids : List Id) → Walk way g ids (insert_all bytes_eq [] ids) 0
+Walk-start way g ids = record {
+  start = inserted_found [] ids;
+  sound = found_before (λ a. are_led way g ids a ≡ true) [] ids (λ a c. not_in_none a c) (λ a c. list_any_of (λ x. is_led way g x a) ids a c (led-same way g a));
   done = λ k d lt. absurd (omega arith);
   within = omega arith;
 }
 
 -- one id looked at: all that is next to it is found
-pub Walk-more : (way : Way) (g : List Node) (x : Id) (found next : List Id) (place : ℕ) (e : Id) → Walk way g x found place → place < length found
-    → ((b : Id) → Next way g (get_or found place e) b → Contains next b) → ((b : Id) → Contains next b → Next way g (get_or found place e) b) → Walk way g x (insert_all bytes_eq found next) (place + 1)
-Walk-more way g x found next place e w lt all only = record {
-  start = still_found found next x w.start;
-  sound = found_before (λ a. is_led way g x a ≡ true) found next w.sound (λ b c. led_next way g x (get_or found place e) b (w.sound (get_or found place e) (Contains-get_or found place e lt)) (only b c));
+pub Walk-more : (way : Way) (g : List Node) (ids found next : List Id) (place : ℕ) (e : Id) → Walk way g ids found place → place < length found
+    → ((b : Id) → Next way g (get_or found place e) b → Contains next b) → ((b : Id) → Contains next b → Next way g (get_or found place e) b) → Walk way g ids (insert_all bytes_eq found next) (place + 1)
+Walk-more way g ids found next place e w lt all only = record {
+  start = λ a c. still_found found next a (w.start a c);
+  sound = found_before (λ a. are_led way g ids a ≡ true) found next w.sound (λ b c. led_on way g ids (get_or found place e) b (w.sound (get_or found place e) (Contains-get_or found place e lt)) (only b c));
   done = λ k d l b s.
       elim (cases_last k l) [
         | inl below ↦ still_found found next b (w.done k d below b (subst (λ y. Next way g y b) (front_stays found next k d (omega (arith, below, w.within))) s))
@@ -168,10 +174,10 @@ Walk-more way g x found next place e w lt all only = record {
         omega (arith, one, longer (insert_key bytes_eq xs y) ys)
 
 -- at the end all is found
-pub Walk-end : (way : Way) (g : List Node) (x : Id) (found : List Id) (place : ℕ) → Walk way g x found place → length found ≤ place → (b : Id) → among found b ≡ is_led way g x b
-Walk-end way g x found place w end b = same_bool _ _
+pub Walk-end : (way : Way) (g : List Node) (ids found : List Id) (place : ℕ) → Walk way g ids found place → length found ≤ place → (b : Id) → among found b ≡ are_led way g ids b
+Walk-end way g ids found place w end b = same_bool _ _
     (λ t. w.sound b (Contains-among found b t))
-    (λ r. led_closed way g (among found) closed x b r (among_from found x w.start))
+    (λ r. let v = any_is (λ x. is_led way g x b) ids r in led_closed way g (among found) closed v.0 b v.2 (among_from found v.0 (w.start v.0 v.1)))
   where
     closed : (a b : Id) → Next way g a b → among found a ≡ true → among found b ≡ true
     closed a b s t =
@@ -179,5 +185,13 @@ Walk-end way g x found place w end b = same_bool _ _
         among_from found b (w.done c.0 a (omega (arith, c.1)) b (subst (λ y. Next way g y b) (sym c.2) s))
 
 -- where nothing is next to an id the walk goes on
-pub Walk-skip : (way : Way) (g : List Node) (x : Id) (found : List Id) (place : ℕ) (e : Id) → Walk way g x found place → place < length found → ((b : Id) → Next way g (get_or found place e) b → ⊥) → Walk way g x found (place + 1)
-Walk-skip way g x found place e w lt none = Walk-more way g x found [] place e w lt (λ b s. absurd (none b s)) (λ b c. not_in_none b c)
+pub Walk-skip : (way : Way) (g : List Node) (ids found : List Id) (place : ℕ) (e : Id) → Walk way g ids found place → place < length found → ((b : Id) → Next way g (get_or found place e) b → ⊥) → Walk way g ids found (place + 1)
+Walk-skip way g ids found place e w lt none = Walk-more way g ids found [] place e w lt (λ b s. absurd (none b s)) (λ b c. not_in_none b c)
+
+-- from one id
+pub led_from_one : (way : Way) (g : List Node) (x b : Id) → are_led way g (x ∷ []) b ≡ is_led way g x b
+led_from_one way g x b = or_none (is_led way g x b)
+  where
+    or_none : (b : Bool) → (b || false) ≡ b
+    or_none true = refl
+    or_none false = refl

@@ -1,5 +1,5 @@
 -- The families of a graph's nodes, and what a graph is.
-use Rattle.std.specs.Prelude.{◌≡◌, ℕ, Bool, true, false, ◌&&◌, not, List, [], ◌∷◌, map, filter, Contains}
+use Rattle.std.specs.Prelude.{◌≡◌, ℕ, Bool, true, false, ◌&&◌, not, List, [], ◌∷◌, ◌++◌, map, filter, length, cond, ◌==◌, Contains}
 use Rattle.std.specs.List.{list_any}
 use Rattle.std.specs.Str.{bytes_eq}
 use Rattle.gate_graph.specs.Family.{Node, steps_of, reaches}
@@ -34,6 +34,26 @@ without_family g id = filter (λ n. not (reaches (steps_of g) id n.id)) g
 -- the ids of the nodes that name an id among their parents, in the order of adding
 abbrev pub children_of : List Node → List ℕ → List (List ℕ)
 children_of g id = ids_of (filter (λ n. among n.parents id) g)
+
+-- a node that names one parent more, at the end, if it is among the children
+abbrev pub with_parent : List ℕ → List (List ℕ) → Node → Node
+with_parent id children n = record n { parents = n.parents ++ cond (among children n.id) (id ∷ []) [] }
+
+-- the nodes, and one more at the end, which is below its parents and above these children
+abbrev pub with_above : List Node → Node → List (List ℕ) → List Node
+with_above g n children = map (with_parent n.id children) g ++ n ∷ []
+
+-- a node that names an id no more among its parents
+abbrev pub without_parent : List ℕ → Node → Node
+without_parent id n = record n { parents = without_id id n.parents }
+
+-- the nodes without one, which the others name no more as a parent
+abbrev pub without_root : List Node → List ℕ → List Node
+without_root g id = map (without_parent id) (filter (λ n. not (bytes_eq n.id id)) g)
+
+-- a node without parents has an id
+abbrev pub is_root : List Node → List ℕ → Bool
+is_root g id = list_any (λ n. bytes_eq n.id id && length n.parents == 0) g
 
 -- no two nodes have one id
 abbrev pub are_apart : List Node → Bool

@@ -1,10 +1,10 @@
 -- Why a node is not added: the first fault in the written order.
-use Rattle.std.specs.Prelude.{◌≡◌, ◌≢◌, ℕ, not, List, [], ◌∷◌, Option, None, Some, Result, IfErr, OnOk}
-use Rattle.std.specs.List.{list_all}
+use Rattle.std.specs.Prelude.{◌≡◌, ◌≢◌, ℕ, not, ◌&&◌, List, [], ◌∷◌, Option, None, Some, Result, IfErr, OnOk}
+use Rattle.std.specs.List.{list_all, list_any}
 use Rattle.gate_bytes.specs.Order.{Rule, first_failing}
 use Rattle.gate_graph.specs.declared.fault.GraphFault.{GraphFault}
-use Rattle.gate_graph.specs.declared.fault.GraphFault.TheVariants.{Present, NoNode, Memory}
-use Rattle.gate_graph.specs.Family.{Node}
+use Rattle.gate_graph.specs.declared.fault.GraphFault.TheVariants.{Present, NoNode, Cycle, Memory}
+use Rattle.gate_graph.specs.Family.{Node, steps_of, reaches}
 use Rattle.gate_graph.specs.Families.{has}
 
 -- what is asked of a node below others: its id is new, and each parent is a node
@@ -13,6 +13,17 @@ leaf_rules g id parents = (Present, has g id) ∷ (NoNode, not (list_all (λ p. 
 
 abbrev pub fault_of_leaf : List Node → List ℕ → List (List ℕ) → Option GraphFault
 fault_of_leaf g id parents = first_failing (leaf_rules g id parents)
+
+-- what is asked of a node between others: its id is new, each neighbour is a node, and no child is a parent or above one
+abbrev pub above_rules : List Node → List ℕ → List (List ℕ) → List (List ℕ) → List (Rule GraphFault)
+above_rules g id parents children =
+    (Present, has g id)
+    ∷ (NoNode, not (list_all (λ p. has g p) parents && list_all (λ c. has g c) children))
+    ∷ (Cycle, list_any (λ c. list_any (λ p. reaches (steps_of g) c p) parents) children)
+    ∷ []
+
+abbrev pub fault_of_above : List Node → List ℕ → List (List ℕ) → List (List ℕ) → Option GraphFault
+fault_of_above g id parents children = first_failing (above_rules g id parents children)
 
 -- what is answered where this is the first fault: it is named, and nothing is refused without one, where memory serves
 pub record IsRefusedFor {X : Type 0} (fault : Option GraphFault) (result : Result X GraphFault) : Type 0 where

@@ -1,5 +1,5 @@
-ghost use Rattle.std.specs.Prelude.{◌≡◌, not, filter, cond, ◌∷◌, ◌++◌, [], IfOk};
-ghost use Rattle.gate_graph.specs.Holding.{next_of};
+ghost use Rattle.std.specs.Prelude.{◌≡◌, ℕ, List, false, not, filter, cond, ◌∷◌, ◌++◌, [], OnOk, IfOk};
+ghost use Rattle.gate_graph.specs.Holding.{next_of, ends_with, linked_of, put_last, orphaned, back, IsRoomy};
 
 use gate_bytes::Memory;
 use std::alloc::Global;
@@ -24,6 +24,15 @@ pub(crate) struct Held {
     pub children: Vec<Id>,
 }
 
+fn ends_with(ids: &[Id], id: &Id) -> bool
+    ensures { result ≡ ends_with ids.now id.now }
+{
+    match ids.last() {
+        Some(last) => *last == *id,
+        None => false,
+    }
+}
+
 impl Held {
     /// The nodes one step this way.
     pub(crate) fn next(&self, way: Way) -> &[Id]
@@ -33,6 +42,41 @@ impl Held {
             Way::Up => self.parents.as_slice(),
             Way::Down => self.children.as_slice(),
         }
+    }
+
+    /// Takes the memory for one more this way.
+    pub(crate) fn reserve(&mut self, way: Way) -> Result<(), Memory>
+        ensures same { (id : List ℕ) → linked_of (id, self.new) ≡ linked_of (id, self.old) }
+        ensures room { OnOk result (IsRoomy way self.new) }
+        ensures kept { (other : Way) → IsRoomy other self.old → IsRoomy other self.new }
+    {
+        match way {
+            Way::Up => self.parents.reserve(1)?,
+            Way::Down => self.children.reserve(1)?,
+        }
+        Ok(())
+    }
+
+    /// Puts an id at the end of those this way, unless it stands there already.
+    pub(crate) fn put(&mut self, way: Way, next: &Id)
+        requires { ends_with (next_of way self.old) next.now ≡ false → IsRoomy way self.old }
+        ensures linked { (id : List ℕ) → linked_of (id, self.new) ≡ put_last way next.now (linked_of (id, self.old)) }
+        ensures kept { IsRoomy (back way) self.old → IsRoomy (back way) self.new }
+    {
+        if ends_with(self.next(way), next) {
+            return;
+        }
+        match way {
+            Way::Up => self.parents.push_reserved(*next),
+            Way::Down => self.children.push_reserved(*next),
+        }
+    }
+
+    /// Takes an id out of the parents.
+    pub(crate) fn drop_parent(&mut self, parent: &Id)
+        ensures { (id : List ℕ) → linked_of (id, self.new) ≡ orphaned parent.now (linked_of (id, self.old)) }
+    {
+        self.parents.retain(|other| *other != *parent);
     }
 
     pub(crate) fn copy(&self, alloc: Global) -> Result<Held, Memory>

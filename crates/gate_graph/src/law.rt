@@ -1,7 +1,28 @@
 ghost use Rattle.std.specs.Prelude.{List, ℕ, IsTrue, ◌↔◌};
 ghost use Rattle.gate_graph.specs.Family.{reaches, Leads};
+ghost use Rattle.gate_graph.specs.Laws.{FamiliesHaveEachOnce, NodesJoinFamilies, RootsLeaveFamilies, RootsComeAndGo};
 
 /// Whatever the steps, an id is reached from another exactly where a chain of steps leads there.
 pub fn reaching_is_leading()
     ensures { (steps : List (List ℕ × List ℕ)) (a b : List ℕ) → IsTrue (reaches steps a b) ↔ Leads steps a b }
+{}
+
+/// A family has each node once, whatever paths lead to it.
+pub fn families_have_each_once()
+    ensures { FamiliesHaveEachOnce }
+{}
+
+/// What adding a node between others does to families, over the definitions.
+pub fn nodes_join_families()
+    ensures { NodesJoinFamilies }
+{}
+
+/// What taking out a node without parents does to families.
+pub fn roots_leave_families()
+    ensures { RootsLeaveFamilies }
+{}
+
+/// Taking out a node without parents undoes putting it above others.
+pub fn roots_come_and_go()
+    ensures { RootsComeAndGo }
 {}

@@ -1,5 +1,5 @@
 //! A plain list in which families are found by search, as the graph is to find them.
-use crate::Id;
+use crate::{GraphFault, Id};
 use gate_bytes::Memory;
 use std::alloc::Global;
 
@@ -9,10 +9,19 @@ pub struct Row {
     pub parents: Vec<Id>,
 }
 
-/// Rows, each behind its parents.
+/// Rows in the order of adding.
 #[derive(Drop)]
 pub struct Plain {
     pub rows: Vec<Row>,
+}
+
+fn add_new(found: &mut Vec<Id>, ids: &[Id]) -> Result<(), Memory> {
+    for id in ids {
+        if !found.contains(id) {
+            found.push(*id)?;
+        }
+    }
+    Ok(())
 }
 
 impl Plain {
@@ -20,19 +29,60 @@ impl Plain {
         self.rows.iter().any(|row| row.id == *id)
     }
 
-    pub fn contains_all(&self, ids: &[Id]) -> bool {
+    fn contains_all(&self, ids: &[Id]) -> bool {
         ids.iter().all(|id| self.contains(id))
+    }
+
+    pub fn is_root(&self, id: &Id) -> bool {
+        self.rows
+            .iter()
+            .any(|row| row.id == *id && row.parents.is_empty())
+    }
+
+    /// The rows' ids that are listed, in order.
+    fn ordered(&self, alloc: Global, found: &[Id]) -> Result<Vec<Id>, Memory> {
+        let mut ids = Vec::new(alloc);
+        for row in self.rows.as_slice() {
+            if found.contains(&row.id) {
+                ids.push(row.id)?;
+            }
+        }
+        Ok(ids)
+    }
+
+    /// Finds the rows below those that were found.
+    fn find_children(&self, found: &mut Vec<Id>) -> Result<(), Memory> {
+        for row in self.rows.as_slice() {
+            let below = row.parents.iter().any(|parent| found.contains(parent));
+            if below && !found.contains(&row.id) {
+                found.push(row.id)?;
+            }
+        }
+        Ok(())
+    }
+
+    /// Finds the rows above those that were found.
+    fn find_parents(&self, found: &mut Vec<Id>) -> Result<(), Memory> {
+        for row in self.rows.as_slice() {
+            if found.contains(&row.id) {
+                add_new(found, row.parents.as_slice())?;
+            }
+        }
+        Ok(())
     }
 
     /// An id and all that is below it, if it is a row's.
     pub fn family(&self, alloc: Global, id: &Id) -> Result<Vec<Id>, Memory> {
         let mut found: Vec<Id> = Vec::new(alloc);
-        for row in self.rows.as_slice() {
-            if row.id == *id || row.parents.iter().any(|parent| found.contains(parent)) {
-                found.push(row.id)?;
+        found.push(*id)?;
+        for _ in 0..self.rows.len() {
+            let before = found.len();
+            self.find_children(&mut found)?;
+            if found.len() == before {
+                break;
             }
         }
-        Ok(found)
+        self.ordered(alloc, found.as_slice())
     }
 
     pub fn descendants(&self, alloc: Global, id: &Id) -> Result<Vec<Id>, Memory> {
@@ -41,26 +91,69 @@ impl Plain {
         Ok(found)
     }
 
-    /// All that is above an id, from the last row to the first, and then in order.
+    /// All that is above an id.
     pub fn ancestors(&self, alloc: Global, id: &Id) -> Result<Vec<Id>, Memory> {
-        let mut wanted: Vec<Id> = Vec::new(alloc);
-        for row in self.rows.iter().rev() {
-            if row.id == *id || wanted.contains(&row.id) {
-                for parent in row.parents.as_slice() {
-                    wanted.push(*parent)?;
-                }
+        let mut found: Vec<Id> = Vec::new(alloc);
+        found.push(*id)?;
+        for _ in 0..self.rows.len() {
+            let before = found.len();
+            self.find_parents(&mut found)?;
+            if found.len() == before {
+                break;
             }
         }
-        let mut found = Vec::new(alloc);
-        for row in self.rows.as_slice() {
-            if wanted.contains(&row.id) {
-                found.push(row.id)?;
-            }
-        }
-        Ok(found)
+        found.retain(|other| *other != *id);
+        self.ordered(alloc, found.as_slice())
     }
 
-    pub fn add(&mut self, alloc: Global, id: Id, parents: &[Id]) -> Result<(), Memory> {
+    /// Whether a parent is in the family of a child.
+    fn leads_back(&self, alloc: Global, parents: &[Id], children: &[Id]) -> Result<bool, Memory> {
+        for child in children {
+            let family = self.family(alloc, child)?;
+            if parents.iter().any(|parent| family.contains(parent)) {
+                return Ok(true);
+            }
+        }
+        Ok(false)
+    }
+
+    /// Why a node is not added between these.
+    pub fn fault(
+        &self,
+        alloc: Global,
+        id: &Id,
+        parents: &[Id],
+        children: &[Id],
+    ) -> Result<Option<GraphFault>, Memory> {
+        if self.contains(id) {
+            return Ok(Some(GraphFault::Present));
+        }
+        if !self.contains_all(parents) || !self.contains_all(children) {
+            return Ok(Some(GraphFault::NoNode));
+        }
+        if self.leads_back(alloc, parents, children)? {
+            return Ok(Some(GraphFault::Cycle));
+        }
+        Ok(None)
+    }
+
+    fn add_parent(&mut self, parent: &Id, children: &[Id]) -> Result<(), Memory> {
+        for row in self.rows.as_mut_slice() {
+            if children.contains(&row.id) {
+                row.parents.push(*parent)?;
+            }
+        }
+        Ok(())
+    }
+
+    pub fn add(
+        &mut self,
+        alloc: Global,
+        id: Id,
+        parents: &[Id],
+        children: &[Id],
+    ) -> Result<(), Memory> {
+        self.add_parent(&id, children)?;
         let parents = Vec::from_slice(alloc, parents)?;
         self.rows.push(Row { id, parents })?;
         Ok(())
@@ -68,5 +161,12 @@ impl Plain {
 
     pub fn remove(&mut self, gone: &[Id]) {
         self.rows.retain(|row| !gone.contains(&row.id));
+    }
+
+    pub fn remove_root(&mut self, id: &Id) {
+        self.remove(&[*id]);
+        for row in self.rows.as_mut_slice() {
+            row.parents.retain(|parent| *parent != *id);
+        }
     }
 }

@@ -1,42 +1,16 @@
-use crate::plain::Plain;
 use crate::{Graph, GraphFault, Id};
 use gate_bytes::{Copied, Memory};
 use std::alloc::Global;
 use std::hash::{BuildHasherDefault, DefaultHasher};
 use std::test::Fail;
 
-type Hashing = BuildHasherDefault<DefaultHasher>;
+pub(crate) type Hashing = BuildHasherDefault<DefaultHasher>;
 
-/// The same numbers each time.
-#[derive(Drop)]
-struct Draw {
-    last: u32,
-}
-
-impl Draw {
-    fn below(&mut self, end: u32) -> u32 {
-        self.last = self.last.wrapping_mul(1_103_515_245).wrapping_add(12_345);
-        (self.last >> 16) % end.max(1)
-    }
-
-    fn id(&mut self) -> Id {
-        [(self.below(20) % 256) as u8; 32]
-    }
-
-    fn parents(&mut self, alloc: Global) -> Result<Vec<Id>, Memory> {
-        let mut parents = Vec::new(alloc);
-        for _ in 0..self.below(4) {
-            parents.push(self.id())?;
-        }
-        Ok(parents)
-    }
-}
-
-fn named(name: u8) -> Id {
+pub(crate) fn named(name: u8) -> Id {
     [name; 32]
 }
 
-fn empty(alloc: Global) -> Graph<Hashing> {
+pub(crate) fn empty(alloc: Global) -> Graph<Hashing> {
     let hasher: Hashing = BuildHasherDefault::new();
     Graph::new(alloc, hasher)
 }
@@ -51,17 +25,27 @@ fn diamond(alloc: Global) -> Result<Graph<Hashing>, GraphFault> {
     Ok(graph)
 }
 
-fn is_above(alloc: Global, graph: &Graph<Hashing>, id: Id, above: &[Id]) -> Result<bool, Memory> {
+pub(crate) fn is_above(
+    alloc: Global,
+    graph: &Graph<Hashing>,
+    id: Id,
+    above: &[Id],
+) -> Result<bool, Memory> {
     let ids = graph.ancestors(alloc, &id)?;
     Ok(ids.as_slice() == above)
 }
 
-fn is_below(alloc: Global, graph: &Graph<Hashing>, id: Id, below: &[Id]) -> Result<bool, Memory> {
+pub(crate) fn is_below(
+    alloc: Global,
+    graph: &Graph<Hashing>,
+    id: Id,
+    below: &[Id],
+) -> Result<bool, Memory> {
     let ids = graph.descendants(alloc, &id)?;
     Ok(ids.as_slice() == below)
 }
 
-fn goes_out(graph: &mut Graph<Hashing>, id: Id, family: &[Id]) -> Result<bool, Memory> {
+pub(crate) fn goes_out(graph: &mut Graph<Hashing>, id: Id, family: &[Id]) -> Result<bool, Memory> {
     let ids = graph.remove_family(&id)?;
     Ok(ids.as_slice() == family)
 }
@@ -135,90 +119,147 @@ fn a_parent_named_twice_has_one_child(rt: HostRuntime) -> Result<(), Fail> {
     Ok(())
 }
 
-/// Takes a family out of both; says whether it is the same.
-fn take_out(
-    alloc: Global,
-    graph: &mut Graph<Hashing>,
-    plain: &mut Plain,
-    id: Id,
-) -> Result<bool, Memory> {
-    let family = plain.family(alloc, &id)?;
-    plain.remove(family.as_slice());
-    goes_out(graph, id, family.as_slice())
-}
-
-/// Adds a node to both; says whether it is refused where it must be.
-fn add(
-    alloc: Global,
-    graph: &mut Graph<Hashing>,
-    plain: &mut Plain,
-    id: Id,
-    parents: &[Id],
-) -> Result<bool, GraphFault> {
-    let (has, knows) = (plain.contains(&id), plain.contains_all(parents));
-    match graph.add_leaf(id, parents, 100, 10) {
-        Ok(()) => {
-            plain.add(alloc, id, parents)?;
-            Ok(!has && knows)
-        }
-        Err(GraphFault::Present) => Ok(has),
-        Err(GraphFault::NoNode) => Ok(!has && !knows),
-        Err(fault) => Err(fault),
-    }
-}
-
-fn edit(
-    alloc: Global,
-    graph: &mut Graph<Hashing>,
-    plain: &mut Plain,
-    draw: &mut Draw,
-) -> Result<bool, GraphFault> {
-    let id = draw.id();
-    if graph.contains(&id) && draw.below(3) == 0 {
-        return Ok(take_out(alloc, graph, plain, id)?);
-    }
-    let parents = draw.parents(alloc)?;
-    add(alloc, graph, plain, id, parents.as_slice())
-}
-
-/// Whether graph and list find the same of one id.
-fn agree(alloc: Global, graph: &Graph<Hashing>, plain: &Plain, id: Id) -> Result<bool, Memory> {
-    let below = plain.descendants(alloc, &id)?;
-    let above = plain.ancestors(alloc, &id)?;
-    Ok(
-        graph.contains(&id) == plain.contains(&id)
-            && is_below(alloc, graph, id, below.as_slice())?
-            && is_above(alloc, graph, id, above.as_slice())?,
-    )
-}
-
-/// Whether they find the same of all ids.
-fn all_agree(alloc: Global, graph: &Graph<Hashing>, plain: &Plain) -> Result<bool, Memory> {
-    for name in 0..20 {
-        if !agree(alloc, graph, plain, named(name))? {
-            return Ok(false);
-        }
-    }
-    Ok(graph.count() == plain.rows.len())
+/// The children 2 and 3 with 4 below both, and their parent 1 behind them.
+fn parent_last(alloc: Global) -> Result<Graph<Hashing>, GraphFault> {
+    let mut graph = empty(alloc);
+    graph.add_leaf(named(2), &[], 200, 20)?;
+    graph.add_leaf(named(3), &[], 300, 30)?;
+    graph.add_leaf(named(4), &[named(2), named(3)], 400, 40)?;
+    graph.add_above(named(1), &[], &[named(2), named(3)], 100, 10)?;
+    Ok(graph)
 }
 
 #[test]
-fn walks_find_what_searches_find(rt: HostRuntime) -> Result<(), Fail> {
+fn a_parent_may_come_last(rt: HostRuntime) -> Result<(), Fail> {
     let alloc = rt.alloc();
-    let mut draw = Draw { last: 7 };
-    let mut graph = empty(alloc);
-    let mut plain = Plain {
-        rows: Vec::new(alloc),
-    };
-    let mut most = 0;
-    for number in 0..300 {
-        assert!(rt;
-            edit(alloc, &mut graph, &mut plain, &mut draw)?,
-            "edit {number}"
-        );
-        assert!(rt; all_agree(alloc, &graph, &plain)?, "after edit {number}");
-        most = most.max(graph.count());
+    let graph = parent_last(alloc)?;
+    assert!(rt; is_below(alloc, &graph, named(1), &[named(2), named(3), named(4)])?);
+    assert!(rt; is_above(alloc, &graph, named(4), &[named(2), named(3), named(1)])?);
+    assert!(rt; is_above(alloc, &graph, named(2), &[named(1)])?);
+    assert_eq!(rt; graph.count(), 4);
+    Ok(())
+}
+
+#[test]
+fn a_family_below_a_late_parent_goes_out(rt: HostRuntime) -> Result<(), Fail> {
+    let alloc = rt.alloc();
+    let mut graph = parent_last(alloc)?;
+    assert!(rt; goes_out(&mut graph, named(2), &[named(2), named(4)])?);
+    assert_eq!(rt; graph.count(), 2);
+    assert!(rt; is_below(alloc, &graph, named(1), &[named(3)])?);
+    assert!(rt; goes_out(&mut graph, named(1), &[named(3), named(1)])?);
+    Ok(())
+}
+
+/// Takes a root out, if it is one.
+fn root_goes_out(graph: &mut Graph<Hashing>, id: Id) -> bool {
+    let is_root = graph.is_root(&id);
+    if is_root {
+        graph.remove_root(&id);
     }
-    assert!(rt; most > 10);
+    is_root
+}
+
+#[test]
+fn a_root_goes_out_alone(rt: HostRuntime) -> Result<(), Fail> {
+    let alloc = rt.alloc();
+    let mut graph = parent_last(alloc)?;
+    assert!(rt; !root_goes_out(&mut graph, named(2)));
+    assert!(rt; !root_goes_out(&mut graph, named(9)));
+    assert!(rt; root_goes_out(&mut graph, named(1)));
+    assert_eq!(rt; graph.count(), 3);
+    assert!(rt; is_above(alloc, &graph, named(4), &[named(2), named(3)])?);
+    assert!(rt; root_goes_out(&mut graph, named(2)));
+    assert!(rt; is_above(alloc, &graph, named(4), &[named(3)])?);
+    Ok(())
+}
+
+#[test]
+fn a_node_between_others_joins_their_families(rt: HostRuntime) -> Result<(), Fail> {
+    let alloc = rt.alloc();
+    let mut graph = diamond(alloc)?;
+    graph.add_leaf(named(6), &[], 100, 10)?;
+    graph.add_leaf(named(7), &[named(6)], 100, 10)?;
+    graph.add_above(
+        named(5),
+        &[named(4), named(4)],
+        &[named(7), named(7)],
+        100,
+        10,
+    )?;
+    assert!(rt; is_below(alloc, &graph, named(2), &[named(4), named(7), named(5)])?);
+    assert!(rt;
+        is_above(
+            alloc,
+            &graph,
+            named(7),
+            &[named(1), named(2), named(3), named(4), named(6), named(5)]
+        )?
+    );
+    assert!(rt; is_below(alloc, &graph, named(5), &[named(7)])?);
+    Ok(())
+}
+
+fn is_refused_above(
+    graph: &mut Graph<Hashing>,
+    id: Id,
+    parents: &[Id],
+    children: &[Id],
+    fault: GraphFault,
+) -> bool {
+    graph.add_above(id, parents, children, 100, 10) == Err(fault) && graph.count() == 4
+}
+
+#[test]
+fn a_node_above_others_is_refused_in_order(rt: HostRuntime) -> Result<(), Fail> {
+    let alloc = rt.alloc();
+    let mut graph = diamond(alloc)?;
+    assert!(rt;
+        is_refused_above(
+            &mut graph,
+            named(1),
+            &[named(9)],
+            &[named(9)],
+            GraphFault::Present
+        )
+    );
+    assert!(rt;
+        is_refused_above(
+            &mut graph,
+            named(5),
+            &[named(4)],
+            &[named(9), named(4)],
+            GraphFault::NoNode
+        )
+    );
+    assert!(rt;
+        is_refused_above(
+            &mut graph,
+            named(5),
+            &[named(4), named(9)],
+            &[named(4)],
+            GraphFault::NoNode
+        )
+    );
+    assert!(rt; is_refused_above(&mut graph, named(5), &[], &[named(5)], GraphFault::NoNode));
+    assert!(rt;
+        is_refused_above(
+            &mut graph,
+            named(5),
+            &[named(4)],
+            &[named(4)],
+            GraphFault::Cycle
+        )
+    );
+    assert!(rt;
+        is_refused_above(
+            &mut graph,
+            named(5),
+            &[named(4)],
+            &[named(1)],
+            GraphFault::Cycle
+        )
+    );
+    assert!(rt; is_above(alloc, &graph, named(4), &[named(1), named(2), named(3)])?);
     Ok(())
 }

@@ -1,11 +1,11 @@
 //! Walks from a node, to all that a chain of steps leads to.
 ghost use Rattle.std.specs.Prelude.{◌≡◌, ℕ, List, true, not, filter, slice_get, OnOk, IfOk, length};
 ghost use Rattle.std.specs.Str.{bytes_eq};
-ghost use Rattle.std.specs.List.{filter_map};
+ghost use Rattle.std.specs.List.{filter_map, list_any};
 ghost use Rattle.indexmap.specs.IndexMap.{keys};
 ghost use Rattle.indexmap.specs.IndexSet.{insert_all};
 ghost use Rattle.gate_graph.specs.Families.{among, are_apart, ids_of};
-ghost use Rattle.gate_graph.specs.Holding.{IsHeld, is_led, linked_in, nodes_in, places_from};
+ghost use Rattle.gate_graph.specs.Holding.{IsHeld, are_led, linked_in, nodes_in, places_from};
 
 use crate::held::{Held, Id, Way};
 use gate_bytes::Memory;
@@ -24,18 +24,18 @@ fn add_found<S: BuildHasher>(found: &mut IndexSet<Id, S>, ids: &[Id]) -> Result<
     Ok(())
 }
 
-/// All that a chain leads to this way, each once and the id first, whether it is a node or not.
+/// All that a chain leads to this way from one of these ids, each once and the ids first, whether they are nodes or not.
 pub(crate) fn walk<S: BuildHasher + Copy + Drop>(
     alloc: Global,
     nodes: &IndexMap<Id, Held, S>,
-    id: &Id,
+    ids: &[Id],
     way: Way,
 ) -> Result<IndexSet<Id, S>, Memory>
     requires { IsHeld (linked_in nodes.now.entries) }
-    ensures { IfOk result (λ found. (other : List ℕ) → among found.keys other ≡ is_led way (nodes_in nodes.now.entries) id.now other) }
+    ensures { IfOk result (λ found. (other : List ℕ) → among found.keys other ≡ are_led way (nodes_in nodes.now.entries) ids.now other) }
 {
     let mut found = IndexSet::with_hasher(alloc, *nodes.hasher());
-    found.insert(*id)?;
+    add_found(&mut found, ids)?;
     let mut place = 0;
     while place < found.len() {
         let at = found.as_slice()[place];
@@ -45,6 +45,13 @@ pub(crate) fn walk<S: BuildHasher + Copy + Drop>(
         place += 1;
     }
     Ok(found)
+}
+
+/// Whether one of these ids was found.
+pub(crate) fn meets<S: BuildHasher>(found: &IndexSet<Id, S>, ids: &[Id]) -> bool
+    ensures { result ≡ list_any (λ id. among found.now.keys id) ids.now }
+{
+    ids.iter().any(|id| found.contains(id))
 }
 
 /// The places of the nodes that were found.
@@ -82,15 +89,15 @@ fn ids_at<S: BuildHasher>(
     Ok(ids)
 }
 
-/// The ids of the nodes that were found, in the order of adding.
+/// The ids of the nodes that were found, each once, in the order of adding.
 pub(crate) fn in_order<S: BuildHasher>(
     alloc: Global,
     nodes: &IndexMap<Id, Held, S>,
-    found: &IndexSet<Id, S>,
+    found: &[Id],
 ) -> Result<Vec<Id>, Memory>
     requires { are_apart (nodes_in nodes.now.entries) ≡ true }
-    ensures { IfOk result (λ ids. ids.items ≡ ids_of (filter (λ n. among found.now.keys n.id) (nodes_in nodes.now.entries))) }
+    ensures { IfOk result (λ ids. ids.items ≡ ids_of (filter (λ n. among found.now n.id) (nodes_in nodes.now.entries))) }
 {
-    let places = places(alloc, nodes, found.as_slice())?;
+    let places = places(alloc, nodes, found)?;
     ids_at(alloc, nodes, &places)
 }

@@ -4,7 +4,7 @@ use Rattle.gate_graph.proofs.Walking.{Walk}
 use Rattle.gate_graph.proofs.walk.walk.Given as goal
 
 abbrev pub invariant-loop-place : goal.invariant-loop-place
-invariant-loop-place g l = Walk l.way (nodes_in l.nodes.entries) l.id l.found.keys l.place
+invariant-loop-place g l = Walk l.way (nodes_in l.nodes.entries) l.ids l.found.keys l.place
 
 -- no set has more ids than this
 abbrev pub decreases-loop-place : goal.decreases-loop-place
