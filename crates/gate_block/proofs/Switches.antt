@@ -1,7 +1,7 @@
 -- Blocks that come and go at the end of a history.
 use Rattle.std.proofs.Common.{◌≡◌, ℕ, zero, suc, ◌+◌, ◌-◌, ◌<◌, ◌≤◌, Bool, true, false, cond, ◌||◌, List, [], ◌∷◌, ◌++◌, length, take, drop, reverse, Option, Some, None, nat_lt, Result, Ok, Err, IfOk, IfErr, OnErr, refl, sym, ap, subst, ◌∙◌, arith, append-nil, append_assoc, length-append}
 use Rattle.std.proofs.Math.Seq.{take-append_seam}
-use Rattle.std.proofs.lemmas.List.{take_all, drop_all, take-append-drop, take-append-le, drop_at, length-take, reverse-append}
+use Rattle.std.proofs.lemmas.List.{take_all, drop_all, take-append-drop, take-append-le, drop_at, length-take, length-drop, reverse-append}
 use Rattle.gate_bytes.specs.Order.{first_failing}
 use Rattle.gate_bytes.proofs.OrderLemmas.{found_in_first, found_in_second}
 use Rattle.gate_chain.specs.declared.Block.{Block}
@@ -75,6 +75,13 @@ come_and_gone h blocks =
     let n = length-append h.blocks blocks in
     let m : length (h.blocks ++ blocks) - length blocks ≡ length h.blocks = omega arith in
     λ j. with_blocks h ((ap (λ k. take k (h.blocks ++ blocks)) m ∙ take-append_seam h.blocks blocks) j)
+
+-- as many are gone as were asked for, where there are so many
+pub so_many_gone : (h : History) (depth : ℕ) → depth ≤ length h.blocks → without_last h (length (last_blocks h depth)) ≡ without_last h depth
+so_many_gone h depth le =
+    let n = length-drop (left_of h depth) h.blocks in
+    let e : length (last_blocks h depth) ≡ depth = omega arith in
+    ap (without_last h) e
 
 -- of all blocks some stand on top of a history, so many, and these are left
 pub record IsJoining (h : History) (all : List Block) (now : History) (connected : ℕ) (left : List Block) : Type 0 where

@@ -6,6 +6,7 @@ use Rattle.gate_chain.specs.declared.ChainDenial.{ChainDenial}
 use Rattle.gate_chain.specs.declared.ChainDenial.TheVariants.{NoUndo}
 use Rattle.gate_chain.specs.Connecting.{grown, block_rules}
 use Rattle.gate_chain.specs.History.{History}
+use Rattle.gate_chain.specs.Lowering.{Top, above}
 
 -- a history with these blocks in place of its own
 abbrev pub with_blocks : History → List Block → History
@@ -45,17 +46,18 @@ abbrev pub switch_rules : History → ℕ → List Block → List (Rule ChainDen
 switch_rules h depth blocks =
     (NoUndo, nat_lt max_depth depth || nat_lt (length h.blocks) depth) ∷ blocks_rules (without_last h depth) blocks
 
--- what is kept for going back: the history before where blocks were disconnected, else how many were connected; and the
--- blocks that were disconnected, the lowest first
+-- what is kept for going back: the history before, how many blocks were connected, and the blocks that were disconnected,
+-- the lowest first
 pub record WayBack : Type 0 where
-  pub before : Option History
+  pub before : History
   pub connected : ℕ
   pub gone : List Block
 
--- the history that going back leaves
-abbrev pub back_from : Option History → ℕ → History → History
-back_from None connected h = without_last h connected
-back_from (Some before) connected h = before
+-- a history is the one before, but for the blocks that were connected and those that were disconnected
+abbrev pub LeadsBack : WayBack → History → Type 0
+LeadsBack way h = without_last h way.connected ≡ without_last way.before (length way.gone)
 
-abbrev pub gone_back : WayBack → History → History
-gone_back way h = back_from way.before way.connected h
+-- what is kept of the blocks that were disconnected, where there are any
+abbrev pub HasTop : History → List Block → Option Top → Type 0
+HasTop before gone None = gone ≡ []
+HasTop before gone (Some top) = (top.whole ≡ before) × (top.kept ≡ left_of before (length gone)) × (gone ≡ above top)

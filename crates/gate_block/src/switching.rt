@@ -1,15 +1,15 @@
 //! Several blocks in the place of the last ones, with the way back.
-ghost use Rattle.std.specs.Prelude.{◌≡◌, ◌||◌, None, [], nat_lt, length, IfOk, IfErr, OnOk, OnErr};
+ghost use Rattle.std.specs.Prelude.{◌≡◌, ◌-◌, ◌<◌, ◌≤◌, ◌||◌, None, [], nat_lt, length, IfOk, IfErr, OnOk, OnErr};
 ghost use Rattle.gate_bytes.specs.Order.{first_failing};
 ghost use Rattle.gate_chain.specs.Connecting.{Tells};
-ghost use Rattle.gate_block.specs.Switching.{grown_by, without_last, last_blocks, switched, blocks_rules, switch_rules, gone_back, max_depth};
+ghost use Rattle.gate_block.specs.Switching.{grown_by, without_last, last_blocks, switched, blocks_rules, switch_rules, max_depth, LeadsBack};
 
 use gate_bytes::{Kept, Memory};
-use gate_chain::{Block, Chain, ChainDenial, ChainFault};
+use gate_chain::{Block, Chain, ChainDenial, ChainFault, ChainTop};
 use std::alloc::Global;
 use std::hash::BuildHasher;
 use std::marker::Model;
-use std::mem;
+use std::snapshot::Snapshot;
 
 /// The most blocks that one event disconnects.
 const MAX_DEPTH: u64 = 100;
@@ -53,11 +53,13 @@ fn take_last<S: BuildHasher + Copy + Drop>(
 ) -> Result<Vec<Block>, Memory>
     ensures blocks { IfOk result (λ gone. gone.items ≡ last_blocks chain.old count) }
     ensures chain { OnOk result (chain.new ≡ without_last chain.old count) }
+    ensures err { OnErr result (chain.new ≡ chain.old) }
 {
     let mut gone = Vec::with_capacity(alloc, count)?;
     for _ in 0..count {
         if let Ok(block) = chain.disconnect() {
-            gone.push(block)?;
+            let put: Result<_, _> = gone.push(block);
+            put.unwrap();
         }
     }
     gone.reverse();
@@ -74,18 +76,21 @@ fn is_too_deep<S: BuildHasher + Copy + Drop>(chain: &Chain<S>, depth: u64) -> bo
 /// What `switch` leaves: the blocks that were disconnected, and the way back.
 #[derive(Drop)]
 pub struct Switched<S: BuildHasher + Copy + Drop> {
-    // The chain before, where blocks were disconnected.
-    before: Option<Chain<S>>,
+    before: Snapshot<Chain<S>>,
     connected: usize,
     gone: Kept<Block>,
+    // What the blocks that were disconnected made, where there are any.
+    top: Option<ChainTop<S>>,
 }
 
 impl<S: BuildHasher + Copy + Drop> Model for Switched<S> {
-    ghost use Rattle.gate_block.specs.Switching.{WayBack};
+    ghost use Rattle.gate_block.specs.Switching.{WayBack, HasTop};
 
     ghost Value = { WayBack };
 
-    ghost view = { λ s. record { before = s.before; connected = s.connected; gone = s.gone } };
+    ghost invariant = { λ s. HasTop s.before.value s.gone s.top };
+
+    ghost view = { λ s. record { before = s.before.value; connected = s.connected; gone = s.gone } };
 }
 
 impl<S: BuildHasher + Copy + Drop> Switched<S> {
@@ -98,16 +103,18 @@ impl<S: BuildHasher + Copy + Drop> Switched<S> {
 
     /// Takes the chain, as the switch left it, back to what it was before. It takes no memory.
     pub fn back(self, chain: &mut Chain<S>)
-        ensures { chain.new ≡ gone_back self chain.old }
+        requires { LeadsBack self chain.old }
+        ensures { chain.new ≡ self.before }
     {
         let Switched {
-            before,
-            connected,
+            connected: on_top,
+            gone,
+            top,
             ..
         } = self;
-        match before {
-            Some(before) => *chain = before,
-            None => drop_last(chain, connected),
+        drop_last(chain, on_top);
+        if let Some(top) = top {
+            chain.restore(top, gone.into_vec());
         }
     }
 
@@ -127,48 +134,60 @@ fn extend<S: BuildHasher + Copy + Drop>(
     blocks: Vec<Block>,
 ) -> Result<Switched<S>, ChainFault>
     ensures ok { OnOk result (chain.new ≡ grown_by chain.old blocks.items) }
-    ensures gone { IfOk result (λ way. (way.gone ≡ []) × (gone_back way chain.new ≡ chain.old)) }
+    ensures gone { IfOk result (λ way. way.gone ≡ []) }
+    ensures back { IfOk result (λ way. (way.before ≡ chain.old) × LeadsBack way chain.new) }
     ensures err { OnErr result (chain.new ≡ chain.old) }
     ensures passes { OnOk result (first_failing (blocks_rules chain.old blocks.items) ≡ None) }
     ensures denied { IfErr result (λ fault. Tells fault (first_failing (blocks_rules chain.old blocks.items))) }
 {
+    let before = Snapshot::of(chain);
     let connected = blocks.len();
     connect_all(alloc, chain, blocks)?;
     Ok(Switched {
-        before: None,
+        before,
         connected,
         gone: Kept::from_vec(Vec::new(alloc)),
+        top: None,
     })
 }
 
-/// Puts blocks in the place of the last ones, on a copy of the chain that then changes places with it.
+/// Puts blocks in the place of the last ones. What these made is kept aside, so that they come back where the others fail.
 fn replace<S: BuildHasher + Copy + Drop>(
     alloc: Global,
     chain: &mut Chain<S>,
     depth: usize,
     blocks: Vec<Block>,
 ) -> Result<Switched<S>, ChainFault>
+    requires some { 0 < depth }
+    requires within { depth ≤ length chain.old.blocks }
     ensures ok { OnOk result (chain.new ≡ switched chain.old depth blocks.items) }
-    ensures gone { IfOk result (λ way. (way.gone ≡ last_blocks chain.old depth) × (gone_back way chain.new ≡ chain.old)) }
+    ensures gone { IfOk result (λ way. way.gone ≡ last_blocks chain.old depth) }
+    ensures back { IfOk result (λ way. (way.before ≡ chain.old) × LeadsBack way chain.new) }
     ensures err { OnErr result (chain.new ≡ chain.old) }
     ensures passes { OnOk result (first_failing (blocks_rules (without_last chain.old depth) blocks.items) ≡ None) }
     ensures denied { IfErr result (λ fault. Tells fault (first_failing (blocks_rules (without_last chain.old depth) blocks.items))) }
 {
+    let before = Snapshot::of(chain);
     let connected = blocks.len();
-    let mut draft = chain.copy(alloc)?;
-    let gone = take_last(alloc, &mut draft, depth)?;
-    connect_all(alloc, &mut draft, blocks)?;
-    let before = mem::replace(chain, draft);
-    Ok(Switched {
-        before: Some(before),
-        connected,
-        gone: Kept::from_vec(gone),
-    })
+    let top = chain.top(alloc, chain.connected() - depth)?;
+    let gone = take_last(alloc, chain, depth)?;
+    match connect_all(alloc, chain, blocks) {
+        Ok(()) => Ok(Switched {
+            before,
+            connected,
+            gone: Kept::from_vec(gone),
+            top: Some(top),
+        }),
+        Err(fault) => {
+            chain.restore(top, gone);
+            Err(fault)
+        }
+    }
 }
 
 /// Disconnects the last blocks and connects others in their place, one by one. A denial names the first rule that fails: C6
 /// for more blocks than are connected, or than 100, and then for each new block C7, C5, C2 and of each transaction in turn
-/// C4 and C3. Where it fails, the chain is as it was. Where blocks are disconnected it copies the chain.
+/// C4 and C3. Where it fails, the chain is as it was. Where blocks are disconnected it copies the coins that they made.
 pub fn switch<S: BuildHasher + Copy + Drop>(
     alloc: Global,
     chain: &mut Chain<S>,
@@ -177,7 +196,8 @@ pub fn switch<S: BuildHasher + Copy + Drop>(
 ) -> Result<Switched<S>, ChainFault>
     ensures ok { OnOk result (chain.new ≡ switched chain.old depth blocks.items) }
     ensures gone { IfOk result (λ way. way.gone ≡ last_blocks chain.old depth) }
-    ensures way_back { IfOk result (λ way. gone_back way chain.new ≡ chain.old) }
+    ensures before { IfOk result (λ way. way.before ≡ chain.old) }
+    ensures way_back { IfOk result (λ way. LeadsBack way chain.new) }
     ensures err { OnErr result (chain.new ≡ chain.old) }
     ensures passes { OnOk result (first_failing (switch_rules chain.old depth blocks.items) ≡ None) }
     ensures denied { IfErr result (λ fault. Tells fault (first_failing (switch_rules chain.old depth blocks.items))) }

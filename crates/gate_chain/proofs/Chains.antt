@@ -23,10 +23,10 @@ use Rattle.std.proofs.Math.Seq.{take-append_seam}
 use Rattle.std.specs.Str.{bytes_eq}
 use Rattle.gate_chain.specs.Times.{times_of, tip_of}
 
-abbrev header_times : List Connected → List ℕ
+abbrev pub header_times : List Connected → List ℕ
 header_times cs = map (λ c. header_time c.block.header) cs
 
-maps_join : (cs : List Connected) → map (λ b. header_time b.header) (map (λ (c : Connected). c.block) cs) ≡ header_times cs
+pub maps_join : (cs : List Connected) → map (λ b. header_time b.header) (map (λ (c : Connected). c.block) cs) ≡ header_times cs
 maps_join [] = refl
 maps_join (c ∷ cs) = ap (λ l. header_time c.block.header ∷ l) (maps_join cs)
 

@@ -9,4 +9,6 @@ pub mod Denials
 pub mod Connecting
 pub mod Marking
 pub mod Linked
+pub mod Lowering
+pub mod Tops
 pub mod Examples

@@ -8,6 +8,8 @@ ghost use Rattle.gate_chain.specs.Keeping.{IsFaultless};
 ghost use Rattle.gate_chain.specs.Opening.{open_fault, IsRefusedFor};
 ghost use Rattle.gate_chain.specs.Times.{tip_of, time_of, mtp_of};
 
+mod top;
+
 use crate::block::Block;
 use crate::connected::Connected;
 use crate::copying::{copy_coins, copy_ids};
@@ -25,6 +27,7 @@ use indexmap::{IndexMap, IndexSet};
 use std::alloc::Global;
 use std::hash::BuildHasher;
 use std::marker::Model;
+pub use top::ChainTop;
 
 /// The most block times that a chain is opened with.
 const MAX_TIMES: usize = 1_000_000;
@@ -121,11 +124,11 @@ impl<S: BuildHasher + Copy + Drop> Chain<S> {
         Ok(Chain {
             opening_coins: self.opening_coins,
             opening_times: self.opening_times,
-            opening_txids: copy_ids(alloc, &self.opening_txids)?,
+            opening_txids: copy_ids(alloc, &self.opening_txids, 0)?,
             times: u32::copy_list(self.times.as_slice(), alloc)?,
             blocks: Connected::copy_list(self.blocks.as_slice(), alloc)?,
-            coins: copy_coins(alloc, &self.coins)?,
-            txids: copy_ids(alloc, &self.txids)?,
+            coins: copy_coins(alloc, &self.coins, 0)?,
+            txids: copy_ids(alloc, &self.txids, 0)?,
         })
     }
 

@@ -1,5 +1,5 @@
 //! Copies of a chain's tables, with the entries in their order.
-ghost use Rattle.std.specs.Prelude.{◌≡◌, ◌+◌, ◌++◌, ◌∷◌, [], take, None, false, IfOk, OnOk};
+ghost use Rattle.std.specs.Prelude.{◌≡◌, ◌+◌, ◌++◌, ◌∷◌, [], ◌≤◌, take, drop, length, None, false, IfOk, OnOk};
 ghost use Rattle.std.specs.List.{IsDistinct};
 ghost use Rattle.std.specs.Map.{keys_of};
 ghost use Rattle.std.specs.Str.{bytes_eq};
@@ -30,10 +30,12 @@ fn put_marked<S: BuildHasher>(
 fn copy_coin<S: BuildHasher>(
     alloc: Global,
     coins: &IndexMap<OutPoint, Marked, S>,
+    from: usize,
     place: usize,
     copies: &mut IndexMap<OutPoint, Marked, S>,
 ) -> Result<(), Memory>
-    ensures { OnOk result (IsDistinct point_eq (keys_of coins.now.entries) → copies.old.entries ≡ take place coins.now.entries → copies.new.entries ≡ take (place + 1) coins.now.entries) }
+    requires { from ≤ place }
+    ensures { OnOk result (IsDistinct point_eq (keys_of coins.now.entries) → copies.old.entries ≡ drop from (take place coins.now.entries) → copies.new.entries ≡ drop from (take (place + 1) coins.now.entries)) }
 {
     match coins.get_index(place) {
         Some((outpoint, marked)) => {
@@ -44,17 +46,19 @@ fn copy_coin<S: BuildHasher>(
     }
 }
 
-/// A copy of the coins, with their marks.
+/// A copy of the coins from a place on, with their marks.
 pub(crate) fn copy_coins<S: BuildHasher + Copy + Drop>(
     alloc: Global,
     coins: &IndexMap<OutPoint, Marked, S>,
+    from: usize,
 ) -> Result<IndexMap<OutPoint, Marked, S>, Memory>
-    ensures { IfOk result (λ copies. copies.entries ≡ coins.now.entries) }
+    requires { from ≤ length coins.now.entries }
+    ensures { IfOk result (λ copies. copies.entries ≡ drop from coins.now.entries) }
 {
     let count = coins.len();
-    let mut copies = IndexMap::with_capacity_and_hasher(alloc, count, *coins.hasher())?;
-    for place in 0..count {
-        copy_coin(alloc, coins, place, &mut copies)?;
+    let mut copies = IndexMap::with_capacity_and_hasher(alloc, count - from, *coins.hasher())?;
+    for place in from..count {
+        copy_coin(alloc, coins, from, place, &mut copies)?;
     }
     Ok(copies)
 }
@@ -70,10 +74,12 @@ fn put_id<S: BuildHasher>(ids: &mut IndexSet<Txid, S>, id: Txid) -> Result<(), M
 /// Puts the id at one more place at the end of the copies.
 fn copy_id<S: BuildHasher>(
     ids: &IndexSet<Txid, S>,
+    from: usize,
     place: usize,
     copies: &mut IndexSet<Txid, S>,
 ) -> Result<(), Memory>
-    ensures { OnOk result (IsDistinct bytes_eq ids.now.keys → copies.old.keys ≡ take place ids.now.keys → copies.new.keys ≡ take (place + 1) ids.now.keys) }
+    requires { from ≤ place }
+    ensures { OnOk result (IsDistinct bytes_eq ids.now.keys → copies.old.keys ≡ drop from (take place ids.now.keys) → copies.new.keys ≡ drop from (take (place + 1) ids.now.keys)) }
 {
     match ids.get_index(place) {
         Some(id) => put_id(copies, *id),
@@ -81,17 +87,19 @@ fn copy_id<S: BuildHasher>(
     }
 }
 
-/// A copy of the ids.
+/// A copy of the ids from a place on.
 pub(crate) fn copy_ids<S: BuildHasher + Copy + Drop>(
     alloc: Global,
     ids: &IndexSet<Txid, S>,
+    from: usize,
 ) -> Result<IndexSet<Txid, S>, Memory>
-    ensures { IfOk result (λ copies. copies.keys ≡ ids.now.keys) }
+    requires { from ≤ length ids.now.keys }
+    ensures { IfOk result (λ copies. copies.keys ≡ drop from ids.now.keys) }
 {
     let count = ids.len();
-    let mut copies = IndexSet::with_capacity_and_hasher(alloc, count, *ids.hasher())?;
-    for place in 0..count {
-        copy_id(ids, place, &mut copies)?;
+    let mut copies = IndexSet::with_capacity_and_hasher(alloc, count - from, *ids.hasher())?;
+    for place in from..count {
+        copy_id(ids, from, place, &mut copies)?;
     }
     Ok(copies)
 }

@@ -14,6 +14,7 @@ mod entering;
 mod examples;
 mod fault;
 mod heading;
+mod joining;
 mod keeping;
 mod making;
 mod marked;
@@ -21,7 +22,7 @@ mod median;
 mod opening;
 
 pub use block::{Block, Header};
-pub use chain::{Chain, there_and_back};
+pub use chain::{Chain, ChainTop, there_and_back};
 pub use denial::ChainDenial;
 pub use fault::{ChainFault, OpenFault};
 pub use median::stands_in_order;

@@ -1,13 +1,17 @@
 //! Coins that are marked as spent and unmarked again.
-ghost use Rattle.std.specs.Prelude.{◌≡◌, ◌&&◌, ◌||◌, not, true, false, is_some, if◌then◌else◌};
+ghost use Rattle.std.specs.Prelude.{◌≡◌, ◌&&◌, ◌||◌, not, true, false, drop, is_some, if◌then◌else◌};
+ghost use Rattle.std.specs.List.{list_any};
+ghost use Rattle.std.specs.Map.{lookup};
 ghost use Rattle.std.specs.Option.{option_copied};
 ghost use Rattle.gate_tx.specs.Coins.{point_eq, spends};
 ghost use Rattle.gate_tx.specs.declared.OutPoint.{OutPoint as Point};
+ghost use Rattle.gate_chain.specs.Coins.{any_spends, is_spent_in};
 ghost use Rattle.gate_chain.specs.Connecting.{missing};
 ghost use Rattle.gate_chain.specs.Marking.{coins_in, is_marked, unspent_in};
 
+use crate::block::Block;
 use gate_bytes::{Copied, Memory};
-use gate_tx::{Coin, OutPoint, TxIn};
+use gate_tx::{Coin, OutPoint, Transaction, TxIn};
 use indexmap::IndexMap;
 use std::alloc::Global;
 use std::hash::BuildHasher;
@@ -99,4 +103,48 @@ pub(crate) fn spend<S: BuildHasher>(
         }
     }
     true
+}
+
+/// Marks the coins of inputs as spent again.
+fn respend<S: BuildHasher>(coins: &mut IndexMap<OutPoint, Marked, S>, inputs: &[TxIn])
+    ensures coins { coins_in coins.new.entries ≡ coins_in coins.old.entries }
+    ensures marks { (p : Point) → is_some (lookup (point_eq p) (coins_in coins.old.entries)) ≡ true → is_marked coins.new.entries p ≡ (spends inputs.now p || is_marked coins.old.entries p) }
+{
+    for input in inputs {
+        let _ = spend_one(coins, input.prevout);
+    }
+}
+
+/// Those of all these transactions.
+fn respend_all<S: BuildHasher>(coins: &mut IndexMap<OutPoint, Marked, S>, txs: &[Transaction])
+    ensures coins { coins_in coins.new.entries ≡ coins_in coins.old.entries }
+    ensures marks { (p : Point) → is_some (lookup (point_eq p) (coins_in coins.old.entries)) ≡ true → is_marked coins.new.entries p ≡ (any_spends txs.now p || is_marked coins.old.entries p) }
+{
+    for tx in txs {
+        respend(coins, tx.inputs());
+    }
+}
+
+/// Those of a block, but not its coinbase's.
+fn respend_block<S: BuildHasher>(coins: &mut IndexMap<OutPoint, Marked, S>, txs: &[Transaction])
+    ensures coins { coins_in coins.new.entries ≡ coins_in coins.old.entries }
+    ensures marks { (p : Point) → is_some (lookup (point_eq p) (coins_in coins.old.entries)) ≡ true → is_marked coins.new.entries p ≡ (any_spends (drop 1 txs.now) p || is_marked coins.old.entries p) }
+{
+    match txs {
+        [] => {}
+        [_coinbase, others @ ..] => respend_all(coins, others),
+    }
+}
+
+/// Marks the coins that blocks spent as spent again.
+pub(crate) fn respend_blocks<S: BuildHasher>(
+    coins: &mut IndexMap<OutPoint, Marked, S>,
+    blocks: &[Block],
+)
+    ensures coins { coins_in coins.new.entries ≡ coins_in coins.old.entries }
+    ensures marks { (p : Point) → is_some (lookup (point_eq p) (coins_in coins.old.entries)) ≡ true → is_marked coins.new.entries p ≡ (list_any (is_spent_in p) blocks.now || is_marked coins.old.entries p) }
+{
+    for block in blocks {
+        respend_block(coins, block.transactions.as_slice());
+    }
 }
