@@ -98,7 +98,7 @@ module _ (over : Standing) (e : Admitted) (good : IsSound over.chain over.entrie
 
   -- ---- the pool
 
-  families : e.vsize ≤ 100000 → NoneFails (limit_rules over.entries e.tx e.vsize) → (list_any (is_conflict e.tx) over.entries ≡ true → list_any (adds_parent over.entries (conflicts_of over.entries e.tx)) e.tx.inputs ≡ false)
+  families : e.vsize ≤ 100000 → NoneFails (limit_rules First over.entries e.tx e.vsize) → (list_any (is_conflict e.tx) over.entries ≡ true → list_any (adds_parent over.entries (conflicts_of over.entries e.tx)) e.tx.inputs ≡ false)
       → All (λ (a : Admitted). IsLimited (entered over.entries e) (txid_of a.tx)) (entered over.entries e)
   families small room parents =
       All-append (λ (a : Admitted). IsLimited (entered over.entries e) (txid_of a.tx)) (left_by over.entries e) (e ∷ [])
@@ -111,7 +111,7 @@ module _ (over : Standing) (e : Admitted) (good : IsSound over.chain over.entrie
       (All-one (λ (a : Admitted). IsLimited (entered over.entries e) (txid_of a.tx)) e (limited_new childless_grant (room_above over.entries e small room)))
 
   -- the entries after it entered
-  pub granted_sound : e.vsize ≤ 100000 → NoneFails (limit_rules over.entries e.tx e.vsize) → (list_any (is_conflict e.tx) over.entries ≡ true → list_any (adds_parent over.entries (conflicts_of over.entries e.tx)) e.tx.inputs ≡ false)
+  pub granted_sound : e.vsize ≤ 100000 → NoneFails (limit_rules First over.entries e.tx e.vsize) → (list_any (is_conflict e.tx) over.entries ≡ true → list_any (adds_parent over.entries (conflicts_of over.entries e.tx)) e.tx.inputs ≡ false)
       → IsSound over.chain (entered over.entries e)
   granted_sound small room parents =
       let kept = left_by over.entries e in
@@ -132,7 +132,7 @@ module _ (over : Standing) (e : Admitted) (good : IsSound over.chain over.entrie
 
 -- ---- submissions
 
-room_granted : (over : Standing) (tx : Tx) → Passes First over tx → NoneFails (limit_rules over.entries tx (grant_of over tx).vsize)
+room_granted : (over : Standing) (tx : Tx) → Passes First over tx → NoneFails (limit_rules First over.entries tx (grant_of over tx).vsize)
 unfolding grant_of
 room_granted over tx p = p.limits
 

@@ -1,5 +1,5 @@
 -- Limits of families, over ids and over parts of a pool.
-use Rattle.std.proofs.Common.{not, None, ◌≡◌, ◌≢◌, ℕ, ◌+◌, ◌<◌, ◌≤◌, Bool, true, false, cond, ◌&&◌, ◌||◌, List, [], ◌∷◌, length, refl, sym, ap, ◌∙◌, subst, ◌⊎◌, inl, inr, arith}
+use Rattle.std.proofs.Common.{not, None, ◌≡◌, ◌≢◌, ℕ, ◌+◌, ◌<◌, ◌≤◌, Bool, true, false, cond, ◌&&◌, ◌||◌, List, [], ◌∷◌, length, refl, sym, ap, ◌∙◌, ◌⊎◌, inl, inr, arith}
 use Rattle.std.specs.Prelude.{Contains, filter, sum_by, nat_le, ◌==◌}
 use Rattle.std.specs.List.{list_all, list_any}
 use Rattle.std.proofs.lemmas.Bool.{and_from, and_parts, true≢false}
@@ -16,6 +16,7 @@ use Rattle.gate_pool.specs.Family.{steps, all_below, descendants_of, ancestors_a
 use Rattle.gate_pool.proofs.Adding.{passed, length-ones}
 use Rattle.gate_pool.proofs.Ids.{descendants_of_one}
 use Rattle.gate_pool.proofs.Walking.{Contains-from_filter}
+use Rattle.gate_admit.specs.declared.attempt.Attempt.TheVariants.{First}
 use Rattle.gate_admit.specs.declared.limits.FamilyLimits.{FamilyLimits}
 use Rattle.gate_admit.specs.Limits.{grown, usual_limits, carved_out, has_room, has_room_below, is_within, fits_families, limit_rules}
 
@@ -128,7 +129,7 @@ pub second_try : (first small second : Bool) → first ≡ false → small ≡ t
 second_try first small second h k = sym (ap (λ b. b || (small && second)) h ∙ ap (λ b. b && second) k)
 
 -- no rule on families fails of a transaction without ancestors in the pool
-pub alone_passes : (entries : List Admitted) (tx : Tx) (vsize : ℕ) → ancestors_above entries tx.inputs ≡ [] → first_failing (limit_rules entries tx vsize) ≡ None
+pub alone_passes : (entries : List Admitted) (tx : Tx) (vsize : ℕ) → ancestors_above entries tx.inputs ≡ [] → first_failing (limit_rules First entries tx vsize) ≡ None
 unfolding limit_rules
 alone_passes entries tx vsize none =
     ap (λ b. first_failing ((TooLongChain, not b) ∷ (SpendsConflicting, list_any (is_conflict tx) (ancestors_above entries tx.inputs)) ∷ [])) (alone_fits entries tx vsize none)

@@ -1,5 +1,5 @@
 -- What a grant says of a transaction: its inputs are live, value is conserved, and an entry holds its numbers.
-use Rattle.std.proofs.Common.{◌≡◌, ◌≢◌, ◌≤◌, ◌+◌, ◌*◌, ◌/◌, ℕ, Bool, true, false, not, ◌&&◌, List, [], ◌∷◌, get_or, Option, Some, None, Result, Ok, Err, refl, sym, ◌∙◌, subst, arith}
+use Rattle.std.proofs.Common.{◌≡◌, ◌≢◌, ◌≤◌, ◌+◌, ◌*◌, ◌/◌, ℕ, Bool, true, false, not, ◌&&◌, List, [], ◌∷◌, get_or, Option, Some, None, Result, Ok, Err, refl, sym, ap, ◌∙◌, subst, arith}
 use Rattle.std.specs.Prelude.{◌-◌, map, max, is_some, is_none, IsSome, IfSome, IfOk, OnOk, flat_map}
 use Rattle.std.specs.Str.{bytes_eq}
 use Rattle.std.specs.List.{All, AllPairs, list_any}
@@ -9,7 +9,7 @@ use Rattle.std.proofs.lemmas.List.Elements.{All-nil, All-cons, All-tail, All-app
 use Rattle.std.proofs.lemmas.List.Kept.{AllPairs-cons}
 use Rattle.std.proofs.Math.Nat.{add-sub_of_le}
 use Rattle.gate_bytes.specs.Order.{first_failing, NoneFails}
-use Rattle.gate_bytes.proofs.OrderLemmas.{none_fails-append}
+use Rattle.gate_bytes.proofs.OrderLemmas.{none_fails-append, none_fails}
 use Rattle.gate_bytes.specs.declared.Memory.{Memory}
 use Rattle.gate_tx.specs.declared.Coin.{Coin}
 use Rattle.gate_tx.specs.declared.OutPoint.{OutPoint}
@@ -21,6 +21,7 @@ use Rattle.gate_tx.specs.Money.{max_money, amount_or_zero}
 use Rattle.gate_tx.specs.Sizes.{weight_of, stripped_size_of}
 use Rattle.gate_tx.specs.Tx.{Tx}
 use Rattle.gate_standard.specs.declared.Denial.{Denial}
+use Rattle.gate_standard.specs.declared.Denial.TheVariants.{Decode}
 use Rattle.gate_standard.specs.Amounts.{required_fee}
 use Rattle.gate_standard.specs.Rules.{transaction_rules, standard_rules, output_value_rules, spends_twice, rules_of_input, rules_of_output}
 use Rattle.gate_chain.specs.Times.{tip_of}
@@ -34,7 +35,7 @@ use Rattle.gate_admit.specs.Bounds.{FitsEntry, FitsAnEntry}
 use Rattle.gate_admit.specs.Coins.{view_coin, coins_of}
 use Rattle.gate_admit.specs.Granting.{IsGrantable, Conserves, PaysItsSize}
 use Rattle.gate_admit.specs.Limits.{limit_rules}
-use Rattle.gate_admit.specs.Reports.{reported, report_rules, sigop_cost}
+use Rattle.gate_admit.specs.Reports.{reported, report_rules, sigop_cost, vsize_of}
 use Rattle.gate_admit.specs.Rules.{alone_rules, final_rules, pool_rules, coin_rules, lock_rules, is_immature, rules_of_coin, coin_value_rules, balance_rules, fee_rules, payment_rules, admission_rules, grant_of, denied_or, decision_of, coins_value, outputs_value, min_relay_rate}
 use Rattle.gate_admit.specs.Standing.{Standing}
 use Rattle.gate_rbf.proofs.Conflicting.{is_some-find}
@@ -190,7 +191,7 @@ weighs : (tx : Tx) → 82 ≤ stripped_size_of tx → 1 ≤ weight_of tx
 unfolding weight_of stripped_size_of
 weighs tx h = omega arith
 
-sized : (tx : Tx) → NoneFails (alone_rules tx) → (1 ≤ weight_of tx) × (weight_of tx ≤ 400000)
+pub sized : (tx : Tx) → NoneFails (alone_rules tx) → (1 ≤ weight_of tx) × (weight_of tx ≤ 400000)
 unfolding alone_rules standard_rules
 sized tx h =
     let policy = (none_fails-append (transaction_rules tx) _ h).1 in
@@ -260,6 +261,22 @@ unfolding decision_of pool_rules
 granted_absent attempt over tx grant h =
     let pool = (passes attempt over tx (granted (first_failing (admission_rules attempt over tx)) (grant_of over tx) grant (sym h)).0).pool in
     (none_found (entry_by_txid over.entries (txid_of tx)) pool.1.0, none_found (entry_by_wtxid over.entries (wtxid_of tx)) pool.0)
+
+-- where the rules beside the entries pass, none has its txid
+pub unpooled_id : (entries : List Admitted) (tx : Tx) → first_failing (pool_rules entries tx) ≡ None → entry_by_txid entries (txid_of tx) ≡ None
+unfolding pool_rules
+unpooled_id entries tx h =
+    let none : NoneFails (pool_rules entries tx) = none_fails (pool_rules entries tx) h in
+    none_found (entry_by_txid entries (txid_of tx)) none.1.0
+
+-- where the rules on it alone pass, it is no larger than an entry may be
+pub fits_in : (tx : Tx) (cost : ℕ) → cost ≤ 16000 → first_failing (alone_rules tx) ≡ None → vsize_of cost tx ≤ 10000000
+fits_in tx cost low h = let size = sized tx (none_fails (alone_rules tx) h) in (quarter (weight_of tx) cost size.0 size.1 low).1
+
+-- where nothing was read
+pub undecoded : (attempt : Attempt) (over : Standing) (tx : Option Tx) → tx ≡ None → Err Decode ≡ decision_of attempt over tx
+unfolding decision_of
+undecoded attempt over tx none = sym (ap (decision_of attempt over) none)
 
 pub answers_live : (attempt : Attempt) (over : Standing) (tx : Option Tx) (r : Result (Result Grant Denial) Memory) → IfOk r (λ decision. decision ≡ decision_of attempt over tx) → IfOk r (λ decision. OnOk decision (IfSome tx (IsGrantable over)))
 answers_live attempt over tx (Ok decision) h = found_live attempt over tx decision h

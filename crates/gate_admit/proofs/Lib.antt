@@ -20,3 +20,6 @@ pub mod Unconnected
 pub mod Entering
 pub mod Submitting
 pub mod Submissions
+pub mod Behind
+pub mod OwnLimits
+pub mod Readmitted

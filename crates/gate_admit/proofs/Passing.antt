@@ -25,7 +25,7 @@ pub record Passes (attempt : Attempt) (over : Standing) (tx : Tx) : Type 0 where
   pub balance : NoneFails (balance_rules (coins_value (coins_of over.chain over.entries tx.inputs)) (outputs_value tx))
   pub report : NoneFails (report_rules (reported tx.inputs (coins_of over.chain over.entries tx.inputs)) tx)
   pub payment : NoneFails (payment_rules attempt over.floor (coins_value (coins_of over.chain over.entries tx.inputs) - outputs_value tx) (vsize_of (sigop_cost (reported tx.inputs (coins_of over.chain over.entries tx.inputs)) tx.outputs) tx))
-  pub limits : NoneFails (limit_rules over.entries tx (vsize_of (sigop_cost (reported tx.inputs (coins_of over.chain over.entries tx.inputs)) tx.outputs) tx))
+  pub limits : NoneFails (limit_rules attempt over.entries tx (vsize_of (sigop_cost (reported tx.inputs (coins_of over.chain over.entries tx.inputs)) tx.outputs) tx))
   pub replacement : NoneFails (replacement_rules over.entries tx (coins_value (coins_of over.chain over.entries tx.inputs) - outputs_value tx) (vsize_of (sigop_cost (reported tx.inputs (coins_of over.chain over.entries tx.inputs)) tx.outputs) tx))
 
 pub passes : (attempt : Attempt) (over : Standing) (tx : Tx) → first_failing (admission_rules attempt over tx) ≡ None → Passes attempt over tx
@@ -44,7 +44,7 @@ passes attempt over tx h =
     let balance = none_fails-append (balance_rules (coins_value coins) (outputs_value tx)) _ value.1 in
     let report = none_fails-append (report_rules answers tx) _ balance.1 in
     let payment = none_fails-append (payment_rules attempt over.floor fee vsize) _ report.1 in
-    let limits = none_fails-append (limit_rules over.entries tx vsize) _ payment.1 in
+    let limits = none_fails-append (limit_rules attempt over.entries tx vsize) _ payment.1 in
     let replacement = none_fails-append (replacement_rules over.entries tx fee vsize) (verdict_rules over.verdicts (wtxid_of tx) 0 tx.inputs) limits.1 in
     record {
       alone = alone.0;

@@ -18,6 +18,7 @@ use Rattle.gate_pool.proofs.Entries.{Id, step_entry}
 use Rattle.gate_pool.proofs.Walking.{Contains-filter, Contains-from_filter}
 use Rattle.gate_rbf.specs.Replacing.{adds_parent, rules_beside}
 use Rattle.gate_rbf.proofs.Conflicting.{is_some-find}
+use Rattle.gate_admit.specs.declared.attempt.Attempt.TheVariants.{First}
 use Rattle.gate_admit.specs.declared.limits.FamilyLimits.{FamilyLimits}
 use Rattle.gate_admit.specs.Limits.{grown, usual_limits, carved_out, has_room_below, is_within, limit_rules}
 use Rattle.gate_admit.proofs.Filtering.{list_all_of}
@@ -50,7 +51,7 @@ within limits entries above vsize h =
     }
 
 -- one of the two tries succeeds
-tried : (entries : List Admitted) (tx : Tx) (vsize : ℕ) → NoneFails (limit_rules entries tx vsize)
+tried : (entries : List Admitted) (tx : Tx) (vsize : ℕ) → NoneFails (limit_rules First entries tx vsize)
     → IsWithin (grown entries (conflicts_of entries tx) usual_limits) entries (ancestors_above entries tx.inputs) vsize
     ⊎ IsWithin (carved_out (grown entries (conflicts_of entries tx) usual_limits)) entries (ancestors_above entries tx.inputs) vsize
 unfolding limit_rules
@@ -76,7 +77,7 @@ small_above above vsize limit low small h =
     ⊎_elim (λ (e : length above ≡ 0). omega (arith, nothing_above above e, small)) (λ (k : size_of above + vsize ≤ limit). omega (arith, k, low)) h
 
 -- the ancestors of a transaction are few and small
-pub room_above : (entries : List Admitted) (e : Admitted) → e.vsize ≤ 100000 → NoneFails (limit_rules entries e.tx e.vsize) → HasRoomAbove entries e
+pub room_above : (entries : List Admitted) (e : Admitted) → e.vsize ≤ 100000 → NoneFails (limit_rules First entries e.tx e.vsize) → HasRoomAbove entries e
 room_above entries e small h =
     let above = ancestors_above entries e.tx.inputs in
     let limits = grown entries (conflicts_of entries e.tx) usual_limits in
@@ -89,7 +90,7 @@ room_above entries e small h =
 -- ---- below each of them
 
 -- each ancestor's descendants, with the transaction, are within the limits of one of the tries
-room_below : (entries : List Admitted) (tx : Tx) (vsize : ℕ) → NoneFails (limit_rules entries tx vsize) → (conflicts : List Admitted) → conflicts_of entries tx ≡ conflicts → (a : Admitted) → Contains (ancestors_above entries tx.inputs) a
+room_below : (entries : List Admitted) (tx : Tx) (vsize : ℕ) → NoneFails (limit_rules First entries tx vsize) → (conflicts : List Admitted) → conflicts_of entries tx ≡ conflicts → (a : Admitted) → Contains (ancestors_above entries tx.inputs) a
     → (length (descendants_of entries (txid_of a.tx)) ≤ (grown entries conflicts usual_limits).descendants)
     × (size_of (descendants_of entries (txid_of a.tx)) + vsize ≤ (grown entries conflicts usual_limits).descendants_size + 10000)
 room_below entries tx vsize h conflicts is a m =
@@ -165,7 +166,7 @@ room_grown entries e c b m conflicts above count size =
     }
 
 -- each ancestor has room for a transaction
-pub room_at : (entries : List Admitted) (e : Admitted) → NoneFails (limit_rules entries e.tx e.vsize)
+pub room_at : (entries : List Admitted) (e : Admitted) → NoneFails (limit_rules First entries e.tx e.vsize)
     → (list_any (is_conflict e.tx) entries ≡ true → list_any (adds_parent entries (conflicts_of entries e.tx)) e.tx.inputs ≡ false)
     → (a : Admitted) → Contains (ancestors_above entries e.tx.inputs) a → HasRoom entries e (txid_of a.tx)
 room_at entries e limits parents a m = go (conflicts_of entries e.tx) refl

@@ -24,7 +24,7 @@ use Rattle.gate_admit.specs.declared.grant.Grant.{Grant}
 use Rattle.gate_admit.specs.Good.{AreApart, IsGood, IsSettled, IsSound, IsUnconnected, Limits, connected_transactions}
 use Rattle.gate_admit.specs.Rules.{admission_rules, decision_of, denied_or, grant_of}
 use Rattle.gate_admit.specs.Standing.{Standing}
-use Rattle.gate_admit.specs.Submission.{Submitted, admitted, entered_by, entry_of, holds, submitted_by, submit_of}
+use Rattle.gate_admit.specs.Submission.{Submitted, admitted, entry_of, holds, submitted_by, submit_of}
 use Rattle.gate_admit.proofs.Entering.{StaysUnconnected, empty_sound, grant_sound, stays_if_apart, stays_if_unconnected}
 use Rattle.gate_admit.proofs.Removing.{below_sound, family_sound}
 use Rattle.gate_admit.proofs.Staying.{stays_within}

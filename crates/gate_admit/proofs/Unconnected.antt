@@ -1,10 +1,10 @@
 -- What is granted is in no connected block, where transactions are told apart by their ids.
-use Rattle.std.proofs.Common.{◌≡◌, ◌+◌, ◌||◌, ℕ, Bool, Option, true, false, List, [], ◌∷◌, ◌++◌, length, drop, Some, None, refl, sym, ap, ◌∙◌, subst, arith, ⊎_elim}
+use Rattle.std.proofs.Common.{◌≡◌, ◌+◌, ◌||◌, ℕ, Bool, Option, true, false, List, [], ◌∷◌, ◌++◌, length, drop, Some, None, refl, sym, ap, ◌∙◌, subst, arith, append_assoc, ⊎_elim}
 use Rattle.std.specs.Prelude.{◌==◌, map, is_some, IsSome, Contains, option_and_then, slice_get}
 use Rattle.std.specs.Option.{option_or}
 use Rattle.std.specs.Str.{bytes_eq}
 use Rattle.std.specs.List.{All, list_any, flat_map}
-use Rattle.std.proofs.lemmas.Bool.{true≢false, false_from_ne_true}
+use Rattle.std.proofs.lemmas.Bool.{true≢false, false_from_ne_true, or_cases, or_left, or_right}
 use Rattle.std.proofs.lemmas.Slice.Eq.{bytes_eq-Decides}
 use Rattle.gate_bytes.specs.Order.{NoneFails, first_failing}
 use Rattle.gate_bytes.proofs.OrderLemmas.{none_fails-append}
@@ -21,10 +21,10 @@ use Rattle.gate_tx.specs.Tx.{Tx}
 use Rattle.gate_tx.proofs.Stripped.{stripped_forms_spend_the_same}
 use Rattle.gate_standard.specs.Rules.{transaction_rules, standard_rules, output_value_rules, is_coinbase}
 use Rattle.gate_chain.specs.declared.Block.{Block}
-use Rattle.gate_chain.specs.Coins.{coin_made, coin_of, has_transaction, is_known_txid, is_spent_in}
+use Rattle.gate_chain.specs.Coins.{has_txid as opened_by, coin_made, coin_of, has_transaction, is_known_txid, is_spent_in}
 use Rattle.gate_chain.specs.History.{History}
 use Rattle.gate_admit.specs.declared.attempt.Attempt.{Attempt}
-use Rattle.gate_admit.specs.Good.{AreApart, IsSettled, IsUnconnected, begins_with_coinbase, connected_transactions}
+use Rattle.gate_admit.specs.Good.{AreApart, IsSettled, IsUnconnected, begins_with_coinbase, chain_up_to, connected_transactions}
 use Rattle.gate_chain.specs.Times.{tip_of}
 use Rattle.gate_pool.specs.Pool.{Admitted, has_txid, entry_by_txid, spends_of}
 use Rattle.gate_admit.specs.Coins.{view_coin}
@@ -132,6 +132,39 @@ unknown_entry chain entries txid fresh h =
     subst (λ (a : List ℕ). is_known_txid chain a ≡ false) ((bytes_eq-Decides (txid_of found.0.tx) txid).0 found.2)
     (subst (λ (e : Admitted). is_known_txid chain (txid_of e.tx) ≡ false) found.1.2 (fresh found.1.0 found.0 found.1.1))
 
+-- where an element of a list stands
+pub record Place {X : Type 0} (xs : List X) (x : X) : Type 0 where
+  pub before : List X
+  pub after : List X
+  pub is : xs ≡ before ++ x ∷ after
+
+pub place : {X : Type 0} (xs : List X) (x : X) → Contains xs x → Place xs x
+place [] x c = not_in_none x c
+place {X} (y ∷ xs) x c =
+    ⊎_elim (λ (e : y ≡ x). record { before = []; after = xs; is = ap (λ (z : X). z ∷ xs) e })
+    (λ (k : Contains xs x). let p = place xs x k in record { before = y ∷ p.before; after = p.after; is = ap (λ (l : List X). y ∷ l) p.is })
+    (Contains-cons_cases y xs x c)
+
+-- what a chain knew it knows
+pub known_still : (chain : History) (before after : List Block) (b : Block) (txid : List ℕ) → chain.blocks ≡ before ++ b ∷ after
+    → is_known_txid (chain_up_to chain before b) txid ≡ true → is_known_txid chain txid ≡ true
+unfolding is_known_txid
+known_still chain before after b txid is h =
+    ⊎_elim (λ (k : opened_by txid chain.coins ≡ true). or_left (opened_by txid chain.coins) (list_any (has_transaction txid) chain.blocks) k)
+    (λ (k : list_any (has_transaction txid) (before ++ b ∷ []) ≡ true).
+    let w = any_is (has_transaction txid) (before ++ b ∷ []) k in
+    or_right (opened_by txid chain.coins) (list_any (has_transaction txid) chain.blocks)
+    (list_any_of (has_transaction txid) chain.blocks w.0
+    (subst (λ (bs : List Block). Contains bs w.0) (append_assoc before (b ∷ []) after ∙ sym is) (Contains-left (before ++ b ∷ []) after w.0 w.1)) w.2))
+    (or_cases (opened_by txid chain.coins) (list_any (has_transaction txid) (before ++ b ∷ [])) h)
+
+-- what a transaction behind a block's first spends came from what the chain knows
+pub founded : (chain : History) → IsSettled chain → (b : Block) → Contains chain.blocks b → (t : Tx) → Contains (drop 1 b.transactions) t → (i : TxIn) → Contains t.inputs i
+    → is_known_txid chain i.prevout.txid ≡ true
+founded chain settled b at t behind i among =
+    let p = place chain.blocks b at in
+    known_still chain p.before p.after b i.prevout.txid p.is (settled.founded p.before p.after b p.is t behind i among)
+
 -- a transaction behind a block's first spends from what the chain knows
 known_first : (chain : History) (tx t : Tx) (b : Block) (i : TxIn) (rest : List TxIn) → IsSettled chain → Contains chain.blocks b → Contains (drop 1 b.transactions) t → tx.inputs ≡ i ∷ rest → prevouts t ≡ prevouts tx
     → is_known_txid chain i.prevout.txid ≡ true
@@ -142,7 +175,7 @@ known_first chain tx t b i rest settled at behind inputs same = go t.inputs refl
     go (j ∷ js) e =
         let f : j.prevout ∷ map (λ (k : TxIn). k.prevout) js ≡ i.prevout ∷ map (λ (k : TxIn). k.prevout) rest = ap (map (λ (k : TxIn). k.prevout)) (sym e) ∙ same ∙ ap (map (λ (k : TxIn). k.prevout)) inputs in
         let one : j.prevout ≡ i.prevout = cc in
-        subst (λ (p : OutPoint). is_known_txid chain p.txid ≡ true) one (settled.founded b at t behind j (subst (λ (is : List TxIn). Contains is j) (sym e) (Contains-head j js)))
+        subst (λ (p : OutPoint). is_known_txid chain p.txid ≡ true) one (founded chain settled b at t behind j (subst (λ (is : List TxIn). Contains is j) (sym e) (Contains-head j js)))
 
 -- where it was, its first coin is spent for good, and no entry gives it
 pub unconnected : (attempt : Attempt) (over : Standing) (tx : Tx) → IsSettled over.chain → All (λ (e : Admitted). is_known_txid over.chain (txid_of e.tx) ≡ false) over.entries → IsTx tx

@@ -1,5 +1,5 @@
 -- What holds of a pool over its chain at every moment, and of transactions whose ids tell them apart.
-use Rattle.std.specs.Prelude.{◌≡◌, ◌≢◌, ◌≤◌, ℕ, length, drop, Bool, true, false, List, [], ◌∷◌, Option, Some, None, IsSome}
+use Rattle.std.specs.Prelude.{◌≡◌, ◌≢◌, ◌≤◌, ℕ, length, drop, Bool, true, false, List, [], ◌∷◌, ◌++◌, Option, Some, None, IsSome}
 use Rattle.std.specs.List.{All, AllPairs, Contains, list_any, flat_map}
 use Rattle.gate_tx.specs.declared.OutPoint.{OutPoint}
 use Rattle.gate_tx.specs.declared.TxIn.{TxIn}
@@ -57,12 +57,17 @@ abbrev pub begins_with_coinbase : List Tx → Bool
 begins_with_coinbase [] = false
 begins_with_coinbase (tx ∷ txs) = is_coinbase tx.inputs
 
+-- a chain when it had these blocks and then one more
+abbrev pub chain_up_to : History → List Block → Block → History
+chain_up_to chain before b = record { coins = chain.coins; times = chain.times; blocks = before ++ b ∷ [] }
+
 -- each connected block begins with a coinbase, its transactions have a text, and what those behind the first spend came from
--- transactions that the chain knows
+-- transactions that the chain knew once it had that block
 pub record IsSettled (chain : History) : Type 0 where
   pub coinbases : (b : Block) → Contains chain.blocks b → begins_with_coinbase b.transactions ≡ true
   pub spelled : (tx : Tx) → Contains (connected_transactions chain) tx → IsTx tx
-  pub founded : (b : Block) → Contains chain.blocks b → (tx : Tx) → Contains (drop 1 b.transactions) tx → (i : TxIn) → Contains tx.inputs i → is_known_txid chain i.prevout.txid ≡ true
+  pub founded : (before after : List Block) (b : Block) → chain.blocks ≡ before ++ b ∷ after → (tx : Tx) → Contains (drop 1 b.transactions) tx → (i : TxIn) → Contains tx.inputs i
+      → is_known_txid (chain_up_to chain before b) i.prevout.txid ≡ true
 
 -- no connected block has a transaction of the submission's txid
 abbrev pub IsUnconnected : History → Option Tx → Type 0

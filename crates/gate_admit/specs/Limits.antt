@@ -1,14 +1,19 @@
--- Limits of families (A36, with the growth that a replacement is given), and what a transaction may not be above (A37).
-use Rattle.std.specs.Prelude.{ℕ, ◌+◌, ◌==◌, nat_le, Bool, ◌&&◌, ◌||◌, not, List, [], ◌∷◌, length}
+-- Limits of families (A36, with the growth that a replacement is given, and those of a transaction that is tried again), and what a
+-- transaction may not be above (A37).
+use Rattle.std.specs.Prelude.{ℕ, ◌+◌, ◌==◌, nat_le, Bool, ◌&&◌, ◌||◌, not, List, [], ◌∷◌, ◌++◌, length}
 use Rattle.std.specs.List.{list_any, list_all}
 use Rattle.gate_bytes.specs.Order.{Rule}
+use Rattle.gate_tx.specs.declared.TxIn.{TxIn}
 use Rattle.gate_tx.specs.Ids.{txid_of}
 use Rattle.gate_tx.specs.Tx.{Tx}
+use Rattle.gate_graph.specs.Family.{reaches}
 use Rattle.gate_standard.specs.declared.Denial.{Denial}
 use Rattle.gate_standard.specs.declared.Denial.TheVariants.{TooLongChain, SpendsConflicting}
 use Rattle.gate_pool.specs.Pool.{Admitted, size_of}
+use Rattle.gate_admit.specs.declared.attempt.Attempt.{Attempt}
+use Rattle.gate_admit.specs.declared.attempt.Attempt.TheVariants.{First, Again}
 use Rattle.gate_admit.specs.declared.limits.FamilyLimits.{FamilyLimits}
-use Rattle.gate_pool.specs.Family.{descendants_of, ancestors_above, is_conflict, conflicts_of}
+use Rattle.gate_pool.specs.Family.{steps, ancestors_of, descendants_of, ancestors_above, is_conflict, conflicts_of}
 
 -- beside exactly one direct conflict there may be one descendant more, and as many bytes as that has with its descendants
 abbrev pub grown : List Admitted → List Admitted → FamilyLimits → FamilyLimits
@@ -46,8 +51,41 @@ fits_families entries tx vsize =
     let limits = grown entries (conflicts_of entries tx) usual_limits in
     is_within limits entries above vsize || (nat_le vsize 10000 && is_within (carved_out limits) entries above vsize)
 
-unfoldable pub limit_rules : List Admitted → Tx → ℕ → List (Rule Denial)
-limit_rules entries tx vsize =
-    (TooLongChain, not (fits_families entries tx vsize))
+-- ---- a transaction that is tried again
+
+-- the ancestors and the descendants of an id, its own entry among each, are few and small
+abbrev pub is_limited : List Admitted → List ℕ → Bool
+is_limited entries txid =
+    nat_le (length (ancestors_of entries txid)) 25
+    && (nat_le (size_of (ancestors_of entries txid)) 101000
+    && (nat_le (length (descendants_of entries txid)) 26
+    && nat_le (size_of (descendants_of entries txid)) 111000))
+
+-- the entries with a transaction of this size behind them; what it would replace is still there
+abbrev pub joined : List Admitted → Tx → ℕ → List Admitted
+joined entries tx vsize = entries ++ record { tx = tx; fee = 0; vsize = vsize; time = 0 } ∷ []
+
+-- a chain of steps leads from it to a transaction of which it spends an output
+abbrev pub is_below_itself : List Admitted → Tx → Bool
+is_below_itself entries tx = list_any (λ (i : TxIn). reaches (steps entries) (txid_of tx) i.prevout.txid) tx.inputs
+
+-- with it, it doesn't descend from itself, and each of its ancestors and descendants, itself among them, is within the limits
+abbrev pub fits_again : List Admitted → Tx → ℕ → Bool
+fits_again entries tx vsize =
+    let all = joined entries tx vsize in
+    not (is_below_itself all tx)
+    && (list_all (λ e. is_limited all (txid_of e.tx)) (ancestors_of all (txid_of tx))
+    && list_all (λ e. is_limited all (txid_of e.tx)) (descendants_of all (txid_of tx)))
+
+-- ---- the rules
+
+-- whether the limits of an attempt are kept
+abbrev pub fits : Attempt → List Admitted → Tx → ℕ → Bool
+fits First entries tx vsize = fits_families entries tx vsize
+fits Again entries tx vsize = fits_again entries tx vsize
+
+unfoldable pub limit_rules : Attempt → List Admitted → Tx → ℕ → List (Rule Denial)
+limit_rules attempt entries tx vsize =
+    (TooLongChain, not (fits attempt entries tx vsize))
     ∷ (SpendsConflicting, list_any (is_conflict tx) (ancestors_above entries tx.inputs))
     ∷ []

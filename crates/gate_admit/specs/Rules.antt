@@ -139,7 +139,7 @@ admission_rules attempt over tx =
     ++ (balance_rules (coins_value coins) (outputs_value tx)
     ++ (report_rules answers tx
     ++ (payment_rules attempt over.floor fee vsize
-    ++ (limit_rules over.entries tx vsize
+    ++ (limit_rules attempt over.entries tx vsize
     ++ (replacement_rules over.entries tx fee vsize
     ++ verdict_rules over.verdicts (wtxid_of tx) 0 tx.inputs))))))))))
 

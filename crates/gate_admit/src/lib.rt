@@ -5,22 +5,26 @@
 //! committed, which takes none. What they judge over is one record, a `Standing`.
 #![tactic(auto)]
 
+mod again;
 mod attempt;
 mod coins;
 mod conflicts;
 mod grant;
+mod joining;
 mod judging;
 mod law;
 mod limits;
 mod locking;
 mod paying;
 mod prepared;
+mod readmission;
 mod reporting;
 mod submission;
 mod verdicts;
 mod verifying;
 
 pub use attempt::Attempt;
+pub use coins::{LentCoin, view_coin};
 pub use gate_chain::{Chain, OpenFault, OpeningCoin};
 pub use gate_inputs::{InputReport, Piece, report};
 pub use gate_pool::{Entry, Pool, PoolView};
@@ -32,5 +36,6 @@ pub use law::{
     replacements_pay,
 };
 pub use prepared::Prepared;
+pub use readmission::readmit;
 pub use submission::{Coming, commit_submission, plan_submission, submit};
 pub use verdicts::{Verdict, VerdictRow, Verdicts};

@@ -1,17 +1,20 @@
 //! Families: A36, and A37.
-ghost use Rattle.std.specs.Prelude.{◌≡◌, ◌<◌, ◌^◌, Bool, true, IfOk, filter, Contains};
+ghost use Rattle.std.specs.Prelude.{◌≡◌, ◌<◌, ◌≤◌, ◌^◌, Bool, true, None, IfOk, filter, Contains};
 ghost use Rattle.std.specs.List.{list_all};
 ghost use Rattle.gate_bytes.specs.Order.{first_failing};
 ghost use Rattle.gate_tx.specs.Ids.{txid_of};
-ghost use Rattle.gate_pool.specs.Pool.{Admitted};
+ghost use Rattle.gate_pool.specs.Pool.{Admitted, entry_by_txid, largest_vsize};
 ghost use Rattle.gate_pool.specs.Family.{ancestors_above, conflicts_of, AreIdsOf};
 ghost use Rattle.gate_admit.specs.Limits.{usual_limits, grown, is_within, fits_families, has_room, has_room_below, limit_rules};
+ghost use Rattle.gate_admit.specs.declared.attempt.Attempt.TheVariants.{First, Again};
 
-use gate_bytes::Memory;
+use crate::again::fits_again;
+use crate::attempt::Attempt;
+use gate_bytes::{Counted, Memory};
 use gate_pool::{PoolView, add_up, ancestors, descendants};
 use gate_rbf::{only_conflict, spends_conflict};
 use gate_standard::Denial;
-use gate_tx::{Transaction, Txid};
+use gate_tx::{Identified, Transaction, Txid};
 use std::alloc::Global;
 
 /// How many ancestors and descendants there may be, each with the transaction itself, and how many virtual bytes they have.
@@ -165,15 +168,15 @@ fn fits_families<V: PoolView>(
     is_within(alloc, pool, above, vsize, carved_out)
 }
 
-/// The first of A36 and A37 that fails.
+/// The first of A36 and A37 that fails at a first attempt.
 #[tactic(auto, unfolding(crate::specs::Limits::limit_rules))]
-pub(crate) fn check_families<V: PoolView>(
+fn check_first<V: PoolView>(
     alloc: Global,
     pool: &V,
     tx: &Transaction,
     vsize: u64,
 ) -> Result<Option<Denial>, Memory>
-    ensures { IfOk result (λ found. found ≡ first_failing (limit_rules (V.entries pool.now) tx.now vsize)) }
+    ensures { IfOk result (λ found. found ≡ first_failing (limit_rules First (V.entries pool.now) tx.now vsize)) }
 {
     let Some(above) = ancestors(alloc, pool, tx.inputs(), USUAL.ancestors)? else {
         return Ok(Some(Denial::TooLongChain));
@@ -188,4 +191,49 @@ pub(crate) fn check_families<V: PoolView>(
         return Ok(Some(Denial::SpendsConflicting));
     }
     Ok(None)
+}
+
+/// The same where it is tried again.
+#[tactic(auto, unfolding(crate::specs::Limits::limit_rules))]
+fn check_again<V: PoolView>(
+    alloc: Global,
+    pool: &V,
+    identified: &Counted<Identified>,
+    vsize: u64,
+) -> Result<Option<Denial>, Memory>
+    requires new { entry_by_txid (V.entries pool.now) (txid_of identified.now) ≡ None }
+    requires least { 1 ≤ vsize }
+    requires most { vsize ≤ largest_vsize }
+    ensures { IfOk result (λ found. found ≡ first_failing (limit_rules Again (V.entries pool.now) identified.now vsize)) }
+{
+    if !fits_again(alloc, pool, identified, vsize)? {
+        return Ok(Some(Denial::TooLongChain));
+    }
+    let tx = identified.get().transaction();
+    let Some(above) = ancestors(alloc, pool, tx.inputs(), usize::MAX)? else {
+        return Err(Memory);
+    };
+    if spends_conflict(pool, tx, &above) {
+        return Ok(Some(Denial::SpendsConflicting));
+    }
+    Ok(None)
+}
+
+/// The first of A36 and A37 that fails at an attempt. No entry has the transaction's id.
+pub(crate) fn check_families<V: PoolView>(
+    alloc: Global,
+    attempt: Attempt,
+    pool: &V,
+    identified: &Counted<Identified>,
+    vsize: u64,
+) -> Result<Option<Denial>, Memory>
+    requires new { entry_by_txid (V.entries pool.now) (txid_of identified.now) ≡ None }
+    requires least { 1 ≤ vsize }
+    requires most { vsize ≤ largest_vsize }
+    ensures { IfOk result (λ found. found ≡ first_failing (limit_rules attempt (V.entries pool.now) identified.now vsize)) }
+{
+    match attempt {
+        Attempt::First => check_first(alloc, pool, identified.get().transaction(), vsize),
+        Attempt::Again => check_again(alloc, pool, identified, vsize),
+    }
 }

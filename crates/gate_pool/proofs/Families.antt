@@ -1,7 +1,7 @@
 -- The walk down from ids finds all that is below them, and the walk up from inputs all that is above these.
 use Rattle.std.proofs.Common.{◌≡◌, ℕ, ◌+◌, ◌<◌, ◌≤◌, Bool, true, ◌&&◌, List, [], false, length, get_or, refl, sym, ap, ◌∙◌, subst, arith, Some}
 use Rattle.std.specs.Prelude.{Contains, filter}
-use Rattle.std.specs.List.{list_any}
+use Rattle.std.specs.List.{AllPairs, list_any}
 use Rattle.std.specs.Str.{bytes_eq}
 use Rattle.std.specs.Cmp.Lexicographic.{bytes_decides}
 use Rattle.std.proofs.lemmas.Bool.{and_parts, and_from}
@@ -13,11 +13,10 @@ use Rattle.gate_graph.proofs.Members.{any_is, list_any_of}
 use Rattle.gate_graph.proofs.Reaching.{reaches-same, reaches_trans, reaches_step, Leads_from_reaches}
 use Rattle.gate_pool.specs.Pool.{Admitted, has_txid, entry_by_txid}
 use Rattle.gate_pool.specs.Family.{steps, children_of, ancestors_above, all_below, is_below_some, AreIdsOf}
-use Rattle.gate_pool.specs.Distinct.{AreDistinct}
 use Rattle.gate_pool.specs.Search.{IsEntry, IsFound, parents_of}
-use Rattle.gate_pool.proofs.Adding.{passed, found_by_id}
+use Rattle.gate_pool.proofs.Adding.{DifferById, passed, found_by_id}
 use Rattle.gate_pool.proofs.Entries.{Id, Contains-map, Contains-from_map, entry_step, step_entry, find_some}
-use Rattle.gate_pool.proofs.Ids.{same_entry}
+use Rattle.gate_pool.proofs.Ids.{same_txid}
 use Rattle.gate_pool.proofs.Searching.{IsSound, IsSound-none, IsSound-more, IsSound-few, IsWalk, IsWalk-start, IsWalk-open}
 use Rattle.gate_pool.proofs.Walking.{names, Contains-filter, Contains-from_filter}
 
@@ -126,10 +125,10 @@ module _ (g : List Admitted) (inputs : List TxIn) where
   WalkUp-start is h e = IsWalk-start is h e parent_above
 
   -- the next is that of an entry
-  pub next_entry : AreDistinct g → {opened : ℕ} {found : List Id} → WalkUp g inputs opened found → (x : Id) → opened < length found → x ≡ get_or found opened x → (e : Admitted) × (entry_by_txid g x ≡ Some e)
+  pub next_entry : AllPairs DifferById g → {opened : ℕ} {found : List Id} → WalkUp g inputs opened found → (x : Id) → opened < length found → x ≡ get_or found opened x → (e : Admitted) × (entry_by_txid g x ≡ Some e)
   next_entry distinct {opened} w x lt is =
       let has = w.sound.entry x (opened, lt, sym is) in
-      (has.0, ap (entry_by_txid g) (sym has.2) ∙ found_by_id g distinct.txids has.0 has.1)
+      (has.0, ap (entry_by_txid g) (sym has.2) ∙ found_by_id g distinct has.0 has.1)
 
   -- so are those of the next
   above_next : {opened : ℕ} {found : List Id} → WalkUp g inputs opened found → (x : Id) → opened < length found → x ≡ get_or found opened x
@@ -139,14 +138,14 @@ module _ (g : List Admitted) (inputs : List TxIn) where
       grandparent_above e v.0 (ap (is_above g inputs) ((bytes_decides (txid_of e.tx) x).0 v.1) ∙ w.sound.aimed x (opened, lt, sym is)) id m has
 
   -- the parents of the next are added
-  pub WalkUp-open : {most opened : ℕ} {found after : List Id} {w : Bool} → AreDistinct g → WalkUp g inputs opened found → (x : Id) → opened < length found → x ≡ get_or found opened x
+  pub WalkUp-open : {most opened : ℕ} {found after : List Id} {w : Bool} → AllPairs DifferById g → WalkUp g inputs opened found → (x : Id) → opened < length found → x ≡ get_or found opened x
       → (e : Admitted) → entry_by_txid g x ≡ Some e → IsFound most g (parents_of e.tx.inputs) found after w → w ≡ true → WalkUp g inputs (opened + 1) after
   WalkUp-open {opened = opened} distinct w x lt is e finds h t =
       let v = find_some (λ (d : Admitted). has_txid d x) g e finds in
       let same : txid_of e.tx ≡ x = (bytes_decides (txid_of e.tx) x).0 v.1 in
       IsWalk-open w x lt is h t (above_next w x lt is e finds) (λ b s.
       let p = step_entry g b x s.0 in
-      let one : p.entry ≡ e = same_entry g distinct p.entry e p.member v.0 (p.child ∙ sym same) in
+      let one : p.entry ≡ e = same_txid g distinct p.entry e p.member v.0 (p.child ∙ sym same) in
       let named : Contains (parents_of p.entry.tx.inputs) b = subst (Contains (parents_of p.entry.tx.inputs)) p.parent (Contains-map (λ (i : TxIn). i.prevout.txid) p.entry.tx.inputs p.point p.spent) in
       (subst (λ l. Contains (parents_of l) b) (ap (λ (d : Admitted). d.tx.inputs) one) named, s.1))
 

@@ -50,8 +50,11 @@ pairs_same {X} R xs apart a b m n left right =
     told a b m n lt = subst (λ z. R z b) m.2 (subst (λ z. R (get_or xs m.0 a) z) (sym (get_or_read xs n.0 b n.1 (sym n.2) a)) (apart m.0 n.0 a lt n.1))
 
 -- entries that share an id are one, and so are entries that spend one outpoint
+pub same_txid : (entries : List Admitted) → AllPairs (λ (a : Admitted) (b : Admitted). txid_of a.tx ≢ txid_of b.tx) entries → (a b : Admitted) → Contains entries a → Contains entries b → txid_of a.tx ≡ txid_of b.tx → a ≡ b
+same_txid entries apart a b m n same = pairs_same (λ (a : Admitted) (b : Admitted). txid_of a.tx ≢ txid_of b.tx) entries apart a b m n (λ differ. differ same) (λ differ. differ (sym same))
+
 pub same_entry : (entries : List Admitted) → AreDistinct entries → (a b : Admitted) → Contains entries a → Contains entries b → txid_of a.tx ≡ txid_of b.tx → a ≡ b
-same_entry entries distinct a b m n same = pairs_same (λ (a : Admitted) (b : Admitted). txid_of a.tx ≢ txid_of b.tx) entries distinct.txids a b m n (λ differ. differ same) (λ differ. differ (sym same))
+same_entry entries distinct a b m n same = same_txid entries distinct.txids a b m n same
 
 pub same_spender : (entries : List Admitted) → AreDistinct entries → (p : OutPoint) (a b : Admitted) → Contains entries a → Contains entries b → spends a.tx.inputs p ≡ true → spends b.tx.inputs p ≡ true → a ≡ b
 same_spender entries distinct p a b m n s t =

@@ -17,3 +17,5 @@ pub mod Noting
 pub mod Passing
 pub mod Points
 pub mod Walking
+pub mod Lessening
+pub mod OwnAncestors

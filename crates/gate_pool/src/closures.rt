@@ -1,10 +1,10 @@
 //! Families over any view of a pool: found by walking from entry to entry, so that no search goes through the pool.
 ghost use Rattle.std.specs.Prelude.{◌≡◌, ◌<◌, ◌^◌, ◌≤◌, Bool, Some, None, [], ◌∷◌, IfOk, IfSome, length, filter, vec_len};
 ghost use Rattle.gate_pool.specs.Pool.{Admitted, entry_by_txid};
-ghost use Rattle.gate_pool.specs.Family.{ancestors_above, all_below, AreIdsOf, sums_of};
-ghost use Rattle.gate_pool.specs.Search.{parents_of, IsFound};
+ghost use Rattle.gate_pool.specs.Family.{ancestors_of, ancestors_above, all_below, AreIdsOf, sums_of};
+ghost use Rattle.gate_pool.specs.Search.{parents_of, IsEntry, IsFound};
 
-use crate::view::PoolView;
+use crate::view::FamilyView;
 use gate_bytes::Memory;
 use gate_tx::{TxIn, Txid};
 use std::alloc::Global;
@@ -21,7 +21,7 @@ pub struct Sums {
 }
 
 /// Adds the id of an entry, unless it was found before. Tells whether there are no more than `most`.
-fn add<V: PoolView>(
+fn add<V: FamilyView>(
     pool: &V,
     found: &mut Vec<Txid>,
     txid: &Txid,
@@ -36,7 +36,7 @@ fn add<V: PoolView>(
 }
 
 /// Adds those of the ids that are entries', until there are more than `most`.
-fn add_all<V: PoolView>(
+fn add_all<V: FamilyView>(
     pool: &V,
     found: &mut Vec<Txid>,
     txids: &[Txid],
@@ -53,7 +53,7 @@ fn add_all<V: PoolView>(
 }
 
 /// Adds those of the ids that the inputs name that are entries', until there are more than `most`.
-fn add_parents<V: PoolView>(
+fn add_parents<V: FamilyView>(
     pool: &V,
     found: &mut Vec<Txid>,
     inputs: &[TxIn],
@@ -70,7 +70,7 @@ fn add_parents<V: PoolView>(
 }
 
 /// The same for the inputs of an entry.
-fn add_parents_of<V: PoolView>(
+fn add_parents_of<V: FamilyView>(
     pool: &V,
     found: &mut Vec<Txid>,
     child: &Txid,
@@ -86,7 +86,7 @@ fn add_parents_of<V: PoolView>(
 
 /// The ids of the entries above a transaction with these inputs: its parents in the pool, their parents, and so on. None
 /// where there are more than `most`.
-pub fn ancestors<V: PoolView>(
+pub fn ancestors<V: FamilyView>(
     alloc: Global,
     pool: &V,
     inputs: &[TxIn],
@@ -96,7 +96,7 @@ pub fn ancestors<V: PoolView>(
     ensures few { IfOk result (λ found. IfSome found (λ ids. vec_len ids ≤ most)) }
     ensures many { IfOk result (λ found. found ≡ None → most < length (ancestors_above (V.entries pool.now) inputs.now)) }
 {
-    pool.tells_distinct();
+    pool.tells_apart();
     let mut found = Vec::new(alloc);
     if !add_parents(pool, &mut found, inputs, most)? {
         return Ok(None);
@@ -112,8 +112,33 @@ pub fn ancestors<V: PoolView>(
     Ok(Some(found))
 }
 
+/// The ids of the entry of an id and of all that are above it. None where there are more than `most`.
+pub fn ancestors_with<V: FamilyView>(
+    alloc: Global,
+    pool: &V,
+    txid: &Txid,
+    most: usize,
+) -> Result<Option<Vec<Txid>>, Memory>
+    requires { IsEntry (V.entries pool.now) txid.now }
+    ensures found { IfOk result (λ found. IfSome found (λ ids. AreIdsOf ids.items (ancestors_of (V.entries pool.now) txid.now))) }
+    ensures many { IfOk result (λ found. found ≡ None → most < length (ancestors_of (V.entries pool.now) txid.now)) }
+{
+    pool.tells_apart();
+    let entry = pool.entry(txid).unwrap();
+    let Some(mut found) = ancestors(alloc, pool, entry.transaction().inputs(), most)? else {
+        return Ok(None);
+    };
+    if !found.contains(txid) {
+        found.push(*txid)?;
+    }
+    if found.len() > most {
+        return Ok(None);
+    }
+    Ok(Some(found))
+}
+
 /// The ids of entries, given by theirs, with those of all that are below them. None where there are more than `most`.
-pub fn descendants<V: PoolView>(
+pub fn descendants<V: FamilyView>(
     alloc: Global,
     pool: &V,
     roots: &[Txid],
@@ -140,11 +165,11 @@ pub fn descendants<V: PoolView>(
 }
 
 /// What entries, given by their ids, come to.
-pub fn add_up<V: PoolView>(pool: &V, ids: &[Txid]) -> Sums
+pub fn add_up<V: FamilyView>(pool: &V, ids: &[Txid]) -> Sums
     ensures sums { (test : Admitted → Bool) → AreIdsOf ids.now (filter test (V.entries pool.now)) → result ≡ sums_of (filter test (V.entries pool.now)) }
     ensures small { result.size < 2 ^ 100 }
 {
-    pool.tells_distinct();
+    pool.tells_apart();
     let mut sums = Sums {
         count: 0,
         size: 0,

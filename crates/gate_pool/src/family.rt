@@ -5,7 +5,7 @@ ghost use Rattle.gate_tx.specs.declared.TxIn.{TxIn as Input};
 ghost use Rattle.gate_tx.specs.declared.OutPoint.{OutPoint as Point};
 ghost use Rattle.gate_tx.specs.Coins.{spends};
 ghost use Rattle.gate_pool.specs.Pool.{Admitted, spender_of};
-ghost use Rattle.gate_pool.specs.Family.{without_family, without_below, spends_one_of, children_of, AreIdsOf};
+ghost use Rattle.gate_pool.specs.Family.{names, without_family, without_below, spends_one_of, children_of, AreIdsOf};
 ghost use Rattle.gate_pool.specs.Walk.{Walk};
 ghost use Rattle.gate_pool.specs.Keeping.{IsNoted};
 ghost use Rattle.indexmap.specs.IndexMap.{get};
@@ -176,5 +176,49 @@ pub(crate) fn take_conflicts<S: BuildHasher + Drop>(
 {
     for input in inputs {
         take_spenders(slots, found, bounds, &input.prevout);
+    }
+}
+
+/// Takes out the entries that name an id, of which no index above the bound is spent, and all below them.
+fn take_up_to<S: BuildHasher + Drop>(
+    slots: &mut Slots<S>,
+    found: &mut Vec<Txid>,
+    bounds: &IndexMap<Txid, u32, S>,
+    parent: &Txid,
+    bound: u32,
+)
+    requires reach { (e : Admitted) → Contains slots.old.entries e → (i : Input) → Contains e.tx.inputs i → bytes_eq i.prevout.txid parent.now ≡ true → i.prevout.index ≤ bound }
+    requires noted { IsNoted slots.old.entries (get bytes_eq bounds.now) }
+    requires places { length slots.old.entries + 1 ≤ vec_capacity found.old }
+    ensures rest { slots.new.entries ≡ without_below (λ e. names e parent.now) slots.old.entries }
+    ensures room { slots.new.room ≡ slots.old.room }
+    ensures capacity { vec_capacity found.new ≡ vec_capacity found.old }
+{
+    let outputs = u64::from(bound) + 1;
+    for index in 0..outputs {
+        let point = OutPoint {
+            txid: *parent,
+            index: index as u32,
+        };
+        take_spenders(slots, found, bounds, &point);
+    }
+}
+
+/// The same, where the bound is looked up; there is none for an id that nothing names.
+pub(crate) fn take_named<S: BuildHasher + Drop>(
+    slots: &mut Slots<S>,
+    found: &mut Vec<Txid>,
+    bounds: &IndexMap<Txid, u32, S>,
+    parent: &Txid,
+)
+    requires noted { IsNoted slots.old.entries (get bytes_eq bounds.now) }
+    requires places { length slots.old.entries + 1 ≤ vec_capacity found.old }
+    ensures rest { slots.new.entries ≡ without_below (λ e. names e parent.now) slots.old.entries }
+    ensures room { slots.new.room ≡ slots.old.room }
+    ensures capacity { vec_capacity found.new ≡ vec_capacity found.old }
+{
+    match bounds.get(parent) {
+        Some(bound) => take_up_to(slots, found, bounds, parent, *bound),
+        None => {}
     }
 }

@@ -18,11 +18,11 @@ mod view;
 mod weighing;
 
 pub use below::Test;
-pub use closures::{Sums, add_up, ancestors, descendants};
+pub use closures::{Sums, add_up, ancestors, ancestors_with, descendants};
 pub use entry::{Entry, LARGEST_VSIZE};
 pub use pool::{MOST_ENTRIES, Pool};
 pub use scores::Score;
-pub use view::PoolView;
+pub use view::{FamilyView, PoolView};
 
 #[cfg(test)]
 mod plain;

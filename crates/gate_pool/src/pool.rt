@@ -1,22 +1,22 @@
-ghost use Rattle.std.specs.Prelude.{◌≡◌, ◌<◌, Bool, None, [], filter, length, IfOk, IfSome, OnOk};
+ghost use Rattle.std.specs.Prelude.{◌≡◌, ◌<◌, Bool, None, [], not, filter, length, IfOk, IfSome, OnOk};
 ghost use Rattle.std.specs.List.Sorted.{IsPermutation};
 ghost use Rattle.std.specs.Option.{option_copied};
 ghost use Rattle.gate_tx.specs.Ids.{txid_of, wtxid_of};
-ghost use Rattle.gate_pool.specs.Pool.{Admitted, entry_by_txid, entry_by_wtxid, spender_of, listing_of, size_of, is_before};
-ghost use Rattle.gate_pool.specs.Family.{without_family, without_below, entered, AreIdsOf};
+ghost use Rattle.gate_pool.specs.Pool.{Admitted, entry_by_txid, entry_by_wtxid, spender_of, has_txid, listing_of, size_of, is_before};
+ghost use Rattle.gate_pool.specs.Family.{names, spends_one_of, without_family, without_below, entered, AreIdsOf};
 ghost use Rattle.gate_pool.specs.Scores.{AreBounded, least_of};
 ghost use Rattle.gate_pool.specs.Distinct.{AreDistinct};
 
 use crate::below::{Before, Test, take_passing};
 use crate::bounds::note;
 use crate::entry::Entry;
-use crate::family::{children_up_to, take_conflicts, take_out};
+use crate::family::{children_up_to, take_conflicts, take_named, take_out};
 use crate::scores::Score;
 use crate::slots::Slots;
-use crate::view::PoolView;
+use crate::view::{FamilyView, PoolView};
 use crate::weighing::least_score;
 use gate_bytes::{Kept, Memory};
-use gate_tx::{OutPoint, Txid, Wtxid};
+use gate_tx::{OutPoint, TxIn, Txid, Wtxid};
 use indexmap::IndexMap;
 use std::alloc::Global;
 use std::hash::BuildHasher;
@@ -121,7 +121,8 @@ impl<S: BuildHasher + Copy + Drop> Pool<S> {
         &self.slots
     }
 
-    pub(crate) fn hasher(&self) -> S {
+    /// The state that the hashers are made from.
+    pub fn hasher(&self) -> S {
         *self.bounds.hasher()
     }
 
@@ -204,6 +205,36 @@ impl<S: BuildHasher + Copy + Drop> Pool<S> {
         self.slots.tidy();
     }
 
+    /// Takes out the entry of an id alone: what spends its outputs stays. It takes no memory, and gives up the room that was
+    /// taken.
+    pub fn remove_root(&mut self, txid: &Txid)
+        ensures { self.new.entries ≡ filter (λ e. not (has_txid e txid.now)) self.old.entries }
+    {
+        self.room = 0;
+        self.slots.pull(txid);
+        self.slots.tidy();
+    }
+
+    /// Takes out the entries that spend what one of the inputs spends, and all that is below them. It takes no memory, gives
+    /// up the room that was taken, and looks at nothing but these.
+    pub fn take_spenders(&mut self, inputs: &[TxIn])
+        ensures { self.new.entries ≡ without_below (spends_one_of inputs.now) self.old.entries }
+    {
+        self.room = 0;
+        take_conflicts(&mut self.slots, &mut self.found, &self.bounds, inputs);
+        self.slots.tidy();
+    }
+
+    /// Takes out the entries that spend outputs of a transaction, whether that is an entry or not, and all that is below
+    /// them. It takes no memory, gives up the room that was taken, and looks at nothing but these.
+    pub fn take_children(&mut self, txid: &Txid)
+        ensures { self.new.entries ≡ without_below (λ e. names e txid.now) self.old.entries }
+    {
+        self.room = 0;
+        take_named(&mut self.slots, &mut self.found, &self.bounds, txid);
+        self.slots.tidy();
+    }
+
     /// Takes out the entries that pass a test and all that is below them. It takes no memory, and gives up the room that was
     /// taken.
     pub fn take_below<T: Test>(&mut self, test: &T)
@@ -237,19 +268,11 @@ impl<S: BuildHasher + Copy + Drop> Pool<S> {
     }
 }
 
-impl<S: BuildHasher + Copy + Drop> PoolView for Pool<S> {
+impl<S: BuildHasher + Copy + Drop> FamilyView for Pool<S> {
     ghost entries = { λ pool. pool.entries };
 
     fn entry(&self, txid: &Txid) -> Option<&Entry> {
         self.slots.entry(txid)
-    }
-
-    fn by_wtxid(&self, wtxid: &Wtxid) -> Option<&Entry> {
-        self.slots.by_wtxid(wtxid)
-    }
-
-    fn spender(&self, point: &OutPoint) -> Option<&Entry> {
-        self.slots.spender(point)
     }
 
     fn children(&self, alloc: Global, txid: &Txid) -> Result<Vec<Txid>, Memory> {
@@ -257,6 +280,20 @@ impl<S: BuildHasher + Copy + Drop> PoolView for Pool<S> {
             Some(bound) => children_up_to(&self.slots, alloc, txid, *bound),
             None => Ok(Vec::new(alloc)),
         }
+    }
+
+    fn tells_apart(&self) {
+        self.slots.tells_distinct();
+    }
+}
+
+impl<S: BuildHasher + Copy + Drop> PoolView for Pool<S> {
+    fn by_wtxid(&self, wtxid: &Wtxid) -> Option<&Entry> {
+        self.slots.by_wtxid(wtxid)
+    }
+
+    fn spender(&self, point: &OutPoint) -> Option<&Entry> {
+        self.slots.spender(point)
     }
 
     fn tells_distinct(&self) {

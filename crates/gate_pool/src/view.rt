@@ -3,31 +3,44 @@ use gate_bytes::Memory;
 use gate_tx::{OutPoint, Txid, Wtxid};
 use std::alloc::Global;
 
-/// Entries that can be searched: a pool as it stands, or a draft of one.
-pub trait PoolView {
-    ghost use Rattle.std.specs.Prelude.{◌≡◌, List, IfOk};
+/// Entries whose families can be walked: those of a pool, or of a pool with a transaction beside them.
+pub trait FamilyView {
+    ghost use Rattle.std.specs.Prelude.{◌≡◌, ◌≢◌, List, IfOk};
+    ghost use Rattle.std.specs.List.{AllPairs};
     ghost use Rattle.std.specs.Option.{option_copied};
-    ghost use Rattle.gate_pool.specs.Pool.{Admitted, entry_by_txid, entry_by_wtxid, spender_of};
+    ghost use Rattle.gate_tx.specs.Ids.{txid_of};
+    ghost use Rattle.gate_pool.specs.Pool.{Admitted, entry_by_txid};
     ghost use Rattle.gate_pool.specs.Family.{children_of, AreIdsOf};
-    ghost use Rattle.gate_pool.specs.Distinct.{AreDistinct};
 
     ghost entries: { Self → List Admitted };
 
     fn entry(&self, txid: &Txid) -> Option<&Entry>
         ensures { option_copied result ≡ entry_by_txid (entries self.now) txid.now };
 
-    fn by_wtxid(&self, wtxid: &Wtxid) -> Option<&Entry>
-        ensures { option_copied result ≡ entry_by_wtxid (entries self.now) wtxid.now };
-
-    /// The entry that spends an output.
-    fn spender(&self, point: &OutPoint) -> Option<&Entry>
-        ensures { option_copied result ≡ spender_of (entries self.now) point.now };
-
     /// The ids of the entries that spend outputs of a transaction, whether that is an entry or not.
     fn children(&self, alloc: Global, txid: &Txid) -> Result<Vec<Txid>, Memory>
         ensures { IfOk result (λ ids. AreIdsOf ids.items (children_of (entries self.now) txid.now)) };
 
+    /// That no two entries share an id: it does nothing.
+    fn tells_apart(&self)
+        ensures { AllPairs (λ (a : Admitted) (b : Admitted). txid_of a.tx ≢ txid_of b.tx) (entries self.now) };
+}
+
+/// Entries that can be searched: a pool as it stands, or a draft of one.
+pub trait PoolView: FamilyView {
+    ghost use Rattle.std.specs.Prelude.{◌≡◌};
+    ghost use Rattle.std.specs.Option.{option_copied};
+    ghost use Rattle.gate_pool.specs.Pool.{entry_by_wtxid, spender_of};
+    ghost use Rattle.gate_pool.specs.Distinct.{AreDistinct};
+
+    fn by_wtxid(&self, wtxid: &Wtxid) -> Option<&Entry>
+        ensures { option_copied result ≡ entry_by_wtxid (Self.entries self.now) wtxid.now };
+
+    /// The entry that spends an output.
+    fn spender(&self, point: &OutPoint) -> Option<&Entry>
+        ensures { option_copied result ≡ spender_of (Self.entries self.now) point.now };
+
     /// That no two entries share an id or spend one outpoint: it does nothing.
     fn tells_distinct(&self)
-        ensures { AreDistinct (entries self.now) };
+        ensures { AreDistinct (Self.entries self.now) };
 }

@@ -1,9 +1,7 @@
-use Rattle.std.proofs.Common.{◌≡◌, ◌+◌, true, false, ◌∙◌, sym, ap, subst, take, List, inl, inr, arith, get_or}
+use Rattle.std.proofs.Common.{◌≡◌, false, ◌∙◌, sym, subst, take, inl, inr, arith}
 use Rattle.std.specs.Prelude.{Contains, filter}
 use Rattle.std.proofs.lemmas.List.{take_all}
-use Rattle.std.proofs.lemmas.List.Elements.{Contains-get_or}
 use Rattle.gate_tx.specs.Ids.{txid_of}
-use Rattle.gate_pool.specs.Pool.{Admitted}
 use Rattle.gate_pool.proofs.Noting.{Contains-take_more}
 use Rattle.gate_pool.proofs.Walking.{Contains-from_filter}
 use Rattle.gate_admit.specs.Limits.{has_room_below}
@@ -12,7 +10,7 @@ use Rattle.gate_admit.proofs.limits.each_has_room.Goals as goal
 
 pub returns-then-not-branch : goal.returns-then-not-branch
 returns-then-not-branch g c = λ test ids.
-    let entries = g.V.PoolView.entries c.args.pool.now in
+    let entries = g.V.FamilyView.entries c.args.pool.now in
     let asked : Contains c.args.above.now c.txid-item.result = (c.loop-txid.txid-index, c.loop-txid-test.true, sym c.txid-item.is) in
     let found = ids.only c.txid-item.result asked in
     let fails : has_room_below c.args.limits entries c.args.vsize found.0 ≡ false = sym (c.in_ok-has_room_below.ensures found.0 (Contains-from_filter test entries found.0 found.1) found.2) ∙ c.if-not-branch.true in
@@ -20,7 +18,7 @@ returns-then-not-branch g c = λ test ids.
 
 pub loop-txid-preserved : goal.loop-txid-preserved
 loop-txid-preserved g c = λ a m at.
-    let entries = g.V.PoolView.entries c.args.pool.now in
+    let entries = g.V.FamilyView.entries c.args.pool.now in
     elim (Contains-take_more c.args.above.now c.loop-txid.txid-index c.txid-item.result (txid_of a.tx) c.loop-txid-test.true c.txid-item.is at) [
       | inl before ↦ c.loop-txid.invariant a m before
       | inr now ↦ sym (c.in_ok-has_room_below.ensures a m (sym now)) ∙ c.if-not-branch.false
@@ -28,7 +26,7 @@ loop-txid-preserved g c = λ a m at.
 
 pub returns : goal.returns
 returns g c = λ test ids.
-    let entries = g.V.PoolView.entries c.args.pool.now in
+    let entries = g.V.FamilyView.entries c.args.pool.now in
     let all : take c.loop-txid.txid-index c.args.above.now ≡ c.args.above.now = take_all c.loop-txid.txid-index c.args.above.now (omega (arith, c.loop-txid-test.false)) in
     sym (list_all_of (has_room_below c.args.limits entries c.args.vsize) (filter test entries) (λ a m.
     c.loop-txid.invariant a (Contains-from_filter test entries a m) (subst (λ l. Contains l (txid_of a.tx)) (sym all) (ids.all a m))))

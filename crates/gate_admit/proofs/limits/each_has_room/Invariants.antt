@@ -7,4 +7,4 @@ use Rattle.gate_admit.proofs.limits.each_has_room.Given as goal
 
 abbrev pub invariant-loop-txid : goal.invariant-loop-txid
 invariant-loop-txid g l =
-    (a : Admitted) → Contains (g.V.PoolView.entries l.pool) a → Contains (take l.txid-index l.above) (txid_of a.tx) → has_room_below l.limits (g.V.PoolView.entries l.pool) l.vsize a ≡ true
+    (a : Admitted) → Contains (g.V.FamilyView.entries l.pool) a → Contains (take l.txid-index l.above) (txid_of a.tx) → has_room_below l.limits (g.V.FamilyView.entries l.pool) l.vsize a ≡ true

@@ -1,4 +1,4 @@
-use Rattle.std.proofs.Common.{◌≡◌, ℕ, ◌+◌, Bool, ◌∷◌, [], ◌∙◌, sym, ap, subst, List}
+use Rattle.std.proofs.Common.{◌≡◌, ℕ, ◌+◌, Bool, [], ◌∙◌, sym, ap, subst, List}
 use Rattle.std.specs.Prelude.{Contains}
 use Rattle.gate_tx.specs.Ids.{txid_of}
 use Rattle.gate_graph.proofs.Members.{Contains-head}
@@ -14,12 +14,12 @@ use Rattle.gate_admit.proofs.limits.first_limits.Goals as goal
 
 pub returns-in_default-clause-limits : goal.returns-in_default-clause-limits
 returns-in_default-clause-limits g c =
-    let entries = g.V.PoolView.entries c.args.pool.now in
+    let entries = g.V.FamilyView.entries c.args.pool.now in
     sym (grown-other entries (conflicts_of entries c.args.tx.now) usual_limits (c.only_conflict.ensures.other c.in_default.is))
 
 pub returns-clause-limits : goal.returns-clause-limits
 returns-clause-limits g c =
-    let entries = g.V.PoolView.entries c.args.pool.now in
+    let entries = g.V.FamilyView.entries c.args.pool.now in
     let one = c.in-Some.ensures.one in
     let e : Admitted = one.0 in
     let member : Contains entries e = Contains-from_filter (is_conflict c.args.tx.now) entries e (subst (λ (l : List Admitted). Contains l e) (sym one.1) (Contains-head e [])) in

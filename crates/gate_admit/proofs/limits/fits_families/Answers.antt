@@ -15,7 +15,7 @@ use Rattle.gate_admit.proofs.limits.fits_families.Goals as goal
 
 pub returns : goal.returns
 returns g c =
-    let entries = g.V.PoolView.entries c.args.pool.now in
+    let entries = g.V.FamilyView.entries c.args.pool.now in
     let test : Admitted → Bool = λ e. list_any (λ (i : TxIn). reaches (steps entries) (txid_of e.tx) i.prevout.txid) c.args.tx.now.inputs in
     let above = ancestors_above entries c.args.tx.now.inputs in
     let limits = grown entries (conflicts_of entries c.args.tx.now) usual_limits in

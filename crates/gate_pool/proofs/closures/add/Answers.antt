@@ -9,7 +9,7 @@ use Rattle.gate_pool.proofs.closures.add.Goals.{then-not-contains+then-is_some+i
 pub returns : goal.returns
 returns g c =
     let x = c.args.txid.now in
-    let entries = g.V.PoolView.entries c.args.pool.now in
+    let entries = g.V.FamilyView.entries c.args.pool.now in
     let before = c.args.found.now.items in
     let after = c.if-not-contains.found.items in
     let len : length after ≡ c.len.result = omega (arith, c.len.ensures, c.if-not-contains.found.ok) in

@@ -10,12 +10,12 @@ use Rattle.gate_rbf.proofs.conflict.conflicts_within.Goals.{in-Some+in_ok-put-in
 
 pub loop-input-init : goal.loop-input-init
 loop-input-init g c =
-    let entries = g.V.PoolView.entries c.args.pool.now in
+    let entries = g.V.FamilyView.entries c.args.pool.now in
     subst (λ (l : List (List ℕ)). AreIdsOf l (filter (spends_one_of []) entries)) (sym c.new-ids.ensures.items) (AreIdsOf-none (spends_one_of []) entries (λ e m. refl))
 
 pub loop-input-preserved : goal.loop-input-preserved
 loop-input-preserved g c =
-    let entries = g.V.PoolView.entries c.args.pool.now in
+    let entries = g.V.FamilyView.entries c.args.pool.now in
     let items = c.inputs-input-items.result.now in
     let k = c.loop-input.input-index in
     elim c.match-spender.branch [
@@ -30,7 +30,7 @@ loop-input-preserved g c =
 
 pub returns-then-len-most-clause-many : goal.returns-then-len-most-clause-many
 returns-then-len-most-clause-many g c = λ _.
-    let entries = g.V.PoolView.entries c.args.pool.now in
+    let entries = g.V.FamilyView.entries c.args.pool.now in
     let items = c.inputs-input-items.result.now in
     let k = c.loop-input.input-index in
     let ids = c.put.new.ids.items in
@@ -43,6 +43,6 @@ returns-then-len-most-clause-many g c = λ _.
 
 pub returns-clause-found : goal.returns-clause-found
 returns-clause-found g c =
-    let entries = g.V.PoolView.entries c.args.pool.now in
+    let entries = g.V.FamilyView.entries c.args.pool.now in
     subst (λ (l : List TxIn). AreIdsOf c.loop-input.ids.items (filter (spends_one_of l) entries))
     (take_all c.loop-input.input-index c.inputs-input-items.result.now (omega (arith, c.loop-input-test.false)) ∙ c.inputs-input-items.ensures) c.loop-input.invariant

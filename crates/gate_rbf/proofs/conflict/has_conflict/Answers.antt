@@ -9,6 +9,6 @@ use Rattle.gate_rbf.proofs.conflict.has_conflict.Goals as goal
 
 pub returns : goal.returns
 returns g c =
-    let entries = g.V.PoolView.entries c.args.pool.now in
+    let entries = g.V.FamilyView.entries c.args.pool.now in
     any_from_yields_List (λ (i : TxIn). is_some (spender_of entries i.prevout)) _ _ c.any.result c.any.ensures.ran (YieldsList-from_slice c.args.tx.now.inputs cc) (λ x b q k. search (rules, tests))
     ∙ any-spender entries c.args.tx.now.inputs

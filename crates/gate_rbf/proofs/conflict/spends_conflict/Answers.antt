@@ -12,7 +12,7 @@ use Rattle.gate_rbf.proofs.conflict.spends_conflict.Goals as goal
 
 pub returns : goal.returns
 returns g c = λ test are.
-    let entries = g.V.PoolView.entries c.args.pool.now in
+    let entries = g.V.FamilyView.entries c.args.pool.now in
     let ids = c.args.ids.now in
     any_from_yields_List (λ (i : TxIn). list_any (λ (e : Admitted). spends e.tx.inputs i.prevout && is_among ids e) entries) _ _ c.any.result c.any.ensures.ran (YieldsList-from_slice c.args.tx.now.inputs cc) (λ x b q k. search (rules, tests))
     ∙ any-spender-with (is_among ids) entries c.args.tx.now

@@ -6,6 +6,6 @@ use Rattle.gate_rbf.proofs.counts.few_conflicts.Goals as goal
 
 pub returns-in_default-clause-many : goal.returns-in_default-clause-many
 returns-in_default-clause-many g c = λ _.
-    let entries = g.V.PoolView.entries c.args.pool.now in
+    let entries = g.V.FamilyView.entries c.args.pool.now in
     let tx = c.args.tx.now in
     omega (arith, c.in_ok-direct.ensures.many c.in_default.is, counted-least entries (conflicts_of entries tx) (Contains-from_filter (is_conflict tx) entries))

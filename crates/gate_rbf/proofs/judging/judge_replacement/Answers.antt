@@ -9,26 +9,26 @@ use Rattle.gate_rbf.proofs.Rules.{unasked, fails_rate, fails_count, fails_parent
 use Rattle.gate_rbf.proofs.judging.judge_replacement.Goals as goal
 
 pub returns-then-not-has_conflict-clause-ok : goal.returns-then-not-has_conflict-clause-ok
-returns-then-not-has_conflict-clause-ok g c = unasked (g.V.PoolView.entries c.args.pool.now) c.args.tx.now c.args.fee c.args.vsize (sym c.has_conflict.ensures ∙ c.if-not-has_conflict.true)
+returns-then-not-has_conflict-clause-ok g c = unasked (g.V.FamilyView.entries c.args.pool.now) c.args.tx.now c.args.fee c.args.vsize (sym c.has_conflict.ensures ∙ c.if-not-has_conflict.true)
 
 pub returns-then-not-has_conflict-clause-count : goal.returns-then-not-has_conflict-clause-count
 returns-then-not-has_conflict-clause-count g c =
-    sym (ap (λ l. length l) (none_replaced (g.V.PoolView.entries c.args.pool.now) c.args.tx.now (sym c.has_conflict.ensures ∙ c.if-not-has_conflict.true)))
+    sym (ap (λ l. length l) (none_replaced (g.V.FamilyView.entries c.args.pool.now) c.args.tx.now (sym c.has_conflict.ensures ∙ c.if-not-has_conflict.true)))
 
 pub returns-then-pays_no_more-clause-err : goal.returns-then-pays_no_more-clause-err
 returns-then-pays_no_more-clause-err g c =
-    fails_rate (g.V.PoolView.entries c.args.pool.now) c.args.tx.now c.args.fee c.args.vsize (sym c.has_conflict.ensures ∙ c.if-not-has_conflict.false) (sym c.pays_no_more.ensures ∙ c.if-pays_no_more.true)
+    fails_rate (g.V.FamilyView.entries c.args.pool.now) c.args.tx.now c.args.fee c.args.vsize (sym c.has_conflict.ensures ∙ c.if-not-has_conflict.false) (sym c.pays_no_more.ensures ∙ c.if-pays_no_more.true)
 
 pub returns-in_default-clause-err : goal.returns-in_default-clause-err
 returns-in_default-clause-err g c =
-    let entries = g.V.PoolView.entries c.args.pool.now in
+    let entries = g.V.FamilyView.entries c.args.pool.now in
     let tx = c.args.tx.now in
     fails_count entries tx c.args.fee c.args.vsize (sym c.has_conflict.ensures ∙ c.if-not-has_conflict.false) (sym c.pays_no_more.ensures ∙ c.if-pays_no_more.false)
     (is_over 100 (descendant_count entries (conflicts_of entries tx)) (c.in_ok-direct.ensures.many c.in_default.is))
 
 pub returns-then-branch-clause-err : goal.returns-then-branch-clause-err
 returns-then-branch-clause-err g c =
-    let entries = g.V.PoolView.entries c.args.pool.now in
+    let entries = g.V.FamilyView.entries c.args.pool.now in
     let tx = c.args.tx.now in
     let adds = rw c.as_slice.ensures.value at c.in_ok-adds_parents.ensures in
     let few = rw c.in-Some.is at c.in_ok-direct.ensures.few in
@@ -38,7 +38,7 @@ returns-then-branch-clause-err g c =
 
 pub returns-in-Ok-clause-ok : goal.returns-in-Ok-clause-ok
 returns-in-Ok-clause-ok g c =
-    let entries = g.V.PoolView.entries c.args.pool.now in
+    let entries = g.V.FamilyView.entries c.args.pool.now in
     let tx = c.args.tx.now in
     let adds = rw c.as_slice.ensures.value at c.in_ok-adds_parents.ensures in
     let few = rw c.in-Some.is at c.in_ok-direct.ensures.few in
@@ -52,7 +52,7 @@ returns-in-Ok-clause-ok g c =
 
 pub returns-in-Ok-clause-count : goal.returns-in-Ok-clause-count
 returns-in-Ok-clause-count g c =
-    let entries = g.V.PoolView.entries c.args.pool.now in
+    let entries = g.V.FamilyView.entries c.args.pool.now in
     let tx = c.args.tx.now in
     let are = rw c.in-Some.is at c.in_ok-direct.ensures.ids in
     let below = rw c.as_slice-2.ensures.value at c.in_ok-ids.ensures in
@@ -61,7 +61,7 @@ returns-in-Ok-clause-count g c =
 
 pub returns-clause-err : goal.returns-clause-err
 returns-clause-err g c =
-    let entries = g.V.PoolView.entries c.args.pool.now in
+    let entries = g.V.FamilyView.entries c.args.pool.now in
     let tx = c.args.tx.now in
     let adds = rw c.as_slice.ensures.value at c.in_ok-adds_parents.ensures in
     let few = rw c.in-Some.is at c.in_ok-direct.ensures.few in

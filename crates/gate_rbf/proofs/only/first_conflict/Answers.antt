@@ -15,7 +15,7 @@ use Rattle.gate_rbf.proofs.only.first_conflict.Goals as goal
 
 pub returns-in-Some-clause-found : goal.returns-in-Some-clause-found
 returns-in-Some-clause-found g c =
-    let entries = g.V.PoolView.entries c.args.pool.now in
+    let entries = g.V.FamilyView.entries c.args.pool.now in
     let tx = c.args.tx.now in
     let x = c.input-item.result in
     let e = c.in-Some.spender.now in
@@ -25,7 +25,7 @@ returns-in-Some-clause-found g c =
 
 pub loop-input-preserved : goal.loop-input-preserved
 loop-input-preserved g c =
-    let asked : TxIn → Bool = λ i. is_some (spender_of (g.V.PoolView.entries c.args.pool.now) i.prevout) in
+    let asked : TxIn → Bool = λ i. is_some (spender_of (g.V.FamilyView.entries c.args.pool.now) i.prevout) in
     let items = c.inputs-input-items.result.now in
     let k = c.loop-input.input-index in
     let x = c.input-item.result in
@@ -34,7 +34,7 @@ loop-input-preserved g c =
 
 pub returns-clause-none : goal.returns-clause-none
 returns-clause-none g c = λ _.
-    let entries = g.V.PoolView.entries c.args.pool.now in
+    let entries = g.V.FamilyView.entries c.args.pool.now in
     let asked : TxIn → Bool = λ i. is_some (spender_of entries i.prevout) in
     sym (any-spender entries c.args.tx.now.inputs)
     ∙ sym (ap (list_any asked) (take_all c.loop-input.input-index c.inputs-input-items.result.now (omega (arith, c.loop-input-test.false)) ∙ c.inputs-input-items.ensures))

@@ -10,7 +10,7 @@ use Rattle.gate_rbf.proofs.only.has_other_conflict.Goals as goal
 
 pub returns : goal.returns
 returns g c =
-    let entries = g.V.PoolView.entries c.args.pool.now in
+    let entries = g.V.FamilyView.entries c.args.pool.now in
     let txid = c.args.txid.now in
     any_from_yields_List (λ (i : TxIn). list_any (λ (e : Admitted). spends e.tx.inputs i.prevout && not (has_txid e txid)) entries) _ _ c.any.result c.any.ensures.ran (YieldsList-from_slice c.args.tx.now.inputs cc) (λ x b q k. search (rules, tests))
     ∙ any-spender-with (λ (e : Admitted). not (has_txid e txid)) entries c.args.tx.now

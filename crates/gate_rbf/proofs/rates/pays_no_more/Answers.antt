@@ -14,7 +14,7 @@ use Rattle.gate_rbf.proofs.rates.pays_no_more.Goals as goal
 
 pub returns : goal.returns
 returns g c =
-    let entries = g.V.PoolView.entries c.args.pool.now in
+    let entries = g.V.FamilyView.entries c.args.pool.now in
     let tx = c.args.tx.now in
     let rate = c.rate_of-rate.result in
     any_from_yields_List (λ (i : TxIn). list_any (λ (e : Admitted). spends e.tx.inputs i.prevout && nat_le rate (feerate e.fee e.vsize)) entries) _ _ c.any.result c.any.ensures.ran (YieldsList-from_slice tx.inputs cc) (λ x b q k. search (rules, tests))

@@ -11,6 +11,6 @@ use Rattle.gate_rbf.proofs.signalling.has_firm_conflict.Goals as goal
 
 pub returns : goal.returns
 returns g c =
-    let entries = g.V.PoolView.entries c.args.pool.now in
+    let entries = g.V.FamilyView.entries c.args.pool.now in
     any_from_yields_List (λ (i : TxIn). list_any (λ (e : Admitted). spends e.tx.inputs i.prevout && not (signals e.tx)) entries) _ _ c.any.result c.any.ensures.ran (YieldsList-from_slice c.args.tx.now.inputs cc) (λ x b q k. search (rules, tests))
     ∙ any-spender-with (λ (e : Admitted). not (signals e.tx)) entries c.args.tx.now

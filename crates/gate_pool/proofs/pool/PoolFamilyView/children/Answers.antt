@@ -6,7 +6,7 @@ use Rattle.gate_pool.specs.Family.{children_of, AreIdsOf}
 use Rattle.gate_pool.specs.Keeping.{IsNoted}
 use Rattle.gate_pool.proofs.Children.{AreIdsOf-none}
 use Rattle.gate_pool.proofs.Walking.{noted_reach, noted_none}
-use Rattle.gate_pool.proofs.pool.PoolPoolView.children.Goals as goal
+use Rattle.gate_pool.proofs.pool.PoolFamilyView.children.Goals as goal
 
 pub children_up_to-requires : goal.children_up_to-requires
 children_up_to-requires g c = noted_reach c.self.invariant.noted c.args.txid.now c.in-Some.bound.now c.in-Some.ensures.value

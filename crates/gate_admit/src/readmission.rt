@@ -1,0 +1,55 @@
+//! A transaction of a block that was disconnected comes back.
+ghost use Rattle.std.specs.Prelude.{◌≡◌, IfOk, OnErr};
+ghost use Rattle.gate_admit.specs.Readmission.{readmitted};
+ghost use Rattle.gate_admit.specs.Rules.{decision_of};
+ghost use Rattle.gate_admit.specs.Standing.{standing};
+ghost use Rattle.gate_admit.specs.declared.attempt.Attempt.TheVariants.{Again};
+
+use crate::attempt::Attempt;
+use crate::grant::Grant;
+use crate::judging::decide;
+use crate::prepared::Prepared;
+use crate::verdicts::Verdicts;
+use gate_bytes::{Copied, Memory};
+use gate_chain::Chain;
+use gate_pool::{Entry, Pool};
+use gate_standard::Denial;
+use gate_trim::Floor;
+use std::alloc::Global;
+use std::hash::BuildHasher;
+
+/// Tries a transaction again over the chain, and enters it at this second where it is granted: it stands at the end of the
+/// pool, also above what spends its outputs. Nothing expires and nothing is trimmed.
+pub fn readmit<S: BuildHasher + Copy + Drop>(
+    alloc: Global,
+    chain: &Chain<S>,
+    pool: &mut Pool<S>,
+    prepared: &Prepared,
+    verdicts: &Verdicts<S>,
+    now: u64,
+) -> Result<Result<Grant, Denial>, Memory>
+    // What it pays is not asked for, so that the pool's floor does not matter.
+    ensures decision { IfOk result (λ decision. decision ≡ decision_of Again (standing chain.now pool.old.entries 0 verdicts.now) prepared.now) }
+    ensures entries { IfOk result (λ decision. pool.new.entries ≡ readmitted pool.old.entries prepared.now now decision) }
+    ensures err { OnErr result (pool.new.entries ≡ pool.old.entries) }
+{
+    let floor = Floor::new(0);
+    let decision = decide(
+        alloc,
+        Attempt::Again,
+        chain,
+        pool,
+        &floor,
+        prepared,
+        verdicts,
+    )?;
+    let Some(identified) = prepared.identified() else {
+        return Ok(Err(Denial::Decode));
+    };
+    if let Ok(grant) = decision {
+        let entry = Entry::new(identified.copy(alloc)?, grant.fee, grant.vsize, now);
+        pool.reserve(entry.transaction().inputs().len())?;
+        pool.replace(entry);
+    }
+    Ok(decision)
+}
