@@ -1,0 +1,15 @@
+pub mod Knowing
+pub mod Settling
+pub mod Making
+pub mod Leaving
+pub mod Awaiting
+pub mod Trying
+pub mod Keeping
+pub mod Ripening
+pub mod Origins
+pub mod Telling
+pub mod Spending
+pub mod Counting
+pub mod Listed
+pub mod Picked
+pub mod Returns

@@ -1,0 +1,51 @@
+-- One chain event: when it is refused, and what chain, pool and floor are after it.
+use Rattle.std.specs.Prelude.{ℕ, is_none, filter, length, List, ◌∷◌, Option}
+use Rattle.std.specs.List.{list_any, flat_map}
+use Rattle.std.specs.Option.{option_to_list}
+use Rattle.gate_bytes.specs.Order.{Rule}
+use Rattle.gate_tx.specs.Ids.{txid_of}
+use Rattle.gate_chain.specs.declared.Block.{Block}
+use Rattle.gate_chain.specs.declared.ChainDenial.{ChainDenial}
+use Rattle.gate_chain.specs.declared.ChainDenial.TheVariants.{BlockDecode}
+use Rattle.gate_chain.specs.History.{History}
+use Rattle.gate_chain.specs.Times.{tip_of}
+use Rattle.gate_block.specs.Switching.{last_blocks, switched, switch_rules}
+use Rattle.gate_pool.specs.Pool.{Admitted, entry_by_txid}
+use Rattle.gate_trim.specs.Trimming.{Trimmed}
+use Rattle.gate_admit.specs.Standing.{Standing}
+use Rattle.gate_reorg.specs.declared.moved.Moved.{Moved}
+use Rattle.gate_reorg.specs.Reorganisation.{transactions_of, pool_after}
+
+-- the blocks that could be read
+abbrev pub present : List (Option Block) → List Block
+present blocks = flat_map option_to_list blocks
+
+-- what is asked of an event: that each block could be read, and then what is asked of the switch
+unfoldable pub event_rules : History → ℕ → List (Option Block) → List (Rule ChainDenial)
+event_rules chain depth blocks = (BlockDecode, list_any is_none blocks) ∷ switch_rules chain depth (present blocks)
+
+-- how many entries of one list have a txid that no entry of another has
+abbrev pub count_beyond : List Admitted → List Admitted → ℕ
+count_beyond entries others = length (filter (λ e. is_none (entry_by_txid others (txid_of e.tx))) entries)
+
+-- what an event comes to
+pub record Happened : Type 0 where
+  pub chain : History
+  pub entries : List Admitted
+  pub floor : ℕ
+  pub moved : Moved
+
+-- an event that leaves this chain, these entries and this floor, where those entries stood before it
+abbrev pub happened : List Admitted → History → Trimmed → Happened
+happened before chain after = record {
+  chain = chain;
+  entries = after.entries;
+  floor = after.floor;
+  moved = record { tip = tip_of chain; removed = count_beyond before after.entries; entered = count_beyond after.entries before };
+}
+
+-- the last blocks are disconnected, so many, and these connected in their place, at this second; the budget is in virtual bytes
+unfoldable pub event_of : Standing → ℕ → List Block → ℕ → ℕ → Happened
+event_of over depth blocks now budget =
+    let chain = switched over.chain depth blocks in
+    happened over.entries chain (pool_after depth chain over.verdicts now budget over.entries over.floor (transactions_of blocks) (transactions_of (last_blocks over.chain depth)))

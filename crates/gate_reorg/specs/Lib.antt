@@ -1,0 +1,4 @@
+pub mod Reorganisation
+pub mod Events
+pub mod Goodness
+pub mod Picking

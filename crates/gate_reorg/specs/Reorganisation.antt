@@ -1,0 +1,114 @@
+-- What a change of the chain does to a pool.
+use Rattle.std.specs.Prelude.{ℕ, ◌+◌, ◌==◌, Bool, false, not, ◌||◌, filter, map, List, [], ◌∷◌, Option, Some, None, Result, Ok, Err, if◌then◌else◌}
+use Rattle.std.specs.List.{list_any, flat_map}
+use Rattle.std.specs.Str.{bytes_eq}
+use Rattle.gate_tx.specs.declared.Coin.{Coin}
+use Rattle.gate_tx.specs.declared.TxIn.{TxIn}
+use Rattle.gate_tx.specs.Ids.{txid_of}
+use Rattle.gate_tx.specs.Tx.{Tx}
+use Rattle.gate_standard.specs.declared.Denial.{Denial}
+use Rattle.gate_chain.specs.declared.Block.{Block}
+use Rattle.gate_chain.specs.History.{History}
+use Rattle.gate_chain.specs.Times.{tip_of}
+use Rattle.gate_locks.specs.Finality.{is_final_at}
+use Rattle.gate_locks.specs.Locks.{median_at, sequence_locks_met_by}
+use Rattle.gate_pool.specs.Pool.{Admitted, has_txid}
+use Rattle.gate_pool.specs.Family.{names, is_conflict, without_below, entered}
+use Rattle.gate_trim.specs.Expiry.{expired}
+use Rattle.gate_trim.specs.Trimming.{Trimmed, trim_of}
+use Rattle.gate_admit.specs.declared.Attempt.TheVariants.{Again}
+use Rattle.gate_admit.specs.declared.Grant.{Grant}
+use Rattle.gate_admit.specs.Coins.{view_coin}
+use Rattle.gate_admit.specs.Rules.{decision_of, is_immature}
+use Rattle.gate_admit.specs.Standing.{standing}
+use Rattle.gate_admit.specs.Submission.{admitted}
+use Rattle.gate_admit.specs.Verdicts.{VerdictTable}
+
+-- the transactions of blocks, in their order
+abbrev pub transactions_of : List Block → List Tx
+transactions_of blocks = flat_map (λ (b : Block). b.transactions) blocks
+
+-- ---- Transactions of blocks that are connected
+
+-- the entries that are left without the one of an id; what spends its outputs stays
+abbrev pub without_txid : List Admitted → List ℕ → List Admitted
+without_txid entries txid = filter (λ e. not (has_txid e txid)) entries
+
+-- the entries that are left when a block has a transaction: its own entry goes alone, and what spends an outpoint that it
+-- spends goes with all below
+unfoldable pub confirmed : List Admitted → Tx → List Admitted
+confirmed entries tx = without_below (is_conflict tx) (without_txid entries (txid_of tx))
+
+-- transaction by transaction
+abbrev pub all_confirmed : List Admitted → List Tx → List Admitted
+all_confirmed entries [] = entries
+all_confirmed entries (tx ∷ txs) = all_confirmed (confirmed entries tx) txs
+
+-- ---- Transactions of blocks that were disconnected
+
+-- one of the transactions has this id
+abbrev pub has_id : List Tx → List ℕ → Bool
+has_id txs txid = list_any (λ (tx : Tx). bytes_eq (txid_of tx) txid) txs
+
+-- those of some transactions whose ids no new one has
+abbrev pub unconfirmed : List Tx → List Tx → List Tx
+unconfirmed new txs = filter (λ (tx : Tx). not (has_id new (txid_of tx))) txs
+
+-- what the decision on such a transaction comes to: it enters at this second, in the place of what conflicts with it; or
+-- what spends an output of it goes with all below
+abbrev pub tried : List Admitted → Tx → ℕ → Result Grant Denial → List Admitted
+tried entries tx now (Ok grant) = entered entries (admitted tx grant now)
+tried entries tx now (Err denial) = without_below (λ e. names e (txid_of tx)) entries
+
+-- it is tried again over the chain; no fee is asked for, so that the pool's floor does not matter
+unfoldable pub tried_again : History → VerdictTable → ℕ → List Admitted → Tx → List Admitted
+tried_again chain verdicts now entries tx = tried entries tx now (decision_of Again (standing chain entries 0 verdicts) (Some tx))
+
+-- one after another
+abbrev pub all_tried_again : History → VerdictTable → ℕ → List Admitted → List Tx → List Admitted
+all_tried_again chain verdicts now entries [] = entries
+all_tried_again chain verdicts now entries (tx ∷ txs) = all_tried_again chain verdicts now (tried_again chain verdicts now entries tx) txs
+
+-- ---- Entries that the next block cannot have
+
+-- the height of a coin; where there is none, of the first block
+abbrev pub height_of : Option Coin → ℕ
+height_of None = 0
+height_of (Some coin) = coin.height
+
+-- the heights of the coins of inputs, one for each
+abbrev pub input_heights : History → List Admitted → List TxIn → List ℕ
+input_heights chain entries inputs = map (λ (i : TxIn). height_of (view_coin chain entries i.prevout)) inputs
+
+-- there is a coin, of a coinbase that stands less than 100 blocks below the next
+abbrev pub is_young_coin : ℕ → Option Coin → Bool
+is_young_coin next_height None = false
+is_young_coin next_height (Some coin) = is_immature next_height coin
+
+abbrev pub spends_young_coin : History → List Admitted → List TxIn → Bool
+spends_young_coin chain entries inputs = list_any (λ (i : TxIn). is_young_coin (tip_of chain + 1) (view_coin chain entries i.prevout)) inputs
+
+-- a transaction is not final in the next block, a relative lock is not met there, or it spends a coinbase too early
+unfoldable pub is_premature : History → List Admitted → Tx → Bool
+is_premature chain entries tx =
+    not (is_final_at tx (tip_of chain + 1) (median_at chain (tip_of chain)))
+    || (not (sequence_locks_met_by tx (input_heights chain entries tx.inputs) chain)
+    || spends_young_coin chain entries tx.inputs)
+
+-- such entries go with all below
+abbrev pub without_premature : History → List Admitted → List Admitted
+without_premature chain entries = without_below (λ e. is_premature chain entries e.tx) entries
+
+-- ---- The whole
+
+-- Over a chain that was changed, the entries and the floor after these transactions were confirmed and those returned. The
+-- budget is in virtual bytes.
+unfoldable pub returned : History → VerdictTable → ℕ → ℕ → List Admitted → ℕ → List Tx → List Tx → Trimmed
+returned chain verdicts now budget entries floor new old =
+    trim_of budget (expired now (without_premature chain (all_tried_again chain verdicts now (all_confirmed entries new) (unconfirmed new old)))) floor
+
+-- the same where so many blocks were disconnected: where none was, entries are confirmed and nothing else is done
+unfoldable pub pool_after : ℕ → History → VerdictTable → ℕ → ℕ → List Admitted → ℕ → List Tx → List Tx → Trimmed
+pool_after depth chain verdicts now budget entries floor new old =
+    if depth == 0 then record { entries = all_confirmed entries new; floor = floor }
+    else returned chain verdicts now budget entries floor new old

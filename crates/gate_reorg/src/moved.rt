@@ -1,0 +1,37 @@
+//! What a chain event came to.
+ghost use Rattle.std.specs.Prelude.{◌≡◌, is_none, filter, length, IfOk};
+ghost use Rattle.gate_reorg.specs.Events.{count_beyond};
+
+use gate_bytes::Memory;
+use gate_pool::Pool;
+use std::alloc::Global;
+use std::hash::BuildHasher;
+
+/// What a chain event came to.
+#[derive(Clone, Copy, Debug, PartialEq, Eq)]
+pub struct Moved {
+    /// The height of the tip after it.
+    pub tip: u32,
+    /// How many txids of entries before it no entry after it has.
+    pub removed: usize,
+    /// How many txids of entries after it no entry before it had.
+    pub entered: usize,
+}
+
+/// How many entries of one pool have a txid that no entry of another has.
+pub(crate) fn count_beyond<S: BuildHasher + Copy + Drop>(
+    alloc: Global,
+    pool: &Pool<S>,
+    other: &Pool<S>,
+) -> Result<usize, Memory>
+    ensures { IfOk result (λ count. count ≡ count_beyond pool.now.entries other.now.entries) }
+{
+    let listing = pool.listing(alloc)?;
+    let mut count = 0;
+    for txid in listing.as_slice() {
+        if other.entry(txid).is_none() {
+            count += 1;
+        }
+    }
+    Ok(count)
+}

@@ -1,0 +1,84 @@
+//! Transactions of blocks that were disconnected: each that no new block has is tried again.
+ghost use Rattle.std.specs.Prelude.{◌≡◌, ◌∷◌, [], List, ℕ, OnOk};
+ghost use Rattle.std.specs.Str.{bytes_eq};
+ghost use Rattle.indexmap.specs.IndexSet.{contains};
+ghost use Rattle.gate_tx.specs.Tx.{Tx};
+ghost use Rattle.gate_reorg.specs.Reorganisation.{transactions_of, has_id, unconfirmed, tried_again, all_tried_again};
+
+use gate_admit::{Prepared, Verdicts, readmit};
+use gate_bytes::{Copied, Counted, Memory};
+use gate_chain::{Block, Chain};
+use gate_pool::Pool;
+use gate_tx::{Identified, Transaction, Txid};
+use indexmap::IndexSet;
+use std::alloc::Global;
+use std::hash::BuildHasher;
+
+/// Tries a transaction again: it enters, or what spends an output of it goes with all below. The blocks that were
+/// disconnected are kept for the way back, so that the entry has a copy of it.
+#[tactic(auto, unfolding(crate::specs::Reorganisation::tried_again))]
+fn try_again<S: BuildHasher + Copy + Drop>(
+    alloc: Global,
+    chain: &Chain<S>,
+    pool: &mut Pool<S>,
+    verdicts: &Verdicts<S>,
+    now: u64,
+    transaction: &Transaction,
+) -> Result<(), Memory>
+    ensures { OnOk result (pool.new.entries ≡ tried_again chain.now verdicts.now now pool.old.entries transaction.now) }
+{
+    let identified = Identified::new(alloc, transaction.copy(alloc)?)?;
+    let txid = identified.txid();
+    let prepared = Prepared::of(alloc, Counted::new(alloc, identified)?)?;
+    match readmit(alloc, chain, pool, &prepared, verdicts, now)? {
+        Ok(_grant) => {}
+        Err(_denial) => pool.take_children(&txid),
+    }
+    Ok(())
+}
+
+/// The same for the transactions of a block, one after another, without those of the ids.
+fn return_block<S: BuildHasher + Copy + Drop>(
+    alloc: Global,
+    chain: &Chain<S>,
+    pool: &mut Pool<S>,
+    verdicts: &Verdicts<S>,
+    now: u64,
+    new: &IndexSet<Txid, S>,
+    transactions: &[Transaction],
+) -> Result<(), Memory>
+    ensures { (landed : List Tx) → ((id : List ℕ) → contains bytes_eq new.now id ≡ has_id landed id) → OnOk result (pool.new.entries ≡ all_tried_again chain.now verdicts.now now pool.old.entries (unconfirmed landed transactions.now)) }
+{
+    for transaction in transactions {
+        if !new.contains(&transaction.txid(alloc)?) {
+            try_again(alloc, chain, pool, verdicts, now, transaction)?;
+        }
+    }
+    Ok(())
+}
+
+/// The same for blocks, the lowest first.
+pub(crate) fn return_all<S: BuildHasher + Copy + Drop>(
+    alloc: Global,
+    chain: &Chain<S>,
+    pool: &mut Pool<S>,
+    verdicts: &Verdicts<S>,
+    now: u64,
+    new: &IndexSet<Txid, S>,
+    gone: &[Block],
+) -> Result<(), Memory>
+    ensures { (landed : List Tx) → ((id : List ℕ) → contains bytes_eq new.now id ≡ has_id landed id) → OnOk result (pool.new.entries ≡ all_tried_again chain.now verdicts.now now pool.old.entries (unconfirmed landed (transactions_of gone.now))) }
+{
+    for block in gone {
+        return_block(
+            alloc,
+            chain,
+            pool,
+            verdicts,
+            now,
+            new,
+            block.transactions.as_slice(),
+        )?;
+    }
+    Ok(())
+}
