@@ -1,9 +1,9 @@
 -- Later entries never widen a list.
-use Rattle.std.proofs.Common.{◌≡◌, ℕ, Bool, true, false, cond, ◌&&◌, List, [], ◌∷◌, ◌++◌, Option, Some, None, refl, sym, ap, ◌∙◌}
-use Rattle.std.specs.Prelude.{filter, fold}
+use Rattle.std.proofs.Common.{◌≡◌, ℕ, Bool, true, false, cond, ◌&&◌, List, [], ◌∷◌, ◌++◌, Option, Some, None, refl, ap, ◌∙◌}
+use Rattle.std.specs.Prelude.{fold}
 use Rattle.std.specs.Str.{bytes_eq}
 use Rattle.gate_rpc.specs.declared.entry.RpcEntry.{RpcEntry}
-use Rattle.gate_rpc.specs.Lists.{is_among, is_listed, list_after, list_with, list_of}
+use Rattle.gate_rpc.specs.Lists.{is_among, is_listed, list_after, list_with}
 use Rattle.gate_rpc.specs.Laws.{ListsOnlyNarrow}
 use Rattle.gate_rpc.proofs.Listings.{among_both}
 

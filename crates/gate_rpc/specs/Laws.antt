@@ -1,7 +1,7 @@
 -- What the lists of methods come to, in words of their own.
 use Rattle.std.specs.Prelude.{◌≡◌, ℕ, Bool, false, List, ◌++◌, Some}
 use Rattle.gate_rpc.specs.declared.entry.RpcEntry.{RpcEntry}
-use Rattle.gate_rpc.specs.Lists.{Lists, is_among, is_allowed, list_of}
+use Rattle.gate_rpc.specs.Lists.{is_among, is_allowed, list_of}
 
 -- a user whose list lacks a method may not call it, whatever the default is and whatever entries come later
 abbrev pub ListsOnlyNarrow : Type 0

@@ -2,7 +2,6 @@ pub mod Lists
 pub mod Listing
 pub mod Methods
 pub mod Calls
-pub mod Equality
 pub mod Replies
 pub mod Texts
 pub mod Faults

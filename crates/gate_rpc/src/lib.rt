@@ -15,7 +15,6 @@ mod reading;
 mod reply;
 mod request;
 mod result;
-mod submission;
 mod whitelist;
 mod writing;
 
@@ -28,7 +27,6 @@ pub use method::Method;
 pub use reply::{RpcReply, reply_text};
 pub use request::{Command, Request};
 pub use result::{EntryInfo, RpcResult};
-pub use submission::Submission;
 pub use whitelist::RpcWhitelist;
 
 #[cfg(test)]

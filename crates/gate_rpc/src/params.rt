@@ -8,9 +8,10 @@ ghost use Rattle.gate_rpc.specs.Calls.{params_of, only, is_none, is_false_alone,
 
 use crate::method::Method;
 use crate::request::Command;
-use crate::submission::Submission;
+use gate_admit::Prepared;
 use gate_bytes::Memory;
 use gate_tx::Txid;
+use hex::FromHexError;
 use serde_json::Value;
 use std::alloc::Global;
 
@@ -72,12 +73,24 @@ fn takes_none(params: &[Value]) -> bool
 }
 
 /// The submission of a text that is there.
-fn submission(alloc: Global, hex: Option<&str>) -> Result<Option<Submission>, Memory>
+fn submission(alloc: Global, hex: Option<&str>) -> Result<Option<Prepared>, Memory>
     ensures { IfOk result (λ s. s ≡ option_map submission_of (option_map (λ text. text.now) hex.entry)) }
 {
     match hex {
-        Some(hex) => Ok(Some(Submission::read(alloc, hex)?)),
+        Some(hex) => Ok(Some(read_submission(alloc, hex)?)),
         None => Ok(None),
+    }
+}
+
+/// The submission of hex digits of either case, with the first rule that it fails by itself. What is no hex, and bytes that
+/// are no transaction, spell none.
+fn read_submission(alloc: Global, hex: &str) -> Result<Prepared, Memory>
+    ensures { IfOk result (λ s. s ≡ submission_of hex.now) }
+{
+    match hex::decode(alloc, hex) {
+        Ok(bytes) => Prepared::new(alloc, bytes.as_slice()),
+        Err(FromHexError::OutOfMemory) => Err(Memory),
+        Err(_) => Ok(Prepared::undecodable()),
     }
 }
 

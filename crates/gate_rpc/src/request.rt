@@ -4,7 +4,7 @@ ghost use Rattle.gate_rpc.specs.Calls.{method_of};
 
 use crate::id::Id;
 use crate::method::Method;
-use crate::submission::Submission;
+use gate_admit::Prepared;
 use gate_bytes::{Copied, Memory};
 use gate_tx::Txid;
 use std::alloc::Global;
@@ -13,9 +13,9 @@ use std::alloc::Global;
 #[derive(Debug, Drop, PartialEq, Eq)]
 pub enum Command {
     /// Lets a transaction enter the pool.
-    SendRawTransaction(Submission),
+    SendRawTransaction(Prepared),
     /// Tells whether it would enter.
-    TestMempoolAccept(Submission),
+    TestMempoolAccept(Prepared),
     /// The txids in the pool.
     GetRawMempool,
     /// What the pool knows of an entry.

@@ -190,13 +190,8 @@ fn submissions_are_decoded(rt: HostRuntime) -> Result<(), Fail> {
     let Command::TestMempoolAccept(submission) = &request.command else {
         return Err(Fail::new("another command"));
     };
-    let txid = submission
-        .identified()
-        .ok_or("no transaction")?
-        .get()
-        .txid();
     let expected = Txid::read("c0aa5a45314ea266e7c33aff2697b64077856491385b15484cdc20bef9a4bb98");
-    assert_eq!(rt; Some(txid), expected);
+    assert_eq!(rt; submission.txid(), expected);
     Ok(())
 }
 

@@ -1,0 +1,87 @@
+-- What is answered about the pool, over the plain list of its entries.
+use Rattle.std.specs.Prelude.{ℕ, Bool, not, max, List, length, filter, Option, Some, None, option_map, Result, Ok, Err}
+use Rattle.std.specs.List.{list_any}
+use Rattle.gate_tx.specs.Tx.{Tx}
+use Rattle.gate_tx.specs.Ids.{txid_of, wtxid_of}
+use Rattle.gate_tx.specs.Sizes.{weight_of}
+use Rattle.gate_standard.specs.declared.Denial.{Denial}
+use Rattle.gate_standard.specs.declared.Denial.TheVariants.{Decode}
+use Rattle.gate_pool.specs.Pool.{Admitted, entry_by_txid, has_txid, listing_of, size_of}
+use Rattle.gate_pool.specs.Family.{names, children_of, ancestors_of, descendants_of, fees_of}
+use Rattle.gate_rbf.specs.Replacing.{signals}
+use Rattle.gate_admit.specs.declared.Attempt.TheVariants.{First}
+use Rattle.gate_admit.specs.declared.Grant.{Grant}
+use Rattle.gate_admit.specs.Rules.{decision_of, min_relay_rate}
+use Rattle.gate_admit.specs.Standing.{Standing}
+use Rattle.gate_rpc.specs.declared.error.RpcError.{RpcError}
+use Rattle.gate_rpc.specs.declared.error.RpcError.TheVariants.{Denied}
+use Rattle.gate_rpc.specs.declared.result.EntryInfo.{EntryInfo}
+use Rattle.gate_rpc.specs.declared.result.RpcResult.{RpcResult}
+use Rattle.gate_rpc.specs.declared.result.RpcResult.TheVariants.{Allowed, Rejected, Info}
+
+-- ---- families without the entry itself
+
+-- the entries above an id, in order of admission, without its own
+abbrev pub above : List Admitted → List ℕ → List Admitted
+above entries txid = filter (λ a. not (has_txid a txid)) (ancestors_of entries txid)
+
+-- the entries below an id, in order of admission, without its own
+abbrev pub below : List Admitted → List ℕ → List Admitted
+below entries txid = filter (λ a. not (has_txid a txid)) (descendants_of entries txid)
+
+-- their ids, where an entry has the id
+abbrev pub ancestors_listed : List Admitted → List ℕ → Option (List (List ℕ))
+ancestors_listed entries txid = option_map (λ e. listing_of (above entries txid)) (entry_by_txid entries txid)
+
+abbrev pub descendants_listed : List Admitted → List ℕ → Option (List (List ℕ))
+descendants_listed entries txid = option_map (λ e. listing_of (below entries txid)) (entry_by_txid entries txid)
+
+-- ---- an entry
+
+-- it says that it may be replaced (BIP 125)
+abbrev pub is_replaceable : Admitted → Bool
+is_replaceable e = signals e.tx
+
+-- the entries whose outputs an entry spends, in order of admission
+abbrev pub parents_of : List Admitted → Admitted → List Admitted
+parents_of entries e = filter (λ p. names e (txid_of p.tx)) entries
+
+-- what is known of the entry of an id; the ancestors and descendants have itself among them
+abbrev pub info_from : List Admitted → List ℕ → Admitted → EntryInfo
+info_from entries txid e =
+    record {
+      wtxid = wtxid_of e.tx;
+      fee = e.fee;
+      vsize = e.vsize;
+      weight = weight_of e.tx;
+      time = e.time;
+      ancestor_count = length (ancestors_of entries txid);
+      ancestor_size = size_of (ancestors_of entries txid);
+      ancestor_fees = fees_of (ancestors_of entries txid);
+      descendant_count = length (descendants_of entries txid);
+      descendant_size = size_of (descendants_of entries txid);
+      descendant_fees = fees_of (descendants_of entries txid);
+      is_replaceable = list_any is_replaceable (ancestors_of entries txid);
+      depends = listing_of (parents_of entries e);
+      spent_by = listing_of (children_of entries txid);
+    }
+
+abbrev pub info_of : List Admitted → List ℕ → Option EntryInfo
+info_of entries txid = option_map (info_from entries txid) (entry_by_txid entries txid)
+
+-- ---- the pool
+
+-- what the pool asks for is what every relay does, or its floor where that is greater
+abbrev pub pool_info : List Admitted → ℕ → ℕ → RpcResult
+pool_info entries floor budget = Info (size_of entries) budget (max floor min_relay_rate) min_relay_rate (length entries)
+
+-- ---- a transaction that might enter
+
+abbrev pub tested_as : Tx → Result Grant Denial → RpcResult
+tested_as tx (Ok grant) = Allowed (txid_of tx) (wtxid_of tx) grant.fee grant.vsize
+tested_as tx (Err denial) = Rejected (txid_of tx) (wtxid_of tx) denial
+
+-- the decision on it, which changes nothing; what is no transaction is an error
+abbrev pub tested : Standing → Option Tx → Result RpcResult RpcError
+tested over None = Err (Denied Decode)
+tested over (Some tx) = Ok (tested_as tx (decision_of First over (Some tx)))

@@ -1,0 +1,122 @@
+//! What is known of an entry, and of the pool.
+ghost use Rattle.std.specs.Prelude.{◌≡◌, ◌&&◌, IfOk, Some, filter};
+ghost use Rattle.std.specs.List.{list_any};
+ghost use Rattle.gate_pool.specs.Pool.{Admitted, entry_by_txid, has_txid};
+ghost use Rattle.gate_pool.specs.Family.{names, is_among};
+ghost use Rattle.gate_query.specs.Answers.{info_of, info_from, is_replaceable, pool_info};
+
+use crate::family::{children, with_ancestors, with_descendants};
+use gate_admit::{Entry, Floor, Pool};
+use gate_bytes::{Kept, Memory};
+use gate_pool::add_up;
+use gate_rbf::signals;
+use gate_rpc::{EntryInfo, RpcResult};
+use gate_tx::Txid;
+use std::alloc::Global;
+use std::hash::BuildHasher;
+
+/// What a transaction pays at least for its relay, in satoshi per 1,000 virtual bytes (Bitcoin Core's
+/// `DEFAULT_MIN_RELAY_TX_FEE`).
+const MIN_RELAY_RATE: u64 = 1_000;
+
+/// Whether the entry of an id says that it may be replaced (BIP 125).
+fn is_signalling<S: BuildHasher + Copy + Drop>(pool: &Pool<S>, txid: &Txid) -> bool
+    ensures { result ≡ list_any (λ (e : Admitted). has_txid e txid.now && is_replaceable e) pool.now.entries }
+{
+    pool.tells_distinct();
+    match pool.entry(txid) {
+        Some(entry) => signals(entry.transaction()),
+        None => false,
+    }
+}
+
+/// Whether one of the entries with these ids says so.
+fn one_signals<S: BuildHasher + Copy + Drop>(pool: &Pool<S>, txids: &[Txid]) -> bool
+    ensures { result ≡ list_any (λ (e : Admitted). is_among txids.now e && is_replaceable e) pool.now.entries }
+{
+    txids.iter().any(|txid| is_signalling(pool, txid))
+}
+
+fn names(entry: &Entry, txid: &Txid) -> bool
+    ensures { result ≡ names entry.now txid.now }
+{
+    entry
+        .transaction()
+        .inputs()
+        .iter()
+        .any(|input| input.prevout.txid == *txid)
+}
+
+/// Those of the ids whose transactions' outputs the entry spends.
+fn parents_among(mut txids: Vec<Txid>, entry: &Entry) -> Kept<Txid>
+    ensures { result ≡ filter (names entry.now) txids.items }
+{
+    txids.retain(|txid| names(entry, txid));
+    Kept::from_vec(txids)
+}
+
+fn info<S: BuildHasher + Copy + Drop>(
+    alloc: Global,
+    pool: &Pool<S>,
+    txid: &Txid,
+    entry: &Entry,
+) -> Result<EntryInfo, Memory>
+    requires { entry_by_txid pool.now.entries txid.now ≡ Some entry.now }
+    ensures { IfOk result (λ info. info ≡ info_from pool.now.entries txid.now entry.now) }
+{
+    pool.tells_distinct();
+    let above = with_ancestors(alloc, pool, txid)?;
+    let below = with_descendants(alloc, pool, txid)?;
+    let ancestors = add_up(pool, above.as_slice());
+    let descendants = add_up(pool, below.as_slice());
+    let is_replaceable = one_signals(pool, above.as_slice());
+    let spent_by = Kept::from_vec(children(alloc, pool, txid)?);
+    Ok(EntryInfo {
+        wtxid: entry.wtxid(),
+        fee: entry.fee(),
+        vsize: entry.vsize(),
+        weight: entry.identified().get().weight() as u64,
+        time: entry.time(),
+        ancestor_count: ancestors.count as u64,
+        ancestor_size: ancestors.size,
+        ancestor_fees: ancestors.fees,
+        descendant_count: descendants.count as u64,
+        descendant_size: descendants.size,
+        descendant_fees: descendants.fees,
+        is_replaceable,
+        depends: parents_among(above, entry),
+        spent_by,
+    })
+}
+
+/// What is known of an entry: itself, and what its ancestors and its descendants come to, found by walking. None where no
+/// entry has the id.
+pub fn entry_info<S: BuildHasher + Copy + Drop>(
+    alloc: Global,
+    pool: &Pool<S>,
+    txid: &Txid,
+) -> Result<Option<EntryInfo>, Memory>
+    ensures { IfOk result (λ info. info ≡ info_of pool.now.entries txid.now) }
+{
+    match pool.entry(txid) {
+        Some(entry) => Ok(Some(info(alloc, pool, txid, entry)?)),
+        None => Ok(None),
+    }
+}
+
+/// The size of the pool and its rates; the budget is in virtual bytes.
+pub fn pool_info<S: BuildHasher + Copy + Drop>(
+    pool: &Pool<S>,
+    floor: &Floor,
+    budget: u64,
+) -> RpcResult
+    ensures { result ≡ pool_info pool.now.entries floor.now budget }
+{
+    RpcResult::Info {
+        size: pool.size(),
+        budget,
+        least_rate: floor.rate().max(MIN_RELAY_RATE),
+        relay_rate: MIN_RELAY_RATE,
+        count: pool.count() as u64,
+    }
+}
