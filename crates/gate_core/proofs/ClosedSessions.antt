@@ -6,17 +6,17 @@ use Rattle.std.proofs.lemmas.Bool.Decides.{eqb_tells}
 use Rattle.gate_bytes.specs.Order.{Rule, first_failing}
 use Rattle.gate_standard.specs.declared.Denial.TheVariants.{Decode}
 use Rattle.gate_core.specs.declared.caller.Caller.{Caller}
-use Rattle.gate_core.specs.declared.caller.Caller.TheVariants.{Operator, Peer}
+use Rattle.gate_core.specs.declared.caller.Caller.TheVariants.{Chain, Operator, Peer, User}
 use Rattle.gate_core.specs.declared.event.Event.{Event}
-use Rattle.gate_core.specs.declared.event.Event.TheVariants.{Enter, Leave, Tx as Submit, Mempool, SetFloor}
+use Rattle.gate_core.specs.declared.event.Event.TheVariants.{Enter, Leave, Tx as Submit, Mempool, GetBlock, Headers, Rpc, SetFloor, Set as Turn, Chain as Extend}
 use Rattle.gate_core.specs.declared.refusal.Refusal.{Refusal}
-use Rattle.gate_core.specs.declared.refusal.Refusal.TheVariants.{PeerUnknown, PeerClosed, PeerKnown, AlreadyInMempool, MempoolNoBloom, Admission}
+use Rattle.gate_core.specs.declared.refusal.Refusal.TheVariants.{PeerUnknown, PeerClosed, PeerKnown, BlocksOnly, AlreadyInMempool, MempoolNoBloom, MempoolUploadTarget, HeadersDuringDownload, UnknownBlock, HistoricalUploadTarget, Admission}
 use Rattle.gate_core.specs.declared.reply.Reply.{Reply}
 use Rattle.gate_core.specs.Callers.{caller_of}
-use Rattle.gate_core.specs.Sessions.{Session, session_of}
+use Rattle.gate_core.specs.Sessions.{Session, session_of, flags_in}
 use Rattle.gate_core.specs.World.{World}
-use Rattle.gate_core.specs.Access.{is_pooled, entering_rules, session_rules}
-use Rattle.gate_core.specs.PeerSteps.{answered, entered, left, submitted, listed}
+use Rattle.gate_core.specs.Access.{is_pooled, lacks_relay, lacks_bloom, lacks_upload, lacks_headers, lacks_history, is_above_tip, entering_rules, session_rules}
+use Rattle.gate_core.specs.PeerSteps.{answered, entered, left, submitted, listed, block_given, headers_given}
 use Rattle.gate_core.specs.Steps.{step_of}
 use Rattle.gate_core.specs.Runs.{run_of}
 use Rattle.gate_core.specs.SessionLaws.{closed_reply}
@@ -34,25 +34,41 @@ closed_first sessions peer s rest h shut = ap (λ (o : Option Session). by_sessi
 
 abbrev number_of : Caller → ℕ
 number_of (Peer peer) = peer
+number_of (User user) = 0
 number_of Operator = 0
+number_of Chain = 0
+
+no_peer : {X : Type 0} (peer : ℕ) → Chain ≡ Peer peer → X
+no_peer peer h = cc
 
 own_session : (w : World) (number peer : ℕ) (s : Session) → Peer number ≡ Peer peer → session_of w.sessions peer ≡ Some s → session_of w.sessions number ≡ Some s
 own_session w number peer s own h = ap (λ n. session_of w.sessions n) (ap number_of own) ∙ h
 
-step_closed : (w : World) (event : Event) (peer : ℕ) (s : Session) → caller_of event ≡ Peer peer → session_of w.sessions peer ≡ Some s → s.is_open ≡ false → step_of w event ≡ (closed_reply event, w)
+pub step_closed : (w : World) (event : Event) (peer : ℕ) (s : Session) → caller_of event ≡ Peer peer → session_of w.sessions peer ≡ Some s → s.is_open ≡ false → step_of w event ≡ (closed_reply event, w)
 unfolding step_of
 step_closed w (Enter number address) peer s own h shut = ap (λ r. answered w number (entered w number address) r) (entering_known w.sessions number s (own_session w number peer s own h))
 step_closed w (Leave number) peer s own h shut = ap (λ r. answered w number (left w number) r) (closed_first w.sessions number s [] (own_session w number peer s own h) shut)
 step_closed w (Submit number now transaction) peer s own h shut =
-    ap (λ r. answered w number (submitted w number now transaction) r) (closed_first w.sessions number s ((Admission Decode, is_none transaction) ∷ (AlreadyInMempool, is_pooled w.pool transaction) ∷ []) (own_session w number peer s own h) shut)
-step_closed w (Mempool number) peer s own h shut = ap (λ r. answered w number (listed w) r) (closed_first w.sessions number s ((MempoolNoBloom, not w.bloom) ∷ []) (own_session w number peer s own h) shut)
+    ap (λ r. answered w number (submitted w number now transaction) r) (closed_first w.sessions number s ((BlocksOnly, lacks_relay w (flags_in w.sessions number)) ∷ (Admission Decode, is_none transaction) ∷ (AlreadyInMempool, is_pooled w.pool transaction) ∷ []) (own_session w number peer s own h) shut)
+step_closed w (Mempool number) peer s own h shut = ap (λ r. answered w number (listed w) r) (closed_first w.sessions number s ((MempoolNoBloom, lacks_bloom w (flags_in w.sessions number)) ∷ (MempoolUploadTarget, lacks_upload w (flags_in w.sessions number)) ∷ []) (own_session w number peer s own h) shut)
+step_closed w (GetBlock number height) peer s own h shut =
+    ap (λ r. answered w number (block_given w height) r)
+    (closed_first w.sessions number s ((UnknownBlock, is_above_tip w height) ∷ (HistoricalUploadTarget, lacks_history w (flags_in w.sessions number) height) ∷ []) (own_session w number peer s own h) shut)
+step_closed w (Headers number height) peer s own h shut =
+    ap (λ r. answered w number (headers_given w height) r)
+    (closed_first w.sessions number s ((HeadersDuringDownload, lacks_headers w (flags_in w.sessions number)) ∷ (UnknownBlock, is_above_tip w height) ∷ []) (own_session w number peer s own h) shut)
+step_closed w (Rpc call) peer s own h shut = cc
 step_closed w (SetFloor rate) peer s own h shut = cc
+step_closed w (Turn switch on) peer s own h shut = cc
+step_closed w (Extend disconnect now blocks) peer s own h shut = no_peer peer own
 
 by_caller : (event : Event) (peer : ℕ) → (caller_of event ≡ Peer peer) ⊎ (caller_of event ≢ Peer peer)
 by_caller event peer = told (caller_of event)
   where
     told : (c : Caller) → (c ≡ Peer peer) ⊎ (c ≢ Peer peer)
     told Operator = inr (λ h. cc)
+    told Chain = inr (λ h. cc)
+    told (User user) = inr (λ h. cc)
     told (Peer number) = ⊎_elim (λ k. inl (ap Peer k.1)) (λ k. inr (λ h. k.1 (ap number_of h))) (eqb_tells number peer)
 
 step_shut : (w : World) (event : Event) (peer : ℕ) (s : Session) → session_of w.sessions peer ≡ Some s → s.is_open ≡ false → session_of (step_of w event).1.sessions peer ≡ Some s

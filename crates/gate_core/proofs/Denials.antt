@@ -10,15 +10,22 @@ use Rattle.gate_admit.specs.declared.Attempt.TheVariants.{First}
 use Rattle.gate_admit.specs.declared.Grant.{Grant}
 use Rattle.gate_admit.specs.Rules.{decision_of}
 use Rattle.gate_admit.specs.Submission.{admitted, entry_of, holds, submitted_by, submit_of}
+use Rattle.gate_chain.specs.declared.ChainDenial.{ChainDenial}
+use Rattle.gate_reorg.specs.Events.{Happened, present, event_rules, event_of}
 use Rattle.gate_core.specs.declared.event.Event.{Event}
-use Rattle.gate_core.specs.declared.event.Event.TheVariants.{Enter, Leave, Tx as Submit, Mempool, SetFloor}
+use Rattle.gate_core.specs.declared.event.Event.TheVariants.{Enter, Leave, Tx as Submit, Mempool, GetBlock, Headers, Rpc, SetFloor, Set as Turn, Chain as Extend}
 use Rattle.gate_core.specs.declared.refusal.Refusal.{Refusal}
 use Rattle.gate_core.specs.declared.reply.Reply.{Reply}
 use Rattle.gate_core.specs.World.{World, standing_of}
-use Rattle.gate_core.specs.Access.{entering_rules, session_rules, submission_rules, listing_rules}
-use Rattle.gate_core.specs.PeerSteps.{concluded, decided, answered, entered, left, submitted, listed}
+use Rattle.gate_core.specs.Access.{entering_rules, session_rules, submission_rules, listing_rules, block_rules, headers_rules}
+use Rattle.gate_core.specs.PeerSteps.{concluded, decided, answered, entered, left, submitted, listed, block_given, headers_given}
+use Rattle.gate_core.specs.ChainSteps.{chained_as}
 use Rattle.gate_core.specs.Steps.{step_of}
 use Rattle.gate_core.specs.Runs.{run_of}
+use Rattle.gate_core.specs.RpcSteps.{sent, sent_as, told}
+use Rattle.gate_rpc.specs.declared.id.Id.{Id}
+use Rattle.gate_rpc.specs.Calls.{request_of}
+use Rattle.gate_core.proofs.Calls.{call_gives}
 use Rattle.gate_core.specs.SessionLaws.{IsDenied}
 
 -- chain, pool and floor are those of another state
@@ -44,10 +51,34 @@ submitted_denied : (w : World) (peer now : ℕ) (transaction : Option Tx) → Is
 unfolding submit_of
 submitted_denied w peer now transaction h = concluded_denied w peer now transaction (decision_of First (standing_of w) transaction) h
 
+-- the same of a transaction that a user sends
+granted_failed : (w : World) (id : Id) (tx : Tx) (grant : Grant) (b : Bool) → IsDenied (told w id (sent_as (Some tx) (if b then Ok grant else Err MempoolFull))).0 → ⊥
+granted_failed w id tx grant true h = h
+granted_failed w id tx grant false h = h refl
+
+sent_by_denied : (w : World) (id : Id) (now : ℕ) (transaction : Option Tx) (decision : Result Grant Denial)
+    → IsDenied (sent w id transaction (submitted_by (standing_of w) transaction now w.budget decision)).0
+    → IsAsIn w (sent w id transaction (submitted_by (standing_of w) transaction now w.budget decision)).1
+sent_by_denied w id now None (Ok grant) h = (refl, refl, refl)
+sent_by_denied w id now None (Err denial) h = (refl, refl, refl)
+sent_by_denied w id now (Some tx) (Err denial) h = (refl, refl, refl)
+sent_by_denied w id now (Some tx) (Ok grant) h =
+    let after = entry_of w.budget w.pool w.floor (admitted tx grant now) in
+    absurd (granted_failed (record w { pool = after.entries; floor = after.floor }) id tx grant (holds after.entries (txid_of tx)) h)
+
+sent_denied : (w : World) (id : Id) (now : ℕ) (transaction : Option Tx) → IsDenied (sent w id transaction (submit_of (standing_of w) transaction now w.budget)).0
+    → IsAsIn w (sent w id transaction (submit_of (standing_of w) transaction now w.budget)).1
+unfolding submit_of
+sent_denied w id now transaction h = sent_by_denied w id now transaction (decision_of First (standing_of w) transaction) h
+
 answered_denied : (w : World) (peer : ℕ) (served : Reply × World) (refusal : Option Refusal) → (IsDenied served.0 → IsAsIn w served.1)
     → IsDenied (answered w peer served refusal).0 → IsAsIn w (answered w peer served refusal).1
 answered_denied w peer served (Some refusal) done h = (refl, refl, refl)
 answered_denied w peer served None done h = done h
+
+chained_denied : (w : World) (after : Happened) (denial : Option ChainDenial) → IsDenied (chained_as w after denial).0 → IsAsIn w (chained_as w after denial).1
+chained_denied w after (Some denial) h = (refl, refl, refl)
+chained_denied w after None h = absurd h
 
 step_denied : (w : World) (event : Event) → IsDenied (step_of w event).0 → IsAsIn w (step_of w event).1
 unfolding step_of
@@ -56,7 +87,13 @@ step_denied w (Leave peer) h = answered_denied w peer (left w peer) (first_faili
 step_denied w (Submit peer now transaction) h =
     answered_denied w peer (submitted w peer now transaction) (first_failing (submission_rules w peer transaction)) (submitted_denied w peer now transaction) h
 step_denied w (Mempool peer) h = answered_denied w peer (listed w) (first_failing (listing_rules w peer)) (λ k. absurd k) h
+step_denied w (GetBlock peer height) h = answered_denied w peer (block_given w height) (first_failing (block_rules w peer height)) (λ k. absurd k) h
+step_denied w (Headers peer height) h = answered_denied w peer (headers_given w height) (first_failing (headers_rules w peer height)) (λ k. absurd k) h
+step_denied w (Rpc call) h =
+    call_gives (λ p. IsDenied p.0 → IsAsIn w p.1) w call.time call.user (request_of call.json) (λ answer k. (refl, refl, refl)) (λ id transaction is k. sent_denied w id call.time transaction k) h
 step_denied w (SetFloor rate) h = absurd h
+step_denied w (Turn switch on) h = absurd h
+step_denied w (Extend disconnect now blocks) h = chained_denied w (event_of (standing_of w) disconnect (present blocks) now w.budget) (first_failing (event_rules w.chain disconnect blocks)) h
 
 pub run_denied : (events : List Event) (w : World) → All IsDenied (run_of w events).0 → IsAsIn w (run_of w events).1
 run_denied [] w h = (refl, refl, refl)

@@ -1,14 +1,20 @@
 -- A step keeps the pool good, and brings in no transaction but its event's.
-use Rattle.std.proofs.Common.{◌≡◌, ℕ, not, List, [], ◌∷◌, ◌++◌, map, Contains, IfOk, ⊎_elim, Option, Some, None, Result, Ok, Err, refl, sym, ap, subst, arith}
+use Rattle.std.proofs.Common.{◌≡◌, ℕ, not, List, [], ◌∷◌, ◌++◌, map, Contains, IfOk, IfSome, ⊎_elim, Option, Some, None, Result, Ok, Err, refl, sym, ap, subst, arith}
 use Rattle.std.specs.Option.{option_to_list}
+use Rattle.std.specs.Prelude.{Bool, true, false, is_none, if◌then◌else◌}
 use Rattle.std.specs.List.{list_any}
 use Rattle.std.proofs.lemmas.List.Elements.{Contains-append_left, Contains-append_right, Contains-append_cases}
 use Rattle.gate_bytes.specs.Order.{first_failing}
 use Rattle.gate_tx.specs.Ids.{txid_of}
+use Rattle.gate_tx.specs.Text.{IsTx}
 use Rattle.gate_tx.specs.Tx.{Tx}
 use Rattle.gate_standard.specs.declared.Denial.{Denial}
-use Rattle.gate_chain.specs.Coins.{has_transaction}
+use Rattle.gate_chain.specs.declared.Block.{Block}
+use Rattle.gate_chain.specs.declared.ChainDenial.{ChainDenial}
+use Rattle.gate_chain.specs.declared.ChainDenial.TheVariants.{BlockDecode}
 use Rattle.gate_chain.specs.History.{History}
+use Rattle.gate_graph.proofs.Members.{Contains-cons_cases, not_in_none}
+use Rattle.gate_block.specs.Switching.{switch_rules}
 use Rattle.gate_pool.specs.Pool.{Admitted}
 use Rattle.gate_pool.specs.Family.{is_below_some, is_conflict, without_below, entered as entered_with}
 use Rattle.gate_pool.proofs.Entries.{Contains-map, Contains-from_map}
@@ -21,119 +27,45 @@ use Rattle.gate_admit.specs.Standing.{Standing}
 use Rattle.gate_admit.specs.Submission.{admitted, entry_of, submitted_by, submit_of}
 use Rattle.gate_admit.proofs.Entering.{StaysUnconnected, stays_if_apart, stays_if_unconnected}
 use Rattle.gate_admit.proofs.Submissions.{empty_good, entry_within, submission_good}
+use Rattle.gate_reorg.specs.Events.{Happened, present, event_rules, event_of}
+use Rattle.gate_reorg.specs.Reorganisation.{transactions_of as block_transactions}
+use Rattle.gate_reorg.proofs.Keeping.{events_keep_pools_good}
+use Rattle.gate_reorg.proofs.Origins.{events_bring_nothing_else}
 use Rattle.gate_core.specs.declared.event.Event.{Event}
-use Rattle.gate_core.specs.declared.event.Event.TheVariants.{Enter, Leave, Tx as Submit, Mempool, SetFloor}
+use Rattle.gate_core.specs.declared.event.Event.TheVariants.{Enter, Leave, Tx as Submit, Mempool, GetBlock, Headers, Rpc, SetFloor, Set as Turn, Chain as Extend}
 use Rattle.gate_core.specs.Opening.{Start}
 use Rattle.gate_core.specs.declared.refusal.Refusal.{Refusal}
 use Rattle.gate_core.specs.declared.reply.Reply.{Reply}
 use Rattle.gate_core.specs.World.{World, opened_world, standing_of}
-use Rattle.gate_core.specs.Access.{entering_rules, session_rules, submission_rules, listing_rules}
-use Rattle.gate_core.specs.PeerSteps.{decided, answered, entered, left, submitted, listed}
+use Rattle.gate_core.specs.Access.{entering_rules, session_rules, submission_rules, listing_rules, block_rules, headers_rules}
+use Rattle.gate_core.specs.PeerSteps.{decided, answered, entered, left, submitted, listed, block_given, headers_given}
+use Rattle.gate_core.specs.ChainSteps.{chained_as}
 use Rattle.gate_core.specs.Steps.{step_of}
-use Rattle.gate_core.specs.Good.{IsApartFrom, IsGoodWorld, IsSpelled, limits_of, transactions_in, transactions_of}
+use Rattle.gate_core.specs.Good.{IsApartFrom, IsGoodWorld, IsSpelled, limits_of, offered, transactions_in, transactions_of}
+use Rattle.gate_rpc.specs.Calls.{request_of}
+use Rattle.gate_core.proofs.Calls.{call_gives}
 
 same_good : (w v : World) → v.chain ≡ w.chain → v.pool ≡ w.pool → v.budget ≡ w.budget → IsGoodWorld w → IsGoodWorld v
 same_good w v c p b good = record {
   chain = subst IsSettled (sym c) good.chain;
   pool = subst (λ (k : ℕ). IsGood (record { budget = k }) v.chain v.pool) (sym b) (subst (λ (h : History). IsGood (limits_of w) h v.pool) (sym c) (subst (IsGood (limits_of w) w.chain) (sym p) good.pool));
+  spelled = subst (λ (l : List Admitted). (e : Admitted) → Contains l e → IsTx e.tx) (sym p) good.spelled;
 }
 
--- what enters by an event is in no connected block
+-- what enters by an event is in no connected block, and new blocks are told apart from what is at hand
 abbrev pub StaysApart : World → Event → Type 0
 StaysApart w (Enter peer address) = Unit {0}
 StaysApart w (Leave peer) = Unit {0}
 StaysApart w (Submit peer now transaction) = StaysUnconnected (standing_of w) transaction
 StaysApart w (Mempool peer) = Unit {0}
+StaysApart w (GetBlock peer height) = Unit {0}
+StaysApart w (Headers peer height) = Unit {0}
+StaysApart w (Rpc call) = StaysUnconnected (standing_of w) (offered (request_of call.json))
 StaysApart w (SetFloor rate) = Unit {0}
+StaysApart w (Turn switch on) = Unit {0}
+StaysApart w (Extend disconnect now blocks) = IsApartFrom w (Extend disconnect now blocks)
 
-decided_good : (w : World) (peer : ℕ) (transaction : Option Tx) (decision : Result Grant Denial) → IsGoodWorld w → IsGoodWorld (decided w peer transaction decision).1
-decided_good w peer None decision good = same_good w _ refl refl refl good
-decided_good w peer (Some tx) (Ok grant) good = good
-decided_good w peer (Some tx) (Err denial) good = same_good w _ refl refl refl good
-
-submitted_good : (w : World) (peer now : ℕ) (transaction : Option Tx) → StaysUnconnected (standing_of w) transaction → IsGoodWorld w → IsGoodWorld (submitted w peer now transaction).1
-submitted_good w peer now transaction new good =
-    let s = submit_of (standing_of w) transaction now w.budget in
-    decided_good (record w { pool = s.entries; floor = s.floor }) peer transaction s.decision
-    (record { chain = good.chain; pool = submission_good (limits_of w) (standing_of w) transaction now new good.pool })
-
-answered_good : (w : World) (peer : ℕ) (served : Reply × World) (refusal : Option Refusal) → IsGoodWorld w → IsGoodWorld served.1 → IsGoodWorld (answered w peer served refusal).1
-answered_good w peer served (Some refusal) good done = same_good w _ refl refl refl good
-answered_good w peer served None good done = done
-
-pub opened_good : (o : Start) → IsGoodWorld (opened_world o)
-opened_good o = record {
-  chain = record { coinbases = λ b h. absurd (omega arith); spelled = λ tx h. absurd (omega arith); founded = λ b h. absurd (omega arith) };
-  pool = empty_good (limits_of (opened_world o)) (opened_world o).chain;
-}
-
-pub all_opened_good : {E : Type 0} (o : Start) (r : Result World E) → IfOk r (λ w. w ≡ opened_world o) → IfOk r IsGoodWorld
-all_opened_good o (Ok w) h = subst IsGoodWorld (sym h) (opened_good o)
-all_opened_good o (Err e) h = tt
-
-pub step_good : (w : World) (event : Event) → StaysApart w event → IsGoodWorld w → IsGoodWorld (step_of w event).1
-unfolding step_of
-step_good w (Enter peer address) new good = answered_good w peer (entered w peer address) (first_failing (entering_rules w.sessions peer)) good (same_good w _ refl refl refl good)
-step_good w (Leave peer) new good = answered_good w peer (left w peer) (first_failing (session_rules w.sessions peer)) good (same_good w _ refl refl refl good)
-step_good w (Submit peer now transaction) new good =
-    answered_good w peer (submitted w peer now transaction) (first_failing (submission_rules w peer transaction)) good (submitted_good w peer now transaction new good)
-step_good w (Mempool peer) new good = answered_good w peer (listed w) (first_failing (listing_rules w peer)) good good
-step_good w (SetFloor rate) new good = same_good w _ refl refl refl good
-
--- a part of what is apart is
-pub apart_part : (part whole : List Tx) → ((tx : Tx) → Contains part tx → Contains whole tx) → AreApart whole → AreApart part
-apart_part part whole within apart = λ a b here there. apart a b (within a here) (within b there)
-
--- where transactions are told apart by their ids
-pub apart_stays : (w : World) (event : Event) → IsSettled w.chain → IsSpelled event → IsApartFrom w event → StaysApart w event
-apart_stays w (Enter peer address) settled spelled apart = tt
-apart_stays w (Leave peer) settled spelled apart = tt
-apart_stays w (Submit peer now transaction) settled spelled apart =
-    let blocks = connected_transactions w.chain in
-    let entries = map (λ (e : Admitted). e.tx) w.pool in
-    let more = option_to_list transaction in
-    stays_if_apart (standing_of w) transaction settled spelled
-    (apart_part (more ++ blocks) ((blocks ++ entries) ++ more)
-    (λ tx h. ⊎_elim (λ k. Contains-append_right (blocks ++ entries) more tx k) (λ k. Contains-append_left (blocks ++ entries) more tx (Contains-append_left blocks entries tx k)) (Contains-append_cases more blocks tx h))
-    apart)
-apart_stays w (Mempool peer) settled spelled apart = tt
-apart_stays w (SetFloor rate) settled spelled apart = tt
-
-no_blocks : (w : World) (transaction : Option Tx) → w.chain.blocks ≡ [] → IsUnconnected w.chain transaction
-no_blocks w None h = tt
-no_blocks w (Some tx) h = ap (list_any (has_transaction (txid_of tx))) h
-
--- where no block is connected
-pub opened_stays : (w : World) (event : Event) → w.chain.blocks ≡ [] → StaysApart w event
-opened_stays w (Enter peer address) h = tt
-opened_stays w (Leave peer) h = tt
-opened_stays w (Submit peer now transaction) h = stays_if_unconnected (standing_of w) transaction (no_blocks w transaction h)
-opened_stays w (Mempool peer) h = tt
-opened_stays w (SetFloor rate) h = tt
-
--- chain and budget are those of another state
-abbrev pub IsOver : World → World → Type 0
-IsOver w v = (v.chain ≡ w.chain) × (v.budget ≡ w.budget)
-
-decided_over : (w : World) (peer : ℕ) (transaction : Option Tx) (decision : Result Grant Denial) → IsOver w (decided w peer transaction decision).1
-decided_over w peer None decision = (refl, refl)
-decided_over w peer (Some tx) (Ok grant) = (refl, refl)
-decided_over w peer (Some tx) (Err denial) = (refl, refl)
-
-answered_over : (w : World) (peer : ℕ) (served : Reply × World) (refusal : Option Refusal) → IsOver w served.1 → IsOver w (answered w peer served refusal).1
-answered_over w peer served (Some refusal) h = (refl, refl)
-answered_over w peer served None h = h
-
--- no event changes the chain yet, or the budget
-pub step_over : (w : World) (event : Event) → IsOver w (step_of w event).1
-unfolding step_of
-step_over w (Enter peer address) = answered_over w peer (entered w peer address) (first_failing (entering_rules w.sessions peer)) (refl, refl)
-step_over w (Leave peer) = answered_over w peer (left w peer) (first_failing (session_rules w.sessions peer)) (refl, refl)
-step_over w (Submit peer now transaction) =
-    let s = submit_of (standing_of w) transaction now w.budget in
-    answered_over w peer (submitted w peer now transaction) (first_failing (submission_rules w peer transaction)) (decided_over (record w { pool = s.entries; floor = s.floor }) peer transaction s.decision)
-step_over w (Mempool peer) = answered_over w peer (listed w) (first_failing (listing_rules w peer)) (refl, refl)
-step_over w (SetFloor rate) = (refl, refl)
+-- ---- where transactions come from
 
 entered_from : (entries : List Admitted) (e a : Admitted) → Contains (entered_with entries e) a → Contains (map (λ (x : Admitted). x.tx) entries ++ e.tx ∷ []) a.tx
 entered_from entries e a h =
@@ -168,17 +100,178 @@ decided_from w peer None decision tx h = h
 decided_from w peer (Some other) (Ok grant) tx h = h
 decided_from w peer (Some other) (Err denial) tx h = h
 
+-- whatever a submission is answered
+after_from : (w : World) (now : ℕ) (transaction : Option Tx) (tx : Tx)
+    → (let s = submit_of (standing_of w) transaction now w.budget in Contains (transactions_in (record w { pool = s.entries; floor = s.floor })) tx)
+    → Contains (transactions_in w ++ option_to_list transaction) tx
+after_from w now transaction tx h =
+    let s = submit_of (standing_of w) transaction now w.budget in
+    behind (connected_transactions w.chain) (map (λ (e : Admitted). e.tx) s.entries) (map (λ (e : Admitted). e.tx) w.pool) (option_to_list transaction) tx
+    (submission_from (standing_of w) transaction now w.budget tx) h
+
 submitted_from : (w : World) (peer now : ℕ) (transaction : Option Tx) (tx : Tx) → Contains (transactions_in (submitted w peer now transaction).1) tx → Contains (transactions_in w ++ option_to_list transaction) tx
 submitted_from w peer now transaction tx h =
     let s = submit_of (standing_of w) transaction now w.budget in
-    behind (connected_transactions w.chain) (map (λ (e : Admitted). e.tx) s.entries) (map (λ (e : Admitted). e.tx) w.pool) (option_to_list transaction) tx
-    (submission_from (standing_of w) transaction now w.budget tx)
-    (decided_from (record w { pool = s.entries; floor = s.floor }) peer transaction s.decision tx h)
+    after_from w now transaction tx (decided_from (record w { pool = s.entries; floor = s.floor }) peer transaction s.decision tx h)
 
 answered_from : (w : World) (peer : ℕ) (served : Reply × World) (refusal : Option Refusal) (more : List Tx) (tx : Tx)
     → (Contains (transactions_in served.1) tx → Contains (transactions_in w ++ more) tx) → Contains (transactions_in (answered w peer served refusal).1) tx → Contains (transactions_in w ++ more) tx
 answered_from w peer served (Some refusal) more tx from h = Contains-append_left _ _ tx h
 answered_from w peer served None more tx from h = from h
+
+-- ---- good states
+
+decided_good : (w : World) (peer : ℕ) (transaction : Option Tx) (decision : Result Grant Denial) → IsGoodWorld w → IsGoodWorld (decided w peer transaction decision).1
+decided_good w peer None decision good = same_good w _ refl refl refl good
+decided_good w peer (Some tx) (Ok grant) good = good
+decided_good w peer (Some tx) (Err denial) good = same_good w _ refl refl refl good
+
+entry_spelled : (entries : List Admitted) → ((e : Admitted) → Contains entries e → IsTx e.tx) → (tx : Tx) → Contains (map (λ (e : Admitted). e.tx) entries) tx → IsTx tx
+entry_spelled entries spelled tx m = let w = Contains-from_map (λ (e : Admitted). e.tx) entries tx m in subst IsTx w.is (spelled w.item w.among)
+
+option_spelled : (transaction : Option Tx) → IfSome transaction IsTx → (tx : Tx) → Contains (option_to_list transaction) tx → IsTx tx
+option_spelled None told tx m = not_in_none tx m
+option_spelled (Some other) told tx m = ⊎_elim (λ (e : other ≡ tx). subst IsTx e told) (λ n. not_in_none tx n) (Contains-cons_cases other [] tx m)
+
+-- whatever a submission is answered
+after_good : (w : World) (now : ℕ) (transaction : Option Tx) → IfSome transaction IsTx → StaysUnconnected (standing_of w) transaction → IsGoodWorld w
+    → let s = submit_of (standing_of w) transaction now w.budget in IsGoodWorld (record w { pool = s.entries; floor = s.floor })
+after_good w now transaction told new good = record {
+  chain = good.chain;
+  pool = submission_good (limits_of w) (standing_of w) transaction now new good.pool;
+  spelled = λ e m. ⊎_elim (λ k. entry_spelled w.pool good.spelled e.tx k) (λ k. option_spelled transaction told e.tx k)
+      (Contains-append_cases (map (λ (a : Admitted). a.tx) w.pool) (option_to_list transaction) e.tx
+      (submission_from (standing_of w) transaction now w.budget e.tx (Contains-map (λ (a : Admitted). a.tx) (submit_of (standing_of w) transaction now w.budget).entries e m)));
+}
+
+submitted_good : (w : World) (peer now : ℕ) (transaction : Option Tx) → IfSome transaction IsTx → StaysUnconnected (standing_of w) transaction → IsGoodWorld w → IsGoodWorld (submitted w peer now transaction).1
+submitted_good w peer now transaction told new good =
+    let s = submit_of (standing_of w) transaction now w.budget in
+    decided_good (record w { pool = s.entries; floor = s.floor }) peer transaction s.decision (after_good w now transaction told new good)
+
+answered_good : (w : World) (peer : ℕ) (served : Reply × World) (refusal : Option Refusal) → IsGoodWorld w → IsGoodWorld served.1 → IsGoodWorld (answered w peer served refusal).1
+answered_good w peer served (Some refusal) good done = same_good w _ refl refl refl good
+answered_good w peer served None good done = done
+
+none : (before after : List Block) (b : Block) → [] ≡ before ++ b ∷ after → ⊥
+none [] after b h = cc
+none (x ∷ before) after b h = cc
+
+pub opened_good : (o : Start) → IsGoodWorld (opened_world o)
+opened_good o = record {
+  chain = record { coinbases = λ b h. absurd (omega arith); spelled = λ tx h. absurd (omega arith); founded = λ before after b h. absurd (none before after b h) };
+  pool = empty_good (limits_of (opened_world o)) (opened_world o).chain;
+  spelled = λ e m. not_in_none e m;
+}
+
+pub all_opened_good : {E : Type 0} (o : Start) (r : Result World E) → IfOk r (λ w. w ≡ opened_world o) → IfOk r IsGoodWorld
+all_opened_good o (Ok w) h = subst IsGoodWorld (sym h) (opened_good o)
+all_opened_good o (Err e) h = tt
+
+-- where no rule fails of an event, none fails of the switch
+rest_passes : {X : Type 0} (b : Bool) (d : X) (o : Option X) → (if b then Some d else o) ≡ None → o ≡ None
+rest_passes true d o h = cc
+rest_passes false d o h = h
+
+switch_passes : (h : History) (disconnect : ℕ) (blocks : List (Option Block)) → first_failing (event_rules h disconnect blocks) ≡ None → first_failing (switch_rules h disconnect (present blocks)) ≡ None
+unfolding event_rules
+switch_passes h disconnect blocks passes = rest_passes (list_any is_none blocks) BlockDecode _ passes
+
+chained_good : (w : World) (disconnect now : ℕ) (blocks : List (Option Block)) → IsSpelled (Extend disconnect now blocks) → IsApartFrom w (Extend disconnect now blocks) → IsGoodWorld w
+    → (denial : Option ChainDenial) → first_failing (event_rules w.chain disconnect blocks) ≡ denial → IsGoodWorld (chained_as w (event_of (standing_of w) disconnect (present blocks) now w.budget) denial).1
+chained_good w disconnect now blocks told apart good (Some denial) is = good
+chained_good w disconnect now blocks told apart good None is =
+    let after = event_of (standing_of w) disconnect (present blocks) now w.budget in
+    let stays = events_keep_pools_good (standing_of w) disconnect (present blocks) now w.budget (switch_passes w.chain disconnect blocks is)
+    (record { settled = good.chain; entries_spelled = good.spelled; blocks_spelled = told; apart = apart; good = good.pool }) in
+    record {
+      chain = stays.settled;
+      pool = stays.good;
+      spelled = λ e m. ⊎_elim
+          (λ k. ⊎_elim (λ l. good.chain.spelled e.tx l) (λ l. entry_spelled w.pool good.spelled e.tx l) (Contains-append_cases (connected_transactions w.chain) (map (λ (a : Admitted). a.tx) w.pool) e.tx k))
+          (λ k. told e.tx k)
+          (Contains-append_cases (transactions_in w) (block_transactions (present blocks)) e.tx
+          (events_bring_nothing_else (standing_of w) disconnect (present blocks) now w.budget e.tx
+          (Contains-append_right (connected_transactions after.chain) (map (λ (a : Admitted). a.tx) after.entries) e.tx (Contains-map (λ (a : Admitted). a.tx) after.entries e m))));
+    }
+
+pub step_good : (w : World) (event : Event) → IsSpelled event → StaysApart w event → IsGoodWorld w → IsGoodWorld (step_of w event).1
+unfolding step_of
+step_good w (Enter peer address) told new good = answered_good w peer (entered w peer address) (first_failing (entering_rules w.sessions peer)) good (same_good w _ refl refl refl good)
+step_good w (Leave peer) told new good = answered_good w peer (left w peer) (first_failing (session_rules w.sessions peer)) good (same_good w _ refl refl refl good)
+step_good w (Submit peer now transaction) told new good =
+    answered_good w peer (submitted w peer now transaction) (first_failing (submission_rules w peer transaction)) good (submitted_good w peer now transaction told new good)
+step_good w (Mempool peer) told new good = answered_good w peer (listed w) (first_failing (listing_rules w peer)) good good
+step_good w (GetBlock peer height) told new good = answered_good w peer (block_given w height) (first_failing (block_rules w peer height)) good good
+step_good w (Headers peer height) told new good = answered_good w peer (headers_given w height) (first_failing (headers_rules w peer height)) good good
+step_good w (Rpc call) told new good =
+    call_gives (λ p. IsGoodWorld p.1) w call.time call.user (request_of call.json) (λ answer. good)
+    (λ id transaction is. after_good w call.time transaction (subst (λ (o : Option Tx). IfSome o IsTx) (sym is) told) (subst (StaysUnconnected (standing_of w)) (sym is) new) good)
+step_good w (SetFloor rate) told new good = same_good w _ refl refl refl good
+step_good w (Turn switch on) told new good = same_good w _ refl refl refl good
+step_good w (Extend disconnect now blocks) told new good = chained_good w disconnect now blocks told new good (first_failing (event_rules w.chain disconnect blocks)) refl
+
+-- a part of what is apart is
+pub apart_part : (part whole : List Tx) → ((tx : Tx) → Contains part tx → Contains whole tx) → AreApart whole → AreApart part
+apart_part part whole within apart = λ a b here there. apart a b (within a here) (within b there)
+
+-- a transaction that is told apart from those at hand is in no connected block
+offered_stays : (w : World) (transaction : Option Tx) → IsSettled w.chain → IfSome transaction IsTx → AreApart (transactions_in w ++ option_to_list transaction) → StaysUnconnected (standing_of w) transaction
+offered_stays w transaction settled spelled apart =
+    let blocks = connected_transactions w.chain in
+    let entries = map (λ (e : Admitted). e.tx) w.pool in
+    let more = option_to_list transaction in
+    stays_if_apart (standing_of w) transaction settled spelled
+    (apart_part (more ++ blocks) ((blocks ++ entries) ++ more)
+    (λ tx h. ⊎_elim (λ k. Contains-append_right (blocks ++ entries) more tx k) (λ k. Contains-append_left (blocks ++ entries) more tx (Contains-append_left blocks entries tx k)) (Contains-append_cases more blocks tx h))
+    apart)
+
+-- where transactions are told apart by their ids
+pub apart_stays : (w : World) (event : Event) → IsSettled w.chain → IsSpelled event → IsApartFrom w event → StaysApart w event
+apart_stays w (Enter peer address) settled spelled apart = tt
+apart_stays w (Leave peer) settled spelled apart = tt
+apart_stays w (Submit peer now transaction) settled spelled apart = offered_stays w transaction settled spelled apart
+apart_stays w (Mempool peer) settled spelled apart = tt
+apart_stays w (GetBlock peer height) settled spelled apart = tt
+apart_stays w (Headers peer height) settled spelled apart = tt
+apart_stays w (Rpc call) settled spelled apart = offered_stays w (offered (request_of call.json)) settled spelled apart
+apart_stays w (SetFloor rate) settled spelled apart = tt
+apart_stays w (Turn switch on) settled spelled apart = tt
+apart_stays w (Extend disconnect now blocks) settled spelled apart = apart
+
+-- no event changes the budget
+decided_budget : (w : World) (peer : ℕ) (transaction : Option Tx) (decision : Result Grant Denial) → (decided w peer transaction decision).1.budget ≡ w.budget
+decided_budget w peer None decision = refl
+decided_budget w peer (Some tx) (Ok grant) = refl
+decided_budget w peer (Some tx) (Err denial) = refl
+
+answered_budget : (w : World) (peer : ℕ) (served : Reply × World) (refusal : Option Refusal) → served.1.budget ≡ w.budget → (answered w peer served refusal).1.budget ≡ w.budget
+answered_budget w peer served (Some refusal) h = refl
+answered_budget w peer served None h = h
+
+chained_budget : (w : World) (after : Happened) (denial : Option ChainDenial) → (chained_as w after denial).1.budget ≡ w.budget
+chained_budget w after (Some denial) = refl
+chained_budget w after None = refl
+
+pub step_budget : (w : World) (event : Event) → (step_of w event).1.budget ≡ w.budget
+unfolding step_of
+step_budget w (Enter peer address) = answered_budget w peer (entered w peer address) (first_failing (entering_rules w.sessions peer)) refl
+step_budget w (Leave peer) = answered_budget w peer (left w peer) (first_failing (session_rules w.sessions peer)) refl
+step_budget w (Submit peer now transaction) =
+    let s = submit_of (standing_of w) transaction now w.budget in
+    answered_budget w peer (submitted w peer now transaction) (first_failing (submission_rules w peer transaction)) (decided_budget (record w { pool = s.entries; floor = s.floor }) peer transaction s.decision)
+step_budget w (Mempool peer) = answered_budget w peer (listed w) (first_failing (listing_rules w peer)) refl
+step_budget w (GetBlock peer height) = answered_budget w peer (block_given w height) (first_failing (block_rules w peer height)) refl
+step_budget w (Headers peer height) = answered_budget w peer (headers_given w height) (first_failing (headers_rules w peer height)) refl
+step_budget w (Rpc call) = call_gives (λ p. p.1.budget ≡ w.budget) w call.time call.user (request_of call.json) (λ answer. refl) (λ id transaction is. refl)
+step_budget w (SetFloor rate) = refl
+step_budget w (Turn switch on) = refl
+step_budget w (Extend disconnect now blocks) = chained_budget w (event_of (standing_of w) disconnect (present blocks) now w.budget) (first_failing (event_rules w.chain disconnect blocks))
+
+chained_from : (w : World) (disconnect now : ℕ) (blocks : List (Option Block)) (denial : Option ChainDenial) (tx : Tx)
+    → Contains (transactions_in (chained_as w (event_of (standing_of w) disconnect (present blocks) now w.budget) denial).1) tx → Contains (transactions_in w ++ block_transactions (present blocks)) tx
+chained_from w disconnect now blocks (Some denial) tx h = Contains-append_left _ _ tx h
+chained_from w disconnect now blocks None tx h = events_bring_nothing_else (standing_of w) disconnect (present blocks) now w.budget tx h
 
 pub step_from : (w : World) (event : Event) (tx : Tx) → Contains (transactions_in (step_of w event).1) tx → Contains (transactions_in w ++ transactions_of event) tx
 unfolding step_of
@@ -187,4 +280,12 @@ step_from w (Leave peer) tx h = answered_from w peer (left w peer) (first_failin
 step_from w (Submit peer now transaction) tx h =
     answered_from w peer (submitted w peer now transaction) (first_failing (submission_rules w peer transaction)) (option_to_list transaction) tx (submitted_from w peer now transaction tx) h
 step_from w (Mempool peer) tx h = answered_from w peer (listed w) (first_failing (listing_rules w peer)) [] tx (λ k. Contains-append_left _ _ tx k) h
+step_from w (GetBlock peer height) tx h = answered_from w peer (block_given w height) (first_failing (block_rules w peer height)) [] tx (λ k. Contains-append_left _ _ tx k) h
+step_from w (Headers peer height) tx h = answered_from w peer (headers_given w height) (first_failing (headers_rules w peer height)) [] tx (λ k. Contains-append_left _ _ tx k) h
+step_from w (Rpc call) tx h =
+    let request = request_of call.json in
+    call_gives (λ p. Contains (transactions_in p.1) tx → Contains (transactions_in w ++ option_to_list (offered request)) tx) w call.time call.user request (λ answer k. Contains-append_left _ _ tx k)
+    (λ id transaction is k. subst (λ (o : Option Tx). Contains (transactions_in w ++ option_to_list o) tx) is (after_from w call.time transaction tx k)) h
 step_from w (SetFloor rate) tx h = Contains-append_left _ _ tx h
+step_from w (Turn switch on) tx h = Contains-append_left _ _ tx h
+step_from w (Extend disconnect now blocks) tx h = chained_from w disconnect now blocks (first_failing (event_rules w.chain disconnect blocks)) tx h

@@ -1,10 +1,14 @@
+mod Barring
+mod Calls
 mod ClosedSessions
 mod Denials
-mod Dotted
 mod Floors
 pub mod Keeping
+mod Guarding
 mod Listings
-mod Names
 mod Peers
 pub mod Running
+mod Quieting
+mod Sending
 mod Separate
+pub mod Spends

@@ -7,7 +7,7 @@ use Rattle.gate_bytes.specs.Order.{first_failing}
 use Rattle.gate_core.specs.declared.refusal.Refusal.{Refusal}
 use Rattle.gate_core.specs.declared.refusal.Refusal.TheVariants.{PeerUnknown, PeerClosed}
 use Rattle.gate_core.specs.declared.session.Seat.{Seat}
-use Rattle.gate_core.specs.Permissions.{Permissions, no_permissions}
+use Rattle.gate_net.specs.Permissions.{Permissions, no_permissions}
 use Rattle.gate_core.specs.Access.{is_known, session_rules}
 use Rattle.gate_core.specs.Sessions.{Session, session, session_of, flags_in, closed}
 

@@ -1,16 +1,15 @@
 -- Good states along a run that is apart.
 use Rattle.std.proofs.Common.{◌≡◌, List, [], ◌∷◌, ◌++◌, Contains, ⊎_elim, refl, sym, ap, ◌∙◌, subst, append_assoc}
-use Rattle.std.specs.List.{flat_map}
-use Rattle.std.proofs.lemmas.List.Elements.{Contains-append_left, Contains-append_right, Contains-append_cases}
+use Rattle.std.specs.List.{All, flat_map}
+use Rattle.std.proofs.lemmas.List.Elements.{All-head, All-tail, Contains-append_left, Contains-append_right, Contains-append_cases}
 use Rattle.gate_tx.specs.Tx.{Tx}
-use Rattle.gate_chain.specs.History.{History}
 use Rattle.gate_core.specs.declared.event.Event.{Event}
 use Rattle.gate_core.specs.declared.reply.Reply.{Reply}
 use Rattle.gate_core.specs.World.{World}
 use Rattle.gate_core.specs.Steps.{step_of}
-use Rattle.gate_core.specs.Good.{IsGoodWorld, IsApartFrom, transactions_in, transactions_of}
+use Rattle.gate_core.specs.Good.{IsGoodWorld, IsApartFrom, IsSpelled, transactions_in, transactions_of}
 use Rattle.gate_core.specs.Runs.{run_of, IsRunApart, LeadsTo}
-use Rattle.gate_core.proofs.Keeping.{IsOver, apart_part, opened_stays, step_over, step_good, step_from}
+use Rattle.gate_core.proofs.Keeping.{apart_part, apart_stays, step_budget, step_good, step_from}
 
 in_first : (a b c : List Tx) (tx : Tx) → Contains (a ++ b) tx → Contains (a ++ (b ++ c)) tx
 in_first a b c tx h = subst (λ l. Contains l tx) (append_assoc a b c) (Contains-append_left (a ++ b) c tx h)
@@ -30,18 +29,17 @@ apart_rest w event events apart =
     apart_part (transactions_in (step_of w event).1 ++ flat_map transactions_of events) (transactions_in w ++ (transactions_of event ++ flat_map transactions_of events))
     (λ tx. in_rest (transactions_in w) (transactions_of event) (flat_map transactions_of events) (transactions_in (step_of w event).1) tx (step_from w event tx)) apart
 
--- where no block is connected
-pub run_good : (events : List Event) (w : World) → w.chain.blocks ≡ [] → IsGoodWorld w → IsGoodWorld (run_of w events).1
-run_good [] w unconnected good = good
-run_good (event ∷ events) w unconnected good =
-    run_good events (step_of w event).1 (ap (λ (h : History). h.blocks) (step_over w event).0 ∙ unconnected) (step_good w event (opened_stays w event unconnected) good)
+-- where the transactions of a run are told apart by their ids
+pub run_good : (events : List Event) (w : World) → All IsSpelled events → IsRunApart w events → IsGoodWorld w → IsGoodWorld (run_of w events).1
+run_good [] w spelled apart good = good
+run_good (event ∷ events) w spelled apart good =
+    let told = All-head IsSpelled event events spelled in
+    run_good events (step_of w event).1 (All-tail IsSpelled event events spelled) (apart_rest w event events apart)
+    (step_good w event told (apart_stays w event good.chain told (apart_first w event events apart)) good)
 
-pub run_over : (events : List Event) (w : World) → IsOver w (run_of w events).1
-run_over [] w = (refl, refl)
-run_over (event ∷ events) w =
-    let first = step_over w event in
-    let rest = run_over events (step_of w event).1 in
-    (rest.0 ∙ first.0, rest.1 ∙ first.1)
+pub run_same_budget : (events : List Event) (w : World) → (run_of w events).1.budget ≡ w.budget
+run_same_budget [] w = refl
+run_same_budget (event ∷ events) w = run_same_budget events (step_of w event).1 ∙ step_budget w event
 
 pub steps_give_the_run : (w : World) (events : List Event) (replies : List Reply) (end : World) → IsGoodWorld w → IsRunApart w events → LeadsTo w events replies end
     → ((replies, end) ≡ run_of w events) × IsGoodWorld end

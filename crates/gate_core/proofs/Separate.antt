@@ -8,23 +8,28 @@ use Rattle.gate_standard.specs.declared.Denial.{Denial}
 use Rattle.gate_standard.specs.declared.Denial.TheVariants.{Decode}
 use Rattle.gate_admit.specs.declared.Grant.{Grant}
 use Rattle.gate_admit.specs.Submission.{submit_of}
+use Rattle.gate_chain.specs.declared.ChainDenial.{ChainDenial}
+use Rattle.gate_reorg.specs.Events.{Happened, present, event_rules, event_of}
 use Rattle.gate_core.specs.declared.caller.Caller.TheVariants.{Peer}
 use Rattle.gate_core.specs.declared.event.Event.{Event}
-use Rattle.gate_core.specs.declared.event.Event.TheVariants.{Enter, Leave, Tx as Submit, Mempool, SetFloor}
+use Rattle.gate_core.specs.declared.event.Event.TheVariants.{Enter, Leave, Tx as Submit, Mempool, GetBlock, Headers, Rpc, SetFloor, Set as Turn, Chain as Extend}
 use Rattle.gate_core.specs.declared.refusal.Refusal.{Refusal}
 use Rattle.gate_core.specs.declared.refusal.Refusal.TheVariants.{Admission}
 use Rattle.gate_core.specs.declared.refusal.Then.{Then}
 use Rattle.gate_core.specs.declared.refusal.Then.TheVariants.{Keep, Close, Relay}
 use Rattle.gate_core.specs.declared.reply.Reply.{Reply}
-use Rattle.gate_core.specs.Permissions.{Permissions}
+use Rattle.gate_net.specs.Permissions.{Permissions}
 use Rattle.gate_core.specs.Callers.{caller_of}
 use Rattle.gate_core.specs.Refusals.{then_of}
 use Rattle.gate_core.specs.Sessions.{Session, session, session_of, flags_in, closed}
 use Rattle.gate_core.specs.World.{World, flags_at, standing_of}
-use Rattle.gate_core.specs.Access.{entering_rules, session_rules, submission_rules, listing_rules}
-use Rattle.gate_core.specs.PeerSteps.{sessions_after, decided, answered, entered, left, submitted, listed}
+use Rattle.gate_core.specs.Access.{entering_rules, session_rules, submission_rules, listing_rules, block_rules, headers_rules}
+use Rattle.gate_core.specs.PeerSteps.{sessions_after, decided, answered, entered, left, submitted, listed, block_given, headers_given}
+use Rattle.gate_core.specs.ChainSteps.{chained_as}
 use Rattle.gate_core.specs.Steps.{step_of}
 use Rattle.gate_core.specs.Runs.{run_of}
+use Rattle.gate_rpc.specs.Calls.{request_of}
+use Rattle.gate_core.proofs.Calls.{call_gives}
 
 differs : (a b : ℕ) → a ≢ b → nat_eq a b ≡ false
 differs a b h = false_from_ne_true (nat_eq a b) (λ k. h (eqb-true a b k))
@@ -66,6 +71,10 @@ answered_leaves : (w : World) (peer other : ℕ) (served : Reply × World) (refu
 answered_leaves w peer other served (Some refusal) h done = after_leaves (then_of (flags_in w.sessions peer) refusal) w.sessions peer other h
 answered_leaves w peer other served None h done = done
 
+chained_leaves : (w : World) (other : ℕ) (after : Happened) (denial : Option ChainDenial) → session_of (chained_as w after denial).1.sessions other ≡ session_of w.sessions other
+chained_leaves w other after (Some denial) = refl
+chained_leaves w other after None = refl
+
 another : (peer other : ℕ) → Peer peer ≢ Peer other → other ≢ peer
 another peer other h = λ k. h (ap Peer (sym k))
 
@@ -81,7 +90,13 @@ step_leaves w (Submit peer now transaction) other h =
     let apart = another peer other h in
     answered_leaves w peer other (submitted w peer now transaction) (first_failing (submission_rules w peer transaction)) apart (submitted_leaves w peer other now transaction apart)
 step_leaves w (Mempool peer) other h = answered_leaves w peer other (listed w) (first_failing (listing_rules w peer)) (another peer other h) refl
+step_leaves w (GetBlock peer height) other h = answered_leaves w peer other (block_given w height) (first_failing (block_rules w peer height)) (another peer other h) refl
+step_leaves w (Headers peer height) other h = answered_leaves w peer other (headers_given w height) (first_failing (headers_rules w peer height)) (another peer other h) refl
+step_leaves w (Rpc call) other h =
+    call_gives (λ p. session_of p.1.sessions other ≡ session_of w.sessions other) w call.time call.user (request_of call.json) (λ answer. refl) (λ id transaction is. refl)
 step_leaves w (SetFloor rate) other h = refl
+step_leaves w (Turn switch on) other h = refl
+step_leaves w (Extend disconnect now blocks) other h = chained_leaves w other (event_of (standing_of w) disconnect (present blocks) now w.budget) (first_failing (event_rules w.chain disconnect blocks))
 
 pub run_leaves : (events : List Event) (w : World) (peer : ℕ) → All (λ (e : Event). caller_of e ≢ Peer peer) events → session_of (run_of w events).1.sessions peer ≡ session_of w.sessions peer
 run_leaves [] w peer others = refl

@@ -1,12 +1,25 @@
 -- Who makes an event.
+use Rattle.std.specs.Prelude.{ℕ, Option, Some, None}
 use Rattle.gate_core.specs.declared.caller.Caller.{Caller}
-use Rattle.gate_core.specs.declared.caller.Caller.TheVariants.{Operator, Peer}
+use Rattle.gate_core.specs.declared.caller.Caller.TheVariants.{Chain, Operator, Peer, User}
 use Rattle.gate_core.specs.declared.event.Event.{Event}
-use Rattle.gate_core.specs.declared.event.Event.TheVariants.{Enter, Leave, Tx as Submit, Mempool, SetFloor}
+use Rattle.gate_core.specs.declared.event.Event.TheVariants.{Enter, Leave, Tx as Submit, Mempool, GetBlock, Headers, Rpc, SetFloor, Set, Chain as Extend}
 
 abbrev pub caller_of : Event → Caller
 caller_of (Enter peer address) = Peer peer
 caller_of (Leave peer) = Peer peer
 caller_of (Submit peer now transaction) = Peer peer
 caller_of (Mempool peer) = Peer peer
+caller_of (GetBlock peer height) = Peer peer
+caller_of (Headers peer height) = Peer peer
+caller_of (Rpc call) = User call.user
 caller_of (SetFloor rate) = Operator
+caller_of (Set switch on) = Operator
+caller_of (Extend disconnect now blocks) = Chain
+
+-- the number of a peer
+abbrev pub peer_of : Caller → Option ℕ
+peer_of (Peer peer) = Some peer
+peer_of (User user) = None
+peer_of Operator = None
+peer_of Chain = None

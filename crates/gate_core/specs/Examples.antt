@@ -1,14 +1,28 @@
 -- The step and what it rests on at small values, by computation.
-use Rattle.std.specs.Prelude.{◌≡◌, Bool, true, false, List, [], ◌∷◌, None, codes}
+use Rattle.std.specs.Prelude.{◌≡◌, ℕ, Bool, true, false, List, [], ◌∷◌, None, Some, Result, Ok, Err, codes}
 use Rattle.gate_standard.specs.declared.Denial.TheVariants.{Decode, VinEmpty}
-use Rattle.gate_core.specs.declared.event.Event.TheVariants.{Enter, Leave, Tx as Submit, Mempool, SetFloor}
+use Rattle.gate_core.specs.declared.event.Event.TheVariants.{Enter, Leave, Tx as Submit, Mempool, GetBlock, Headers as AskHeaders, SetFloor, Set as Turn}
+use Rattle.gate_core.specs.declared.switch.Switch.TheVariants.{Download}
 use Rattle.gate_core.specs.declared.refusal.Then.TheVariants.{Keep, Close, Relay}
-use Rattle.gate_core.specs.declared.refusal.Refusal.TheVariants.{PeerUnknown, PeerClosed, PeerKnown, AlreadyInMempool, MempoolNoBloom, Admission}
-use Rattle.gate_core.specs.declared.reply.Reply.TheVariants.{Entered, Left, Listing, Denied, Set}
-use Rattle.gate_core.specs.Permissions.{Permissions, no_permissions, permissions_text}
+use Rattle.gate_core.specs.declared.refusal.Refusal.TheVariants.{PeerUnknown, PeerClosed, PeerKnown, BlocksOnly, AlreadyInMempool, MempoolNoBloom, MempoolUploadTarget, HeadersDuringDownload, UnknownBlock, HistoricalUploadTarget, Admission}
+use Rattle.gate_core.specs.declared.reply.Reply.TheVariants.{Entered, Left, Listing, Block, Headers, Rpc, Denied, Set}
+use Rattle.gate_net.specs.Addresses.{V4}
+use Rattle.gate_net.specs.Permissions.{Permissions, no_permissions, permissions_text}
+use Rattle.gate_core.specs.Switching.{unswitched}
 use Rattle.gate_core.specs.Sessions.{Session, session}
 use Rattle.gate_core.specs.World.{World}
 use Rattle.gate_core.specs.PeerSteps.{refused}
+use Rattle.gate_core.specs.RpcSteps.{rpc_step}
+use Rattle.gate_rpc.specs.declared.id.Id.{Id}
+use Rattle.gate_rpc.specs.declared.id.Id.TheVariants.{Null, Unsigned}
+use Rattle.gate_rpc.specs.declared.request.Command.{Command}
+use Rattle.gate_rpc.specs.declared.request.Command.TheVariants.{SendRawTransaction, TestMempoolAccept, GetRawMempool, GetMempoolEntry, GetMempoolInfo}
+use Rattle.gate_rpc.specs.declared.request.Request.{Request}
+use Rattle.gate_rpc.specs.declared.fault.CallError.{CallError}
+use Rattle.gate_rpc.specs.declared.fault.CallError.TheVariants.{ParseError, MethodNotFound}
+use Rattle.gate_rpc.specs.declared.error.RpcError.TheVariants as errors
+use Rattle.gate_rpc.specs.declared.result.RpcResult.TheVariants.{Txids, Info}
+use Rattle.gate_rpc.specs.declared.reply.RpcReply.TheVariants.{NotAllowed, Answer, Failure}
 use Rattle.gate_core.specs.Steps.{step_of}
 
 -- a state with these sessions and an empty pool
@@ -20,7 +34,10 @@ with_sessions bloom sessions = record {
   sessions = sessions;
   budget = 0;
   verdicts = record { rows = []; other = None };
-  bloom = bloom;
+  whitelist = record { entries = []; relay = true; forcerelay = false };
+  rpcwhitelist = record { entries = []; is_default_on = false };
+  blocksonly = false;
+  switches = unswitched bloom;
 }
 
 -- peer 7 is there and peer 8 has left
@@ -37,9 +54,38 @@ noban = record no_permissions { noban = true; download = true }
 abbrev pub forcerelay : Permissions
 forcerelay = record no_permissions { forcerelay = true; relay = true }
 
+abbrev pub relay : Permissions
+relay = record no_permissions { relay = true }
+
+abbrev pub mempool : Permissions
+mempool = record no_permissions { mempool = true }
+
+abbrev pub download : Permissions
+download = record no_permissions { download = true }
+
+-- peer 7 alone, while the node takes blocks only
+abbrev pub blocks_only : Permissions → Bool → World
+blocks_only flags is_open = record (one_peer flags is_open) { blocksonly = true }
+
+-- peer 7 alone, with all switches on, over blocks of these times
+abbrev pub all_on : List ℕ → Permissions → Bool → World
+all_on times flags is_open = record (one_peer flags is_open) {
+  chain = record { coins = []; times = times; blocks = [] };
+  switches = record { bloom = true; upload = true; historic = true; download = true };
+}
+
+-- no peer, and users that may call these methods
+abbrev pub called_with : List (List ℕ) → World
+called_with methods = record (with_sessions false []) {
+  rpcwhitelist = record { entries = record { user = codes "a"; methods = Some methods } ∷ []; is_default_on = true };
+}
+
+abbrev pub request : Command → Result Request CallError
+request command = Ok (record { id = Unsigned 7; command = command })
+
 pub record SmallSteps : Type 0 where
-  pub enters : step_of (with_sessions true []) (Enter 7 (192 ∷ 0 ∷ 2 ∷ 1 ∷ [])) ≡ (Entered no_permissions, with_sessions true (session 7 true no_permissions ∷ []))
-  pub enters_again : step_of (two_peers true true) (Enter 8 (192 ∷ 0 ∷ 2 ∷ 1 ∷ [])) ≡ (Denied PeerKnown Keep, two_peers true true)
+  pub enters : step_of (with_sessions true []) (Enter 7 (V4 (192 ∷ 0 ∷ 2 ∷ 1 ∷ []))) ≡ (Entered no_permissions, with_sessions true (session 7 true no_permissions ∷ []))
+  pub enters_again : step_of (two_peers true true) (Enter 8 (V4 (192 ∷ 0 ∷ 2 ∷ 1 ∷ []))) ≡ (Denied PeerKnown Keep, two_peers true true)
   pub leaves : step_of (two_peers true true) (Leave 7) ≡ (Left, two_peers true false)
   pub unknown : step_of (two_peers true true) (Leave 9) ≡ (Denied PeerUnknown Keep, two_peers true true)
   pub closed : step_of (two_peers true true) (Mempool 8) ≡ (Denied PeerClosed Keep, two_peers true true)
@@ -60,3 +106,33 @@ pub record PermittedSteps : Type 0 where
   pub noban_text : permissions_text noban ≡ codes "noban,download"
   pub forcerelay_text : permissions_text forcerelay ≡ codes "forcerelay,relay"
   pub no_text : permissions_text no_permissions ≡ codes "none"
+
+-- what the rules on peers with flags come to
+pub record GuardedSteps : Type 0 where
+  pub blocks_only_closes : step_of (blocks_only noban true) (Submit 7 5000 None) ≡ (Denied BlocksOnly Close, blocks_only noban false)
+  pub relay_is_read : step_of (blocks_only relay true) (Submit 7 5000 None) ≡ (Denied (Admission Decode) Keep, blocks_only relay true)
+  pub upload : step_of (all_on [] no_permissions true) (Mempool 7) ≡ (Denied MempoolUploadTarget Close, all_on [] no_permissions false)
+  pub upload_noban : step_of (all_on [] noban true) (Mempool 7) ≡ (Denied MempoolUploadTarget Keep, all_on [] noban true)
+  pub upload_mempool : step_of (all_on [] mempool true) (Mempool 7) ≡ (Listing [], all_on [] mempool true)
+  pub mempool_without_bloom : step_of (one_peer mempool true) (Mempool 7) ≡ (Listing [], one_peer mempool true)
+  pub downloads : step_of (all_on (0 ∷ 1 ∷ []) no_permissions true) (AskHeaders 7 5) ≡ (Denied HeadersDuringDownload Keep, all_on (0 ∷ 1 ∷ []) no_permissions true)
+  pub above_the_tip : step_of (all_on (0 ∷ 1 ∷ []) download true) (AskHeaders 7 2) ≡ (Denied UnknownBlock Keep, all_on (0 ∷ 1 ∷ []) download true)
+  pub at_the_tip : step_of (all_on (0 ∷ 1 ∷ []) download true) (AskHeaders 7 1) ≡ (Headers 2 0, all_on (0 ∷ 1 ∷ []) download true)
+  pub below_the_tip : step_of (all_on (0 ∷ 1 ∷ []) download true) (AskHeaders 7 0) ≡ (Headers 1 1, all_on (0 ∷ 1 ∷ []) download true)
+  pub old : step_of (all_on (0 ∷ 604801 ∷ []) no_permissions true) (GetBlock 7 0) ≡ (Denied HistoricalUploadTarget Close, all_on (0 ∷ 604801 ∷ []) no_permissions false)
+  pub a_week_old : step_of (all_on (1 ∷ 604801 ∷ []) no_permissions true) (GetBlock 7 0) ≡ (Block 0 1, all_on (1 ∷ 604801 ∷ []) no_permissions true)
+  pub old_by_download : step_of (all_on (0 ∷ 604801 ∷ []) download true) (GetBlock 7 0) ≡ (Block 0 0, all_on (0 ∷ 604801 ∷ []) download true)
+  pub unknown_first : step_of (all_on (0 ∷ 604801 ∷ []) no_permissions true) (GetBlock 7 2) ≡ (Denied UnknownBlock Keep, all_on (0 ∷ 604801 ∷ []) no_permissions true)
+  pub turns : step_of (one_peer noban true) (Turn Download true) ≡ (Set, record (one_peer noban true) { switches = record (unswitched false) { download = true } })
+
+-- what calls come to
+pub record CallSteps : Type 0 where
+  pub unread : rpc_step (called_with []) (codes "b") 0 (Err ParseError) ≡ (Rpc (Failure Null errors.ParseError), called_with [])
+  pub barred : rpc_step (called_with []) (codes "a") 0 (Err (MethodNotFound Null (codes "foo"))) ≡ (Rpc NotAllowed, called_with [])
+  pub barred_by_default : rpc_step (called_with (codes "getrawmempool" ∷ [])) (codes "b") 0 (request GetRawMempool) ≡ (Rpc NotAllowed, called_with (codes "getrawmempool" ∷ []))
+  pub unknown : rpc_step (called_with (codes "foo" ∷ [])) (codes "a") 0 (Err (MethodNotFound Null (codes "foo"))) ≡ (Rpc (Failure Null errors.MethodNotFound), called_with (codes "foo" ∷ []))
+  pub lists : rpc_step (called_with (codes "getrawmempool" ∷ [])) (codes "a") 0 (request GetRawMempool) ≡ (Rpc (Answer (Unsigned 7) (Txids [])), called_with (codes "getrawmempool" ∷ []))
+  pub informs : rpc_step (with_sessions false []) (codes "a") 0 (request GetMempoolInfo) ≡ (Rpc (Answer (Unsigned 7) (Info 0 0 1000 1000 0)), with_sessions false [])
+  pub no_entry : rpc_step (with_sessions false []) (codes "a") 0 (request (GetMempoolEntry [])) ≡ (Rpc (Failure (Unsigned 7) errors.NotInMempool), with_sessions false [])
+  pub sends_nothing : rpc_step (with_sessions false []) (codes "a") 0 (request (SendRawTransaction None)) ≡ (Rpc (Failure (Unsigned 7) (errors.Denied Decode)), with_sessions false [])
+  pub tests_nothing : rpc_step (with_sessions false []) (codes "a") 0 (request (TestMempoolAccept None)) ≡ (Rpc (Failure (Unsigned 7) (errors.Denied Decode)), with_sessions false [])

@@ -1,6 +1,7 @@
-pub mod Addresses
-pub mod Permissions
 pub mod Sessions
+pub mod UserCalls
+pub mod Equality
+pub mod Switching
 pub mod Callers
 pub mod Refusals
 pub mod Texts
@@ -8,10 +9,13 @@ pub mod Opening
 pub mod World
 pub mod Access
 pub mod PeerSteps
+pub mod RpcSteps
+pub mod ChainSteps
 pub mod Steps
 pub mod Quiet
 pub mod Planning
 pub mod Good
 pub mod Runs
 pub mod SessionLaws
+pub mod AccessLaws
 pub mod Examples

@@ -1,5 +1,5 @@
 -- What each event of a peer gives: the reply, and the state after it.
-use Rattle.std.specs.Prelude.{ℕ, true, List, [], ◌∷◌, ◌++◌, Option, Some, None, Result, Ok, Err}
+use Rattle.std.specs.Prelude.{ℕ, ◌+◌, ◌-◌, min, true, List, [], ◌∷◌, ◌++◌, Option, Some, None, Result, Ok, Err}
 use Rattle.gate_bytes.specs.Order.{Rule, first_failing}
 use Rattle.gate_tx.specs.Tx.{Tx}
 use Rattle.gate_tx.specs.Ids.{txid_of}
@@ -13,11 +13,14 @@ use Rattle.gate_core.specs.declared.refusal.Then.TheVariants.{Keep, Close, Relay
 use Rattle.gate_core.specs.declared.refusal.Refusal.{Refusal}
 use Rattle.gate_core.specs.declared.refusal.Refusal.TheVariants.{Admission}
 use Rattle.gate_core.specs.declared.reply.Reply.{Reply}
-use Rattle.gate_core.specs.declared.reply.Reply.TheVariants.{Entered, Left, Admitted, Listing, Denied}
-use Rattle.gate_core.specs.Permissions.{Permissions}
+use Rattle.gate_core.specs.declared.reply.Reply.TheVariants.{Entered, Left, Admitted, Listing, Block, Headers, Denied}
+use Rattle.gate_net.specs.Permissions.{Permissions}
 use Rattle.gate_core.specs.Refusals.{then_of}
 use Rattle.gate_core.specs.Sessions.{Session, session, flags_in, closed}
 use Rattle.gate_core.specs.World.{World, flags_at, standing_of}
+use Rattle.gate_core.specs.Access.{seconds_at}
+use Rattle.gate_net.specs.Addresses.{Address}
+use Rattle.gate_chain.specs.Times.{tip_of}
 
 -- the sessions after what follows a refusal
 abbrev pub sessions_after : Then → List Session → ℕ → List Session
@@ -42,7 +45,7 @@ peer_step w peer rules served = answered w peer served (first_failing rules)
 abbrev pub seated : World → ℕ → Permissions → Reply × World
 seated w peer flags = (Entered flags, record w { sessions = w.sessions ++ session peer true flags ∷ [] })
 
-abbrev pub entered : World → ℕ → List ℕ → Reply × World
+abbrev pub entered : World → ℕ → Address → Reply × World
 entered w peer address = seated w peer (flags_at w address)
 
 abbrev pub left : World → ℕ → Reply × World
@@ -63,3 +66,10 @@ submitted w peer now transaction = concluded w peer transaction (submit_of (stan
 
 abbrev pub listed : World → Reply × World
 listed w = (Listing (listing_of w.pool), w)
+
+abbrev pub block_given : World → ℕ → Reply × World
+block_given w height = (Block height (seconds_at w.chain height), w)
+
+-- at most 2,000 headers are given at a time
+abbrev pub headers_given : World → ℕ → Reply × World
+headers_given w height = (Headers (height + 1) (min 2000 (tip_of w.chain - height)), w)

@@ -10,14 +10,18 @@ use Rattle.gate_admit.specs.Coins.{view_coin}
 use Rattle.gate_admit.specs.Good.{AreApart, IsLimited}
 use Rattle.gate_core.specs.declared.caller.Caller.TheVariants.{Operator}
 use Rattle.gate_core.specs.declared.event.Event.{Event}
-use Rattle.gate_core.specs.declared.event.Event.TheVariants.{Tx as Submit}
+use Rattle.gate_core.specs.declared.event.Event.TheVariants.{Tx as Submit, Rpc as Calls}
 use Rattle.gate_core.specs.Callers.{caller_of}
 use Rattle.gate_core.specs.Opening.{Start}
 use Rattle.gate_core.specs.declared.reply.Reply.{Reply}
-use Rattle.gate_core.specs.declared.reply.Reply.TheVariants.{Admitted, Listing}
+use Rattle.gate_core.specs.declared.reply.Reply.TheVariants.{Admitted, Listing, Rpc as Answered}
+use Rattle.gate_rpc.specs.declared.id.Id.{Id}
+use Rattle.gate_rpc.specs.declared.reply.RpcReply.TheVariants.{Answer}
+use Rattle.gate_rpc.specs.declared.result.RpcResult.TheVariants.{Sent}
+use Rattle.gate_core.specs.UserCalls.{UserCall}
 use Rattle.gate_core.specs.World.{World, opened_world}
 use Rattle.gate_core.specs.Steps.{step_of}
-use Rattle.gate_core.specs.Good.{IsGoodWorld, StepGives, transactions_in, transactions_of}
+use Rattle.gate_core.specs.Good.{IsGoodWorld, IsSpelled, StepGives, transactions_in, transactions_of}
 
 -- the replies to events in turn, and the state after the last
 abbrev pub run_of : World → List Event → List Reply × World
@@ -62,9 +66,9 @@ pub record KeepsFamilies (w : World) : Type 0 where
   pub coins : All (λ (p : OutPoint). IsSome (view_coin w.chain w.pool p)) (spent_by w.pool)
   pub limited : All (λ (e : Entry). IsLimited w.pool (txid_of e.tx)) w.pool
 
--- so it is after any events, from any opening
+-- so it is after any events, from any opening, where their transactions are told apart by their ids
 abbrev pub RunsKeepFamilies : Type 0
-RunsKeepFamilies = (o : Start) (events : List Event) → KeepsFamilies (run_of (opened_world o) events).1
+RunsKeepFamilies = (o : Start) (events : List Event) → All IsSpelled events → IsRunApart (opened_world o) events → KeepsFamilies (run_of (opened_world o) events).1
 
 -- after any events, from any opening, the entries are within the opening's budget
 abbrev pub RunsKeepTheBudget : Type 0
@@ -79,3 +83,8 @@ abbrev pub AdmissionsLeaveNothingStale : Type 0
 AdmissionsLeaveNothingStale =
     (w : World) (peer now : ℕ) (transaction : Option Tx) (txid : List ℕ) (fee vsize replaced : ℕ) → (step_of w (Submit peer now transaction)).0 ≡ Admitted txid fee vsize replaced
     → All (IsYoung now) (step_of w (Submit peer now transaction)).1.pool
+
+-- so it is after a transaction that a user sends
+abbrev pub CallsLeaveNothingStale : Type 0
+CallsLeaveNothingStale =
+    (w : World) (call : UserCall) (id : Id) (txid : List ℕ) → (step_of w (Calls call)).0 ≡ Answered (Answer id (Sent txid)) → All (IsYoung call.time) (step_of w (Calls call)).1.pool

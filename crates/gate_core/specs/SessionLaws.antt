@@ -4,23 +4,32 @@ use Rattle.std.specs.List.{All}
 use Rattle.gate_standard.specs.declared.Denial.TheVariants.{MempoolFull}
 use Rattle.gate_core.specs.declared.caller.Caller.TheVariants.{Peer}
 use Rattle.gate_core.specs.declared.event.Event.{Event}
-use Rattle.gate_core.specs.declared.event.Event.TheVariants.{Enter, Leave, Tx as Submit, Mempool, SetFloor}
+use Rattle.gate_core.specs.declared.event.Event.TheVariants.{Enter, Leave, Tx as Submit, Mempool, GetBlock, Headers, Rpc, SetFloor, Set as Turn, Chain as Extend}
 use Rattle.gate_core.specs.declared.refusal.Refusal.TheVariants.{PeerClosed, PeerKnown, Admission}
 use Rattle.gate_core.specs.declared.refusal.Then.TheVariants.{Keep}
 use Rattle.gate_core.specs.declared.reply.Reply.{Reply}
-use Rattle.gate_core.specs.declared.reply.Reply.TheVariants.{Entered, Left, Admitted, Listing, Denied, Set}
+use Rattle.gate_core.specs.declared.reply.Reply.TheVariants.{Entered, Left, Admitted, Listing, Block, Headers, Rpc as Answered, Denied, Set, Moved, Refused}
+use Rattle.gate_rpc.specs.declared.error.RpcError.{RpcError}
+use Rattle.gate_rpc.specs.declared.error.RpcError.TheVariants as errors
+use Rattle.gate_rpc.specs.declared.reply.RpcReply.{RpcReply}
+use Rattle.gate_rpc.specs.declared.reply.RpcReply.TheVariants.{NotAllowed, Answer, Failure}
 use Rattle.gate_core.specs.Callers.{caller_of}
 use Rattle.gate_core.specs.Sessions.{Session, session_of}
 use Rattle.gate_core.specs.World.{World}
 use Rattle.gate_core.specs.Runs.{run_of}
 
--- the reply to an event of a peer whose session is closed; the operator's is no such event
+-- the reply to an event of a peer whose session is closed; a user's, the operator's or the chain's is no such event
 abbrev pub closed_reply : Event → Reply
 closed_reply (Enter peer address) = Denied PeerKnown Keep
 closed_reply (Leave peer) = Denied PeerClosed Keep
 closed_reply (Submit peer now transaction) = Denied PeerClosed Keep
 closed_reply (Mempool peer) = Denied PeerClosed Keep
+closed_reply (GetBlock peer height) = Denied PeerClosed Keep
+closed_reply (Headers peer height) = Denied PeerClosed Keep
+closed_reply (Rpc call) = Set
 closed_reply (SetFloor rate) = Set
+closed_reply (Turn switch on) = Set
+closed_reply (Extend disconnect now blocks) = Set
 
 -- after any events a closed session is as it was, and each event of its peer among them is answered so
 abbrev pub ClosedStaysClosed : Type 0
@@ -35,14 +44,29 @@ PeersAreSeparate =
     (w : World) (events : List Event) (peer : ℕ) → All (λ (e : Event). caller_of e ≢ Peer peer) events
     → session_of (run_of w events).1.sessions peer ≡ session_of w.sessions peer
 
+-- an error that is no denial by A46
+abbrev pub IsOtherError : RpcError → Type 0
+IsOtherError error = error ≢ errors.Denied MempoolFull
+
+-- a call that was not made or has an error; A46 apart
+abbrev pub IsFailed : RpcReply → Type 0
+IsFailed NotAllowed = Unit {0}
+IsFailed (Answer id result) = ⊥
+IsFailed (Failure id error) = IsOtherError error
+
 -- a denial by any rule but A46, under which what left the pool stays away
 abbrev pub IsDenied : Reply → Type 0
 IsDenied (Entered flags) = ⊥
 IsDenied Left = ⊥
 IsDenied (Admitted txid fee vsize replaced) = ⊥
 IsDenied (Listing txids) = ⊥
+IsDenied (Block height time) = ⊥
+IsDenied (Headers first count) = ⊥
+IsDenied (Answered answer) = IsFailed answer
 IsDenied (Denied refusal then) = refusal ≢ Admission MempoolFull
 IsDenied Set = ⊥
+IsDenied (Moved moved) = ⊥
+IsDenied (Refused denial) = Unit {0}
 
 -- events that are all denied so leave the chain, the pool and its floor
 abbrev pub DenialsLeaveThePool : Type 0

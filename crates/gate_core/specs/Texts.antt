@@ -3,10 +3,15 @@ use Rattle.std.specs.Prelude.{ℕ, List, ◌++◌, length, codes}
 use Rattle.std.specs.List.{flat_map}
 use Rattle.std.specs.Fmt.{decimal}
 use Rattle.gate_tx.specs.Ids.{id_text}
+use Rattle.gate_chain.specs.declared.ChainDenial.{ChainDenial}
+use Rattle.gate_chain.specs.Denials.{rule_of as chain_rule, token_of}
+use Rattle.gate_reorg.specs.declared.Moved.{Moved as Change}
 use Rattle.gate_core.specs.declared.refusal.Refusal.{Refusal}
 use Rattle.gate_core.specs.declared.reply.Reply.{Reply}
-use Rattle.gate_core.specs.declared.reply.Reply.TheVariants.{Entered, Left, Admitted, Listing, Denied, Set}
-use Rattle.gate_core.specs.Permissions.{Permissions, permissions_text}
+use Rattle.gate_core.specs.declared.reply.Reply.TheVariants.{Entered, Left, Admitted, Listing, Block, Headers, Rpc, Denied, Set, Moved, Refused}
+use Rattle.gate_rpc.specs.declared.reply.RpcReply.{RpcReply}
+use Rattle.gate_rpc.specs.Replies.{reply_status, reply_text as answer_text}
+use Rattle.gate_net.specs.Permissions.{Permissions, permissions_text}
 use Rattle.gate_core.specs.Refusals.{rule_text, refusal_token, then_text}
 
 abbrev pub entered_text : Permissions → List ℕ
@@ -20,13 +25,37 @@ admitted_text txid fee vsize replaced =
 abbrev pub listing_text : List (List ℕ) → List ℕ
 listing_text txids = codes "listing " ++ decimal (length txids) ++ flat_map (λ txid. codes " " ++ id_text txid) txids
 
+-- the time of the block of a height
+abbrev pub block_text : ℕ → ℕ → List ℕ
+block_text height time = codes "block " ++ (decimal height ++ (codes " " ++ decimal time))
+
+-- how many headers follow, and the height of the first
+abbrev pub headers_text : ℕ → ℕ → List ℕ
+headers_text first count = codes "headers " ++ (decimal first ++ (codes " " ++ decimal count))
+
+abbrev pub rpc_text : RpcReply → List ℕ
+rpc_text answer = codes "rpc " ++ (decimal (reply_status answer) ++ codes " ") ++ answer_text answer
+
 abbrev pub denied_text : Refusal → List ℕ → List ℕ
 denied_text refusal then = codes "denied " ++ (rule_text refusal ++ (codes " " ++ (then ++ (codes " " ++ refusal_token refusal))))
+
+-- the height of the tip, and how many entries left and came
+abbrev pub moved_text : Change → List ℕ
+moved_text moved = codes "chain " ++ (decimal moved.tip ++ (codes " removed " ++ (decimal moved.removed ++ (codes " entered " ++ decimal moved.entered))))
+
+-- the rule of the chain that fails, and its token
+abbrev pub refused_text : ChainDenial → List ℕ
+refused_text denial = codes "refused C" ++ (decimal (chain_rule denial) ++ (codes " " ++ token_of denial))
 
 abbrev pub reply_text : Reply → List ℕ
 reply_text (Entered flags) = entered_text flags
 reply_text Left = codes "left"
 reply_text (Admitted txid fee vsize replaced) = admitted_text txid fee vsize replaced
 reply_text (Listing txids) = listing_text txids
+reply_text (Block height time) = block_text height time
+reply_text (Headers first count) = headers_text first count
+reply_text (Rpc answer) = rpc_text answer
 reply_text (Denied refusal then) = denied_text refusal (then_text then)
 reply_text Set = codes "set"
+reply_text (Moved moved) = moved_text moved
+reply_text (Refused denial) = refused_text denial

@@ -4,8 +4,14 @@ use Rattle.gate_chain.specs.History.{History, opened}
 use Rattle.gate_admit.specs.Standing.{Standing, standing}
 use Rattle.gate_admit.specs.Verdicts.{VerdictTable}
 use Rattle.gate_pool.specs.Pool.{Admitted}
-use Rattle.gate_core.specs.Permissions.{Permissions, no_permissions}
+use Rattle.gate_net.specs.declared.whitelist.Whitelist.{Whitelist}
+use Rattle.gate_net.specs.Addresses.{Address}
+use Rattle.gate_net.specs.Permissions.{Permissions}
+use Rattle.gate_net.specs.Whitelists.{flags_of}
+use Rattle.gate_rpc.specs.Lists.{Lists}
+use Rattle.gate_core.specs.declared.switch.Switches.{Switches}
 use Rattle.gate_core.specs.Sessions.{Session}
+use Rattle.gate_core.specs.Switching.{unswitched}
 use Rattle.gate_core.specs.Opening.{Start}
 
 pub record World : Type 0 where
@@ -15,15 +21,18 @@ pub record World : Type 0 where
   pub sessions : List Session
   pub budget : ℕ
   pub verdicts : VerdictTable
-  pub bloom : Bool
+  pub whitelist : Whitelist
+  pub rpcwhitelist : Lists
+  pub blocksonly : Bool
+  pub switches : Switches
 
 -- what submissions are judged over
 abbrev pub standing_of : World → Standing
 standing_of w = standing w.chain w.pool w.floor w.verdicts
 
--- the flags of a peer that enters from this address: there is no whitelist that could give any
-abbrev pub flags_at : World → List ℕ → Permissions
-flags_at w address = no_permissions
+-- the flags of a peer that enters from this address
+abbrev pub flags_at : World → Address → Permissions
+flags_at w address = flags_of w.whitelist address
 
 -- the state of an opening: no entries, no floor, no peers
 abbrev pub opened_world : Start → World
@@ -34,5 +43,8 @@ opened_world o = record {
   sessions = [];
   budget = o.budget;
   verdicts = o.verdicts;
-  bloom = o.bloom;
+  whitelist = o.whitelist;
+  rpcwhitelist = o.rpcwhitelist;
+  blocksonly = o.blocksonly;
+  switches = unswitched o.bloom;
 }

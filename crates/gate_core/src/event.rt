@@ -1,10 +1,14 @@
 //! What a caller asks.
-ghost use Rattle.std.specs.Prelude.{◌≡◌};
+ghost use Rattle.std.specs.Prelude.{◌≡◌, ◌↔◌, IsTrue, IfOk};
 
-use crate::address::Address;
+use crate::call::Call;
 use crate::caller::Caller;
+use crate::switch::Switch;
 use gate_admit::Prepared;
-use gate_bytes::{Copied, Memory};
+use gate_bytes::{Copied, Kept, Memory, Text};
+use gate_chain::Block;
+use gate_net::Address;
+use gate_reorg::tells_spelled;
 use std::alloc::Global;
 
 /// One request to the gate. A peer is named by a number that its first `Enter` takes for good.
@@ -25,13 +29,37 @@ pub enum Event {
         now: u64,
         transaction: Prepared,
     },
-    /// A peer asks for the txids in the pool.
+    /// A peer asks for the txids in the pool (BIP 35).
     Mempool {
         peer: u64,
     },
+    /// A peer asks for the block of a height.
+    GetBlock {
+        peer: u64,
+        height: u32,
+    },
+    /// A peer asks for the headers above a height.
+    Headers {
+        peer: u64,
+        height: u32,
+    },
+    /// A user calls by RPC.
+    Rpc(Call),
     /// The operator sets the pool's floor, in satoshi per 1,000 virtual bytes.
     SetFloor {
         rate: u64,
+    },
+    /// The operator turns something on or off.
+    Set {
+        switch: Switch,
+        on: bool,
+    },
+    /// So many blocks are disconnected, and these connected in their place, at this second. A block that could not be read is
+    /// `None`.
+    Chain {
+        disconnect: u64,
+        now: u64,
+        blocks: Kept<Option<Block>>,
     },
 }
 
@@ -39,15 +67,67 @@ impl Event {
     ghost use Rattle.gate_core.specs.Callers.{caller_of};
 
     /// Who makes it.
-    pub fn caller(&self) -> Caller
-        ensures { result ≡ caller_of self.now }
+    pub fn caller(&self, alloc: Global) -> Result<Caller, Memory>
+        ensures { IfOk result (λ caller. caller ≡ caller_of self.now) }
     {
         match self {
-            Event::Enter { peer, .. } => Caller::Peer(*peer),
-            Event::Leave { peer } => Caller::Peer(*peer),
-            Event::Tx { peer, .. } => Caller::Peer(*peer),
-            Event::Mempool { peer } => Caller::Peer(*peer),
-            Event::SetFloor { .. } => Caller::Operator,
+            Event::Enter { peer, .. } => Ok(Caller::Peer(*peer)),
+            Event::Leave { peer } => Ok(Caller::Peer(*peer)),
+            Event::Tx { peer, .. } => Ok(Caller::Peer(*peer)),
+            Event::Mempool { peer } => Ok(Caller::Peer(*peer)),
+            Event::GetBlock { peer, .. } => Ok(Caller::Peer(*peer)),
+            Event::Headers { peer, .. } => Ok(Caller::Peer(*peer)),
+            Event::Rpc(call) => {
+                let user = String::from_str(alloc, call.user())?;
+                Ok(Caller::User(Text::from_string(user)))
+            }
+            Event::SetFloor { .. } => Ok(Caller::Operator),
+            Event::Set { .. } => Ok(Caller::Operator),
+            Event::Chain { .. } => Ok(Caller::Chain),
+        }
+    }
+}
+
+impl Event {
+    ghost use Rattle.gate_core.specs.Callers.{caller_of, peer_of};
+
+    /// The peer that makes it, where one does.
+    fn peer(&self) -> Option<u64>
+        ensures { result ≡ peer_of (caller_of self.now) }
+    {
+        match self {
+            Event::Enter { peer, .. } => Some(*peer),
+            Event::Leave { peer } => Some(*peer),
+            Event::Tx { peer, .. } => Some(*peer),
+            Event::Mempool { peer } => Some(*peer),
+            Event::GetBlock { peer, .. } => Some(*peer),
+            Event::Headers { peer, .. } => Some(*peer),
+            Event::Rpc(_) => None,
+            Event::SetFloor { .. } => None,
+            Event::Set { .. } => None,
+            Event::Chain { .. } => None,
+        }
+    }
+
+    /// Whether this caller makes it.
+    pub fn is_of(&self, caller: &Caller) -> bool
+        ensures { IsTrue result ↔ (caller_of self.now ≡ caller.now) }
+    {
+        match caller {
+            Caller::Peer(number) => self.peer() == Some(*number),
+            Caller::User(name) => match self {
+                Event::Rpc(call) => call.user() == name.as_str(),
+                _ => false,
+            },
+            Caller::Operator => match self {
+                Event::SetFloor { .. } => true,
+                Event::Set { .. } => true,
+                _ => false,
+            },
+            Caller::Chain => match self {
+                Event::Chain { .. } => true,
+                _ => false,
+            },
         }
     }
 }
@@ -55,12 +135,15 @@ impl Event {
 impl Event {
     ghost use Rattle.gate_core.specs.Good.{IsSpelled};
 
-    /// That its transaction has a text: it does nothing.
+    /// That its transactions have a text: it does nothing.
     pub(crate) fn tells_spelled(&self)
         ensures { IsSpelled self.now }
     {
-        if let Event::Tx { transaction, .. } = self {
-            transaction.tells_spelled();
+        match self {
+            Event::Tx { transaction, .. } => transaction.tells_spelled(),
+            Event::Rpc(call) => call.tells_spelled(),
+            Event::Chain { blocks, .. } => tells_spelled(blocks.as_slice()),
+            _ => (),
         }
     }
 }
@@ -83,7 +166,29 @@ impl Copied for Event {
                 transaction: transaction.copy(alloc)?,
             }),
             Event::Mempool { peer } => Ok(Event::Mempool { peer: *peer }),
+            Event::GetBlock { peer, height } => Ok(Event::GetBlock {
+                peer: *peer,
+                height: *height,
+            }),
+            Event::Headers { peer, height } => Ok(Event::Headers {
+                peer: *peer,
+                height: *height,
+            }),
+            Event::Rpc(call) => Ok(Event::Rpc(call.copy(alloc)?)),
             Event::SetFloor { rate } => Ok(Event::SetFloor { rate: *rate }),
+            Event::Set { switch, on } => Ok(Event::Set {
+                switch: *switch,
+                on: *on,
+            }),
+            Event::Chain {
+                disconnect,
+                now,
+                blocks,
+            } => Ok(Event::Chain {
+                disconnect: *disconnect,
+                now: *now,
+                blocks: blocks.copy(alloc)?,
+            }),
         }
     }
 }

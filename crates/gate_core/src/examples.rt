@@ -1,8 +1,10 @@
 //! The step at small states, by computation.
-ghost use Rattle.gate_core.specs.Examples.{PermittedSteps, SmallSteps};
+ghost use Rattle.gate_core.specs.Examples.{CallSteps, GuardedSteps, PermittedSteps, SmallSteps};
 
-/// What peers are answered, without permissions and with them.
+/// What peers are answered, without permissions and with them, and what users are.
 pub(crate) fn small_steps()
     ensures small { SmallSteps }
     ensures permitted { PermittedSteps }
+    ensures guarded { GuardedSteps }
+    ensures calls { CallSteps }
 {}

@@ -1,18 +1,40 @@
 //! Laws above the definitions.
-ghost use Rattle.gate_core.specs.Addresses.{AddressesAreDotted};
 ghost use Rattle.gate_core.specs.Access.{AccessFollowsTheOrder};
-ghost use Rattle.gate_core.specs.Runs.{AdmissionsLeaveNothingStale, OnlyOperatorsLowerTheFloor, RunsKeepFamilies, RunsKeepTheBudget, RunsKeepThePoolSound, StepsGiveTheRun};
+ghost use Rattle.gate_core.specs.AccessLaws.{ClosedSessionsChangeNothing, FlagsGuard, ListsBar, NobanIsKept, OnlySendersChange, QuestionsChangeNothing};
+ghost use Rattle.gate_core.specs.Runs.{AdmissionsLeaveNothingStale, CallsLeaveNothingStale, OnlyOperatorsLowerTheFloor, RunsKeepFamilies, RunsKeepTheBudget, RunsKeepThePoolSound, StepsGiveTheRun};
 ghost use Rattle.gate_core.specs.SessionLaws.{ClosedStaysClosed, DenialsLeaveThePool, PeersAreSeparate};
-
-/// A text spells an address just where it is what is printed for it.
-pub fn addresses_are_dotted()
-    ensures { AddressesAreDotted }
-{}
 
 /// The refusal of an event names a rule on its caller that fails, with none failing before it in the written order, and an
 /// event that is not refused fails none.
 pub fn access_follows_the_order()
     ensures { AccessFollowsTheOrder }
+{}
+
+/// Where a rule on peers asks for a flag, a peer without it is denied what the rule guards, and the pool stays.
+pub fn flags_guard()
+    ensures { FlagsGuard }
+{}
+
+/// Only a transaction that comes while the node takes blocks only closes the session of a peer with noban.
+pub fn noban_is_kept()
+    ensures { NobanIsKept }
+{}
+
+/// No event of a peer whose session is closed changes anything.
+pub fn closed_sessions_change_nothing()
+    ensures { ClosedSessionsChangeNothing }
+{}
+
+/// A call of a method that the user's list lacks is not allowed and changes nothing, and a user who may not send
+/// transactions changes nothing, whatever the calls say.
+pub fn lists_bar()
+    ensures barred { ListsBar }
+    ensures senders { OnlySendersChange }
+{}
+
+/// No call but `sendrawtransaction` changes anything: `testmempoolaccept` doesn't.
+pub fn questions_change_nothing()
+    ensures { QuestionsChangeNothing }
 {}
 
 /// From a good state, steps over events that are apart give the replies and the state of the run, and that state is
@@ -43,7 +65,7 @@ pub fn runs_keep_the_pool_sound()
     ensures { RunsKeepThePoolSound }
 {}
 
-/// After any events, from any opening: each input of each entry has a coin, and each entry has at most 25 ancestors of
+/// After any events whose transactions are told apart by their ids, from any opening: each input of each entry has a coin, and each entry has at most 25 ancestors of
 /// 101,000 virtual bytes and 26 descendants of 111,000, itself among each.
 pub fn runs_keep_families()
     ensures { RunsKeepFamilies }
@@ -59,7 +81,9 @@ pub fn only_operators_lower_the_floor()
     ensures { OnlyOperatorsLowerTheFloor }
 {}
 
-/// After a submission that is admitted, no entry of the pool is older than two weeks.
+/// After a submission that is admitted, and after a transaction that a user sends, no entry of the pool is older than two
+/// weeks.
 pub fn admissions_leave_nothing_stale()
-    ensures { AdmissionsLeaveNothingStale }
+    ensures peers { AdmissionsLeaveNothingStale }
+    ensures users { CallsLeaveNothingStale }
 {}

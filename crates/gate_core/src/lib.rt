@@ -4,30 +4,34 @@
 //! gives the reply and the state of the written step, and keeps the pool good.
 #![tactic(auto)]
 
-mod address;
+mod call;
 mod caller;
+mod calling;
+mod chaining;
 mod event;
 mod examples;
 mod laws;
 mod opening;
 mod parts;
-mod permissions;
+mod peering;
+mod planning;
 mod refusal;
 mod reply;
 mod session;
 mod state;
+mod switch;
 
-pub use address::Address;
+pub use call::Call;
 pub use caller::Caller;
 pub use event::Event;
 pub use laws::{
-    access_follows_the_order, addresses_are_dotted, admissions_leave_nothing_stale,
-    closed_stays_closed, denials_leave_the_pool, only_operators_lower_the_floor,
-    peers_are_separate, runs_keep_families, runs_keep_the_budget, runs_keep_the_pool_sound,
-    steps_give_the_run,
+    access_follows_the_order, admissions_leave_nothing_stale, closed_sessions_change_nothing,
+    closed_stays_closed, denials_leave_the_pool, flags_guard, lists_bar, noban_is_kept,
+    only_operators_lower_the_floor, peers_are_separate, questions_change_nothing,
+    runs_keep_families, runs_keep_the_budget, runs_keep_the_pool_sound, steps_give_the_run,
 };
 pub use opening::Opening;
-pub use permissions::Permissions;
 pub use refusal::{Refusal, Then};
 pub use reply::Reply;
 pub use state::{State, StepFault};
+pub use switch::{Switch, Switches};

@@ -1,6 +1,8 @@
 //! What a gate is opened with.
 use gate_admit::{OpeningCoin, Verdicts};
 use gate_bytes::Kept;
+use gate_net::Whitelist;
+use gate_rpc::RpcWhitelist;
 use std::hash::BuildHasher;
 use std::marker::Model;
 
@@ -13,7 +15,13 @@ pub struct Opening<S: BuildHasher + Copy + Drop> {
     /// The times of the blocks in seconds, from height 0 on.
     pub times: Kept<u32>,
     pub verdicts: Verdicts<S>,
-    /// Whether bloom filters are on, so that every peer may ask for a listing.
+    /// What peers are permitted by their addresses.
+    pub whitelist: Whitelist,
+    /// Which methods users may call.
+    pub rpcwhitelist: RpcWhitelist,
+    /// Whether the node takes blocks only: transactions then come from peers with relay alone.
+    pub blocksonly: bool,
+    /// Whether bloom filters are on at the start, so that every peer may ask for a listing.
     pub bloom: bool,
 }
 
@@ -22,5 +30,14 @@ impl<S: BuildHasher + Copy + Drop> Model for Opening<S> {
 
     ghost Value = { Start };
 
-    ghost view = { λ o. record { budget = o.budget; coins = o.coins; times = o.times; verdicts = o.verdicts; bloom = o.bloom } };
+    ghost view = { λ o. record {
+      budget = o.budget;
+      coins = o.coins;
+      times = o.times;
+      verdicts = o.verdicts;
+      whitelist = o.whitelist;
+      rpcwhitelist = o.rpcwhitelist;
+      blocksonly = o.blocksonly;
+      bloom = o.bloom;
+    } };
 }

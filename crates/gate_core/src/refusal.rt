@@ -2,7 +2,7 @@
 ghost use Rattle.std.specs.Prelude.{◌≡◌, Some};
 ghost use Rattle.gate_core.specs.Refusals.{closing, rule_text, refusal_token, then_of, then_text};
 
-use crate::permissions::Permissions;
+use gate_net::Permissions;
 use gate_standard::Denial;
 use std::fmt;
 
@@ -49,10 +49,20 @@ pub enum Refusal {
     PeerClosed,
     /// P3: the peer entered before.
     PeerKnown,
+    /// P4: a transaction comes while the node takes blocks only.
+    BlocksOnly,
     /// P5: the transaction's wtxid is in the pool.
     AlreadyInMempool,
     /// P6: a listing is asked for while bloom filters are off (BIP 35, BIP 111).
     MempoolNoBloom,
+    /// P7: a listing is asked for while the upload target is reached.
+    MempoolUploadTarget,
+    /// P8: headers are asked for during the initial block download.
+    HeadersDuringDownload,
+    /// P9: there is no block of the height that is asked for.
+    UnknownBlock,
+    /// P10: a block that is more than a week older than the tip is asked for while the target for such blocks is reached.
+    HistoricalUploadTarget,
     /// A rule of admission.
     Admission(Denial),
 }
@@ -66,8 +76,13 @@ impl Refusal {
             Refusal::PeerUnknown => "peer-unknown",
             Refusal::PeerClosed => "peer-closed",
             Refusal::PeerKnown => "peer-known",
+            Refusal::BlocksOnly => "blocks-only",
             Refusal::AlreadyInMempool => "txn-already-in-mempool",
             Refusal::MempoolNoBloom => "mempool-no-bloom",
+            Refusal::MempoolUploadTarget => "mempool-upload-target",
+            Refusal::HeadersDuringDownload => "headers-during-download",
+            Refusal::UnknownBlock => "unknown-block",
+            Refusal::HistoricalUploadTarget => "historical-upload-target",
             Refusal::Admission(denial) => denial.token(),
         }
     }
@@ -77,8 +92,11 @@ impl Refusal {
         ensures { result ≡ then_of flags.now self.now }
     {
         match self {
+            Refusal::BlocksOnly => Then::Close,
             Refusal::AlreadyInMempool if flags.forcerelay() => Then::Relay,
             Refusal::MempoolNoBloom => Then::closing(flags),
+            Refusal::MempoolUploadTarget => Then::closing(flags),
+            Refusal::HistoricalUploadTarget => Then::closing(flags),
             Refusal::Admission(denial) => match denial.rule() {
                 2..=11 | 28..=30 | 37 | 45 => Then::closing(flags),
                 _ => Then::Keep,
@@ -96,8 +114,13 @@ impl fmt::Display for Refusal {
             Refusal::PeerUnknown => write!(f, "P1"),
             Refusal::PeerClosed => write!(f, "P2"),
             Refusal::PeerKnown => write!(f, "P3"),
+            Refusal::BlocksOnly => write!(f, "P4"),
             Refusal::AlreadyInMempool => write!(f, "P5"),
             Refusal::MempoolNoBloom => write!(f, "P6"),
+            Refusal::MempoolUploadTarget => write!(f, "P7"),
+            Refusal::HeadersDuringDownload => write!(f, "P8"),
+            Refusal::UnknownBlock => write!(f, "P9"),
+            Refusal::HistoricalUploadTarget => write!(f, "P10"),
             Refusal::Admission(denial) => write!(f, "A{}", denial.rule()),
         }
     }

@@ -1,5 +1,8 @@
 //! The state, and the one step that changes it.
-ghost use Rattle.std.specs.Prelude.{◌≡◌, IfOk, OnErr};
+ghost use Rattle.std.specs.Prelude.{◌≡◌, ◌≢◌, IfOk, OnErr};
+ghost use Rattle.gate_core.specs.Callers.{caller_of};
+ghost use Rattle.gate_core.specs.ChainSteps.{chained};
+ghost use Rattle.gate_core.specs.declared.caller.Caller.TheVariants.{Chain as TheChain};
 ghost use Rattle.gate_chain.specs.Opening.{open_fault, IsRefusedFor};
 ghost use Rattle.gate_core.specs.World.{opened_world};
 ghost use Rattle.gate_core.specs.Planning.{world_of};
@@ -12,8 +15,10 @@ use crate::opening::Opening;
 use crate::parts::Parts;
 use crate::reply::Reply;
 use crate::session::Sessions;
+use crate::switch::Switches;
 use gate_admit::{Chain, Floor, OpenFault, Pool};
 use gate_bytes::Memory;
+use gate_chain::Block;
 use std::alloc::Global;
 use std::hash::BuildHasher;
 use std::marker::Model;
@@ -57,6 +62,9 @@ impl<S: BuildHasher + Copy + Drop> State<S> {
             coins,
             times,
             verdicts,
+            whitelist,
+            rpcwhitelist,
+            blocksonly,
             bloom,
         } = opening;
         let chain = Chain::open(alloc, hasher, coins.into_vec(), times.into_vec())?;
@@ -71,7 +79,10 @@ impl<S: BuildHasher + Copy + Drop> State<S> {
                 sessions: Sessions::new(alloc),
                 budget,
                 verdicts,
-                bloom,
+                whitelist,
+                rpcwhitelist,
+                blocksonly,
+                switches: Switches::opened(bloom),
             },
         })
     }
@@ -86,14 +97,47 @@ impl<S: BuildHasher + Copy + Drop> State<S> {
         State::opened(alloc, hasher, opening)
     }
 
-    /// The step, whatever the state and the event.
-    fn apply(&mut self, alloc: Global, event: &Event) -> Result<Reply, Memory>
+    /// The step of any event but the chain's: a plan, and its commit.
+    fn plan_and_commit(&mut self, alloc: Global, event: &Event) -> Result<Reply, Memory>
+        requires planned { caller_of event.now ≢ TheChain }
         ensures ok { IfOk result (λ reply. (reply, self.new) ≡ step_of self.old event.now) }
         ensures err { OnErr result (self.new ≡ self.old) }
         ensures quiet { IfOk result (λ reply. HasList reply → self.new ≡ self.old) }
     {
         let plan = self.parts.plan(alloc, event)?;
         Ok(self.parts.commit(plan))
+    }
+
+    /// The step of the chain's event.
+    fn change_chain(
+        &mut self,
+        alloc: Global,
+        disconnect: u64,
+        now: u64,
+        blocks: &[Option<Block>],
+    ) -> Result<Reply, Memory>
+        ensures ok { IfOk result (λ reply. (reply, self.new) ≡ chained self.old disconnect now blocks.now) }
+        ensures err { OnErr result (self.new ≡ self.old) }
+        ensures quiet { IfOk result (λ reply. HasList reply → self.new ≡ self.old) }
+    {
+        self.parts.change_chain(alloc, disconnect, now, blocks)
+    }
+
+    /// The step, whatever the state and the event.
+    #[tactic(auto, unfolding(crate::specs::Steps::step_of))]
+    fn apply(&mut self, alloc: Global, event: &Event) -> Result<Reply, Memory>
+        ensures ok { IfOk result (λ reply. (reply, self.new) ≡ step_of self.old event.now) }
+        ensures err { OnErr result (self.new ≡ self.old) }
+        ensures quiet { IfOk result (λ reply. HasList reply → self.new ≡ self.old) }
+    {
+        match event {
+            Event::Chain {
+                disconnect,
+                now,
+                blocks,
+            } => self.change_chain(alloc, *disconnect, *now, blocks.as_slice()),
+            _ => self.plan_and_commit(alloc, event),
+        }
     }
 
     /// One step: the reply to an event, and the state after it. After `Memory` the state is what it was.

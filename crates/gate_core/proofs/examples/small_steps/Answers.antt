@@ -1,9 +1,12 @@
 use Rattle.std.proofs.Common.{refl}
 use Rattle.gate_core.specs.Steps.{step_of}
+use Rattle.gate_net.specs.Whitelists.{flags_of}
+use Rattle.gate_admit.specs.Submission.{submit_of}
+use Rattle.gate_admit.specs.Rules.{decision_of}
 use Rattle.gate_core.proofs.examples.small_steps.Goals as goal
 
 pub returns-clause-small : goal.returns-clause-small
-unfolding step_of
+unfolding step_of flags_of
 returns-clause-small c = record {
   enters = refl;
   enters_again = refl;
@@ -17,7 +20,7 @@ returns-clause-small c = record {
 }
 
 pub returns-clause-permitted : goal.returns-clause-permitted
-unfolding step_of
+unfolding step_of flags_of
 returns-clause-permitted c = record {
   noban_stays = refl;
   noban_leaves = refl;
@@ -29,4 +32,38 @@ returns-clause-permitted c = record {
   noban_text = refl;
   forcerelay_text = refl;
   no_text = refl;
+}
+
+pub returns-clause-guarded : goal.returns-clause-guarded
+unfolding step_of
+returns-clause-guarded c = record {
+  blocks_only_closes = refl;
+  relay_is_read = refl;
+  upload = refl;
+  upload_noban = refl;
+  upload_mempool = refl;
+  mempool_without_bloom = refl;
+  downloads = refl;
+  above_the_tip = refl;
+  at_the_tip = refl;
+  below_the_tip = refl;
+  old = refl;
+  a_week_old = refl;
+  old_by_download = refl;
+  unknown_first = refl;
+  turns = refl;
+}
+
+pub returns-clause-calls : goal.returns-clause-calls
+unfolding submit_of decision_of
+returns-clause-calls c = record {
+  unread = refl;
+  barred = refl;
+  barred_by_default = refl;
+  unknown = refl;
+  lists = refl;
+  informs = refl;
+  no_entry = refl;
+  sends_nothing = refl;
+  tests_nothing = refl;
 }

@@ -1,0 +1,142 @@
+-- What flags guard is denied to peers without them.
+use Rattle.std.proofs.Common.{◌≡◌, ◌≢◌, ℕ, Bool, true, false, not, ◌&&◌, ◌||◌, is_some, is_none, true≢false, if◌then◌else◌, List, [], ◌∷◌, ◌++◌, Option, Some, None, refl, sym, ap, subst, ◌∙◌}
+use Rattle.std.specs.Prelude.{nat_lt}
+use Rattle.gate_bytes.specs.Order.{Rule, first_failing}
+use Rattle.gate_tx.specs.Tx.{Tx}
+use Rattle.gate_standard.specs.declared.Denial.TheVariants.{Decode, MempoolFull}
+use Rattle.gate_net.specs.Permissions.{Permissions}
+use Rattle.gate_core.specs.declared.event.Event.TheVariants.{Tx as Submit, Mempool, GetBlock, Headers}
+use Rattle.gate_core.specs.declared.refusal.Refusal.{Refusal}
+use Rattle.gate_core.specs.declared.refusal.Refusal.TheVariants.{PeerUnknown, PeerClosed, PeerKnown, BlocksOnly, AlreadyInMempool, MempoolNoBloom, MempoolUploadTarget, HeadersDuringDownload, UnknownBlock, HistoricalUploadTarget, Admission}
+use Rattle.gate_core.specs.declared.refusal.Then.TheVariants.{Keep, Close, Relay}
+use Rattle.gate_core.specs.declared.reply.Reply.{Reply}
+use Rattle.gate_core.specs.Access.{is_known, is_closed, is_historical, is_above_tip, is_pooled, lacks_relay, lacks_bloom, lacks_upload, lacks_headers, lacks_history}
+use Rattle.gate_core.specs.AccessLaws.{FlagsGuard, NobanIsKept}
+use Rattle.gate_core.specs.PeerSteps.{answered, submitted, listed, block_given, headers_given}
+use Rattle.gate_core.specs.Refusals.{then_of}
+use Rattle.gate_core.specs.SessionLaws.{IsDenied}
+use Rattle.gate_core.specs.Sessions.{flags_in}
+use Rattle.gate_core.specs.Steps.{step_of}
+use Rattle.gate_core.specs.World.{World}
+
+-- a refusal that is no denial by A46, where one is made
+abbrev IsOther : Option Refusal → Type 0
+IsOther None = ⊥
+IsOther (Some refusal) = refusal ≢ Admission MempoolFull
+
+refuses : (w : World) (peer : ℕ) (served : Reply × World) (refusal : Option Refusal) → IsOther refusal → IsDenied (answered w peer served refusal).0
+refuses w peer served None h = absurd h
+refuses w peer served (Some refusal) h = h
+
+-- the refusal, where the session is open or not, and what follows is asked then
+abbrev by_session : Bool → Bool → Option Refusal → Option Refusal
+by_session known closed rest = if not known then Some PeerUnknown else if closed then Some PeerClosed else rest
+
+session_first : (known closed : Bool) (rest : Option Refusal) → IsOther rest → IsOther (by_session known closed rest)
+session_first false closed rest h = λ e. unknown e
+  where
+    unknown : PeerUnknown ≡ Admission MempoolFull → ⊥
+    unknown e = cc
+session_first true true rest h = λ e. shut e
+  where
+    shut : PeerClosed ≡ Admission MempoolFull → ⊥
+    shut e = cc
+session_first true false rest h = h
+
+-- one rule that fails, and two of which one does
+one_fails : (a : Bool) (r : Refusal) (rest : Option Refusal) → r ≢ Admission MempoolFull → a ≡ true → IsOther (if a then Some r else rest)
+one_fails true r rest h is = h
+one_fails false r rest h is = absurd (true≢false (sym is))
+
+two_fail : (a b : Bool) (r s : Refusal) (rest : Option Refusal) → r ≢ Admission MempoolFull → s ≢ Admission MempoolFull → b ≡ true → IsOther (if a then Some r else if b then Some s else rest)
+two_fail true b r s rest h k is = h
+two_fail false b r s rest h k is = one_fails b s rest k is
+
+both : (a b : Bool) → a ≡ true → b ≡ false → (a && not b) ≡ true
+both true false p q = refl
+both true true p q = absurd (true≢false q)
+both false b p q = absurd (true≢false (sym p))
+
+none_of : (a b c : Bool) → a ≡ false → b ≡ false → c ≡ false → not (a || (b || c)) ≡ true
+none_of false false false p q r = refl
+none_of true b c p q r = absurd (true≢false p)
+none_of false true c p q r = absurd (true≢false q)
+none_of false false true p q r = absurd (true≢false r)
+
+all_of : (a b c : Bool) → a ≡ true → b ≡ false → c ≡ true → (a && (not b && c)) ≡ true
+all_of true false true p q r = refl
+all_of true false false p q r = absurd (true≢false (sym r))
+all_of true true c p q r = absurd (true≢false q)
+all_of false b c p q r = absurd (true≢false (sym p))
+
+blocks_only : BlocksOnly ≢ Admission MempoolFull
+blocks_only e = cc
+
+no_bloom : MempoolNoBloom ≢ Admission MempoolFull
+no_bloom e = cc
+
+upload_target : MempoolUploadTarget ≢ Admission MempoolFull
+upload_target e = cc
+
+during_download : HeadersDuringDownload ≢ Admission MempoolFull
+during_download e = cc
+
+unknown_block : UnknownBlock ≢ Admission MempoolFull
+unknown_block e = cc
+
+historical_target : HistoricalUploadTarget ≢ Admission MempoolFull
+historical_target e = cc
+
+pub flags_guard : FlagsGuard
+unfolding step_of
+flags_guard w peer =
+    let flags = flags_in w.sessions peer in
+    let known = is_known w.sessions peer in
+    let closed = is_closed w.sessions peer in
+    record {
+      relay = λ on lacks now transaction.
+          refuses w peer (submitted w peer now transaction) _ (session_first known closed _ (one_fails (lacks_relay w flags) BlocksOnly _ blocks_only (both w.blocksonly flags.relay on lacks)));
+      bloom = λ off lacks more.
+          refuses w peer (listed w) _ (session_first known closed _ (one_fails (lacks_bloom w flags) MempoolNoBloom _ no_bloom (none_of flags.mempool flags.bloomfilter w.switches.bloom more lacks off)));
+      upload = λ on lacks.
+          refuses w peer (listed w) _ (session_first known closed _ (two_fail (lacks_bloom w flags) (lacks_upload w flags) MempoolNoBloom MempoolUploadTarget _ no_bloom upload_target (both w.switches.upload flags.mempool on lacks)));
+      headers = λ on lacks height.
+          refuses w peer (headers_given w height) _ (session_first known closed _ (one_fails (lacks_headers w flags) HeadersDuringDownload _ during_download (both w.switches.download flags.download on lacks)));
+      blocks = λ on lacks height old.
+          refuses w peer (block_given w height) _
+          (session_first known closed _ (two_fail (is_above_tip w height) (lacks_history w flags height) UnknownBlock HistoricalUploadTarget _ unknown_block historical_target (all_of w.switches.historic flags.download (is_historical w.chain height) on lacks old)));
+    }
+
+kept : (b : Bool) → b ≡ true → (if b then Keep else Close) ≢ Close
+kept true is = λ e. keeps e
+  where
+    keeps : Keep ≡ Close → ⊥
+    keeps e = cc
+kept false is = absurd (true≢false (sym is))
+
+keep_close : Keep ≢ Close
+keep_close e = cc
+
+relay_close : Relay ≢ Close
+relay_close e = cc
+
+either : (b : Bool) → (if b then Relay else Keep) ≢ Close
+either true = relay_close
+either false = keep_close
+
+closing_kept : (b c : Bool) → c ≡ true → (if b then (if c then Keep else Close) else Keep) ≢ Close
+closing_kept true c is = kept c is
+closing_kept false c is = keep_close
+
+pub noban_is_kept : NobanIsKept
+noban_is_kept flags PeerUnknown is other = keep_close
+noban_is_kept flags PeerClosed is other = keep_close
+noban_is_kept flags PeerKnown is other = keep_close
+noban_is_kept flags BlocksOnly is other = absurd (other refl)
+noban_is_kept flags AlreadyInMempool is other = either flags.forcerelay
+noban_is_kept flags MempoolNoBloom is other = kept flags.noban is
+noban_is_kept flags MempoolUploadTarget is other = kept flags.noban is
+noban_is_kept flags HeadersDuringDownload is other = keep_close
+noban_is_kept flags UnknownBlock is other = keep_close
+noban_is_kept flags HistoricalUploadTarget is other = kept flags.noban is
+noban_is_kept flags (Admission denial) is other = closing_kept _ flags.noban is

@@ -1,0 +1,102 @@
+-- What users send that is answered by a txid.
+use Rattle.std.proofs.Common.{◌≡◌, ℕ, Bool, true, false, if◌then◌else◌, List, Option, Some, None, Result, Ok, Err, refl, ap, ◌∙◌}
+use Rattle.gate_tx.specs.Ids.{txid_of}
+use Rattle.gate_tx.specs.Tx.{Tx}
+use Rattle.gate_standard.specs.declared.Denial.{Denial}
+use Rattle.gate_admit.specs.declared.Attempt.TheVariants.{First}
+use Rattle.gate_admit.specs.declared.Grant.{Grant}
+use Rattle.gate_admit.specs.Rules.{decision_of}
+use Rattle.gate_admit.specs.Submission.{submit_of}
+use Rattle.gate_admit.proofs.Submissions.{AreYoung, granted_young}
+use Rattle.gate_query.specs.Answers.{tested, tested_as}
+use Rattle.gate_rpc.specs.Calls.{request_of}
+use Rattle.gate_rpc.specs.declared.id.Id.{Id}
+use Rattle.gate_rpc.specs.declared.request.Command.{Command}
+use Rattle.gate_rpc.specs.declared.request.Command.TheVariants.{SendRawTransaction, TestMempoolAccept, GetRawMempool, GetMempoolEntry, GetMempoolAncestors, GetMempoolDescendants, GetMempoolInfo}
+use Rattle.gate_rpc.specs.declared.request.Request.{Request}
+use Rattle.gate_rpc.specs.declared.error.RpcError.{RpcError}
+use Rattle.gate_rpc.specs.declared.fault.CallError.{CallError}
+use Rattle.gate_rpc.specs.declared.fault.CallError.TheVariants.{ParseError, InvalidRequest, MethodNotFound, InvalidParams}
+use Rattle.gate_rpc.specs.declared.reply.RpcReply.{RpcReply}
+use Rattle.gate_rpc.specs.declared.reply.RpcReply.TheVariants.{NotAllowed, Answer, Failure}
+use Rattle.gate_rpc.specs.declared.result.RpcResult.{RpcResult}
+use Rattle.gate_rpc.specs.declared.result.RpcResult.TheVariants.{Sent, Allowed, Rejected, Txids, Entry, Info}
+use Rattle.gate_rpc.specs.Faults.{reply_of}
+use Rattle.gate_core.specs.declared.event.Event.TheVariants.{Rpc as Calls}
+use Rattle.gate_core.specs.declared.reply.Reply.TheVariants.{Rpc}
+use Rattle.gate_core.specs.RpcSteps.{is_barred, replied, of_entry, sent, sent_as, commanded, called_by, rpc_step}
+use Rattle.gate_core.specs.Runs.{CallsLeaveNothingStale}
+use Rattle.gate_core.specs.Steps.{step_of}
+use Rattle.gate_core.specs.World.{World, standing_of}
+
+-- the answer that a transaction was sent is none of these
+module _ {X : Type 0} (id other : Id) (txid : List ℕ) where
+  not_failed : (error : RpcError) → Rpc (Failure id error) ≡ Rpc (Answer other (Sent txid)) → X
+  not_failed error h = cc
+
+  not_listed : (txids : List (List ℕ)) → Rpc (Answer id (Txids txids)) ≡ Rpc (Answer other (Sent txid)) → X
+  not_listed txids h = cc
+
+  not_known : (entry : _) → Rpc (Answer id (Entry entry)) ≡ Rpc (Answer other (Sent txid)) → X
+  not_known entry h = cc
+
+  not_told : (size budget least_rate relay_rate count : ℕ) → Rpc (Answer id (Info size budget least_rate relay_rate count)) ≡ Rpc (Answer other (Sent txid)) → X
+  not_told size budget least_rate relay_rate count h = cc
+
+  not_tested : (tx : Tx) (decision : Result Grant Denial) → Rpc (Answer id (tested_as tx decision)) ≡ Rpc (Answer other (Sent txid)) → X
+  not_tested tx (Ok grant) h = cc
+  not_tested tx (Err denial) h = cc
+
+  listed_or_not : (found : Option (List (List ℕ))) → Rpc (replied id (of_entry Txids found)) ≡ Rpc (Answer other (Sent txid)) → X
+  listed_or_not None h = not_failed _ h
+  listed_or_not (Some txids) h = not_listed txids h
+
+  known_or_not : (found : Option _) → Rpc (replied id (of_entry Entry found)) ≡ Rpc (Answer other (Sent txid)) → X
+  known_or_not None h = not_failed _ h
+  known_or_not (Some entry) h = not_known entry h
+
+sent_young : (w : World) (now : ℕ) (id other : Id) (transaction : Option Tx) (txid : List ℕ)
+    → (sent w id transaction (submit_of (standing_of w) transaction now w.budget)).0 ≡ Rpc (Answer other (Sent txid))
+    → AreYoung now (submit_of (standing_of w) transaction now w.budget).entries
+sent_young w now id other None txid h = not_failed id other txid _ h
+sent_young w now id other (Some tx) txid h = go (submit_of (standing_of w) (Some tx) now w.budget).decision refl h
+  where
+    go : (decision : Result Grant Denial) → (submit_of (standing_of w) (Some tx) now w.budget).decision ≡ decision → Rpc (replied id (sent_as (Some tx) decision)) ≡ Rpc (Answer other (Sent txid))
+        → AreYoung now (submit_of (standing_of w) (Some tx) now w.budget).entries
+    go (Ok grant) d k = granted_young (standing_of w) tx now w.budget grant d
+    go (Err denial) d k = not_failed id other txid _ k
+
+module _ (w : World) (now : ℕ) (other : Id) (txid : List ℕ) where
+  command_young : (id : Id) (command : Command) → (commanded w now id command).0 ≡ Rpc (Answer other (Sent txid)) → AreYoung now (commanded w now id command).1.pool
+  command_young id (SendRawTransaction transaction) h = sent_young w now id other transaction txid h
+  command_young id (TestMempoolAccept None) h = not_failed id other txid _ h
+  command_young id (TestMempoolAccept (Some tx)) h = not_tested id other txid tx (decision_of First (standing_of w) (Some tx)) h
+  command_young id GetRawMempool h = not_listed id other txid _ h
+  command_young id (GetMempoolEntry asked) h = known_or_not id other txid _ h
+  command_young id (GetMempoolAncestors asked) h = listed_or_not id other txid _ h
+  command_young id (GetMempoolDescendants asked) h = listed_or_not id other txid _ h
+  command_young id GetMempoolInfo h = not_told id other txid _ _ _ _ _ h
+
+  not_faulted : {X : Type 0} (error : CallError) → Rpc (reply_of error) ≡ Rpc (Answer other (Sent txid)) → X
+  not_faulted ParseError h = cc
+  not_faulted InvalidRequest h = cc
+  not_faulted (MethodNotFound id name) h = cc
+  not_faulted (InvalidParams id method) h = cc
+
+  request_young : (request : Result Request CallError) → (called_by w now request).0 ≡ Rpc (Answer other (Sent txid)) → AreYoung now (called_by w now request).1.pool
+  request_young (Ok request) h = command_young request.id request.command h
+  request_young (Err error) h = not_faulted error h
+
+  pub call_young : (user : List ℕ) (request : Result Request CallError) → (rpc_step w user now request).0 ≡ Rpc (Answer other (Sent txid)) → AreYoung now (rpc_step w user now request).1.pool
+  call_young user request h = by (is_barred w user request) h
+    where
+      barred : {X : Type 0} → Rpc NotAllowed ≡ Rpc (Answer other (Sent txid)) → X
+      barred k = cc
+
+      by : (b : Bool) → (if b then (Rpc NotAllowed, w) else called_by w now request).0 ≡ Rpc (Answer other (Sent txid)) → AreYoung now (if b then (Rpc NotAllowed, w) else called_by w now request).1.pool
+      by true k = barred k
+      by false k = request_young request k
+
+pub calls_leave_nothing_stale : CallsLeaveNothingStale
+unfolding step_of
+calls_leave_nothing_stale w call id txid h = call_young w call.time id txid call.user (request_of call.json) h

@@ -1,0 +1,83 @@
+-- No outpoint is spent twice along a run, whatever the blocks are.
+use Rattle.std.proofs.Common.{◌≡◌, ℕ, List, [], ◌∷◌, Option, Some, None, Result, Ok, Err, not}
+use Rattle.gate_bytes.specs.Order.{first_failing}
+use Rattle.gate_tx.specs.Ids.{txid_of}
+use Rattle.gate_tx.specs.Tx.{Tx}
+use Rattle.gate_standard.specs.declared.Denial.{Denial}
+use Rattle.gate_chain.specs.declared.Block.{Block}
+use Rattle.gate_chain.specs.declared.ChainDenial.{ChainDenial}
+use Rattle.gate_graph.specs.Family.{reaches}
+use Rattle.gate_pool.specs.Pool.{Admitted as Entry}
+use Rattle.gate_pool.specs.Family.{steps, entered as entered_with}
+use Rattle.gate_trim.specs.Expiry.{expired, is_stale}
+use Rattle.gate_trim.proofs.Trimmings.{trim_keeps}
+use Rattle.gate_admit.specs.declared.Attempt.TheVariants.{First}
+use Rattle.gate_admit.specs.declared.Grant.{Grant}
+use Rattle.gate_admit.specs.Rules.{decision_of}
+use Rattle.gate_admit.specs.Standing.{Standing}
+use Rattle.gate_admit.specs.Submission.{admitted, entry_of, submitted_by, submit_of}
+use Rattle.gate_admit.proofs.Granted.{decided_live}
+use Rattle.gate_reorg.specs.Events.{present, event_rules, event_of}
+use Rattle.gate_reorg.proofs.Spending.{SpendOnce, below_once, entered_once, events_spend_once, part_once}
+use Rattle.gate_core.specs.declared.event.Event.{Event}
+use Rattle.gate_core.specs.declared.event.Event.TheVariants.{Enter, Leave, Tx as Submit, Mempool, GetBlock, Headers, Rpc, SetFloor, Set as Turn, Chain as Extend}
+use Rattle.gate_core.specs.declared.refusal.Refusal.{Refusal}
+use Rattle.gate_core.specs.declared.reply.Reply.{Reply}
+use Rattle.gate_core.specs.Access.{entering_rules, session_rules, submission_rules, listing_rules, block_rules, headers_rules}
+use Rattle.gate_core.specs.ChainSteps.{chained_as}
+use Rattle.gate_core.specs.PeerSteps.{decided, answered, entered, left, submitted, listed, block_given, headers_given}
+use Rattle.gate_core.specs.Runs.{run_of}
+use Rattle.gate_core.specs.Steps.{step_of}
+use Rattle.gate_core.specs.World.{World, standing_of}
+use Rattle.gate_rpc.specs.Calls.{request_of}
+use Rattle.gate_core.proofs.Calls.{call_gives}
+
+entry_once : (budget : ℕ) (entries : List Entry) (floor : ℕ) (e : Entry) → SpendOnce (entered_with entries e) → SpendOnce (entry_of budget entries floor e).entries
+unfolding entry_of
+entry_once budget entries floor e h =
+    trim_keeps SpendOnce (λ l txid. part_once (λ (a : Entry). not (reaches (steps l) txid (txid_of a.tx))) l) budget (expired e.time (entered_with entries e)) floor
+    (below_once (is_stale e.time) (entered_with entries e) h)
+
+submission_once : (over : Standing) (transaction : Option Tx) (now budget : ℕ) (decision : Result Grant Denial) → decision_of First over transaction ≡ decision → SpendOnce over.entries
+    → SpendOnce (submitted_by over transaction now budget decision).entries
+submission_once over transaction now budget (Err denial) is h = h
+submission_once over None now budget (Ok grant) is h = h
+submission_once over (Some tx) now budget (Ok grant) is h = entry_once budget over.entries over.floor (admitted tx grant now) (entered_once over tx grant now (decided_live First over tx grant is) h)
+
+after_once : (w : World) (now : ℕ) (transaction : Option Tx) → SpendOnce w.pool → SpendOnce (submit_of (standing_of w) transaction now w.budget).entries
+unfolding submit_of
+after_once w now transaction h = submission_once (standing_of w) transaction now w.budget (decision_of First (standing_of w) transaction) (λ _. decision_of First (standing_of w) transaction) h
+
+decided_once : (w : World) (peer : ℕ) (transaction : Option Tx) (decision : Result Grant Denial) → SpendOnce w.pool → SpendOnce (decided w peer transaction decision).1.pool
+decided_once w peer None decision h = h
+decided_once w peer (Some tx) (Ok grant) h = h
+decided_once w peer (Some tx) (Err denial) h = h
+
+answered_once : (w : World) (peer : ℕ) (served : Reply × World) (refusal : Option Refusal) → SpendOnce w.pool → SpendOnce served.1.pool → SpendOnce (answered w peer served refusal).1.pool
+answered_once w peer served (Some refusal) h done = h
+answered_once w peer served None h done = done
+
+chained_once : (w : World) (disconnect now : ℕ) (blocks : List (Option Block)) (denial : Option ChainDenial) → SpendOnce w.pool
+    → SpendOnce (chained_as w (event_of (standing_of w) disconnect (present blocks) now w.budget) denial).1.pool
+chained_once w disconnect now blocks (Some denial) h = h
+chained_once w disconnect now blocks None h = events_spend_once (standing_of w) disconnect (present blocks) now w.budget h
+
+step_once : (w : World) (event : Event) → SpendOnce w.pool → SpendOnce (step_of w event).1.pool
+unfolding step_of
+step_once w (Enter peer address) h = answered_once w peer (entered w peer address) (first_failing (entering_rules w.sessions peer)) h h
+step_once w (Leave peer) h = answered_once w peer (left w peer) (first_failing (session_rules w.sessions peer)) h h
+step_once w (Submit peer now transaction) h =
+    let s = submit_of (standing_of w) transaction now w.budget in
+    answered_once w peer (submitted w peer now transaction) (first_failing (submission_rules w peer transaction)) h
+    (decided_once (record w { pool = s.entries; floor = s.floor }) peer transaction s.decision (after_once w now transaction h))
+step_once w (Mempool peer) h = answered_once w peer (listed w) (first_failing (listing_rules w peer)) h h
+step_once w (GetBlock peer height) h = answered_once w peer (block_given w height) (first_failing (block_rules w peer height)) h h
+step_once w (Headers peer height) h = answered_once w peer (headers_given w height) (first_failing (headers_rules w peer height)) h h
+step_once w (Rpc call) h = call_gives (λ p. SpendOnce p.1.pool) w call.time call.user (request_of call.json) (λ answer. h) (λ id transaction is. after_once w call.time transaction h)
+step_once w (SetFloor rate) h = h
+step_once w (Turn switch on) h = h
+step_once w (Extend disconnect now blocks) h = chained_once w disconnect now blocks (first_failing (event_rules w.chain disconnect blocks)) h
+
+pub run_once : (events : List Event) (w : World) → SpendOnce w.pool → SpendOnce (run_of w events).1.pool
+run_once [] w h = h
+run_once (event ∷ events) w h = run_once events (step_of w event).1 (step_once w event h)

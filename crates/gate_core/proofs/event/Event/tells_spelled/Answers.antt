@@ -1,0 +1,14 @@
+use Rattle.std.proofs.Common.{List, Option, sym, subst}
+use Rattle.std.specs.Prelude.{Contains}
+use Rattle.gate_tx.specs.Text.{IsTx}
+use Rattle.gate_tx.specs.Tx.{Tx}
+use Rattle.gate_chain.specs.declared.Block.{Block}
+use Rattle.gate_reorg.specs.Events.{present}
+use Rattle.gate_reorg.specs.Reorganisation.{transactions_of}
+use Rattle.gate_core.specs.Good.{IsSpelled}
+use Rattle.gate_core.proofs.event.Event.tells_spelled.Goals as goal
+
+pub returns-in-Chain : goal.returns-in-Chain
+returns-in-Chain c =
+    subst IsSpelled (sym c.in-Chain.is)
+    (subst (λ (bs : List (Option Block)). (tx : Tx) → Contains (transactions_of (present bs)) tx → IsTx tx) c.as_slice.ensures c.tells_spelled-in-Chain.ensures)

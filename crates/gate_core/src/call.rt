@@ -1,0 +1,167 @@
+//! A call by RPC.
+ghost use Rattle.std.specs.Prelude.{◌≡◌, IfOk};
+ghost use Rattle.std.specs.Option.{option_map};
+ghost use Rattle.gate_rpc.specs.Calls.{request_of};
+ghost use Rattle.gate_core.specs.UserCalls.{called, name_called};
+
+use gate_bytes::{Copied, Exact, Memory, Text};
+use gate_rpc::{CallError, Command, Request, RpcFault};
+use std::alloc::Global;
+use std::marker::Model;
+
+/// What a user asks by RPC: contracts see the user's name, the second of the call, and its JSON. What the JSON asks for is
+/// read once, when the call is made.
+#[derive(Debug, Drop)]
+pub struct Call {
+    user: Text,
+    time: u64,
+    json: Text,
+    request: Result<Request, CallError>,
+}
+
+impl Model for Call {
+    ghost use Rattle.std.specs.Prelude.{◌≡◌};
+    ghost use Rattle.gate_rpc.specs.Calls.{request_of};
+    ghost use Rattle.gate_core.specs.UserCalls.{UserCall, called};
+
+    ghost Value = { UserCall };
+
+    ghost view = { λ c. called c.user c.time c.json };
+
+    ghost invariant = { λ c. c.request ≡ request_of c.json };
+}
+
+fn kept(alloc: Global, text: &str) -> Result<Text, Memory>
+    ensures { IfOk result (λ copy. copy ≡ text.now) }
+{
+    Ok(Text::from_string(String::from_str(alloc, text)?))
+}
+
+/// What a text of JSON asks for.
+fn read_request(alloc: Global, json: &str) -> Result<Result<Request, CallError>, Memory>
+    ensures { IfOk result (λ request. request ≡ request_of json.now) }
+{
+    match Command::read(alloc, json) {
+        Ok(request) => Ok(Ok(request)),
+        Err(RpcFault::Call(error)) => Ok(Err(error)),
+        Err(RpcFault::Memory) => Err(Memory),
+    }
+}
+
+impl Call {
+    /// The call of a user at this second, whatever the JSON is.
+    pub fn read(alloc: Global, user: &str, now: u64, json: &str) -> Result<Call, Memory>
+        ensures { IfOk result (λ call. call ≡ called user.now now json.now) }
+    {
+        let request = read_request(alloc, json)?;
+        Ok(Call {
+            user: kept(alloc, user)?,
+            time: now,
+            json: kept(alloc, json)?,
+            request,
+        })
+    }
+
+    pub fn user(&self) -> &str
+        ensures { result.now ≡ self.now.user }
+    {
+        self.user.as_str()
+    }
+
+    /// In seconds since 1970.
+    pub fn time(&self) -> u64
+        ensures { result ≡ self.now.time }
+    {
+        self.time
+    }
+
+    pub fn json(&self) -> &str
+        ensures { result.now ≡ self.now.json }
+    {
+        self.json.as_str()
+    }
+
+    /// What the JSON asks for, or the first fault in it.
+    pub fn request(&self) -> &Result<Request, CallError>
+        ensures { result.now ≡ request_of self.now.json }
+    {
+        &self.request
+    }
+
+    /// The name of the method that is called, where one was read.
+    pub fn method(&self) -> Option<&str>
+        ensures { option_map (λ name. name.now) result ≡ name_called (request_of self.now.json) }
+    {
+        match &self.request {
+            Ok(request) => Some(request.command.method().name()),
+            Err(error) => error.method(),
+        }
+    }
+}
+
+impl Call {
+    ghost use Rattle.std.specs.Prelude.{IfSome};
+    ghost use Rattle.gate_tx.specs.Text.{IsTx};
+    ghost use Rattle.gate_core.specs.Good.{offered};
+
+    /// That the transaction that it offers has a text: it does nothing.
+    pub(crate) fn tells_spelled(&self)
+        ensures { IfSome (offered (request_of self.now.json)) IsTx }
+    {
+        if let Ok(request) = &self.request {
+            if let Command::SendRawTransaction(transaction) = &request.command {
+                transaction.tells_spelled();
+            }
+        }
+    }
+}
+
+fn copy_request(
+    alloc: Global,
+    request: &Result<Request, CallError>,
+) -> Result<Result<Request, CallError>, Memory>
+    ensures { IfOk result (λ copy. copy ≡ request.now) }
+{
+    match request {
+        Ok(request) => Ok(Ok(request.copy(alloc)?)),
+        Err(error) => Ok(Err(error.copy(alloc)?)),
+    }
+}
+
+impl Copied for Call {
+    fn copy(&self, alloc: Global) -> Result<Call, Memory> {
+        Ok(Call {
+            user: self.user.copy(alloc)?,
+            time: self.time,
+            json: self.json.copy(alloc)?,
+            request: copy_request(alloc, &self.request)?,
+        })
+    }
+}
+
+/// Calls are equal where their users, seconds and texts are: what these ask for is then the same.
+impl PartialEq for Call {
+    ghost use Rattle.gate_core.specs.Equality.{call_eq, call_decides};
+    ghost use Rattle.gate_admit.specs.Equality.{deciding};
+
+    ghost eq = { call_eq };
+
+    ghost laws = { deciding call_decides };
+
+    fn eq(&self, other: &Call) -> bool {
+        self.time == other.time && self.user == other.user && self.json == other.json
+    }
+}
+
+impl Eq for Call {
+    ghost use Rattle.gate_core.specs.Equality.{call_decides};
+    ghost use Rattle.gate_admit.specs.Equality.{deciding_all};
+
+    ghost laws = { deciding_all call_decides };
+}
+
+impl Exact for Call {
+    ghost use Rattle.gate_core.specs.Equality.{call_decides};
+
+    ghost exact = { call_decides };
+}

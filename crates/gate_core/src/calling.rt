@@ -1,0 +1,176 @@
+//! What users call, planned.
+ghost use Rattle.std.specs.Prelude.{◌≡◌, IfOk};
+ghost use Rattle.gate_rpc.specs.Calls.{request_of};
+ghost use Rattle.gate_core.specs.RpcSteps.{is_barred, rpc_step, commanded, sent, told, of_entry};
+ghost use Rattle.gate_rpc.specs.declared.result.RpcResult.TheVariants.{Txids, Entry};
+ghost use Rattle.gate_admit.specs.Submission.{submit_of};
+ghost use Rattle.gate_query.specs.Answers.{tested};
+ghost use Rattle.gate_core.specs.World.{World, standing_of};
+ghost use Rattle.gate_core.specs.Quiet.{HasList};
+ghost use Rattle.gate_core.specs.Planning.{Fits, Plans, world_of};
+
+use crate::call::Call;
+use crate::parts::Parts;
+use crate::planning::{Change, Plan};
+use crate::reply::Reply;
+use gate_admit::{Prepared, plan_submission};
+use gate_bytes::{Copied, Kept, Memory};
+use gate_query::{ancestors_listed, descendants_listed, entry_info, pool_info, test_submission};
+use gate_rpc::{Command, EntryInfo, Id, Request, RpcError, RpcReply, RpcResult};
+use gate_standard::Denial;
+use gate_tx::Txid;
+use std::alloc::Global;
+use std::hash::BuildHasher;
+
+/// The answer to the call of this id, with which nothing changes.
+fn telling(alloc: Global, id: &Id, outcome: Result<RpcResult, RpcError>) -> Result<Plan, Memory>
+    ensures ok { IfOk result (λ plan. (w : World) → Plans w (told w id.now outcome) plan) }
+    ensures change { IfOk result (λ plan. plan.change ≡ Change.Nothing) }
+{
+    let id = id.copy(alloc)?;
+    let answer = match outcome {
+        Ok(found) => RpcReply::Answer { id, result: found },
+        Err(error) => RpcReply::Failure { id, error },
+    };
+    Ok(Plan::telling(Reply::Rpc(answer)))
+}
+
+/// What a call results in that asks for the ids of an entry's family.
+fn of_ids(found: Option<Kept<Txid>>) -> Result<RpcResult, RpcError>
+    ensures { result ≡ of_entry Txids found }
+{
+    match found {
+        Some(txids) => Ok(RpcResult::Txids(txids)),
+        None => Err(RpcError::NotInMempool),
+    }
+}
+
+/// What a call results in that asks for what is known of an entry.
+fn of_info(found: Option<EntryInfo>) -> Result<RpcResult, RpcError>
+    ensures { result ≡ of_entry Entry found }
+{
+    match found {
+        Some(info) => Ok(RpcResult::Entry(info)),
+        None => Err(RpcError::NotInMempool),
+    }
+}
+
+impl<S: BuildHasher + Copy + Drop> Parts<S> {
+    /// Whether the user may not make the call (U1).
+    fn bars(&self, call: &Call) -> bool
+        ensures { result ≡ is_barred (world_of self.now) call.now.user (request_of call.now.json) }
+    {
+        match call.method() {
+            Some(method) => !self.rpcwhitelist.allows(call.user(), method),
+            None => false,
+        }
+    }
+
+    /// What a call gives.
+    pub(crate) fn calling(&mut self, alloc: Global, call: &Call) -> Result<Plan, Memory>
+        ensures ok { IfOk result (Plans (world_of self.old) (rpc_step (world_of self.old) call.now.user call.now.time (request_of call.now.json))) }
+        ensures fits { IfOk result (λ plan. Fits plan.change self.new.sessions self.new.pool) }
+        ensures quiet { IfOk result (λ plan. HasList plan.reply → plan.change ≡ Change.Nothing) }
+        ensures same { world_of self.new ≡ world_of self.old }
+    {
+        if self.bars(call) {
+            return Ok(Plan::telling(Reply::Rpc(RpcReply::NotAllowed)));
+        }
+        match call.request() {
+            Ok(request) => self.command(alloc, call.time(), request),
+            Err(error) => Ok(Plan::telling(Reply::Rpc(error.copy(alloc)?.into_reply()))),
+        }
+    }
+
+    fn command(&mut self, alloc: Global, now: u64, request: &Request) -> Result<Plan, Memory>
+        ensures ok { IfOk result (Plans (world_of self.old) (commanded (world_of self.old) now request.now.id request.now.command)) }
+        ensures fits { IfOk result (λ plan. Fits plan.change self.new.sessions self.new.pool) }
+        ensures quiet { IfOk result (λ plan. HasList plan.reply → plan.change ≡ Change.Nothing) }
+        ensures same { world_of self.new ≡ world_of self.old }
+    {
+        let id = &request.id;
+        match &request.command {
+            Command::SendRawTransaction(transaction) => self.sending(alloc, now, id, transaction),
+            Command::TestMempoolAccept(transaction) => self.testing(alloc, id, transaction),
+            Command::GetRawMempool => {
+                let txids = self.pool.listing(alloc)?;
+                telling(alloc, id, Ok(RpcResult::Txids(txids)))
+            }
+            Command::GetMempoolEntry(txid) => {
+                let found = entry_info(alloc, &self.pool, txid)?;
+                telling(alloc, id, of_info(found))
+            }
+            Command::GetMempoolAncestors(txid) => {
+                let found = ancestors_listed(alloc, &self.pool, txid)?;
+                telling(alloc, id, of_ids(found))
+            }
+            Command::GetMempoolDescendants(txid) => {
+                let found = descendants_listed(alloc, &self.pool, txid)?;
+                telling(alloc, id, of_ids(found))
+            }
+            Command::GetMempoolInfo => {
+                let found = pool_info(&self.pool, &self.floor, self.budget);
+                telling(alloc, id, Ok(found))
+            }
+        }
+    }
+
+    /// Whether a transaction would enter.
+    fn testing(&self, alloc: Global, id: &Id, transaction: &Prepared) -> Result<Plan, Memory>
+        ensures ok { IfOk result (Plans (world_of self.now) (told (world_of self.now) id.now (tested (standing_of (world_of self.now)) transaction.now))) }
+        ensures change { IfOk result (λ plan. plan.change ≡ Change.Nothing) }
+    {
+        let outcome = test_submission(
+            alloc,
+            &self.chain,
+            &self.pool,
+            &self.floor,
+            &self.verdicts,
+            transaction,
+        )?;
+        telling(alloc, id, outcome)
+    }
+
+    /// Lets a transaction enter.
+    #[tactic(auto, using(gate_admit::proofs::Submitting::planned_nothing))]
+    fn sending(
+        &mut self,
+        alloc: Global,
+        now: u64,
+        id: &Id,
+        transaction: &Prepared,
+    ) -> Result<Plan, Memory>
+        ensures ok { IfOk result (Plans (world_of self.old) (sent (world_of self.old) id.now transaction.now (submit_of (standing_of (world_of self.old)) transaction.now now self.old.budget))) }
+        ensures fits { IfOk result (λ plan. Fits plan.change self.new.sessions self.new.pool) }
+        ensures quiet { IfOk result (λ plan. HasList plan.reply → plan.change ≡ Change.Nothing) }
+        ensures same { world_of self.new ≡ world_of self.old }
+    {
+        let Some(txid) = transaction.txid() else {
+            return telling(alloc, id, Err(RpcError::Denied(Denial::Decode)));
+        };
+        let id = id.copy(alloc)?;
+        let decision = plan_submission(
+            alloc,
+            &self.chain,
+            &mut self.pool,
+            &self.floor,
+            transaction,
+            &self.verdicts,
+            now,
+            self.budget,
+        )?;
+        match decision {
+            Ok(coming) => Ok(Plan {
+                reply: Reply::Rpc(RpcReply::Answer {
+                    id,
+                    result: RpcResult::Sent(txid),
+                }),
+                change: Change::Admit { coming },
+            }),
+            Err(denial) => Ok(Plan::telling(Reply::Rpc(RpcReply::Failure {
+                id,
+                error: RpcError::Denied(denial),
+            }))),
+        }
+    }
+}

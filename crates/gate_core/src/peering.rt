@@ -1,0 +1,275 @@
+//! What peers ask, planned.
+ghost use Rattle.std.specs.Prelude.{◌≡◌, ◌<◌, ◌≤◌, ◌^◌, None, IfOk};
+ghost use Rattle.gate_chain.specs.Times.{tip_of};
+ghost use Rattle.gate_bytes.specs.Order.{first_failing};
+ghost use Rattle.gate_core.specs.World.{flags_at};
+ghost use Rattle.gate_core.specs.Access.{entering_rules, listing_rules, session_rules, submission_rules, block_rules, headers_rules, is_historical, seconds_at};
+ghost use Rattle.gate_core.specs.PeerSteps.{entered, left, listed, peer_step, refused, submitted, block_given, headers_given};
+ghost use Rattle.gate_pool.specs.Pool.{Pooled};
+ghost use Rattle.gate_core.specs.Sessions.{Seated};
+ghost use Rattle.gate_core.specs.Quiet.{HasList};
+ghost use Rattle.gate_core.specs.Planning.{Fits, Plans, world_of};
+
+use crate::parts::Parts;
+use crate::planning::{Change, Plan};
+use crate::refusal::{Refusal, Then};
+use crate::reply::Reply;
+use gate_admit::{Prepared, plan_submission};
+use gate_bytes::Memory;
+use gate_net::{Address, Permissions};
+use gate_standard::Denial;
+use std::alloc::Global;
+use std::hash::BuildHasher;
+
+/// The most headers that are given at a time (Bitcoin Core's `MAX_HEADERS_RESULTS`).
+const MOST_HEADERS: u32 = 2_000;
+
+/// Blocks that are older than the tip by more seconds than these, a week, are historical (Bitcoin Core's
+/// `HISTORICAL_BLOCK_AGE`).
+const HISTORICAL_AGE: u64 = 604_800;
+
+impl<S: BuildHasher + Copy + Drop> Parts<S> {
+    /// The flags of a peer that enters from this address.
+    fn flags_at(&self, address: &Address) -> Permissions
+        ensures { result ≡ flags_at (world_of self.now) address.now }
+    {
+        self.whitelist.flags_of(address)
+    }
+
+    /// A refusal to a peer, which closes the peer's session where that follows.
+    fn refusing(&self, peer: u64, refusal: Refusal) -> Plan
+        ensures reply { Plans (world_of self.now) (refused (world_of self.now) peer refusal) result }
+        ensures fits { (sessions : Seated) (pool : Pooled) → Fits result.change sessions pool }
+        ensures quiet { HasList result.reply → result.change ≡ Change.Nothing }
+    {
+        let then = refusal.then(&self.sessions.flags(peer));
+        let reply = Reply::Denied { refusal, then };
+        match then {
+            Then::Close => Plan {
+                reply,
+                change: Change::Close { peer },
+            },
+            Then::Keep => Plan::telling(reply),
+            Then::Relay => Plan::telling(reply),
+        }
+    }
+
+    pub(crate) fn entering(&mut self, peer: u64, address: &Address) -> Result<Plan, Memory>
+        ensures ok { IfOk result (Plans (world_of self.old) (peer_step (world_of self.old) peer (entering_rules self.old.sessions.all peer) (entered (world_of self.old) peer address.now))) }
+        ensures fits { IfOk result (λ plan. Fits plan.change self.new.sessions self.new.pool) }
+        ensures quiet { IfOk result (λ plan. HasList plan.reply → plan.change ≡ Change.Nothing) }
+        ensures same { world_of self.new ≡ world_of self.old }
+    {
+        if self.sessions.is_known(peer) {
+            return Ok(self.refusing(peer, Refusal::PeerKnown));
+        }
+        self.sessions.reserve()?;
+        let flags = self.flags_at(address);
+        Ok(Plan {
+            reply: Reply::Entered { flags },
+            change: Change::Enter { peer, flags },
+        })
+    }
+
+    pub(crate) fn leaving(&self, peer: u64) -> Plan
+        ensures plans { Plans (world_of self.now) (peer_step (world_of self.now) peer (session_rules self.now.sessions.all peer) (left (world_of self.now) peer)) result }
+        ensures fits { (sessions : Seated) (pool : Pooled) → Fits result.change sessions pool }
+        ensures quiet { HasList result.reply → result.change ≡ Change.Nothing }
+    {
+        match self.sessions.refusal(peer) {
+            Some(refusal) => self.refusing(peer, refusal),
+            None => Plan {
+                reply: Reply::Left,
+                change: Change::Close { peer },
+            },
+        }
+    }
+
+    pub(crate) fn listing(&self, alloc: Global, peer: u64) -> Result<Plan, Memory>
+        ensures ok { IfOk result (Plans (world_of self.now) (peer_step (world_of self.now) peer (listing_rules (world_of self.now) peer) (listed (world_of self.now)))) }
+        ensures fits { IfOk result (λ plan. (sessions : Seated) (pool : Pooled) → Fits plan.change sessions pool) }
+        ensures quiet { IfOk result (λ plan. HasList plan.reply → plan.change ≡ Change.Nothing) }
+    {
+        match self.refusal_of_listing(peer) {
+            Some(refusal) => Ok(self.refusing(peer, refusal)),
+            None => Ok(Plan::telling(Reply::Listing(self.pool.listing(alloc)?))),
+        }
+    }
+
+    pub(crate) fn submission(
+        &mut self,
+        alloc: Global,
+        peer: u64,
+        now: u64,
+        transaction: &Prepared,
+    ) -> Result<Plan, Memory>
+        ensures ok { IfOk result (Plans (world_of self.old) (peer_step (world_of self.old) peer (submission_rules (world_of self.old) peer transaction.now) (submitted (world_of self.old) peer now transaction.now))) }
+        ensures fits { IfOk result (λ plan. Fits plan.change self.new.sessions self.new.pool) }
+        ensures quiet { IfOk result (λ plan. HasList plan.reply → plan.change ≡ Change.Nothing) }
+        ensures same { world_of self.new ≡ world_of self.old }
+    {
+        match self.refusal_of_submission(peer, transaction) {
+            Some(refusal) => Ok(self.refusing(peer, refusal)),
+            None => self.submit(alloc, peer, now, transaction),
+        }
+    }
+
+    fn refusal_of_submission(&self, peer: u64, transaction: &Prepared) -> Option<Refusal>
+        ensures { result ≡ first_failing (submission_rules (world_of self.now) peer transaction.now) }
+    {
+        if let Some(refusal) = self.sessions.refusal(peer) {
+            return Some(refusal);
+        }
+        if self.blocksonly && !self.sessions.flags(peer).relay() {
+            return Some(Refusal::BlocksOnly);
+        }
+        let Some(wtxid) = transaction.wtxid() else {
+            return Some(Refusal::Admission(Denial::Decode));
+        };
+        if self.pool.by_wtxid(&wtxid).is_some() {
+            return Some(Refusal::AlreadyInMempool);
+        }
+        None
+    }
+
+    fn refusal_of_listing(&self, peer: u64) -> Option<Refusal>
+        ensures { result ≡ first_failing (listing_rules (world_of self.now) peer) }
+    {
+        if let Some(refusal) = self.sessions.refusal(peer) {
+            return Some(refusal);
+        }
+        let flags = self.sessions.flags(peer);
+        let is_permitted = flags.mempool() || flags.bloomfilter();
+        if !is_permitted && !self.switches.bloom {
+            return Some(Refusal::MempoolNoBloom);
+        }
+        if self.switches.upload && !flags.mempool() {
+            return Some(Refusal::MempoolUploadTarget);
+        }
+        None
+    }
+
+    #[tactic(auto, using(gate_admit::proofs::Submitting::planned_nothing))]
+    fn submit(
+        &mut self,
+        alloc: Global,
+        peer: u64,
+        now: u64,
+        transaction: &Prepared,
+    ) -> Result<Plan, Memory>
+        ensures ok { IfOk result (Plans (world_of self.old) (submitted (world_of self.old) peer now transaction.now)) }
+        ensures fits { IfOk result (λ plan. Fits plan.change self.new.sessions self.new.pool) }
+        ensures quiet { IfOk result (λ plan. HasList plan.reply → plan.change ≡ Change.Nothing) }
+        ensures same { world_of self.new ≡ world_of self.old }
+    {
+        let Some(txid) = transaction.txid() else {
+            return Ok(self.refusing(peer, Refusal::Admission(Denial::Decode)));
+        };
+        let decision = plan_submission(
+            alloc,
+            &self.chain,
+            &mut self.pool,
+            &self.floor,
+            transaction,
+            &self.verdicts,
+            now,
+            self.budget,
+        )?;
+        match decision {
+            Ok(coming) => Ok(Plan {
+                reply: Reply::Admitted {
+                    txid,
+                    fee: coming.grant.fee,
+                    vsize: coming.grant.vsize,
+                    replaced: coming.grant.replaced,
+                },
+                change: Change::Admit { coming },
+            }),
+            Err(denial) => Ok(self.refusing(peer, Refusal::Admission(denial))),
+        }
+    }
+}
+
+impl<S: BuildHasher + Copy + Drop> Parts<S> {
+    /// The time of a height up to the tip.
+    fn seconds(&self, height: u32) -> u64
+        ensures value { result ≡ seconds_at self.now.chain height }
+        ensures small { result < 2 ^ 32 }
+    {
+        match self.chain.time(height) {
+            Some(time) => u64::from(time),
+            None => 0,
+        }
+    }
+
+    fn is_historical(&self, height: u32) -> bool
+        ensures { result ≡ is_historical self.now.chain height }
+    {
+        self.seconds(height) + HISTORICAL_AGE < self.seconds(self.chain.tip())
+    }
+
+    fn refusal_of_block(&self, peer: u64, height: u32) -> Option<Refusal>
+        ensures { result ≡ first_failing (block_rules (world_of self.now) peer height) }
+    {
+        if let Some(refusal) = self.sessions.refusal(peer) {
+            return Some(refusal);
+        }
+        if height > self.chain.tip() {
+            return Some(Refusal::UnknownBlock);
+        }
+        if self.switches.historic
+            && !self.sessions.flags(peer).download()
+            && self.is_historical(height)
+        {
+            return Some(Refusal::HistoricalUploadTarget);
+        }
+        None
+    }
+
+    fn refusal_of_headers(&self, peer: u64, height: u32) -> Option<Refusal>
+        ensures first { result ≡ first_failing (headers_rules (world_of self.now) peer height) }
+        ensures within { result ≡ None → height ≤ tip_of self.now.chain }
+    {
+        if let Some(refusal) = self.sessions.refusal(peer) {
+            return Some(refusal);
+        }
+        if self.switches.download && !self.sessions.flags(peer).download() {
+            return Some(Refusal::HeadersDuringDownload);
+        }
+        if height > self.chain.tip() {
+            return Some(Refusal::UnknownBlock);
+        }
+        None
+    }
+
+    /// The time of the block of a height.
+    pub(crate) fn giving_block(&self, peer: u64, height: u32) -> Plan
+        ensures plans { Plans (world_of self.now) (peer_step (world_of self.now) peer (block_rules (world_of self.now) peer height) (block_given (world_of self.now) height)) result }
+        ensures fits { (sessions : Seated) (pool : Pooled) → Fits result.change sessions pool }
+        ensures quiet { HasList result.reply → result.change ≡ Change.Nothing }
+    {
+        match self.refusal_of_block(peer, height) {
+            Some(refusal) => self.refusing(peer, refusal),
+            None => Plan::telling(Reply::Block {
+                height,
+                time: self.chain.time(height).unwrap_or(0),
+            }),
+        }
+    }
+
+    /// How many headers follow a height.
+    pub(crate) fn giving_headers(&self, peer: u64, height: u32) -> Plan
+        ensures plans { Plans (world_of self.now) (peer_step (world_of self.now) peer (headers_rules (world_of self.now) peer height) (headers_given (world_of self.now) height)) result }
+        ensures fits { (sessions : Seated) (pool : Pooled) → Fits result.change sessions pool }
+        ensures quiet { HasList result.reply → result.change ≡ Change.Nothing }
+    {
+        let tip = self.chain.tip();
+        match self.refusal_of_headers(peer, height) {
+            Some(refusal) => self.refusing(peer, refusal),
+            None => Plan::telling(Reply::Headers {
+                first: height + 1,
+                count: MOST_HEADERS.min(tip - height),
+            }),
+        }
+    }
+}
