@@ -4,3 +4,5 @@ pub mod TextLines
 pub mod PartLemmas
 pub mod NumberParts
 pub mod Decimals
+pub mod FirstLines
+pub mod Limits

@@ -1,5 +1,5 @@
 -- The lines of a text, their limits, and those that ask for nothing.
-use Rattle.std.specs.Prelude.{◌≢◌, ℕ, ◌==◌, if◌then◌else◌, Bool, true, List, [], ◌∷◌, ◌++◌, Option, None}
+use Rattle.std.specs.Prelude.{◌≡◌, ◌≢◌, ℕ, ◌==◌, if◌then◌else◌, Bool, true, List, [], ◌∷◌, ◌++◌, Option, None, IfSome}
 use Rattle.std.specs.Str.{is_utf8}
 
 -- the most bytes of a line
@@ -31,6 +31,10 @@ LacksNewline (x ∷ xs) = (x ≢ 10) × LacksNewline xs
 abbrev pub EachLacksNewline : List (List ℕ) → Type 0
 EachLacksNewline [] = Unit {0}
 EachLacksNewline (line ∷ lines) = LacksNewline line × EachLacksNewline lines
+
+-- the first lines of an input, where it is known
+abbrev pub FirstLines : Option (List ℕ) → List (List ℕ) → Type 0
+FirstLines input lines = IfSome input (λ bytes. (more : List (List ℕ)) × (lines_of bytes ≡ lines ++ more))
 
 -- an empty line, or a comment
 abbrev pub is_skipped : List ℕ → Bool

@@ -5,7 +5,7 @@ use Rattle.gate_core.specs.Texts.{reply_text}
 use Rattle.gate_core.specs.World.{World}
 use Rattle.gate_core.specs.declared.event.Event.{Event}
 use Rattle.gate_core.specs.declared.reply.Reply.{Reply}
-use Rattle.gate_core.specs.declared.reply.Reply.TheVariants.{Entered, Left, Admitted, Listing, Denied, Set}
+use Rattle.gate_core.specs.declared.reply.Reply.TheVariants.{Entered, Left, Admitted, Listing, Block, Headers, Rpc, Denied, Set, Moved, Refused}
 use Rattle.gate_lines.specs.Lines.{count_limit, line_limit, is_skipped}
 use Rattle.gate_prog.specs.EventLines.{line_event}
 use Rattle.gate_prog.specs.Lanes.{Run, LineAnswered, EventAnswered, fault_memory, line_too_long, too_many_lines}
@@ -28,7 +28,12 @@ text_is_no_fault (Entered flags) e = let h : 101 ≡ 102 = first_byte (reply_tex
 text_is_no_fault Left e = let h : 108 ≡ 102 = first_byte (reply_text Left) fault_memory e in omega (arith, h)
 text_is_no_fault (Admitted txid fee vsize replaced) e = let h : 97 ≡ 102 = first_byte (reply_text (Admitted txid fee vsize replaced)) fault_memory e in omega (arith, h)
 text_is_no_fault (Listing txids) e = let h : 108 ≡ 102 = first_byte (reply_text (Listing txids)) fault_memory e in omega (arith, h)
+text_is_no_fault (Block height time) e = let h : 98 ≡ 102 = first_byte (reply_text (Block height time)) fault_memory e in omega (arith, h)
+text_is_no_fault (Headers first count) e = let h : 104 ≡ 102 = first_byte (reply_text (Headers first count)) fault_memory e in omega (arith, h)
+text_is_no_fault (Rpc answer) e = let h : 114 ≡ 102 = first_byte (reply_text (Rpc answer)) fault_memory e in omega (arith, h)
 text_is_no_fault (Denied refusal followed) e = let h : 100 ≡ 102 = first_byte (reply_text (Denied refusal followed)) fault_memory e in omega (arith, h)
+text_is_no_fault (Moved moved) e = let h : 99 ≡ 102 = first_byte (reply_text (Moved moved)) fault_memory e in omega (arith, h)
+text_is_no_fault (Refused denial) e = let h : 114 ≡ 102 = first_byte (reply_text (Refused denial)) fault_memory e in omega (arith, h)
 text_is_no_fault Set e = let h : 115 ≡ 102 = first_byte (reply_text Set) fault_memory e in omega (arith, h)
 
 -- a step that is answered so leaves the state

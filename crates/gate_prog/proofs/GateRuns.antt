@@ -1,15 +1,15 @@
 -- What `gate run` writes, from what its opening came to.
 use Rattle.std.proofs.Common.{◌≡◌, ℕ, List, Option, Some, None, IfSome, Result, Ok, Err, IfOk, IfErr, inl, inr, refl, sym, subst}
 use Rattle.gate_core.specs.World.{World}
-use Rattle.gate_prog.specs.declared.opening_fault.OpeningFault.{OpeningFault}
-use Rattle.gate_prog.specs.declared.opening_fault.OpeningFault.TheVariants.{Line}
-use Rattle.gate_prog.specs.declared.opening_fault.OpeningToken.{OpeningToken}
+use Rattle.gate_opening.specs.declared.OpeningFault.{OpeningFault}
+use Rattle.gate_opening.specs.declared.OpeningFault.TheVariants.{Line}
+use Rattle.gate_opening.specs.declared.OpeningToken.{OpeningToken}
 use Rattle.gate_lines.specs.declared.fault.LaneFault.{LaneFault}
 use Rattle.gate_lines.specs.declared.fault.LaneFault.TheVariants as faults
 use Rattle.gate_prog.specs.Jobs.{FaultPrinted, GateRan, TextRan, GateStopped, OpenedAs, RefusalStopped}
 use Rattle.gate_prog.specs.Lanes.{LaneUnread, StoppedBy}
-use Rattle.gate_prog.specs.Openings.{LeavesRest}
-use Rattle.gate_prog.specs.Said.{spelled}
+use Rattle.gate_opening.specs.Openings.{LeavesRest}
+use Rattle.gate_opening.specs.Said.{spelled}
 
 gate_refused : (input before after : Option (List ℕ)) (line : ℕ) (token : OpeningToken) (status : ℕ)
     → IfSome input (λ text. spelled text ≡ Err (Line line token)) → FaultPrinted line token before after status → GateRan input before after status

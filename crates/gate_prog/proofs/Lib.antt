@@ -1,13 +1,9 @@
+pub mod ChainWords
 pub mod Runs
 pub mod TextForms
 pub mod TurnLemmas
 pub mod SoFar
 pub mod SentLanes
-pub mod EvenSteps
-pub mod OpeningParts
-pub mod Saying
-pub mod Steps
-pub mod Heard
 pub mod GateRuns
 pub mod LedLanes
 pub mod FaultedLanes

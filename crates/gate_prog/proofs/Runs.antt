@@ -1,9 +1,9 @@
 -- Runs, built from their first line.
-use Rattle.std.proofs.Common.{◌≡◌, ℕ, ◌+◌, ◌<◌, ◌≤◌, nat_lt, nat_le, Bool, true, false, List, [], ◌∷◌, ◌++◌, length, refl, sym, subst, arith, append-nil, MatchBool}
+use Rattle.std.proofs.Common.{◌≡◌, ℕ, ◌+◌, ◌<◌, ◌≤◌, Bool, true, false, List, [], ◌∷◌, ◌++◌, length, refl, sym, subst, append-nil, MatchBool}
 use Rattle.std.proofs.lemmas.Bool.{lt-ltb, le-leb}
-use Rattle.std.proofs.lemmas.Bool.Decides.{nat_tests}
 use Rattle.gate_core.specs.World.{World}
 use Rattle.gate_lines.specs.Lines.{line_limit, count_limit}
+use Rattle.gate_lines.proofs.Limits.{not-lt, not-le}
 use Rattle.gate_prog.specs.Lanes.{Run, LineAnswered, line_too_long, too_many_lines}
 
 pub at_true : (P Q : Type 0) (b : Bool) → b ≡ true → P → MatchBool b P Q
@@ -11,12 +11,6 @@ at_true P Q b e p = subst (λ (c : Bool). MatchBool c P Q) (sym e) p
 
 pub at_false : (P Q : Type 0) (b : Bool) → b ≡ false → Q → MatchBool b P Q
 at_false P Q b e q = subst (λ (c : Bool). MatchBool c P Q) (sym e) q
-
-pub not-lt : (a b : ℕ) → b ≤ a → nat_lt a b ≡ false
-not-lt a b h = grind (arith, nat_tests)
-
-pub not-le : (a b : ℕ) → b < a → nat_le a b ≡ false
-not-le a b h = grind (arith, nat_tests)
 
 pub Run-line : (number : ℕ) (old mid new : World) (line : List ℕ) (lines first rest : List (List ℕ))
     → number < count_limit → length line ≤ line_limit → LineAnswered old line first mid → Run (number + 1) mid lines rest new

@@ -5,8 +5,8 @@ use Rattle.std.proofs.KnownBytes.{Appends-trans}
 use Rattle.gate_core.specs.World.{World}
 use Rattle.gate_lines.specs.declared.fault.LaneFault.{LaneFault}
 use Rattle.gate_lines.specs.declared.fault.LaneFault.TheVariants as faults
-use Rattle.gate_lines.specs.Lines.{lines_of, unlines}
-use Rattle.gate_prog.specs.Lanes.{Run, FirstLines, StoppedBy, LaneDone, LaneUnread}
+use Rattle.gate_lines.specs.Lines.{FirstLines, lines_of, unlines}
+use Rattle.gate_prog.specs.Lanes.{Run, StoppedBy, LaneDone, LaneUnread}
 use Rattle.gate_prog.specs.Turns.{AllLines, LaneCame}
 
 then_sent : (w w' w'' : Option (List ℕ)) (bytes : List ℕ) → Appends w w' bytes → Appends w' w'' [] → Appends w w'' bytes

@@ -1,54 +1,19 @@
 -- One turn of a lane, from what was read and what was answered.
-use Rattle.std.proofs.Common.{◌≡◌, ◌≢◌, ℕ, ◌+◌, ◌<◌, ◌≤◌, List, [], ◌∷◌, ◌++◌, length, Option, OnSome, Some, None, IfSome, Ok, Err, refl, ap, subst, ◌∙◌, arith, inl, inr, append_assoc, append-nil, take, length-take-le}
+use Rattle.std.proofs.Common.{◌≡◌, ◌≢◌, ℕ, ◌<◌, ◌≤◌, List, [], ◌∷◌, ◌++◌, length, Option, OnSome, Some, None, Ok, Err, refl, ap, subst, ◌∙◌, arith, inl, inr, take, length-take-le}
 use Rattle.std.specs.Io.KnownBytes.{Appends, Consumes, IsAtEnd}
 use Rattle.std.specs.Global.{Vec}
 use Rattle.std.proofs.KnownBytes.{Appends-nil}
 use Rattle.gate_core.specs.World.{World}
 use Rattle.gate_lines.specs.declared.fault.LaneFault.{LaneFault}
 use Rattle.gate_lines.specs.declared.fault.LaneFault.TheVariants as faults
-use Rattle.gate_lines.specs.Lines.{LacksNewline, line_limit, lines_of, unlines, count_limit}
+use Rattle.gate_lines.specs.Lines.{LacksNewline, FirstLines, line_limit, lines_of, unlines, count_limit}
 use Rattle.gate_lines.specs.Reading.{LineRead}
 use Rattle.gate_lines.specs.Writing.{TextWritten}
-use Rattle.gate_prog.specs.Lanes.{LineAnswered, Run, FirstLines, SentOf, StoppedBy, line_too_long}
+use Rattle.gate_prog.specs.Lanes.{LineAnswered, Run, SentOf, StoppedBy, line_too_long}
 use Rattle.gate_prog.specs.Turns.{AllLines, AnswerMade, AnswerLost, LineTaken, Responded, Unresponded, TurnTaken}
 use Rattle.gate_prog.specs.declared.lane.Turn.TheVariants.{Went, Ended}
-use Rattle.gate_lines.proofs.LineLists.{lines_of-whole, lines_of-rest, lines_of-long}
+use Rattle.gate_lines.proofs.FirstLines.{FirstLines-none, LongLine}
 use Rattle.gate_prog.proofs.Runs.{Run-one, Run-long}
-
-pub FirstLines-none : (r : Option (List ℕ)) → FirstLines r []
-FirstLines-none None = tt
-FirstLines-none (Some xs) = (lines_of xs, refl)
-
-pub FirstLines-whole : (r r' : Option (List ℕ)) (line : List ℕ) → Consumes r r' (line ++ 10 ∷ []) → LacksNewline line → FirstLines r (line ∷ [])
-FirstLines-whole None r' line h clean = tt
-FirstLines-whole (Some xs) None line h clean = absurd h
-FirstLines-whole (Some xs) (Some ys) line h clean =
-    (lines_of ys, ap lines_of h ∙ ap lines_of (append_assoc line (10 ∷ []) ys) ∙ lines_of-whole line ys clean)
-
--- all that is left is one line
-pub OnlyLine : (r r' : Option (List ℕ)) (line : List ℕ) → Consumes r r' line → OnSome r (IsAtEnd r') → LacksNewline line → 0 < length line
-    → IfSome r (λ xs. lines_of xs ≡ line ∷ [])
-OnlyLine None r' line h end clean some = tt
-OnlyLine (Some xs) None line h end clean some = absurd h
-OnlyLine (Some xs) (Some ys) line h end clean some =
-    ap lines_of (h ∙ ap (λ l. line ++ l) end ∙ append-nil line) ∙ lines_of-rest line clean some
-
-pub FirstLines-only : (r : Option (List ℕ)) (line : List ℕ) → IfSome r (λ xs. lines_of xs ≡ line ∷ []) → FirstLines r (line ∷ [])
-FirstLines-only None line h = tt
-FirstLines-only (Some xs) line h = ([], h)
-
--- a line that begins with too many bytes
-pub record LongLine (r : Option (List ℕ)) : Type 0 where
-  pub line : List ℕ
-  pub long : line_limit < length line
-  pub first : FirstLines r (line ∷ [])
-
-pub LongLine-read : (r r' : Option (List ℕ)) (front : List ℕ) → Consumes r r' front → LacksNewline front → length front ≡ line_limit + 1 → LongLine r
-LongLine-read None r' front h clean long = record { line = front; long = omega (arith, long); first = tt }
-LongLine-read (Some xs) None front h clean long = absurd h
-LongLine-read (Some xs) (Some ys) front h clean long =
-    let f = lines_of-long front ys clean (omega arith) in
-    record { line = f.line; long = omega (arith, f.long, long); first = (f.more, ap lines_of h ∙ f.first) }
 
 -- ---- what stopped
 

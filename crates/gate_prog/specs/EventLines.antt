@@ -1,17 +1,22 @@
 -- The event that a line spells.
-use Rattle.std.specs.Prelude.{ℕ, if◌then◌else◌, List, codes, Option, Some, None, Result, Ok, Err, option_and_then}
+use Rattle.std.specs.Prelude.{ℕ, ◌==◌, if◌then◌else◌, Bool, true, false, List, [], length, codes, Option, Some, None, Result, Ok, Err, option_and_then}
 use Rattle.std.specs.Option.{option_map}
 use Rattle.std.specs.Str.{bytes_eq}
 use Rattle.hex.specs.Hex.{decode_of}
 use Rattle.hex.specs.declared.error.FromHexError.{FromHexError}
 use Rattle.gate_tx.specs.Tx.{Tx}
 use Rattle.gate_tx.specs.Reading.{decoded}
-use Rattle.gate_core.specs.Addresses.{address_of}
+use Rattle.gate_net.specs.Addresses.{address_of}
+use Rattle.gate_core.specs.UserCalls.{called}
 use Rattle.gate_core.specs.declared.event.Event.{Event}
 use Rattle.gate_core.specs.declared.event.Event.TheVariants as events
+use Rattle.gate_core.specs.declared.switch.Switch.{Switch}
+use Rattle.gate_core.specs.declared.switch.Switch.TheVariants.{Bloom, Upload, Historic, Download}
+use Rattle.gate_chain.specs.declared.Block.{Block}
+use Rattle.gate_prog.specs.ChainLines.{blocks_of}
 use Rattle.gate_lines.specs.Lines.{if_text}
 use Rattle.gate_lines.specs.Words.{part_of, is_word}
-use Rattle.gate_lines.specs.Numbers.{number_of}
+use Rattle.gate_lines.specs.Numbers.{number_of, small_number_of}
 
 infixl 10 ◌>>=◌
 abbrev pub ◌>>=◌ : {A B : Type 0} → Option A → (A → Option B) → Option B
@@ -46,6 +51,8 @@ abbrev pub worded_event : ℕ → List ℕ × List ℕ → Option Event
 worded_event peer p =
     if bytes_eq p.0 (codes "enter") then enter_event_of peer p.1
     else if bytes_eq p.0 (codes "tx") then tx_event_of peer p.1
+    else if bytes_eq p.0 (codes "getblock") then option_map (events.GetBlock peer) (small_number_of p.1)
+    else if bytes_eq p.0 (codes "headers") then option_map (events.Headers peer) (small_number_of p.1)
     else None
 
 abbrev pub peer_event : ℕ × List ℕ → Option Event
@@ -54,20 +61,77 @@ peer_event p =
     else if bytes_eq p.1 (codes "mempool") then Some (events.Mempool p.0)
     else option_and_then (worded_event p.0) (part_of p.1)
 
--- `P leave`, `P mempool`, `P enter ADDRESS` or `P tx NOW HEX`
+-- `P leave`, `P mempool`, `P enter ADDRESS`, `P tx NOW HEX`, `P getblock H` or `P headers H`
 abbrev pub peer_event_of : List ℕ → Option Event
 peer_event_of text = option_and_then peer_event (numbered_of text)
 
-abbrev pub setting_event : List ℕ × List ℕ → Option Event
-setting_event p = if bytes_eq p.0 (codes "floor") then option_map events.SetFloor (number_of p.1) else None
+-- `NOW JSON`, whatever the rest of the line is
+abbrev pub call_event_of : List ℕ → List ℕ → Option Event
+call_event_of user text = do
+  p ← numbered_of text
+  if length p.1 == 0 then None else Some (events.Rpc (called user p.0 p.1))
 
--- `floor RATE`
+abbrev pub user_event : List ℕ → List ℕ × List ℕ → Option Event
+user_event user p = if bytes_eq p.0 (codes "rpc") then call_event_of user p.1 else None
+
+-- `NAME rpc NOW JSON`
+abbrev pub user_event_of : List ℕ → Option Event
+user_event_of text = do
+  p ← part_of text
+  if length p.0 == 0 then None else option_and_then (user_event p.0) (part_of p.1)
+
+abbrev pub switch_of : List ℕ → Option Switch
+switch_of word =
+    if bytes_eq word (codes "bloom") then Some Bloom
+    else if bytes_eq word (codes "upload") then Some Upload
+    else if bytes_eq word (codes "historic") then Some Historic
+    else if bytes_eq word (codes "ibd") then Some Download
+    else None
+
+abbrev pub is_on_of : List ℕ → Option Bool
+is_on_of text =
+    if bytes_eq text (codes "on") then Some true
+    else if bytes_eq text (codes "off") then Some false
+    else None
+
+-- `bloom|upload|historic|ibd` and `on|off`
+abbrev pub switch_event_of : List ℕ → List ℕ → Option Event
+switch_event_of word text = do
+  switch ← switch_of word
+  on ← is_on_of text
+  Some (events.Set switch on)
+
+abbrev pub setting_event : List ℕ × List ℕ → Option Event
+setting_event p =
+    if bytes_eq p.0 (codes "floor") then option_map events.SetFloor (number_of p.1) else switch_event_of p.0 p.1
+
+-- `floor RATE`, or a switch with `on|off`
 abbrev pub operator_event_of : List ℕ → Option Event
 operator_event_of text = option_and_then setting_event (part_of text)
+
+abbrev pub with_blocks : List ℕ → Option (List ℕ × List ℕ) → Option (ℕ × List (Option Block))
+with_blocks text None = option_map (λ now. (now, [])) (number_of text)
+with_blocks text (Some p) = do
+  now ← number_of p.0
+  blocks ← blocks_of p.1
+  Some (now, blocks)
+
+-- `NOW`, or `NOW BLOCKHEX ..`, whatever the words of hex are
+abbrev pub timed_blocks_of : List ℕ → Option (ℕ × List (Option Block))
+timed_blocks_of text = with_blocks text (part_of text)
+
+-- `D NOW`, or `D NOW BLOCKHEX ..`
+abbrev pub chain_event_of : List ℕ → Option Event
+chain_event_of text = do
+  p ← numbered_of text
+  timed ← timed_blocks_of p.1
+  Some (events.Chain p.0 timed.0 timed.1)
 
 abbrev pub called_event : List ℕ × List ℕ → Option Event
 called_event p =
     if bytes_eq p.0 (codes "peer") then peer_event_of p.1
+    else if bytes_eq p.0 (codes "user") then user_event_of p.1
+    else if bytes_eq p.0 (codes "chain") then chain_event_of p.1
     else if bytes_eq p.0 (codes "operator") then operator_event_of p.1
     else None
 

@@ -9,8 +9,8 @@ use Rattle.gate_prog.specs.declared.job.Job.TheVariants as jobs
 use Rattle.gate_prog.specs.Jobs.{JobDone}
 use Rattle.gate_prog.specs.LaneRuns.{lane_events, lane_replies}
 use Rattle.gate_prog.specs.Lanes.{Run, fault_memory}
-use Rattle.gate_prog.specs.Openings.{opening_part}
-use Rattle.gate_prog.specs.Said.{spelled}
+use Rattle.gate_opening.specs.Openings.{opening_part}
+use Rattle.gate_opening.specs.Said.{spelled}
 
 -- the reply line says that memory ran out in the step
 abbrev pub is_fault : List ℕ → Bool

@@ -6,8 +6,8 @@ use Rattle.gate_prog.specs.declared.job.Job.TheVariants as jobs
 use Rattle.gate_prog.specs.Jobs.{JobDone}
 use Rattle.gate_prog.specs.LaneRuns.{lane_events, lane_replies, LacksFault}
 use Rattle.gate_lines.specs.Lines.{lines_of, unlines}
-use Rattle.gate_prog.specs.Openings.{opening_part}
-use Rattle.gate_prog.specs.Said.{spelled}
+use Rattle.gate_opening.specs.Openings.{opening_part}
+use Rattle.gate_opening.specs.Said.{spelled}
 
 abbrev pub GateRunsAreRuns : Type 0
 GateRunsAreRuns =

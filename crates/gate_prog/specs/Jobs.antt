@@ -7,17 +7,17 @@ use Rattle.gate_lines.specs.declared.fault.LaneFault.{LaneFault}
 use Rattle.gate_lines.specs.declared.fault.LaneFault.TheVariants as lane
 use Rattle.gate_prog.specs.declared.job.Job.{Job}
 use Rattle.gate_prog.specs.declared.job.Job.TheVariants as jobs
-use Rattle.gate_prog.specs.declared.opening_fault.OpeningFault.{OpeningFault}
-use Rattle.gate_prog.specs.declared.opening_fault.OpeningFault.TheVariants as faults
-use Rattle.gate_prog.specs.declared.opening_fault.OpeningToken.{OpeningToken}
+use Rattle.gate_opening.specs.declared.OpeningFault.{OpeningFault}
+use Rattle.gate_opening.specs.declared.OpeningFault.TheVariants as faults
+use Rattle.gate_opening.specs.declared.OpeningToken.{OpeningToken}
 use Rattle.gate_tx.specs.Tx.{Tx}
 use Rattle.gate_prog.specs.Checks.{check_lines, check_status, input_spells}
 use Rattle.gate_prog.specs.EventLines.{prepared_of}
 use Rattle.gate_prog.specs.Lanes.{Run, LaneUnread, StoppedBy}
 use Rattle.gate_lines.specs.Lines.{lines_of, unlines}
-use Rattle.gate_prog.specs.OpeningFaults.{token_text}
-use Rattle.gate_prog.specs.Openings.{opening_part, OpeningUnread}
-use Rattle.gate_prog.specs.Said.{spelled}
+use Rattle.gate_opening.specs.OpeningFaults.{token_text}
+use Rattle.gate_opening.specs.Openings.{opening_part, OpeningUnread}
+use Rattle.gate_opening.specs.Said.{spelled}
 
 -- the line of an opening's fault
 abbrev pub opening_line : ℕ → OpeningToken → List ℕ

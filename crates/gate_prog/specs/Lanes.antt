@@ -9,7 +9,7 @@ use Rattle.gate_core.specs.Good.{StepGives}
 use Rattle.gate_core.specs.Texts.{reply_text}
 use Rattle.gate_core.specs.declared.event.Event.{Event}
 use Rattle.gate_core.specs.declared.reply.Reply.{Reply}
-use Rattle.gate_lines.specs.Lines.{line_limit, count_limit, LacksNewline, EachLacksNewline, lines_of, unlines, is_skipped}
+use Rattle.gate_lines.specs.Lines.{line_limit, count_limit, LacksNewline, EachLacksNewline, lines_of, unlines, is_skipped, FirstLines}
 use Rattle.gate_prog.specs.EventLines.{line_event}
 
 -- ---- what a line is answered
@@ -64,10 +64,6 @@ LaneUnread input rest before after old new =
     (lines : List (List ℕ)) × (piece : List ℕ) × (replies : List (List ℕ))
     × Consumes input rest (unlines lines ++ piece) × EachLacksNewline lines × LacksNewline piece
     × Appends before after (unlines replies) × Run 0 old lines replies new
-
--- the first lines of the input
-abbrev pub FirstLines : Option (List ℕ) → List (List ℕ) → Type 0
-FirstLines input lines = IfSome input (λ bytes. (more : List (List ℕ)) × (lines_of bytes ≡ lines ++ more))
 
 -- what of a last reply line went out before the fault: a front of it, and nothing where memory ran out
 abbrev pub SentOf : LaneFault → List (List ℕ) → List ℕ → Type 0

@@ -1,11 +1,7 @@
+pub mod ChainLines
 pub mod EventLines
-pub mod OpeningLines
 pub mod Lanes
 pub mod Turns
-pub mod OpeningFaults
-pub mod BlockTimes
-pub mod Said
-pub mod Openings
 pub mod Checks
 pub mod Commands
 pub mod Jobs

@@ -55,11 +55,13 @@ fn gate_command<'a>(alloc: Global) -> Result<Command<'a>, AllocError>
         .about(
             "Opens a gate from standard input, and answers the events behind its line `---`, a line each",
         )
-        .after_help("Examples:\n  gate run < examples/first-path.txt");
+        .after_help(
+            "Examples:\n  gate run < examples/first-path.txt\n  gate run < examples/permissions.txt\n  gate run < examples/rpc.txt",
+        );
     Command::new(alloc, "gate")
         .about("The admission gate of a Bitcoin node's mempool")
         .after_help(
-            "Examples:\n  gate run < examples/first-path.txt\n  gate check 01000000000000000000\n  gate check - < examples/payment.hex",
+            "Examples:\n  gate run < examples/first-path.txt\n  gate run < examples/permissions.txt\n  gate run < examples/rpc.txt\n  gate check 01000000000000000000\n  gate check - < examples/payment.hex",
         )
         .version(VERSION)
         .no_binary_name(true)

@@ -1,11 +1,14 @@
 //! The event that a line spells.
 ghost use Rattle.std.specs.Prelude.{◌≡◌, IfOk, MatchOption, None, Some};
-ghost use Rattle.gate_prog.specs.EventLines.{event_of, numbered_of, peer_event_of, enter_event_of, tx_event_of, operator_event_of, prepared_of};
+ghost use Rattle.gate_prog.specs.EventLines.{event_of, numbered_of, peer_event_of, worded_event, enter_event_of, tx_event_of, user_event_of, call_event_of, chain_event_of, timed_blocks_of, operator_event_of, switch_event_of, switch_of, is_on_of, prepared_of};
 
+use crate::chain_line::blocks_in;
 use gate_admit::Prepared;
-use gate_bytes::Memory;
-use gate_core::{Address, Event};
-use gate_lines::{is_one_word, next_word, read_number};
+use gate_bytes::{Kept, Memory};
+use gate_chain::Block;
+use gate_core::{Call, Event, Switch};
+use gate_lines::{is_one_word, next_word, read_number, read_small_number};
+use gate_net::Address;
 use hex::FromHexError;
 use std::alloc::Global;
 
@@ -16,6 +19,10 @@ pub(crate) fn read_event(alloc: Global, line: &str) -> Result<Option<Event>, Mem
     match next_word(line) {
         Some((caller, rest)) => if caller == "peer" {
             peer_event(alloc, rest)
+        } else if caller == "user" {
+            user_event(alloc, rest)
+        } else if caller == "chain" {
+            chain_event(alloc, rest)
         } else if caller == "operator" {
             Ok(operator_event(rest))
         } else {
@@ -25,7 +32,7 @@ pub(crate) fn read_event(alloc: Global, line: &str) -> Result<Option<Event>, Mem
     }
 }
 
-/// `P leave`, `P mempool`, `P enter ADDRESS` or `P tx NOW HEX`.
+/// `P leave`, `P mempool`, `P enter ADDRESS`, `P tx NOW HEX`, `P getblock H` or `P headers H`.
 fn peer_event(alloc: Global, rest: &str) -> Result<Option<Event>, Memory>
     ensures { IfOk result (λ event. event ≡ peer_event_of rest.now) }
 {
@@ -39,14 +46,65 @@ fn peer_event(alloc: Global, rest: &str) -> Result<Option<Event>, Memory>
         return Ok(Some(Event::Mempool { peer }));
     }
     match next_word(what) {
-        Some((word, rest)) => if word == "enter" {
-            Ok(enter_event(peer, rest))
-        } else if word == "tx" {
-            tx_event(alloc, peer, rest)
-        } else {
-            Ok(None)
-        },
+        Some((word, rest)) => worded_event(alloc, peer, word, rest),
         None => Ok(None),
+    }
+}
+
+/// A peer's event of a word and what stands behind it.
+fn worded_event(alloc: Global, peer: u64, word: &str, rest: &str) -> Result<Option<Event>, Memory>
+    ensures { IfOk result (λ event. event ≡ worded_event peer (word.now, rest.now)) }
+{
+    if word == "enter" {
+        return Ok(enter_event(peer, rest));
+    }
+    if word == "tx" {
+        return tx_event(alloc, peer, rest);
+    }
+    if word == "getblock" {
+        return Ok(read_small_number(rest).map(|height| Event::GetBlock { peer, height }));
+    }
+    if word == "headers" {
+        return Ok(read_small_number(rest).map(|height| Event::Headers { peer, height }));
+    }
+    Ok(None)
+}
+
+/// `D NOW`, or `D NOW BLOCKHEX ..`: whatever the words of hex are, the line is an event.
+fn chain_event(alloc: Global, rest: &str) -> Result<Option<Event>, Memory>
+    ensures { IfOk result (λ event. event ≡ chain_event_of rest.now) }
+{
+    let Some((disconnect, rest)) = numbered(rest) else {
+        return Ok(None);
+    };
+    match timed_blocks(alloc, rest)? {
+        Some((now, blocks)) => Ok(Some(Event::Chain {
+            disconnect,
+            now,
+            blocks,
+        })),
+        None => Ok(None),
+    }
+}
+
+/// `NOW`, or `NOW BLOCKHEX ..`.
+fn timed_blocks(alloc: Global, text: &str) -> Result<Option<(u64, Kept<Option<Block>>)>, Memory>
+    ensures { IfOk result (λ timed. timed ≡ timed_blocks_of text.now) }
+{
+    match next_word(text) {
+        Some((word, words)) => {
+            let Some(now) = read_number(word) else {
+                return Ok(None);
+            };
+            match blocks_in(alloc, words)? {
+                Some(blocks) => Ok(Some((now, blocks))),
+                None => Ok(None),
+            }
+        }
+        None => match read_number(text) {
+            Some(now) => Ok(Some((now, Kept::from_vec(Vec::new(alloc))))),
+            None => Ok(None),
+        },
     }
 }
 
@@ -83,16 +141,85 @@ fn tx_event(alloc: Global, peer: u64, rest: &str) -> Result<Option<Event>, Memor
     }))
 }
 
-/// `floor RATE`.
+/// `NAME rpc NOW JSON`.
+fn user_event(alloc: Global, rest: &str) -> Result<Option<Event>, Memory>
+    ensures { IfOk result (λ event. event ≡ user_event_of rest.now) }
+{
+    let Some((user, rest)) = next_word(rest) else {
+        return Ok(None);
+    };
+    if user.is_empty() {
+        return Ok(None);
+    }
+    match next_word(rest) {
+        Some((word, rest)) => if word == "rpc" {
+            call_event(alloc, user, rest)
+        } else {
+            Ok(None)
+        },
+        None => Ok(None),
+    }
+}
+
+/// `NOW JSON`: whatever stands behind the time, the line is an event.
+fn call_event(alloc: Global, user: &str, rest: &str) -> Result<Option<Event>, Memory>
+    ensures { IfOk result (λ event. event ≡ call_event_of user.now rest.now) }
+{
+    let Some((now, json)) = numbered(rest) else {
+        return Ok(None);
+    };
+    if json.is_empty() {
+        return Ok(None);
+    }
+    Ok(Some(Event::Rpc(Call::read(alloc, user, now, json)?)))
+}
+
+/// `floor RATE`, or a switch with `on|off`.
 fn operator_event(rest: &str) -> Option<Event>
     ensures { result ≡ operator_event_of rest.now }
 {
     let (word, rest) = next_word(rest)?;
-    if word != "floor" {
-        return None;
+    if word == "floor" {
+        let rate = read_number(rest)?;
+        return Some(Event::SetFloor { rate });
     }
-    let rate = read_number(rest)?;
-    Some(Event::SetFloor { rate })
+    switch_event(word, rest)
+}
+
+fn switch_event(word: &str, rest: &str) -> Option<Event>
+    ensures { result ≡ switch_event_of word.now rest.now }
+{
+    let switch = switch_named(word)?;
+    let on = is_on(rest)?;
+    Some(Event::Set { switch, on })
+}
+
+fn switch_named(word: &str) -> Option<Switch>
+    ensures { result ≡ switch_of word.now }
+{
+    if word == "bloom" {
+        Some(Switch::Bloom)
+    } else if word == "upload" {
+        Some(Switch::Upload)
+    } else if word == "historic" {
+        Some(Switch::Historic)
+    } else if word == "ibd" {
+        Some(Switch::Download)
+    } else {
+        None
+    }
+}
+
+fn is_on(text: &str) -> Option<bool>
+    ensures { result ≡ is_on_of text.now }
+{
+    if text == "on" {
+        Some(true)
+    } else if text == "off" {
+        Some(false)
+    } else {
+        None
+    }
 }
 
 /// The transaction that a text of hex spells; a text that isn't hex spells none.

@@ -4,10 +4,9 @@ ghost use Rattle.gate_prog.specs.Jobs.{JobDone, JobStopped, CheckStopped, FaultP
 
 use crate::check::{check_hex, check_input};
 use crate::lane::run_lane;
-use crate::opening::read_opening;
-use crate::opening_fault::{OpeningFault, OpeningToken};
 use gate_bytes::{Memory, Text};
 use gate_lines::{LaneFault, Sink, Source, end_line};
+use gate_opening::{OpeningFault, OpeningToken, read_opening};
 use std::alloc::Global;
 use std::hash::BuildHasher;
 

@@ -1,5 +1,6 @@
 use Rattle.std.proofs.lemmas.Result.{err_from_is_err_and}
-use Rattle.gate_prog.proofs.TurnLemmas.{unread_turn, stopped_turn, stopped_long, last_turn, long_turn, end_turn, OnlyLine, FirstLines-only, FirstLines-whole, LongLine-read}
+use Rattle.gate_prog.proofs.TurnLemmas.{unread_turn, stopped_turn, stopped_long, last_turn, long_turn, end_turn}
+use Rattle.gate_lines.proofs.FirstLines.{OnlyLine, FirstLines-only, FirstLines-whole, LongLine-read}
 use Rattle.gate_prog.proofs.lane.take_turn.Goals as goal
 
 pub returns-in_err-next_line-clause-taken : goal.returns-in_err-next_line-clause-taken

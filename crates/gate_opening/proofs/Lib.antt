@@ -1,0 +1,5 @@
+pub mod EvenSteps
+pub mod OpeningParts
+pub mod Saying
+pub mod Steps
+pub mod Heard

@@ -1,0 +1,6 @@
+pub mod OpeningFaults
+pub mod BlockTimes
+pub mod Settings
+pub mod OpeningLines
+pub mod Said
+pub mod Openings

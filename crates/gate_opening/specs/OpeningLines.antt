@@ -1,0 +1,145 @@
+-- What one line of an opening says.
+use Rattle.std.specs.Prelude.{ℕ, nat_le, ◌==◌, pos, if◌then◌else◌, Bool, true, false, List, [], length, codes, Option, Some, None, Result, Ok, Err, option_and_then}
+use Rattle.std.specs.Option.{option_map}
+use Rattle.std.specs.Str.{bytes_eq}
+use Rattle.hex.specs.Hex.{decode_of}
+use Rattle.hex.specs.declared.error.FromHexError.{FromHexError}
+use Rattle.gate_tx.specs.Ids.{read_id}
+use Rattle.gate_admit.specs.declared.verdicts.Verdict.{Verdict}
+use Rattle.gate_admit.specs.declared.verdicts.Verdict.TheVariants.{Good, Soft, Hard}
+use Rattle.gate_net.specs.Whitelists.{entry_of}
+use Rattle.gate_opening.specs.Settings.{setting_named}
+use Rattle.gate_opening.specs.declared.opening_line.OpeningLine.{OpeningLine}
+use Rattle.gate_opening.specs.declared.opening_line.OpeningLine.TheVariants as says
+use Rattle.gate_opening.specs.declared.opening_line.CoinHead.{CoinHead}
+use Rattle.gate_lines.specs.Lines.{if_text}
+use Rattle.gate_lines.specs.Words.{part_of}
+use Rattle.gate_lines.specs.Numbers.{number_of, small_number_of}
+
+infixl 10 ◌>>=◌
+abbrev pub ◌>>=◌ : {A B : Type 0} → Option A → (A → Option B) → Option B
+x >>= f = option_and_then f x
+
+-- `N`
+abbrev pub budget_line_of : List ℕ → Option OpeningLine
+budget_line_of text = do
+  budget ← number_of text
+  if nat_le budget 1000000000 then Some (says.Budget budget) else None
+
+-- `COUNT FIRST STEP`
+abbrev pub times_line_of : List ℕ → Option OpeningLine
+times_line_of text = do
+  p ← part_of text
+  q ← part_of p.1
+  count ← number_of p.0
+  first ← small_number_of q.0
+  step ← number_of q.1
+  Some (says.Times count first step)
+
+abbrev pub is_coinbase_of : List ℕ → Option Bool
+is_coinbase_of text =
+    if bytes_eq text (codes "plain") then Some false
+    else if bytes_eq text (codes "cb") then Some true
+    else None
+
+-- `TXID INDEX VALUE HEIGHT plain|cb`, and what stands after it
+abbrev pub coin_head_of : List ℕ → Option (CoinHead × List ℕ)
+coin_head_of text = do
+  p ← part_of text
+  q ← part_of p.1
+  r ← part_of q.1
+  s ← part_of r.1
+  t ← part_of s.1
+  txid ← read_id p.0
+  index ← small_number_of q.0
+  value ← number_of r.0
+  height ← small_number_of s.0
+  coinbase ← is_coinbase_of t.0
+  Some (record { outpoint = record { txid = txid; index = index }; value = pos value; height = height; coinbase = coinbase }, t.1)
+
+abbrev pub script_from : Result (List ℕ) FromHexError → Option (List ℕ)
+script_from (Ok script) = Some script
+script_from (Err fault) = None
+
+-- a script in hex, `-` where it is empty
+abbrev pub script_of : List ℕ → Option (List ℕ)
+script_of text =
+    if length text == 0 then None
+    else if bytes_eq text (codes "-") then Some []
+    else script_from (decode_of text)
+
+-- a coin, as a line says it
+abbrev pub coin_line : CoinHead → List ℕ → OpeningLine
+coin_line head script = says.Coin (record {
+  outpoint = head.outpoint;
+  coin = record { value = head.value; script = script; height = head.height; coinbase = head.coinbase };
+})
+
+-- `TXID INDEX VALUE HEIGHT plain|cb SCRIPT`
+abbrev pub coin_line_of : List ℕ → Option OpeningLine
+coin_line_of text = do
+  p ← coin_head_of text
+  script ← script_of p.1
+  Some (coin_line p.0 script)
+
+abbrev pub verdict_of : List ℕ → Option Verdict
+verdict_of text =
+    if bytes_eq text (codes "ok") then Some Good
+    else if bytes_eq text (codes "soft") then Some Soft
+    else if bytes_eq text (codes "hard") then Some Hard
+    else None
+
+-- `WTXID`, and `INPUT ok|soft|hard`
+abbrev pub row_of : List ℕ → List ℕ → Option OpeningLine
+row_of subject text = do
+  p ← part_of text
+  wtxid ← read_id subject
+  input ← small_number_of p.0
+  verdict ← verdict_of p.1
+  Some (says.Verdict (record { wtxid = wtxid; input = input; verdict = verdict }))
+
+-- `WTXID INPUT ok|soft|hard`, or `* ok|soft|hard`
+abbrev pub verdict_line_of : List ℕ → Option OpeningLine
+verdict_line_of text = do
+  p ← part_of text
+  if bytes_eq p.0 (codes "*") then option_map says.OtherVerdicts (verdict_of p.1) else row_of p.0 p.1
+
+-- `TEXT`, which isn't empty
+abbrev pub whitelist_line_of : List ℕ → Option OpeningLine
+whitelist_line_of text = if length text == 0 then None else Some (says.Whitelist (entry_of text))
+
+-- `TEXT`, which isn't empty
+abbrev pub rpc_line_of : List ℕ → Option OpeningLine
+rpc_line_of text = if length text == 0 then None else Some (says.RpcWhitelist text)
+
+abbrev pub on_of : List ℕ → Option Bool
+on_of text =
+    if bytes_eq text (codes "0") then Some false
+    else if bytes_eq text (codes "1") then Some true
+    else None
+
+-- `0|1` behind the name of a setting
+abbrev pub set_line_of : List ℕ → List ℕ → Option OpeningLine
+set_line_of name text = do
+  setting ← setting_named name
+  on ← on_of text
+  Some (says.Set setting on)
+
+-- a line's name, and what stands after it
+abbrev pub named_line : List ℕ × List ℕ → Option OpeningLine
+named_line p =
+    if bytes_eq p.0 (codes "budget") then budget_line_of p.1
+    else if bytes_eq p.0 (codes "times") then times_line_of p.1
+    else if bytes_eq p.0 (codes "coin") then coin_line_of p.1
+    else if bytes_eq p.0 (codes "verdict") then verdict_line_of p.1
+    else if bytes_eq p.0 (codes "whitelist") then whitelist_line_of p.1
+    else if bytes_eq p.0 (codes "rpcwhitelist") then rpc_line_of p.1
+    else set_line_of p.0 p.1
+
+-- what a text says in an opening
+abbrev pub opening_line_of : List ℕ → Option OpeningLine
+opening_line_of text = option_and_then named_line (part_of text)
+
+-- what a line says
+abbrev pub said_by : List ℕ → Option OpeningLine
+said_by line = if_text opening_line_of line

@@ -1,0 +1,99 @@
+//! The opening: its lines read one after another, up to a line `---` or the end of the input.
+ghost use Rattle.std.specs.Prelude.{◌≡◌, ◌≢◌, ◌<◌, ℕ, true, IfOk, IfErr, OnOk, Ok, Err, IfSome, IsErrOf};
+ghost use Rattle.gate_core.specs.Good.{IsGoodWorld};
+ghost use Rattle.gate_opening.specs.Said.{is_end, spelled};
+ghost use Rattle.gate_opening.specs.Openings.{StepTaken, OpeningGathered, OpeningUnread, LeavesRest};
+
+use crate::draft::Draft;
+use crate::opening_fault::{OpeningFault, OpeningToken};
+use gate_core::State;
+use gate_lines::{Found, MAX_LINES, Source, has_ended, next_line};
+use std::alloc::Global;
+use std::hash::BuildHasher;
+
+/// What reading one line of an opening came to.
+#[derive(Clone, Copy, Debug, PartialEq, Eq)]
+pub(crate) enum Step {
+    Went,
+    Ended,
+}
+
+fn ends_opening(line: &[u8]) -> bool
+    ensures { result ≡ is_end line.now }
+{
+    line == b"---".as_slice()
+}
+
+/// Reads the next line of an opening, where `number` lines were before it, and adds what it says.
+fn take_step<S: BuildHasher + Copy + Drop, R: Source>(
+    alloc: Global,
+    reader: &mut R,
+    line: &mut Vec<u8>,
+    number: u64,
+    draft: &mut Draft<S>,
+) -> Result<Step, OpeningFault>
+    requires { number < 1000000 }
+    ensures taken { StepTaken number (R.remaining reader.old) (R.remaining reader.new) draft.old draft.new result }
+    ensures steady { R.steady ≡ true → IfErr result (λ fault. fault ≢ OpeningFault.Read) }
+{
+    match next_line(reader, line)? {
+        Found::Whole => {
+            if ends_opening(line.as_slice()) {
+                return Ok(Step::Ended);
+            }
+            draft.take(alloc, number + 1, line.as_slice())?;
+            Ok(Step::Went)
+        }
+        Found::Rest => {
+            if !ends_opening(line.as_slice()) {
+                draft.take(alloc, number + 1, line.as_slice())?;
+            }
+            Ok(Step::Ended)
+        }
+        Found::End => Ok(Step::Ended),
+        Found::TooLong => Err(OpeningFault::Line(number + 1, OpeningToken::BadLine)),
+    }
+}
+
+/// Reads all that an opening says.
+fn gather<S: BuildHasher + Copy + Drop, R: Source>(
+    alloc: Global,
+    hasher: S,
+    reader: &mut R,
+) -> Result<Draft<S>, OpeningFault>
+    ensures gathered { OpeningGathered (R.remaining reader.old) (R.remaining reader.new) result }
+    ensures steady { R.steady ≡ true → IfErr result (λ fault. fault ≢ OpeningFault.Read) }
+{
+    let mut draft = Draft::new(alloc, hasher);
+    let mut line = Vec::new(alloc);
+    for number in 0..MAX_LINES {
+        match take_step(alloc, reader, &mut line, number, &mut draft)? {
+            Step::Went => {}
+            Step::Ended => return Ok(draft),
+        }
+    }
+    if has_ended(reader, &mut line)? {
+        return Ok(draft);
+    }
+    Err(OpeningFault::Line(MAX_LINES + 1, OpeningToken::BadLine))
+}
+
+/// Reads an opening and opens its state, with an empty pool. What stands behind its line `---` is left unread. The
+/// hasher serves every map of ids and outpoints.
+pub fn read_opening<S: BuildHasher + Copy + Drop, R: Source>(
+    alloc: Global,
+    hasher: S,
+    reader: &mut R,
+) -> Result<State<S>, OpeningFault>
+    ensures opened { IfOk result (λ state. IfSome (R.remaining reader.old) (λ text. spelled text ≡ Ok state)) }
+    ensures good { IfOk result IsGoodWorld }
+    ensures left { OnOk result (LeavesRest (R.remaining reader.old) (R.remaining reader.new)) }
+
+    // The first fault is named, with its line.
+    ensures fault { (line : ℕ) (token : OpeningToken) → result ≡ Err (OpeningFault.Line line token) →
+        IfSome (R.remaining reader.old) (λ text. spelled text ≡ Err (OpeningFault.Line line token)) }
+    ensures unread { IsErrOf result OpeningFault.Read → OpeningUnread (R.remaining reader.old) (R.remaining reader.new) }
+    ensures steady { R.steady ≡ true → IfErr result (λ fault. fault ≢ OpeningFault.Read) }
+{
+    gather(alloc, hasher, reader)?.open(alloc, hasher)
+}

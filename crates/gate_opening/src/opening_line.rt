@@ -1,0 +1,243 @@
+//! What one line of an opening says.
+ghost use Rattle.std.specs.Prelude.{◌≡◌, MatchOption, IfOk, None, Some};
+ghost use Rattle.std.specs.Option.{option_map};
+ghost use Rattle.gate_opening.specs.OpeningLines.{opening_line_of, budget_line_of, times_line_of, coin_line_of, coin_head_of, script_of, verdict_line_of, row_of, verdict_of, is_coinbase_of, whitelist_line_of, rpc_line_of, set_line_of, on_of};
+
+use crate::setting::Setting;
+use gate_admit::{Verdict, VerdictRow};
+use gate_bytes::{Kept, Memory, Text};
+use gate_chain::OpeningCoin;
+use gate_lines::{next_word, read_number, read_small_number};
+use gate_net::{NetDenial, WhitelistEntry};
+use gate_tx::{Coin, OutPoint, Txid, Wtxid};
+use hex::FromHexError;
+use std::alloc::Global;
+
+/// The most virtual bytes that a budget may give the pool.
+pub const MAX_BUDGET: u64 = 1_000_000_000;
+
+/// What one line of an opening says.
+#[derive(Debug, Drop)]
+pub(crate) enum OpeningLine {
+    /// The pool's budget in virtual bytes.
+    Budget(u64),
+    /// Block times in seconds: the first of them, and the step to each next one.
+    Times { count: u64, first: u32, step: u64 },
+    Coin(OpeningCoin),
+    Verdict(VerdictRow),
+    /// The verdict on pairs of a transaction and an input without a row.
+    OtherVerdicts(Verdict),
+    /// An entry of the whitelist, or the rule that it breaks.
+    Whitelist(Result<WhitelistEntry, NetDenial>),
+    /// An entry of the lists of methods.
+    RpcWhitelist(Text),
+    Set(Setting, bool),
+}
+
+/// What a line says, or `None` where it has no form.
+pub(crate) fn read_opening_line(alloc: Global, line: &str) -> Result<Option<OpeningLine>, Memory>
+    ensures { IfOk result (λ read. read ≡ opening_line_of line.now) }
+{
+    let Some((name, rest)) = next_word(line) else {
+        return Ok(None);
+    };
+    if name == "budget" {
+        return Ok(budget_line(rest));
+    }
+    if name == "times" {
+        return Ok(times_line(rest));
+    }
+    if name == "coin" {
+        return coin_line(alloc, rest);
+    }
+    if name == "verdict" {
+        return Ok(verdict_line(rest));
+    }
+    if name == "whitelist" {
+        return Ok(whitelist_line(rest));
+    }
+    if name == "rpcwhitelist" {
+        return rpc_line(alloc, rest);
+    }
+    Ok(set_line(name, rest))
+}
+
+/// `N`
+fn budget_line(rest: &str) -> Option<OpeningLine>
+    ensures { result ≡ budget_line_of rest.now }
+{
+    let budget = read_number(rest)?;
+    if budget <= MAX_BUDGET {
+        Some(OpeningLine::Budget(budget))
+    } else {
+        None
+    }
+}
+
+/// `COUNT FIRST STEP`
+fn times_line(rest: &str) -> Option<OpeningLine>
+    ensures { result ≡ times_line_of rest.now }
+{
+    let (count, rest) = next_word(rest)?;
+    let (first, step) = next_word(rest)?;
+    let count = read_number(count)?;
+    let first = read_small_number(first)?;
+    let step = read_number(step)?;
+    Some(OpeningLine::Times { count, first, step })
+}
+
+/// `TXID INDEX VALUE HEIGHT plain|cb SCRIPT`
+fn coin_line(alloc: Global, rest: &str) -> Result<Option<OpeningLine>, Memory>
+    ensures { IfOk result (λ read. read ≡ coin_line_of rest.now) }
+{
+    let Some((head, script)) = coin_head(rest) else {
+        return Ok(None);
+    };
+    let Some(script) = read_script(alloc, script)? else {
+        return Ok(None);
+    };
+    Ok(Some(OpeningLine::Coin(OpeningCoin {
+        outpoint: head.outpoint,
+        coin: Coin {
+            value: head.value,
+            script,
+            height: head.height,
+            coinbase: head.coinbase,
+        },
+    })))
+}
+
+/// What a coin's line says before its script.
+#[derive(Clone, Copy, Debug)]
+struct CoinHead {
+    outpoint: OutPoint,
+    value: i64,
+    height: u32,
+    coinbase: bool,
+}
+
+fn coin_head(rest: &str) -> Option<(CoinHead, &str)>
+    ensures { MatchOption result (coin_head_of rest.now ≡ None) (λ p. coin_head_of rest.now ≡ Some (p.0, p.1.now)) }
+{
+    let (txid, rest) = next_word(rest)?;
+    let (index, rest) = next_word(rest)?;
+    let (value, rest) = next_word(rest)?;
+    let (height, rest) = next_word(rest)?;
+    let (kind, script) = next_word(rest)?;
+    let outpoint = OutPoint {
+        txid: Txid::read(txid)?,
+        index: read_small_number(index)?,
+    };
+    let value = read_number(value)? as i64;
+    let height = read_small_number(height)?;
+    let coinbase = is_coinbase(kind)?;
+    Some((
+        CoinHead {
+            outpoint,
+            value,
+            height,
+            coinbase,
+        },
+        script,
+    ))
+}
+
+fn is_coinbase(kind: &str) -> Option<bool>
+    ensures { result ≡ is_coinbase_of kind.now }
+{
+    if kind == "plain" {
+        Some(false)
+    } else if kind == "cb" {
+        Some(true)
+    } else {
+        None
+    }
+}
+
+/// A script in hex, `-` where it is empty.
+fn read_script(alloc: Global, text: &str) -> Result<Option<Kept<u8>>, Memory>
+    ensures { IfOk result (λ script. script ≡ script_of text.now) }
+{
+    if text.is_empty() {
+        return Ok(None);
+    }
+    if text == "-" {
+        return Ok(Some(Kept::from_vec(Vec::new(alloc))));
+    }
+    match hex::decode(alloc, text) {
+        Ok(script) => Ok(Some(Kept::from_vec(script))),
+        Err(FromHexError::OutOfMemory) => Err(Memory),
+        Err(_) => Ok(None),
+    }
+}
+
+/// `WTXID INPUT ok|soft|hard`, or `* ok|soft|hard`
+fn verdict_line(rest: &str) -> Option<OpeningLine>
+    ensures { result ≡ verdict_line_of rest.now }
+{
+    let (subject, rest) = next_word(rest)?;
+    if subject == "*" {
+        return Some(OpeningLine::OtherVerdicts(read_verdict(rest)?));
+    }
+    let (input, verdict) = next_word(rest)?;
+    Some(OpeningLine::Verdict(VerdictRow {
+        wtxid: Wtxid::read(subject)?,
+        input: read_small_number(input)?,
+        verdict: read_verdict(verdict)?,
+    }))
+}
+
+fn read_verdict(text: &str) -> Option<Verdict>
+    ensures { result ≡ verdict_of text.now }
+{
+    if text == "ok" {
+        Some(Verdict::Good)
+    } else if text == "soft" {
+        Some(Verdict::Soft)
+    } else if text == "hard" {
+        Some(Verdict::Hard)
+    } else {
+        None
+    }
+}
+
+/// `TEXT`, which isn't empty
+fn whitelist_line(rest: &str) -> Option<OpeningLine>
+    ensures { result ≡ whitelist_line_of rest.now }
+{
+    if rest.is_empty() {
+        return None;
+    }
+    Some(OpeningLine::Whitelist(WhitelistEntry::parse(rest)))
+}
+
+/// `TEXT`, which isn't empty
+fn rpc_line(alloc: Global, rest: &str) -> Result<Option<OpeningLine>, Memory>
+    ensures { IfOk result (λ read. read ≡ rpc_line_of rest.now) }
+{
+    if rest.is_empty() {
+        return Ok(None);
+    }
+    let entry = Text::from_string(String::from_str(alloc, rest)?);
+    Ok(Some(OpeningLine::RpcWhitelist(entry)))
+}
+
+/// `0|1` behind the name of a setting
+fn set_line(name: &str, rest: &str) -> Option<OpeningLine>
+    ensures { result ≡ set_line_of name.now rest.now }
+{
+    let setting = Setting::named(name)?;
+    Some(OpeningLine::Set(setting, is_on(rest)?))
+}
+
+fn is_on(text: &str) -> Option<bool>
+    ensures { result ≡ on_of text.now }
+{
+    if text == "0" {
+        Some(false)
+    } else if text == "1" {
+        Some(true)
+    } else {
+        None
+    }
+}
