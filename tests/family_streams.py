@@ -234,7 +234,7 @@ class Families:
 
     def free_coins(self):
         spent = {point for entry in self.model.pool for point in entry.spent}
-        return [point for point in self.opening.coins if point not in spent]
+        return [point for point in self.model.chain_coins() if point not in spent]
 
     def some(self, found, count=1):
         return self.random.sample(found, min(count, len(found)))
@@ -272,7 +272,7 @@ class Families:
 
     def instead_of_many(self):
         """Coins of the chain that entries spend whose families come to some number together."""
-        roots = [entry for entry in self.model.pool if entry.spent & set(self.opening.coins)]
+        roots = [entry for entry in self.model.pool if entry.spent & set(self.model.chain_coins())]
         counts = {entry: len(self.model.below([entry])) for entry in roots}
         if self.shape == "ladders" and sum(counts.values()) < 110:
             return self.ladder()
@@ -280,7 +280,7 @@ class Families:
         for entry in self.some(roots, len(roots)):
             if counts[entry] <= goal:
                 goal -= counts[entry]
-                points += self.some(sorted(entry.spent & set(self.opening.coins)))
+                points += self.some(sorted(entry.spent & set(self.model.chain_coins())))
         return points
 
     def below_a_conflict(self):
@@ -314,7 +314,7 @@ def opened(budget):
 def opening_lines(opening):
     """The opening as it stands when all transactions are made, since some have a verdict of their own."""
     told = ["times 101 1000 600", "bloom 1", "budget %d" % opening.budget]
-    told += ["coin %s %d %d %d plain %s" % (printed(hash), index, coin.value, coin.height, WITNESS_KEY_HASH.hex()) for (hash, index), coin in opening.coins.items()]
+    told += ["coin %s %d %d %d %s %s" % (printed(hash), index, coin.value, coin.height, "cb" if coin.is_coinbase else "plain", WITNESS_KEY_HASH.hex()) for (hash, index), coin in opening.coins.items()]
     return told + ["verdict %s %s" % ("*" if pair == "*" else "%s %d" % pair, verdict) for pair, verdict in opening.verdicts.items()]
 
 

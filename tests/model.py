@@ -251,7 +251,7 @@ class Model:
         if not all(entry.signals() for entry in self.conflicts(tx)):
             yield "A23"
         lacks = any(self.coin(one) is None for one in tx.inputs)
-        own = any((hash, index) in self.opening.coins for index in range(len(tx.outputs)))
+        own = any((hash, index) in self.chain_coins() for index in range(len(tx.outputs)))
         if lacks and own or any(point[0] == hash for point in self.opening.coins):
             yield "A24"
         if lacks:
@@ -317,7 +317,15 @@ class Model:
             outputs = entry.tx.outputs
             if entry.hash == one.hash and one.index < len(outputs) and not carries_data(outputs[one.index]):
                 return Coin(outputs[one.index].value, self.tip + 1, False)
-        return self.opening.coins.get((one.hash, one.index))
+        return self.chain_coins().get((one.hash, one.index))
+
+    def chain_coins(self):
+        """The unspent coins of the chain by outpoint."""
+        return self.opening.coins
+
+    def times(self):
+        """The times of the chain's blocks, from height 0."""
+        return self.opening.times
 
     def size(self, tx):
         return tx.virtual_size(cost_of(tx))
@@ -376,7 +384,7 @@ class Model:
         return sum(self.coin(one).value for one in tx.inputs) - sum(output.value for output in tx.outputs)
 
     def median_time(self, height):
-        times = sorted(self.opening.times[max(0, height - 10):height + 1])
+        times = sorted(self.times()[max(0, height - 10):height + 1])
         return times[len(times) // 2]
 
     def is_final(self, tx):

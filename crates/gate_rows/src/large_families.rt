@@ -316,7 +316,13 @@ fn ends(
 fn replacement_of_ninety_nine(rt: HostRuntime) -> Result<(), Fail> {
     let mut input = four_families(rt.alloc())?;
     push_replacement(&mut input)?;
-    ends(&rt, input.as_str(), 101, b" replaced 99\n")
+    input.push_str("user a rpc 5000 {\"method\":\"getrawmempool\",\"id\":1}\n")?;
+    ends(
+        &rt,
+        input.as_str(),
+        102,
+        b" replaced 99\nrpc 200 {\"error\":null,\"id\":1,\"result\":[\"07e428f43b694712ab2711bff8007683129dead57db17f134ce14b60459d26a2\"]}\n",
+    )
 }
 
 #[test]

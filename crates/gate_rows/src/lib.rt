@@ -4,6 +4,10 @@
 #![tactic(auto)]
 
 #[cfg(test)]
+mod blocks;
+#[cfg(test)]
+mod calls;
+#[cfg(test)]
 mod families;
 #[cfg(test)]
 mod jobs;
@@ -13,6 +17,8 @@ mod large_families;
 mod locking;
 #[cfg(test)]
 mod parts;
+#[cfg(test)]
+mod permissions;
 mod program;
 #[cfg(test)]
 mod repeating;

@@ -1,0 +1,232 @@
+"""The plain model with permission flags, switches and RPC. Networks are those of Python's `ipaddress`, and JSON is Python's."""
+
+import ipaddress
+import json
+import re
+from dataclasses import dataclass, field
+
+from model import CLOSING, TOKENS, Model, Opening, fees_of, size_of
+
+FLAGS = ("bloomfilter", "noban", "forcerelay", "relay", "mempool", "download", "addr")
+WORDS = {"": (), "bloom": ("bloomfilter",), "noban": ("noban", "download"), "forcerelay": ("forcerelay", "relay"), "all": FLAGS}
+WEEK = 604800
+CALLER_TOKENS = {
+    "P4": "blocks-only",
+    "P7": "mempool-upload-target",
+    "P8": "headers-during-download",
+    "P9": "unknown-block",
+    "P10": "historical-upload-target",
+}
+CLOSING_TOO = CLOSING + ["P4", "P7", "P10"]
+METHODS = (
+    "sendrawtransaction", "testmempoolaccept", "getrawmempool", "getmempoolentry", "getmempoolancestors", "getmempooldescendants", "getmempoolinfo",
+)
+
+
+@dataclass
+class Settings(Opening):
+    """An opening with entries of `whitelist` and `rpcwhitelist`, as their texts; None where a setting has no line."""
+
+    whitelist: list = field(default_factory=list)
+    rpcwhitelist: list = field(default_factory=list)
+    relay: bool = None
+    forcerelay: bool = None
+    default: bool = None
+    blocksonly: bool = None
+
+
+@dataclass
+class Session:
+    flags: set
+    is_open: bool = True
+
+
+class Error(Exception):
+    """An answer that is no result."""
+
+    def __init__(self, status, code, message, rule=None):
+        super().__init__(message)
+        self.status, self.error = status, {"code": code, "message": message}
+        if rule:
+            self.error["rule"] = rule
+
+
+def compact(value):
+    return json.dumps(value, separators=(",", ":"), sort_keys=True, ensure_ascii=False)
+
+
+def address_of(text):
+    address = ipaddress.ip_address(text)
+    return getattr(address, "ipv4_mapped", None) or address
+
+
+def methods_of(entries, user):
+    """A user's list of methods, None without one."""
+    methods = None
+    for entry in entries:
+        name, colon, words = entry.partition(":")
+        if name == user:
+            listed = set(re.split("[, ]", words)) if colon else None
+            if methods is None:
+                methods = listed or set()
+            elif listed is not None:
+                methods &= listed
+    return methods
+
+
+class CallerModel(Model):
+    def __init__(self, opening):
+        super().__init__(opening)
+        self.switches = {"bloom": opening.bloom, "upload": False, "historic": False, "ibd": False}
+        given = (opening.relay, not opening.blocksonly), (opening.forcerelay, False)
+        relay, forcerelay = [default if value is None else value for value, default in given]
+        self.implicit = {"noban", "download", "mempool"} | ({"relay"} if relay or forcerelay else set()) | ({"forcerelay"} if forcerelay else set())
+
+    # --- peers
+
+    def flags_of(self, address):
+        found = set()
+        for entry in self.opening.whitelist:
+            words, at, subnet = entry.rpartition("@")
+            if address_of(address) in ipaddress.ip_network(subnet, strict=False):
+                found |= {flag for word in words.split(",") for flag in WORDS.get(word, (word,))} if at else self.implicit
+        return found
+
+    def enter(self, peer, address="192.0.2.1"):
+        if peer in self.sessions:
+            return self.denied("P3", peer)
+        flags = self.flags_of(address)
+        self.sessions[peer] = Session(flags)
+        return "entered " + (",".join(flag for flag in FLAGS if flag in flags) or "none")
+
+    def leave(self, peer):
+        return self.refused(peer) or self.close(peer)
+
+    def close(self, peer):
+        self.sessions[peer].is_open = False
+        return "left"
+
+    def mempool(self, peer):
+        flags = self.flags(peer)
+        return (
+            self.refused(peer, ("P6", not flags & {"mempool", "bloomfilter"} and not self.switches["bloom"]), ("P7", "mempool" not in flags and self.switches["upload"]))
+            or " ".join(["listing", str(len(self.pool))] + [entry.tx.txid() for entry in self.pool])
+        )
+
+    def headers(self, peer, height):
+        hidden = self.switches["ibd"] and "download" not in self.flags(peer)
+        return self.refused(peer, ("P8", hidden), ("P9", height > self.tip)) or "headers %d %d" % (height + 1, min(2000, self.tip - height))
+
+    def block(self, peer, height):
+        times = self.opening.times
+        old = self.switches["historic"] and "download" not in self.flags(peer) and height <= self.tip and times[-1] - times[height] > WEEK
+        return self.refused(peer, ("P9", height > self.tip), ("P10", old)) or "block %d %d" % (height, times[height])
+
+    def submit(self, peer, now, tx):
+        shut = self.opening.blocksonly and "relay" not in self.flags(peer)
+        return self.refused(peer, ("P4", shut)) or super().submit(peer, now, tx)
+
+    def flags(self, peer):
+        return self.sessions[peer].flags if peer in self.sessions else set()
+
+    def refusal(self, peer):
+        if peer not in self.sessions:
+            return "P1"
+        return None if self.sessions[peer].is_open else "P2"
+
+    def refused(self, peer, *rules):
+        """The denial of the first rule that fails; None where none does."""
+        failing = [self.refusal(peer)] + [rule for rule, fails in rules if fails]
+        return next((self.denied(rule, peer) for rule in failing if rule), None)
+
+    def denied(self, rule, peer):
+        flags = self.flags(peer)
+        then = "close" if rule in CLOSING_TOO and ("noban" not in flags or rule == "P4") else "relay" if rule == "P5" and "forcerelay" in flags else "keep"
+        if then == "close":
+            self.sessions[peer].is_open = False
+        return "denied %s %s %s" % (rule, then, CALLER_TOKENS.get(rule) or TOKENS[rule])
+
+    def switch(self, name, is_on):
+        self.switches[name] = is_on
+        return "set"
+
+    # --- users
+
+    def call(self, user, now, call):
+        """A call that is a request, of a method that may be unknown; `call` is what its JSON says."""
+        try:
+            if not self.may_call(user, call["method"]):
+                return "rpc 403 denied U1 rpc-whitelist"
+            if call["method"] not in METHODS:
+                raise Error(404, -32601, "Method not found")
+            found = getattr(self, call["method"])(now, *call.get("params", []))
+            return "rpc 200 " + compact({"error": None, "id": call.get("id"), "result": found})
+        except Error as error:
+            return "rpc %d %s" % (error.status, compact({"error": error.error, "id": call.get("id"), "result": None}))
+
+    def may_call(self, user, method):
+        entries, default = self.opening.rpcwhitelist, self.opening.default
+        methods = methods_of(entries, user)
+        if methods is None:
+            return not (bool(entries) if default is None else default)
+        return method in methods
+
+    def user_failing(self, tx):
+        """The first rule that fails. What is in the pool passes those before A21, which stands where peers meet P5."""
+        rule = self.failing(tx)
+        return "A21" if rule == "P5" else rule
+
+    def sendrawtransaction(self, now, tx):
+        rule = self.user_failing(tx)
+        if rule is None:
+            self.sessions[None] = Session(set(FLAGS))
+            reply = super().submit(None, now, tx)
+            del self.sessions[None]
+            rule = "A46" if reply.startswith("denied") else None
+        if rule:
+            raise Error(500, {"A1": -22, "A25": -25}.get(rule, -26), TOKENS[rule], rule)
+        return tx.txid()
+
+    def testmempoolaccept(self, now, tx):
+        rule = self.user_failing(tx)
+        if rule == "A1":
+            raise Error(500, -22, TOKENS[rule], rule)
+        ids = {"txid": tx.txid(), "wtxid": tx.wtxid()}
+        if rule:
+            return [{"allowed": False, "reject-reason": "missing-inputs" if rule == "A25" else TOKENS[rule], "rule": rule, **ids}]
+        return [{"allowed": True, "fees": {"base": self.fee(tx)}, "vsize": self.size(tx), **ids}]
+
+    def getrawmempool(self, now, *params):
+        return self.listed(self.pool)
+
+    def getmempoolinfo(self, now):
+        return {"bytes": size_of(self.pool), "maxmempool": self.opening.budget, "mempoolminfee": max(1000, self.floor), "minrelaytxfee": 1000, "size": len(self.pool)}
+
+    def getmempoolentry(self, now, txid):
+        entry = self.entry(txid)
+        above, below = self.above(entry.tx) | {entry}, self.below([entry])
+        return {
+            "ancestorcount": len(above), "ancestorfees": fees_of(above), "ancestorsize": size_of(above),
+            "descendantcount": len(below), "descendantfees": fees_of(below), "descendantsize": size_of(below),
+            "bip125-replaceable": any(one.signals() for one in above),
+            "depends": self.listed(self.parents(entry.tx)), "spentby": self.listed(one for one in self.pool if entry.hash in one.parents),
+            "fee": entry.fee, "time": entry.time, "vsize": entry.size, "weight": entry.tx.weight(), "wtxid": entry.wtxid,
+        }
+
+    def getmempoolancestors(self, now, txid):
+        return self.listed(self.above(self.entry(txid).tx))
+
+    def getmempooldescendants(self, now, txid):
+        entry = self.entry(txid)
+        return self.listed(self.below([entry]) - {entry})
+
+    def entry(self, txid):
+        found = [entry for entry in self.pool if entry.tx.txid() == txid]
+        if not found:
+            raise Error(500, -5, "Transaction not in mempool")
+        return found[0]
+
+    def listed(self, entries):
+        """Their txids in the order of admission."""
+        kept = set(entries)
+        return [entry.tx.txid() for entry in self.pool if entry in kept]
