@@ -21,7 +21,3 @@ pub use law::{
 pub use moved::Moved;
 pub use spelling::tells_spelled;
 
-#[cfg(test)]
-mod tests;
-#[cfg(test)]
-mod vectors;
