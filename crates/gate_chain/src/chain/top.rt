@@ -48,7 +48,9 @@ impl<S: BuildHasher + Copy + Drop> Model for ChainTop<S> {
 }
 
 impl<S: BuildHasher + Copy + Drop> Chain<S> {
-    /// Copies what the blocks above the first so many made, and makes room for going back to the chain as it is.
+    /// Copies what the blocks above the first so many made, and takes room for going back to the chain as it is: as many
+    /// places as the chain has coins, none of them written. Going back uses them only where the chain's own tables have lost
+    /// theirs.
     pub fn top(&self, alloc: Global, kept: usize) -> Result<ChainTop<S>, Memory>
         requires { kept < length self.now.blocks }
         ensures { IfOk result (λ top. top ≡ record { whole = self.now; kept = kept }) }
@@ -69,7 +71,7 @@ impl<S: BuildHasher + Copy + Drop> Chain<S> {
         })
     }
 
-    /// Puts the blocks back that were above. It takes no memory.
+    /// Puts the blocks back that were above, with the coins, ids and marks that they had made. It takes no memory.
     pub fn restore(&mut self, top: ChainTop<S>, blocks: Vec<Block>)
         requires below { self.old ≡ lowered top.whole top.kept }
         requires above { blocks.items ≡ above top }
