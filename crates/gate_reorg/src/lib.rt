@@ -20,4 +20,3 @@ pub use law::{
 };
 pub use moved::Moved;
 pub use spelling::tells_spelled;
-
