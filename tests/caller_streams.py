@@ -6,8 +6,8 @@ from dataclasses import asdict
 
 from bitcoin import Input, Output, Transaction, printed
 from callers import METHODS, CallerModel, Settings
-from gate import Differs, same, same_lines, true
-from random_streams import Stream
+from gate import same, true
+from random_streams import Stream, compared
 
 STREAMS = 300
 EVENTS = 80
@@ -167,13 +167,7 @@ def stream(gate, seed):
     model = CallerModel(made.opening)
     events = [made.enter(model, peer) for peer in (1, 2, 3)]
     events += [made.event(model) for _ in range(EVENTS)]
-    found = gate.replies(made.opening_lines(), [event for event, _ in events])
-    wanted = [reply for _, reply in events if reply is not None]
-    try:
-        same_lines(found, wanted)
-    except Differs as error:
-        raise Differs("seed %d\n%s" % (seed, error))
-    return wanted
+    return compared(gate, seed, made, events)
 
 
 def test_callers(gate):

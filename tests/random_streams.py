@@ -145,12 +145,8 @@ class Stream:
         return "peer %d tx %d %s" % (peer, now, digits), model.submit(peer, now, tx)
 
 
-def stream(gate, seed):
-    """Runs one stream, and gives its replies."""
-    made = Stream(seed)
-    model = Model(made.opening)
-    events = [("peer 1 enter 192.0.2.1", model.enter(1)), ("peer 2 enter 192.0.2.1", model.enter(2))]
-    events += [made.event(model) for _ in range(EVENTS)]
+def compared(gate, seed, made, events):
+    """Runs events, each with its reply or none, and gives the replies, which have to be these."""
     found = gate.replies(made.opening_lines(), [event for event, _ in events])
     wanted = [reply for _, reply in events if reply is not None]
     try:
@@ -158,6 +154,15 @@ def stream(gate, seed):
     except Differs as error:
         raise Differs("seed %d\n%s" % (seed, error))
     return wanted
+
+
+def stream(gate, seed):
+    """Runs one stream, and gives its replies."""
+    made = Stream(seed)
+    model = Model(made.opening)
+    events = [("peer 1 enter 192.0.2.1", model.enter(1)), ("peer 2 enter 192.0.2.1", model.enter(2))]
+    events += [made.event(model) for _ in range(EVENTS)]
+    return compared(gate, seed, made, events)
 
 
 def test_random_streams(gate):

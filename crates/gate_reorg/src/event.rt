@@ -199,7 +199,7 @@ fn make_event<S: BuildHasher + Copy + Drop>(
 /// virtual bytes. A block that could not be read is None.
 ///
 /// A denial names the first rule that fails: C1, and then those of `switch`. Where it fails, nothing has changed. Without
-/// blocks to disconnect it costs what the new ones confirm and contradict; with them it copies chain and pool.
+/// blocks to disconnect it costs what the new ones confirm and contradict; with them it works on a copy of the pool.
 pub fn chain_event<S: BuildHasher + Copy + Drop>(
     alloc: Global,
     chain: &mut Chain<S>,
