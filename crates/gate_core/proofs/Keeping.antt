@@ -41,7 +41,7 @@ use Rattle.gate_core.specs.Access.{entering_rules, session_rules, submission_rul
 use Rattle.gate_core.specs.PeerSteps.{decided, answered, entered, left, submitted, listed, block_given, headers_given}
 use Rattle.gate_core.specs.ChainSteps.{chained_as}
 use Rattle.gate_core.specs.Steps.{step_of}
-use Rattle.gate_core.specs.Good.{IsApartFrom, IsGoodWorld, IsSpelled, limits_of, offered, transactions_in, transactions_of}
+use Rattle.gate_core.specs.Good.{IsApartFrom, IsGoodWorld, IsSpelled, StepGives, limits_of, offered, transactions_in, transactions_of}
 use Rattle.gate_rpc.specs.Calls.{request_of}
 use Rattle.gate_core.proofs.Calls.{call_gives}
 
@@ -289,3 +289,8 @@ step_from w (Rpc call) tx h =
 step_from w (SetFloor rate) tx h = Contains-append_left _ _ tx h
 step_from w (Turn switch on) tx h = Contains-append_left _ _ tx h
 step_from w (Extend disconnect now blocks) tx h = chained_from w disconnect now blocks (first_failing (event_rules w.chain disconnect blocks)) tx h
+
+-- a step gives what it is to give
+pub step_gives : (w : World) (event : Event) (reply : Reply) (next : World) → IsSpelled event → (reply, next) ≡ step_of w event → StepGives w event reply next
+step_gives w event reply next spelled step good apart =
+    (step, subst IsGoodWorld (sym (ap (λ (p : Reply × World). p.1) step)) (step_good w event spelled (apart_stays w event good.chain spelled apart) good))

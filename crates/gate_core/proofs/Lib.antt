@@ -7,8 +7,8 @@ pub mod Keeping
 mod Guarding
 mod Listings
 mod Peers
+mod Settling
 pub mod Running
-mod Quieting
 mod Sending
 mod Separate
 pub mod Spends

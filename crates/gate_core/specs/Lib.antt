@@ -12,8 +12,8 @@ pub mod PeerSteps
 pub mod RpcSteps
 pub mod ChainSteps
 pub mod Steps
-pub mod Quiet
 pub mod Planning
+pub mod Recording
 pub mod Good
 pub mod Runs
 pub mod SessionLaws

@@ -6,7 +6,6 @@ ghost use Rattle.gate_rpc.specs.declared.result.RpcResult.TheVariants.{Txids, En
 ghost use Rattle.gate_admit.specs.Submission.{submit_of};
 ghost use Rattle.gate_query.specs.Answers.{tested};
 ghost use Rattle.gate_core.specs.World.{World, standing_of};
-ghost use Rattle.gate_core.specs.Quiet.{HasList};
 ghost use Rattle.gate_core.specs.Planning.{Fits, Plans, world_of};
 
 use crate::call::Call;
@@ -70,7 +69,6 @@ impl<S: BuildHasher + Copy + Drop> Parts<S> {
     pub(crate) fn calling(&mut self, alloc: Global, call: &Call) -> Result<Plan, Memory>
         ensures ok { IfOk result (Plans (world_of self.old) (rpc_step (world_of self.old) call.now.user call.now.time (request_of call.now.json))) }
         ensures fits { IfOk result (λ plan. Fits plan.change self.new.sessions self.new.pool) }
-        ensures quiet { IfOk result (λ plan. HasList plan.reply → plan.change ≡ Change.Nothing) }
         ensures same { world_of self.new ≡ world_of self.old }
     {
         if self.bars(call) {
@@ -85,7 +83,6 @@ impl<S: BuildHasher + Copy + Drop> Parts<S> {
     fn command(&mut self, alloc: Global, now: u64, request: &Request) -> Result<Plan, Memory>
         ensures ok { IfOk result (Plans (world_of self.old) (commanded (world_of self.old) now request.now.id request.now.command)) }
         ensures fits { IfOk result (λ plan. Fits plan.change self.new.sessions self.new.pool) }
-        ensures quiet { IfOk result (λ plan. HasList plan.reply → plan.change ≡ Change.Nothing) }
         ensures same { world_of self.new ≡ world_of self.old }
     {
         let id = &request.id;
@@ -125,7 +122,7 @@ impl<S: BuildHasher + Copy + Drop> Parts<S> {
             &self.chain,
             &self.pool,
             &self.floor,
-            &self.verdicts,
+            self.verdicts.get(),
             transaction,
         )?;
         telling(alloc, id, outcome)
@@ -142,7 +139,6 @@ impl<S: BuildHasher + Copy + Drop> Parts<S> {
     ) -> Result<Plan, Memory>
         ensures ok { IfOk result (Plans (world_of self.old) (sent (world_of self.old) id.now transaction.now (submit_of (standing_of (world_of self.old)) transaction.now now self.old.budget))) }
         ensures fits { IfOk result (λ plan. Fits plan.change self.new.sessions self.new.pool) }
-        ensures quiet { IfOk result (λ plan. HasList plan.reply → plan.change ≡ Change.Nothing) }
         ensures same { world_of self.new ≡ world_of self.old }
     {
         let Some(txid) = transaction.txid() else {
@@ -155,7 +151,7 @@ impl<S: BuildHasher + Copy + Drop> Parts<S> {
             &mut self.pool,
             &self.floor,
             transaction,
-            &self.verdicts,
+            self.verdicts.get(),
             now,
             self.budget,
         )?;

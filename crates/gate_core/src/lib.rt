@@ -15,8 +15,10 @@ mod opening;
 mod parts;
 mod peering;
 mod planning;
+mod recording;
 mod refusal;
 mod reply;
+mod same;
 mod session;
 mod state;
 mod switch;
@@ -31,7 +33,9 @@ pub use laws::{
     runs_keep_families, runs_keep_the_budget, runs_keep_the_pool_sound, steps_give_the_run,
 };
 pub use opening::Opening;
+pub use recording::Replies;
 pub use refusal::{Refusal, Then};
 pub use reply::Reply;
+pub use same::{is_same_event, is_same_reply};
 pub use state::{State, StepFault};
 pub use switch::{Switch, Switches};

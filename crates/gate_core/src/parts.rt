@@ -2,10 +2,10 @@
 ghost use Rattle.std.specs.Prelude.{◌≡◌, ◌≢◌, IfOk, Ok};
 ghost use Rattle.gate_core.specs.Callers.{caller_of};
 ghost use Rattle.gate_core.specs.declared.caller.Caller.TheVariants.{Chain as TheChain};
+ghost use Rattle.gate_core.specs.declared.reply.Reply.{Reply};
 ghost use Rattle.gate_core.specs.Steps.{step_of};
 ghost use Rattle.gate_admit.specs.Planning.{planned_of};
-ghost use Rattle.gate_core.specs.Quiet.{HasList};
-ghost use Rattle.gate_core.specs.Planning.{Fits, Plans, admitted_as, made, world_of};
+ghost use Rattle.gate_core.specs.Planning.{Fits, Plans, admitted_as, made_by, settled, world_of};
 
 use crate::event::Event;
 use crate::planning::{Change, Plan};
@@ -13,9 +13,10 @@ use crate::reply::Reply;
 use crate::session::Sessions;
 use crate::switch::Switches;
 use gate_admit::{Chain, Coming, Floor, Pool, Verdicts, commit_submission};
-use gate_bytes::Memory;
+use gate_bytes::{Copied, Counted, Memory};
 use gate_net::Whitelist;
 use gate_rpc::RpcWhitelist;
+use gate_standard::Denial;
 use std::alloc::Global;
 use std::hash::BuildHasher;
 
@@ -27,7 +28,8 @@ pub(crate) struct Parts<S: BuildHasher + Copy + Drop> {
     pub(crate) floor: Floor,
     pub(crate) sessions: Sessions,
     pub(crate) budget: u64,
-    pub(crate) verdicts: Verdicts<S>,
+    /// They never change, so copies share them.
+    pub(crate) verdicts: Counted<Verdicts<S>>,
     pub(crate) whitelist: Whitelist,
     pub(crate) rpcwhitelist: RpcWhitelist,
     pub(crate) blocksonly: bool,
@@ -42,7 +44,6 @@ impl<S: BuildHasher + Copy + Drop> Parts<S> {
         requires planned { caller_of event.now ≢ TheChain }
         ensures ok { IfOk result (Plans (world_of self.old) (step_of (world_of self.old) event.now)) }
         ensures fits { IfOk result (λ plan. Fits plan.change self.new.sessions self.new.pool) }
-        ensures quiet { IfOk result (λ plan. HasList plan.reply → plan.change ≡ Change.Nothing) }
         ensures same { world_of self.new ≡ world_of self.old }
     {
         match event {
@@ -72,31 +73,73 @@ impl<S: BuildHasher + Copy + Drop> Parts<S> {
         }
     }
 
-    /// Makes the change of a plan that fits, without memory, and gives the reply.
-    pub(crate) fn commit(&mut self, plan: Plan) -> Reply
-        requires { Fits plan.change self.old.sessions self.old.pool }
-        ensures { (result, world_of self.new) ≡ made plan (world_of self.old) }
+    /// Makes a change that fits, without memory; the denial where what was to enter is gone again, which takes the place of
+    /// whatever reply was planned.
+    pub(crate) fn commit(&mut self, change: Change) -> Option<Denial>
+        requires { Fits change self.old.sessions self.old.pool }
+        ensures { (reply : Reply) → (settled reply result, world_of self.new) ≡ made_by reply change (world_of self.old) }
     {
-        let Plan { reply, change } = plan;
         match change {
             Change::Nothing => (),
             Change::Enter { peer, flags } => self.sessions.enter(peer, flags),
             Change::Close { peer } => self.sessions.close(peer),
             Change::SetFloor { rate } => self.floor = Floor::new(rate),
             Change::Turn { switch, on } => self.switches = self.switches.set(switch, on),
-            Change::Admit { coming } => return self.admit(coming, reply),
+            Change::Admit { coming } => return self.admit(coming),
         }
-        reply
+        None
     }
 
-    /// Enters what was granted; the reply, or the denial where it is gone again.
-    fn admit(&mut self, coming: Coming, reply: Reply) -> Reply
+    /// Enters what was granted; the denial where it is gone again.
+    fn admit(&mut self, coming: Coming) -> Option<Denial>
         requires { Fits (Change.Admit coming) self.old.sessions self.old.pool }
-        ensures { (result, world_of self.new) ≡ admitted_as (world_of self.old) reply (planned_of self.old.budget self.old.pool.entries self.old.floor (Ok coming)) }
+        ensures { (reply : Reply) → (settled reply result, world_of self.new) ≡ admitted_as (world_of self.old) reply (planned_of self.old.budget self.old.pool.entries self.old.floor (Ok coming)) }
     {
         match commit_submission(&mut self.pool, &mut self.floor, coming, self.budget) {
-            Ok(_grant) => reply,
-            Err(denial) => reply.denied(denial),
+            Ok(_grant) => None,
+            Err(denial) => Some(denial),
         }
+    }
+
+    /// Copies of the chain and the pool.
+    fn copy_ledger(&self, alloc: Global) -> Result<(Chain<S>, Pool<S>), Memory>
+        ensures chain { IfOk result (λ copies. copies.0 ≡ self.now.chain) }
+        ensures pool { IfOk result (λ copies. copies.1.entries ≡ self.now.pool.entries) }
+    {
+        let pool = self.pool.copy(alloc)?;
+        let chain = self.chain.copy(alloc)?;
+        Ok((chain, pool))
+    }
+
+    /// Copies of the lists that the operator gave.
+    fn copy_lists(&self, alloc: Global) -> Result<(Whitelist, RpcWhitelist), Memory>
+        ensures whitelist { IfOk result (λ copies. copies.0 ≡ self.now.whitelist) }
+        ensures rpcwhitelist { IfOk result (λ copies. copies.1 ≡ self.now.rpcwhitelist) }
+    {
+        let whitelist = self.whitelist.copy(alloc)?;
+        let rpcwhitelist = self.rpcwhitelist.copy(alloc)?;
+        Ok((whitelist, rpcwhitelist))
+    }
+
+    /// A copy of the whole, with the same verdicts.
+    pub(crate) fn copy(&self, alloc: Global) -> Result<Parts<S>, Memory>
+        ensures { IfOk result (λ copy. world_of copy ≡ world_of self.now) }
+    {
+        let verdicts = self.verdicts.copy(alloc)?;
+        let sessions = self.sessions.copy()?;
+        let (whitelist, rpcwhitelist) = self.copy_lists(alloc)?;
+        let (chain, pool) = self.copy_ledger(alloc)?;
+        Ok(Parts {
+            chain,
+            pool,
+            floor: self.floor,
+            sessions,
+            budget: self.budget,
+            verdicts,
+            whitelist,
+            rpcwhitelist,
+            blocksonly: self.blocksonly,
+            switches: self.switches,
+        })
     }
 }

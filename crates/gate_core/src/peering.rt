@@ -7,7 +7,6 @@ ghost use Rattle.gate_core.specs.Access.{entering_rules, listing_rules, session_
 ghost use Rattle.gate_core.specs.PeerSteps.{entered, left, listed, peer_step, refused, submitted, block_given, headers_given};
 ghost use Rattle.gate_pool.specs.Pool.{Pooled};
 ghost use Rattle.gate_core.specs.Sessions.{Seated};
-ghost use Rattle.gate_core.specs.Quiet.{HasList};
 ghost use Rattle.gate_core.specs.Planning.{Fits, Plans, world_of};
 
 use crate::parts::Parts;
@@ -40,7 +39,6 @@ impl<S: BuildHasher + Copy + Drop> Parts<S> {
     fn refusing(&self, peer: u64, refusal: Refusal) -> Plan
         ensures reply { Plans (world_of self.now) (refused (world_of self.now) peer refusal) result }
         ensures fits { (sessions : Seated) (pool : Pooled) → Fits result.change sessions pool }
-        ensures quiet { HasList result.reply → result.change ≡ Change.Nothing }
     {
         let then = refusal.then(&self.sessions.flags(peer));
         let reply = Reply::Denied { refusal, then };
@@ -57,7 +55,6 @@ impl<S: BuildHasher + Copy + Drop> Parts<S> {
     pub(crate) fn entering(&mut self, peer: u64, address: &Address) -> Result<Plan, Memory>
         ensures ok { IfOk result (Plans (world_of self.old) (peer_step (world_of self.old) peer (entering_rules self.old.sessions.all peer) (entered (world_of self.old) peer address.now))) }
         ensures fits { IfOk result (λ plan. Fits plan.change self.new.sessions self.new.pool) }
-        ensures quiet { IfOk result (λ plan. HasList plan.reply → plan.change ≡ Change.Nothing) }
         ensures same { world_of self.new ≡ world_of self.old }
     {
         if self.sessions.is_known(peer) {
@@ -74,7 +71,6 @@ impl<S: BuildHasher + Copy + Drop> Parts<S> {
     pub(crate) fn leaving(&self, peer: u64) -> Plan
         ensures plans { Plans (world_of self.now) (peer_step (world_of self.now) peer (session_rules self.now.sessions.all peer) (left (world_of self.now) peer)) result }
         ensures fits { (sessions : Seated) (pool : Pooled) → Fits result.change sessions pool }
-        ensures quiet { HasList result.reply → result.change ≡ Change.Nothing }
     {
         match self.sessions.refusal(peer) {
             Some(refusal) => self.refusing(peer, refusal),
@@ -88,7 +84,6 @@ impl<S: BuildHasher + Copy + Drop> Parts<S> {
     pub(crate) fn listing(&self, alloc: Global, peer: u64) -> Result<Plan, Memory>
         ensures ok { IfOk result (Plans (world_of self.now) (peer_step (world_of self.now) peer (listing_rules (world_of self.now) peer) (listed (world_of self.now)))) }
         ensures fits { IfOk result (λ plan. (sessions : Seated) (pool : Pooled) → Fits plan.change sessions pool) }
-        ensures quiet { IfOk result (λ plan. HasList plan.reply → plan.change ≡ Change.Nothing) }
     {
         match self.refusal_of_listing(peer) {
             Some(refusal) => Ok(self.refusing(peer, refusal)),
@@ -105,7 +100,6 @@ impl<S: BuildHasher + Copy + Drop> Parts<S> {
     ) -> Result<Plan, Memory>
         ensures ok { IfOk result (Plans (world_of self.old) (peer_step (world_of self.old) peer (submission_rules (world_of self.old) peer transaction.now) (submitted (world_of self.old) peer now transaction.now))) }
         ensures fits { IfOk result (λ plan. Fits plan.change self.new.sessions self.new.pool) }
-        ensures quiet { IfOk result (λ plan. HasList plan.reply → plan.change ≡ Change.Nothing) }
         ensures same { world_of self.new ≡ world_of self.old }
     {
         match self.refusal_of_submission(peer, transaction) {
@@ -159,7 +153,6 @@ impl<S: BuildHasher + Copy + Drop> Parts<S> {
     ) -> Result<Plan, Memory>
         ensures ok { IfOk result (Plans (world_of self.old) (submitted (world_of self.old) peer now transaction.now)) }
         ensures fits { IfOk result (λ plan. Fits plan.change self.new.sessions self.new.pool) }
-        ensures quiet { IfOk result (λ plan. HasList plan.reply → plan.change ≡ Change.Nothing) }
         ensures same { world_of self.new ≡ world_of self.old }
     {
         let Some(txid) = transaction.txid() else {
@@ -171,7 +164,7 @@ impl<S: BuildHasher + Copy + Drop> Parts<S> {
             &mut self.pool,
             &self.floor,
             transaction,
-            &self.verdicts,
+            self.verdicts.get(),
             now,
             self.budget,
         )?;
@@ -246,7 +239,6 @@ impl<S: BuildHasher + Copy + Drop> Parts<S> {
     pub(crate) fn giving_block(&self, peer: u64, height: u32) -> Plan
         ensures plans { Plans (world_of self.now) (peer_step (world_of self.now) peer (block_rules (world_of self.now) peer height) (block_given (world_of self.now) height)) result }
         ensures fits { (sessions : Seated) (pool : Pooled) → Fits result.change sessions pool }
-        ensures quiet { HasList result.reply → result.change ≡ Change.Nothing }
     {
         match self.refusal_of_block(peer, height) {
             Some(refusal) => self.refusing(peer, refusal),
@@ -261,7 +253,6 @@ impl<S: BuildHasher + Copy + Drop> Parts<S> {
     pub(crate) fn giving_headers(&self, peer: u64, height: u32) -> Plan
         ensures plans { Plans (world_of self.now) (peer_step (world_of self.now) peer (headers_rules (world_of self.now) peer height) (headers_given (world_of self.now) height)) result }
         ensures fits { (sessions : Seated) (pool : Pooled) → Fits result.change sessions pool }
-        ensures quiet { HasList result.reply → result.change ≡ Change.Nothing }
     {
         let tip = self.chain.tip();
         match self.refusal_of_headers(peer, height) {

@@ -42,10 +42,20 @@ impl Plan {
 
 impl Reply {
     ghost use Rattle.std.specs.Prelude.{◌≡◌};
-    ghost use Rattle.gate_core.specs.Planning.{denied_instead};
+    ghost use Rattle.gate_core.specs.Planning.{denied_instead, settled};
+
+    /// This reply, or in its place the denial of what it says was admitted.
+    pub(crate) fn settled(self, denial: Option<Denial>) -> Reply
+        ensures { result ≡ settled self denial }
+    {
+        match denial {
+            Some(denial) => self.denied(denial),
+            None => self,
+        }
+    }
 
     /// The denial that takes the place of this reply to a submission: it closes nothing.
-    pub(crate) fn denied(self, denial: Denial) -> Reply
+    fn denied(self, denial: Denial) -> Reply
         ensures { result ≡ denied_instead self denial }
     {
         match self {

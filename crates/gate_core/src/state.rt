@@ -1,24 +1,27 @@
 //! The state, and the one step that changes it.
 ghost use Rattle.std.specs.Prelude.{◌≡◌, ◌≢◌, IfOk, OnErr};
 ghost use Rattle.gate_core.specs.Callers.{caller_of};
-ghost use Rattle.gate_core.specs.ChainSteps.{chained};
+ghost use Rattle.gate_core.specs.ChainSteps.{chain_reply, chained};
 ghost use Rattle.gate_core.specs.declared.caller.Caller.TheVariants.{Chain as TheChain};
 ghost use Rattle.gate_chain.specs.Opening.{open_fault, IsRefusedFor};
 ghost use Rattle.gate_core.specs.World.{opened_world};
 ghost use Rattle.gate_core.specs.Planning.{world_of};
-ghost use Rattle.gate_core.specs.Quiet.{HasList};
+ghost use Rattle.gate_core.specs.Recording.{AreCopies};
 ghost use Rattle.gate_core.specs.Steps.{step_of};
 ghost use Rattle.gate_core.specs.Good.{IsGoodWorld, StepGives};
 
 use crate::event::Event;
 use crate::opening::Opening;
 use crate::parts::Parts;
+use crate::planning::Plan;
+use crate::recording::Replies;
 use crate::reply::Reply;
 use crate::session::Sessions;
 use crate::switch::Switches;
 use gate_admit::{Chain, Floor, OpenFault, Pool};
-use gate_bytes::Memory;
-use gate_chain::Block;
+use gate_bytes::{Counted, Memory};
+use gate_chain::{Block, ChainDenial};
+use gate_reorg::Moved;
 use std::alloc::Global;
 use std::hash::BuildHasher;
 use std::marker::Model;
@@ -71,6 +74,9 @@ impl<S: BuildHasher + Copy + Drop> State<S> {
         let Ok(pool) = Pool::new(alloc, hasher) else {
             return Err(OpenFault::Memory);
         };
+        let Ok(verdicts) = Counted::new(alloc, verdicts) else {
+            return Err(OpenFault::Memory);
+        };
         Ok(State {
             parts: Parts {
                 chain,
@@ -102,23 +108,35 @@ impl<S: BuildHasher + Copy + Drop> State<S> {
         requires planned { caller_of event.now ≢ TheChain }
         ensures ok { IfOk result (λ reply. (reply, self.new) ≡ step_of self.old event.now) }
         ensures err { OnErr result (self.new ≡ self.old) }
-        ensures quiet { IfOk result (λ reply. HasList reply → self.new ≡ self.old) }
     {
-        let plan = self.parts.plan(alloc, event)?;
-        Ok(self.parts.commit(plan))
+        let Plan { reply, change } = self.parts.plan(alloc, event)?;
+        let denial = self.parts.commit(change);
+        Ok(reply.settled(denial))
     }
 
-    /// The step of the chain's event.
+    /// The same step, with copies of the reply, which are made between the two.
+    fn plan_and_record(&mut self, alloc: Global, event: &Event) -> Result<Replies, Memory>
+        requires planned { caller_of event.now ≢ TheChain }
+        ensures ok { IfOk result (λ replies. (replies.reply, self.new) ≡ step_of self.old event.now) }
+        ensures copies { IfOk result AreCopies }
+        ensures err { OnErr result (self.new ≡ self.old) }
+    {
+        let Plan { reply, change } = self.parts.plan(alloc, event)?;
+        let replies = Replies::of(alloc, reply)?;
+        let denial = self.parts.commit(change);
+        Ok(replies.settled(denial))
+    }
+
+    /// What the chain's event comes to.
     fn change_chain(
         &mut self,
         alloc: Global,
         disconnect: u64,
         now: u64,
         blocks: &[Option<Block>],
-    ) -> Result<Reply, Memory>
-        ensures ok { IfOk result (λ reply. (reply, self.new) ≡ chained self.old disconnect now blocks.now) }
+    ) -> Result<Result<Moved, ChainDenial>, Memory>
+        ensures ok { IfOk result (λ outcome. (chain_reply outcome, self.new) ≡ chained self.old disconnect now blocks.now) }
         ensures err { OnErr result (self.new ≡ self.old) }
-        ensures quiet { IfOk result (λ reply. HasList reply → self.new ≡ self.old) }
     {
         self.parts.change_chain(alloc, disconnect, now, blocks)
     }
@@ -128,15 +146,37 @@ impl<S: BuildHasher + Copy + Drop> State<S> {
     fn apply(&mut self, alloc: Global, event: &Event) -> Result<Reply, Memory>
         ensures ok { IfOk result (λ reply. (reply, self.new) ≡ step_of self.old event.now) }
         ensures err { OnErr result (self.new ≡ self.old) }
-        ensures quiet { IfOk result (λ reply. HasList reply → self.new ≡ self.old) }
     {
         match event {
             Event::Chain {
                 disconnect,
                 now,
                 blocks,
-            } => self.change_chain(alloc, *disconnect, *now, blocks.as_slice()),
+            } => {
+                let outcome = self.change_chain(alloc, *disconnect, *now, blocks.as_slice())?;
+                Ok(Reply::of_chain(outcome))
+            }
             _ => self.plan_and_commit(alloc, event),
+        }
+    }
+
+    /// The same step, with copies of the reply.
+    #[tactic(auto, unfolding(crate::specs::Steps::step_of))]
+    fn record(&mut self, alloc: Global, event: &Event) -> Result<Replies, Memory>
+        ensures ok { IfOk result (λ replies. (replies.reply, self.new) ≡ step_of self.old event.now) }
+        ensures copies { IfOk result AreCopies }
+        ensures err { OnErr result (self.new ≡ self.old) }
+    {
+        match event {
+            Event::Chain {
+                disconnect,
+                now,
+                blocks,
+            } => {
+                let outcome = self.change_chain(alloc, *disconnect, *now, blocks.as_slice())?;
+                Ok(Replies::of_chain(outcome))
+            }
+            _ => self.plan_and_record(alloc, event),
         }
     }
 
@@ -145,10 +185,30 @@ impl<S: BuildHasher + Copy + Drop> State<S> {
         ensures ok { IfOk result (λ reply. StepGives self.old event.now reply self.new) }
         ensures err { OnErr result (self.new ≡ self.old) }
         ensures exact { IfOk result (λ reply. (reply, self.new) ≡ step_of self.old event.now) }
-        ensures quiet { IfOk result (λ reply. HasList reply → self.new ≡ self.old) }
     {
         event.tells_spelled();
         let reply = self.apply(alloc, event)?;
         Ok(reply)
+    }
+
+    /// The same step, with two copies of its reply. All memory is taken before anything changes.
+    pub fn step_recorded(&mut self, alloc: Global, event: &Event) -> Result<Replies, StepFault>
+        ensures ok { IfOk result (λ r. StepGives self.old event.now r.reply self.new) }
+        ensures exact { IfOk result (λ r. (r.reply, self.new) ≡ step_of self.old event.now) }
+        ensures copies { IfOk result (λ r. (r.receipt ≡ r.reply) × (r.entry ≡ r.reply)) }
+        ensures err { OnErr result (self.new ≡ self.old) }
+    {
+        event.tells_spelled();
+        let replies = self.record(alloc, event)?;
+        Ok(replies)
+    }
+
+    /// The same state once more: only verdicts and transactions, which never change, are shared.
+    pub fn copy(&self, alloc: Global) -> Result<State<S>, Memory>
+        ensures { IfOk result (λ copy. copy ≡ self.now) }
+    {
+        Ok(State {
+            parts: self.parts.copy(alloc)?,
+        })
     }
 }

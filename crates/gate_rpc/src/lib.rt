@@ -15,6 +15,7 @@ mod reading;
 mod reply;
 mod request;
 mod result;
+mod same;
 mod whitelist;
 mod writing;
 
@@ -27,6 +28,7 @@ pub use method::Method;
 pub use reply::{RpcReply, reply_text};
 pub use request::{Command, Request};
 pub use result::{EntryInfo, RpcResult};
+pub use same::is_same_answer;
 pub use whitelist::RpcWhitelist;
 
 #[cfg(test)]

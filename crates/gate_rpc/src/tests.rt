@@ -81,6 +81,10 @@ fn calls_are_read_in_order(rt: HostRuntime) -> Result<(), Fail> {
             "rpc 404 {\"error\":{\"code\":-32601,\"message\":\"Method not found\"},\"id\":-9223372036854775808,\"result\":null}",
         ),
         (
+            "{\"method\":\"foo\",\"id\":9007199254740993}",
+            "rpc 404 {\"error\":{\"code\":-32601,\"message\":\"Method not found\"},\"id\":9007199254740993,\"result\":null}",
+        ),
+        (
             "{\"method\":\"foo\",\"id\":18446744073709551615}",
             "rpc 404 {\"error\":{\"code\":-32601,\"message\":\"Method not found\"},\"id\":18446744073709551615,\"result\":null}",
         ),
@@ -157,14 +161,16 @@ fn parameters_have_the_form_of_the_method(rt: HostRuntime) -> Result<(), Fail> {
     Ok(())
 }
 
-/// A call of no method, with so many lists one in another beside it.
-fn nested(alloc: Global, depth: usize) -> Result<String, Fail> {
+/// A call of no method, with so many values one in another beside it.
+fn nested(alloc: Global, value: (&str, &str, &str), depth: usize) -> Result<String, Fail> {
+    let (front, inmost, back) = value;
     let mut call = String::from_str(alloc, "{\"a\":")?;
     for _ in 0..depth {
-        call.push_str("[")?;
+        call.push_str(front)?;
     }
+    call.push_str(inmost)?;
     for _ in 0..depth {
-        call.push_str("]")?;
+        call.push_str(back)?;
     }
     call.push_str(",\"method\":\"foo\"}")?;
     Ok(call)
@@ -172,13 +178,20 @@ fn nested(alloc: Global, depth: usize) -> Result<String, Fail> {
 
 #[test]
 fn json_is_read_to_its_bounds(rt: HostRuntime) -> Result<(), Fail> {
-    let deep = nested(rt.alloc(), 126)?;
-    assert_eq!(rt; answer(rt.alloc(), deep.as_str())?.as_str(), NO_METHOD);
-    let too_deep = nested(rt.alloc(), 127)?;
-    assert_eq!(rt;
-        answer(rt.alloc(), too_deep.as_str())?.as_str(),
-        PARSE_ERROR
-    );
+    let values = [
+        (("[", "", "]"), 126),
+        (("{\"\":", "0", "}"), 126),
+        (("[{\"\":", "0", "}]"), 63),
+    ];
+    for (value, depth) in values {
+        let deep = nested(rt.alloc(), value, depth)?;
+        assert_eq!(rt; answer(rt.alloc(), deep.as_str())?.as_str(), NO_METHOD);
+        let too_deep = nested(rt.alloc(), value, depth + 1)?;
+        assert_eq!(rt;
+            answer(rt.alloc(), too_deep.as_str())?.as_str(),
+            PARSE_ERROR
+        );
+    }
     Ok(())
 }
 

@@ -1,0 +1,15 @@
+-- A plan, its change, and the reply that is settled after it.
+use Rattle.std.proofs.Common.{◌≡◌, Option, ap, ◌∙◌}
+use Rattle.gate_standard.specs.declared.Denial.{Denial}
+use Rattle.gate_core.specs.declared.event.Event.{Event}
+use Rattle.gate_core.specs.declared.planning.Change.{Change}
+use Rattle.gate_core.specs.declared.reply.Reply.{Reply}
+use Rattle.gate_core.specs.Planning.{made_by, settled}
+use Rattle.gate_core.specs.Steps.{step_of}
+use Rattle.gate_core.specs.World.{World}
+
+pub settled_step : (reply told : Reply) (change : Change) (denial : Option Denial) (w shown mid next : World) (event : Event)
+    → told ≡ settled reply denial → ((r : Reply) → (settled r denial, next) ≡ made_by r change mid) → mid ≡ w → made_by reply change w ≡ step_of w event → w ≡ shown
+    → (told, next) ≡ step_of shown event
+settled_step reply told change denial w shown mid next event is law same planned seen =
+    ap (λ (r : Reply). (r, next)) is ∙ (law reply ∙ (ap (made_by reply change) same ∙ (planned ∙ ap (λ v. step_of v event) seen)))

@@ -1,0 +1,68 @@
+//! A reply for each who keeps it.
+ghost use Rattle.std.specs.Prelude.{◌≡◌, IfOk};
+ghost use Rattle.gate_core.specs.ChainSteps.{chain_reply};
+ghost use Rattle.gate_core.specs.Planning.{settled};
+ghost use Rattle.gate_core.specs.Recording.{AreCopies};
+
+use crate::reply::Reply;
+use gate_bytes::{Copied, Memory};
+use gate_chain::ChainDenial;
+use gate_reorg::Moved;
+use gate_standard::Denial;
+use std::alloc::Global;
+
+/// The reply to one event, and two copies of it.
+#[derive(Debug, Drop)]
+pub struct Replies {
+    /// For the caller.
+    pub reply: Reply,
+    /// For the caller's receipt.
+    pub receipt: Reply,
+    /// For the journal.
+    pub entry: Reply,
+}
+
+impl Replies {
+    /// A reply with its copies.
+    pub(crate) fn of(alloc: Global, reply: Reply) -> Result<Replies, Memory>
+        ensures reply { IfOk result (λ replies. replies.reply ≡ reply) }
+        ensures copies { IfOk result AreCopies }
+    {
+        let receipt = reply.copy(alloc)?;
+        let entry = reply.copy(alloc)?;
+        Ok(Replies {
+            reply,
+            receipt,
+            entry,
+        })
+    }
+
+    /// Those to the chain's event, which take no memory.
+    pub(crate) fn of_chain(outcome: Result<Moved, ChainDenial>) -> Replies
+        ensures reply { result.reply ≡ chain_reply outcome }
+        ensures copies { AreCopies result }
+    {
+        Replies {
+            reply: Reply::of_chain(outcome),
+            receipt: Reply::of_chain(outcome),
+            entry: Reply::of_chain(outcome),
+        }
+    }
+
+    /// These, or in the place of each the denial of what they say was admitted.
+    pub(crate) fn settled(self, denial: Option<Denial>) -> Replies
+        ensures reply { result.reply ≡ settled self.reply denial }
+        ensures copies { AreCopies self → AreCopies result }
+    {
+        let Replies {
+            reply,
+            receipt,
+            entry,
+        } = self;
+        Replies {
+            reply: reply.settled(denial),
+            receipt: receipt.settled(denial),
+            entry: entry.settled(denial),
+        }
+    }
+}
