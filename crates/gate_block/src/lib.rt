@@ -7,9 +7,11 @@
 
 mod reading;
 mod switching;
+mod writing;
 
 pub use reading::read_block;
 pub use switching::{Switched, switch, switched_and_back};
+pub use writing::write_block;
 
 #[cfg(test)]
 mod tests;

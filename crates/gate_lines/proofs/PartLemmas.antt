@@ -7,7 +7,7 @@ use Rattle.std.proofs.KnownBytes.{Consumes-trans}
 use Rattle.memchr.specs.Find.{IsFirstByte, is_byte}
 use Rattle.gate_lines.specs.declared.part.Part.{Part}
 use Rattle.gate_lines.specs.declared.part.Part.TheVariants.{Newline, More, TooLong, End}
-use Rattle.gate_lines.specs.Lines.{LacksNewline, line_limit}
+use Rattle.gate_lines.specs.Lines.{LacksNewline}
 use Rattle.gate_lines.specs.Parts.{PartShown, PartTaken}
 
 is_newline : (x : ℕ) → x ≡ 10 → is_byte 10 x ≡ true
@@ -61,22 +61,22 @@ LacksNewline-append [] ys h k = k
 LacksNewline-append (x ∷ xs) ys h k = (h.0, LacksNewline-append xs ys h.1 k)
 
 -- what was read of a line so far
-pub record Held (r r' : Option (List ℕ)) (line : List ℕ) : Type 0 where
+pub record Held (most : ℕ) (r r' : Option (List ℕ)) (line : List ℕ) : Type 0 where
   pub taken : Consumes r r' line
   pub clean : LacksNewline line
-  pub short : length line ≤ line_limit
+  pub short : length line ≤ most
 
-pub held_whole : (r r' r'' : Option (List ℕ)) (line new : List ℕ) (room : ℕ) → room ≡ line_limit - length line → Held r r' line → PartTaken r' r'' line new room (Ok Newline)
-    → Consumes r r'' (new ++ 10 ∷ []) × LacksNewline new × (length new ≤ line_limit)
-held_whole r r' r'' line new room left held (bytes, read, (piece, is, clean, short, grown), end) = (
+pub held_whole : (most : ℕ) (r r' r'' : Option (List ℕ)) (line new : List ℕ) (room : ℕ) → room ≡ most - length line → Held most r r' line → PartTaken r' r'' line new room (Ok Newline)
+    → Consumes r r'' (new ++ 10 ∷ []) × LacksNewline new × (length new ≤ most)
+held_whole most r r' r'' line new room left held (bytes, read, (piece, is, clean, short, grown), end) = (
   subst (Consumes r r'') (ap (λ l. line ++ l) is ∙ sym (append_assoc line piece (10 ∷ [])) ∙ ap (λ l. l ++ 10 ∷ []) (sym grown)) (Consumes-trans r r' r'' _ _ held.taken read),
   subst LacksNewline (sym grown) (LacksNewline-append line piece held.clean clean),
   omega (arith, ap length grown, length-append line piece, held.short, left),
 )
 
-pub held_more : (r r' r'' : Option (List ℕ)) (line new : List ℕ) (room : ℕ) → room ≡ line_limit - length line → Held r r' line → PartTaken r' r'' line new room (Ok More)
-    → Held r r'' new × (length line < length new)
-held_more r r' r'' line new room left held (bytes, read, (clean, short, some, grown), end) = (
+pub held_more : (most : ℕ) (r r' r'' : Option (List ℕ)) (line new : List ℕ) (room : ℕ) → room ≡ most - length line → Held most r r' line → PartTaken r' r'' line new room (Ok More)
+    → Held most r r'' new × (length line < length new)
+held_more most r r' r'' line new room left held (bytes, read, (clean, short, some, grown), end) = (
   record {
     taken = subst (Consumes r r'') (sym grown) (Consumes-trans r r' r'' _ _ held.taken read);
     clean = subst LacksNewline (sym grown) (LacksNewline-append line bytes held.clean clean);
@@ -85,16 +85,16 @@ held_more r r' r'' line new room left held (bytes, read, (clean, short, some, gr
   omega (arith, ap length grown, length-append line bytes),
 )
 
-pub held_too_long : (r r' r'' : Option (List ℕ)) (line new : List ℕ) (room : ℕ) → room ≡ line_limit - length line → Held r r' line → PartTaken r' r'' line new room (Ok TooLong)
-    → (long : List ℕ) × Consumes r r'' long × LacksNewline long × (length long ≡ line_limit + 1)
-held_too_long r r' r'' line new room left held (bytes, read, (clean, long, same), end) =
+pub held_too_long : (most : ℕ) (r r' r'' : Option (List ℕ)) (line new : List ℕ) (room : ℕ) → room ≡ most - length line → Held most r r' line → PartTaken r' r'' line new room (Ok TooLong)
+    → (long : List ℕ) × Consumes r r'' long × LacksNewline long × (length long ≡ most + 1)
+held_too_long most r r' r'' line new room left held (bytes, read, (clean, long, same), end) =
     (line ++ bytes, Consumes-trans r r' r'' _ _ held.taken read, LacksNewline-append line bytes held.clean clean, omega (arith, length-append line bytes, held.short, left, long))
 
-held_kept : (r r' r'' : Option (List ℕ)) (line new : List ℕ) → Held r r' line → Consumes r' r'' [] → new ≡ line → Held r r'' new
-held_kept r r' r'' line new held read same = record {
+held_kept : (most : ℕ) (r r' r'' : Option (List ℕ)) (line new : List ℕ) → Held most r r' line → Consumes r' r'' [] → new ≡ line → Held most r r'' new
+held_kept most r r' r'' line new held read same = record {
   taken = subst (Consumes r r'') (append-nil line ∙ sym same) (Consumes-trans r r' r'' _ _ held.taken read);
   clean = subst LacksNewline (sym same) held.clean;
-  short = subst (λ l. length l ≤ line_limit) (sym same) held.short;
+  short = subst (λ l. length l ≤ most) (sym same) held.short;
 }
 
 ended : (r r' r'' : Option (List ℕ)) (line : List ℕ) → Consumes r r' line → OnSome r' (IsAtEnd r'') → OnSome r (IsAtEnd r'')
@@ -102,10 +102,10 @@ ended None r' r'' line read end = tt
 ended (Some xs) None r'' line read end = absurd read
 ended (Some xs) (Some ys) r'' line read end = end
 
-pub held_end : (r r' r'' : Option (List ℕ)) (line new : List ℕ) (room : ℕ) → Held r r' line → PartTaken r' r'' line new room (Ok End)
-    → Held r r'' new × OnSome r (IsAtEnd r'')
-held_end r r' r'' line new room held (bytes, read, (none, same), end) =
-    (held_kept r r' r'' line new held (subst (Consumes r' r'') none read) same, ended r r' r'' line held.taken end)
+pub held_end : (most : ℕ) (r r' r'' : Option (List ℕ)) (line new : List ℕ) (room : ℕ) → Held most r r' line → PartTaken r' r'' line new room (Ok End)
+    → Held most r r'' new × OnSome r (IsAtEnd r'')
+held_end most r r' r'' line new room held (bytes, read, (none, same), end) =
+    (held_kept most r r' r'' line new held (subst (Consumes r' r'') none read) same, ended r r' r'' line held.taken end)
 
 -- ---- one byte
 

@@ -11,16 +11,20 @@ use Rattle.gate_lines.specs.Lines.{LacksNewline, line_limit}
 abbrev pub PieceRead : Option (List ℕ) → Option (List ℕ) → Type 0
 PieceRead old new = (piece : List ℕ) × Consumes old new piece × LacksNewline piece
 
-abbrev pub LineRead : Option (List ℕ) → Option (List ℕ) → List ℕ → Result Found LaneFault → Type 0
-LineRead old new line (Ok Whole) = Consumes old new (line ++ 10 ∷ []) × LacksNewline line × (length line ≤ line_limit)
-LineRead old new line (Ok Rest) = Consumes old new line × OnSome old (IsAtEnd new) × LacksNewline line × (length line ≤ line_limit) × (0 < length line)
-LineRead old new line (Ok End) = Consumes old new [] × OnSome old (IsAtEnd new)
-LineRead old new line (Ok TooLong) = (long : List ℕ) × Consumes old new long × LacksNewline long × (length long ≡ line_limit + 1)
+-- a line of at most so many bytes
+abbrev pub LineReadWithin : ℕ → Option (List ℕ) → Option (List ℕ) → List ℕ → Result Found LaneFault → Type 0
+LineReadWithin most old new line (Ok Whole) = Consumes old new (line ++ 10 ∷ []) × LacksNewline line × (length line ≤ most)
+LineReadWithin most old new line (Ok Rest) = Consumes old new line × OnSome old (IsAtEnd new) × LacksNewline line × (length line ≤ most) × (0 < length line)
+LineReadWithin most old new line (Ok End) = Consumes old new [] × OnSome old (IsAtEnd new)
+LineReadWithin most old new line (Ok TooLong) = (long : List ℕ) × Consumes old new long × LacksNewline long × (length long ≡ most + 1)
 -- the reader failed, and what it gave of the line before is kept
-LineRead old new line (Err faults.Read) = Consumes old new line × LacksNewline line
+LineReadWithin most old new line (Err faults.Read) = Consumes old new line × LacksNewline line
 -- memory ran out for more of the line, and what was taken is kept
-LineRead old new line (Err faults.Memory) = Consumes old new line × LacksNewline line
-LineRead old new line (Err faults.Write) = ⊥
+LineReadWithin most old new line (Err faults.Memory) = Consumes old new line × LacksNewline line
+LineReadWithin most old new line (Err faults.Write) = ⊥
+
+abbrev pub LineRead : Option (List ℕ) → Option (List ℕ) → List ℕ → Result Found LaneFault → Type 0
+LineRead old new line result = LineReadWithin line_limit old new line result
 
 -- whether the input ends, and what was taken to tell
 abbrev pub EndTold : Option (List ℕ) → Option (List ℕ) → Result Bool LaneFault → Type 0

@@ -14,7 +14,7 @@ mod source;
 mod word;
 
 pub use fault::LaneFault;
-pub use line::{Found, MAX_LINE, MAX_LINES, asks_nothing, has_ended, next_line};
+pub use line::{Found, MAX_LINE, MAX_LINES, asks_nothing, has_ended, next_line, next_line_within};
 pub use number::{MAX_NUMBER, numbers_are_decimal, read_number, read_small_number};
 pub use part::Part;
 pub use sink::{Sink, end_line};

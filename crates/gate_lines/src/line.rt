@@ -3,7 +3,7 @@
 //! A line ends at a newline and nowhere else, so a carriage return is a byte of its line.
 ghost use Rattle.std.specs.Prelude.{◌≡◌, ◌≢◌, ◌≤◌, length, true, IfErr};
 ghost use Rattle.gate_lines.specs.Lines.{is_skipped, line_limit};
-ghost use Rattle.gate_lines.specs.Reading.{EndTold, LineRead};
+ghost use Rattle.gate_lines.specs.Reading.{EndTold, LineRead, LineReadWithin};
 
 use crate::fault::LaneFault;
 use crate::part::Part;
@@ -36,9 +36,22 @@ pub fn next_line<R: Source>(reader: &mut R, line: &mut Vec<u8>) -> Result<Found,
     ensures kept { length line.new.items ≤ line_limit }
     ensures steady { R.steady ≡ true → IfErr result (λ fault. fault ≢ LaneFault.Read) }
 {
+    next_line_within(reader, line, MAX_LINE)
+}
+
+/// The same, of a line that may have `most` bytes.
+pub fn next_line_within<R: Source>(
+    reader: &mut R,
+    line: &mut Vec<u8>,
+    most: usize,
+) -> Result<Found, LaneFault>
+    ensures read { LineReadWithin most (R.remaining reader.old) (R.remaining reader.new) line.new.items result }
+    ensures kept { length line.new.items ≤ most }
+    ensures steady { R.steady ≡ true → IfErr result (λ fault. fault ≢ LaneFault.Read) }
+{
     line.clear();
     loop {
-        match reader.take_part(line, MAX_LINE - line.len())? {
+        match reader.take_part(line, most - line.len())? {
             Part::Newline => return Ok(Found::Whole),
             Part::More => {}
             Part::TooLong => return Ok(Found::TooLong),
