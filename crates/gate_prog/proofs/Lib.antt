@@ -1,4 +1,3 @@
-pub mod ChainWords
 pub mod Runs
 pub mod TextForms
 pub mod TurnLemmas

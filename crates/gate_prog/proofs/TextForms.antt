@@ -5,7 +5,7 @@ use Rattle.gate_core.specs.Good.{StepGives}
 use Rattle.gate_core.specs.Texts.{reply_text}
 use Rattle.gate_core.specs.declared.reply.Reply.{Reply}
 use Rattle.gate_lines.specs.Lines.{is_skipped}
-use Rattle.gate_prog.specs.EventLines.{line_event}
+use Rattle.gate_events.specs.EventLines.{line_event}
 use Rattle.gate_prog.specs.Lanes.{fault_memory, EventAnswered, LineAnswered}
 use Rattle.gate_prog.specs.Turns.{EventReplied, EventLost}
 use Rattle.gate_core.specs.declared.event.Event.{Event}

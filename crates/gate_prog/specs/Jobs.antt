@@ -12,7 +12,7 @@ use Rattle.gate_opening.specs.declared.OpeningFault.TheVariants as faults
 use Rattle.gate_opening.specs.declared.OpeningToken.{OpeningToken}
 use Rattle.gate_tx.specs.Tx.{Tx}
 use Rattle.gate_prog.specs.Checks.{check_lines, check_status, input_spells}
-use Rattle.gate_prog.specs.EventLines.{prepared_of}
+use Rattle.gate_events.specs.EventLines.{prepared_of}
 use Rattle.gate_prog.specs.Lanes.{Run, LaneUnread, StoppedBy}
 use Rattle.gate_lines.specs.Lines.{lines_of, unlines}
 use Rattle.gate_opening.specs.OpeningFaults.{token_text}

@@ -10,7 +10,7 @@ use Rattle.gate_core.specs.Texts.{reply_text}
 use Rattle.gate_core.specs.declared.event.Event.{Event}
 use Rattle.gate_core.specs.declared.reply.Reply.{Reply}
 use Rattle.gate_lines.specs.Lines.{line_limit, count_limit, LacksNewline, EachLacksNewline, lines_of, unlines, is_skipped, FirstLines}
-use Rattle.gate_prog.specs.EventLines.{line_event}
+use Rattle.gate_events.specs.EventLines.{line_event}
 
 -- ---- what a line is answered
 

@@ -1,5 +1,3 @@
-pub mod ChainLines
-pub mod EventLines
 pub mod Lanes
 pub mod Turns
 pub mod Checks

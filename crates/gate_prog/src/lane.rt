@@ -1,13 +1,12 @@
 //! The lane: lines read one after another, each answered before the next is read.
 ghost use Rattle.std.specs.Prelude.{◌≡◌, ◌≢◌, [], true, IfOk, IfErr, OnOk, OnErr, IsOk, IsErrOf};
 ghost use Rattle.std.specs.Io.KnownBytes.{Appends};
-ghost use Rattle.gate_prog.specs.EventLines.{line_event};
 ghost use Rattle.gate_prog.specs.Lanes.{LaneDone, LaneUnread, StoppedBy};
 ghost use Rattle.gate_prog.specs.Turns.{EventReplied, EventLost, AnswerMade, AnswerLost, LineTaken, TurnTaken, LaneCame};
 
-use crate::event_line::read_event;
 use gate_bytes::Memory;
 use gate_core::{Event, State};
+use gate_events::event_on;
 use gate_lines::{
     Found, LaneFault, MAX_LINES, Sink, Source, asks_nothing, end_line, has_ended, next_line,
 };
@@ -19,16 +18,6 @@ use std::hash::BuildHasher;
 pub(crate) enum Turn {
     Went(u64),
     Ended(u64),
-}
-
-/// The event of a line, if it has a form.
-fn event_on(alloc: Global, line: &[u8]) -> Result<Option<Event>, Memory>
-    ensures { IfOk result (λ event. event ≡ line_event line.now) }
-{
-    match std::str::from_utf8(line) {
-        Ok(text) => read_event(alloc, text),
-        Err(_) => Ok(None),
-    }
 }
 
 /// The reply line to an event, with its newline. A step that memory ran out in is answered too.

@@ -1,12 +1,10 @@
-//! The events of a lane as lines, their replies, and the jobs of the command line.
+//! The lanes of events, their reply lines, and the jobs of the command line.
 //!
 //! The main clauses are those of [`run_lane`]: the lines written are the reply lines of the lines read.
 #![tactic(auto)]
 
 mod args;
-mod chain_line;
 mod check;
-mod event_line;
 mod job;
 mod lane;
 mod laws;

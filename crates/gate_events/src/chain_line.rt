@@ -1,7 +1,7 @@
 //! The blocks that a line of the chain spells.
 ghost use Rattle.std.specs.Prelude.{◌≡◌, ◌==◌, IfOk, map, length};
 ghost use Rattle.std.specs.List.{list_any};
-ghost use Rattle.gate_prog.specs.ChainLines.{block_of, blocks_of, words_of};
+ghost use Rattle.gate_events.specs.ChainLines.{block_of, blocks_of, words_of};
 
 use gate_block::read_block;
 use gate_bytes::{Kept, Memory};

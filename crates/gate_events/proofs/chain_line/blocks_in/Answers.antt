@@ -1,7 +1,7 @@
-use Rattle.std.proofs.Common.{◌≡◌, Some, sym, ap, ◌∙◌, map, length, ◌==◌, ◌≤◌, subst}
+use Rattle.std.proofs.Common.{Some, sym, ap, ◌∙◌, map, length, ◌==◌}
 use Rattle.std.specs.List.{list_any}
-use Rattle.gate_prog.proofs.ChainWords.{all_read, gap_read}
-use Rattle.gate_prog.proofs.chain_line.blocks_in.Goals as goal
+use Rattle.gate_events.proofs.ChainWords.{all_read, gap_read}
+use Rattle.gate_events.proofs.chain_line.blocks_in.Goals as goal
 
 pub returns : goal.returns
 returns c =

@@ -13,7 +13,7 @@ use Rattle.gate_core.specs.declared.event.Event.TheVariants as events
 use Rattle.gate_core.specs.declared.switch.Switch.{Switch}
 use Rattle.gate_core.specs.declared.switch.Switch.TheVariants.{Bloom, Upload, Historic, Download}
 use Rattle.gate_chain.specs.declared.Block.{Block}
-use Rattle.gate_prog.specs.ChainLines.{blocks_of}
+use Rattle.gate_events.specs.ChainLines.{blocks_of}
 use Rattle.gate_lines.specs.Lines.{if_text}
 use Rattle.gate_lines.specs.Words.{part_of, is_word}
 use Rattle.gate_lines.specs.Numbers.{number_of, small_number_of}

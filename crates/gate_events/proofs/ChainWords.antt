@@ -3,7 +3,7 @@ use Rattle.std.proofs.Common.{◌≡◌, ℕ, ◌≤◌, ◌==◌, ◌||◌, tru
 use Rattle.std.specs.List.{list_any}
 use Rattle.std.proofs.lemmas.List.{take_all}
 use Rattle.gate_chain.specs.declared.Block.{Block}
-use Rattle.gate_prog.specs.ChainLines.{block_of, blocks_of, words_of, has_gap}
+use Rattle.gate_events.specs.ChainLines.{block_of, blocks_of, words_of, has_gap}
 
 abbrev pub block_at : Bor (List ℕ) → Option Block
 block_at word = block_of word.now

@@ -1,6 +1,6 @@
 //! The event that a line spells.
 ghost use Rattle.std.specs.Prelude.{◌≡◌, IfOk, MatchOption, None, Some};
-ghost use Rattle.gate_prog.specs.EventLines.{event_of, numbered_of, peer_event_of, worded_event, enter_event_of, tx_event_of, user_event_of, call_event_of, chain_event_of, timed_blocks_of, operator_event_of, switch_event_of, switch_of, is_on_of, prepared_of};
+ghost use Rattle.gate_events.specs.EventLines.{line_event, event_of, numbered_of, peer_event_of, worded_event, enter_event_of, tx_event_of, user_event_of, call_event_of, chain_event_of, timed_blocks_of, operator_event_of, switch_event_of, switch_of, is_on_of, prepared_of};
 
 use crate::chain_line::blocks_in;
 use gate_admit::Prepared;
@@ -12,8 +12,18 @@ use gate_net::Address;
 use hex::FromHexError;
 use std::alloc::Global;
 
+/// The event that the bytes of a line spell, without its newline; bytes that are not UTF-8 spell none.
+pub fn event_on(alloc: Global, line: &[u8]) -> Result<Option<Event>, Memory>
+    ensures { IfOk result (λ event. event ≡ line_event line.now) }
+{
+    match std::str::from_utf8(line) {
+        Ok(text) => read_event(alloc, text),
+        Err(_) => Ok(None),
+    }
+}
+
 /// The event that a line spells, or `None` where it has no form.
-pub(crate) fn read_event(alloc: Global, line: &str) -> Result<Option<Event>, Memory>
+pub fn read_event(alloc: Global, line: &str) -> Result<Option<Event>, Memory>
     ensures { IfOk result (λ event. event ≡ event_of line.now) }
 {
     match next_word(line) {
@@ -223,7 +233,7 @@ fn is_on(text: &str) -> Option<bool>
 }
 
 /// The transaction that a text of hex spells; a text that isn't hex spells none.
-pub(crate) fn prepared(alloc: Global, text: &str) -> Result<Prepared, Memory>
+pub fn prepared(alloc: Global, text: &str) -> Result<Prepared, Memory>
     ensures { IfOk result (λ transaction. transaction ≡ prepared_of text.now) }
 {
     match hex::decode(alloc, text) {

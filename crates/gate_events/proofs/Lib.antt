@@ -1,0 +1,12 @@
+pub mod ChainWords
+pub mod Spaces
+pub mod Letters
+pub mod ReadAddresses
+pub mod Hexes
+pub mod Again
+pub mod Numbered
+pub mod PeerTexts
+pub mod OtherTexts
+pub mod ChainTexts
+pub mod SpelledTexts
+pub mod TextLines

@@ -1,0 +1,4 @@
+pub mod ChainLines
+pub mod EventLines
+pub mod EventTexts
+pub mod TextLaws

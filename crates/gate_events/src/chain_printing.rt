@@ -1,0 +1,37 @@
+//! The text of the chain's event.
+ghost use Rattle.std.specs.Prelude.{◌≡◌, IfOk, string_bytes};
+ghost use Rattle.gate_events.specs.EventTexts.{block_word, chain_text};
+
+use gate_block::write_block;
+use gate_bytes::Memory;
+use gate_chain::Block;
+use std::alloc::Global;
+
+fn block_word(alloc: Global, block: &Option<Block>) -> Result<String, Memory>
+    ensures { IfOk result (λ word. string_bytes word ≡ block_word block.now) }
+{
+    match block {
+        Some(block) => {
+            let bytes = write_block(alloc, block)?;
+            Ok(hex::encode(alloc, bytes.as_slice())?)
+        }
+        None => Ok(String::from_str(alloc, "-")?),
+    }
+}
+
+pub(crate) fn chain_text(
+    alloc: Global,
+    disconnect: u64,
+    now: u64,
+    blocks: &[Option<Block>],
+) -> Result<String, Memory>
+    ensures { IfOk result (λ text. string_bytes text ≡ chain_text disconnect now blocks.now) }
+{
+    let mut text = format!(in alloc; "chain {disconnect} {now}")?;
+    for block in blocks {
+        let word = block_word(alloc, block)?;
+        text.push(' ')?;
+        text.push_str(word.as_str())?;
+    }
+    Ok(text)
+}
