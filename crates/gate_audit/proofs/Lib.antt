@@ -1,0 +1,10 @@
+pub mod LinesTaken
+pub mod AskingTaken
+pub mod EntryTaken
+pub mod Journals
+pub mod SoFar
+pub mod Marks
+pub mod Telling
+pub mod Finding
+pub mod OneAnswer
+pub mod SomeAnswer

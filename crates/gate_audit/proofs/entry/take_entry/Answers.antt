@@ -1,0 +1,37 @@
+use Rattle.std.proofs.Common.{ap, Err, string_bytes}
+use Rattle.std.proofs.lemmas.Result.{err_from_is_err_and}
+use Rattle.gate_audit.proofs.EntryTaken.{entry_legal, entry_unreplied, entry_unspelled, handed_on, past_first, past_second}
+use Rattle.gate_audit.proofs.entry.take_entry.Goals as goal
+
+pub returns-in_err-next_asking-clause-past : goal.returns-in_err-next_asking-clause-past
+returns-in_err-next_asking-clause-past g c = λ steady err.
+    let same = handed_on _ c.in_err-next_asking.field-0.0 _ (err_from_is_err_and c.from_residual.result c.from_residual.ensures.1) err in
+    past_first _ _ (c.in_err-next_asking.ensures.past steady (ap (λ e. Err e) same))
+
+pub returns-in_default-clause-taken : goal.returns-in_default-clause-taken
+returns-in_default-clause-taken g c =
+    let read = rw c.if-not-branch.false at c.in_ok-next_asking.ensures.read in
+    let none = rw (c.in_default.is, c.as_slice.ensures) at c.in_ok-reply.ensures in
+    entry_unspelled _ (g.R.Read.remaining c.next_asking.new.reader) _ c.next_asking.new.self.number _ c.next_asking.new.self.has_ended c.args.state.now c.reply_to.new.state c.next_asking.new.self.line.items read none
+
+pub returns-in_err-reply_follows-clause-past : goal.returns-in_err-reply_follows-clause-past
+returns-in_err-reply_follows-clause-past g c = λ steady err.
+    let same = handed_on _ c.in_err-reply_follows.field-0.0 _ (err_from_is_err_and c.from_residual-in_err-reply_follows.result c.from_residual-in_err-reply_follows.ensures.1) err in
+    let read = rw c.if-not-branch.false at c.in_ok-next_asking.ensures.read in
+    let some = rw (c.in-Some.is, c.as_slice.ensures) at c.in_ok-reply.ensures in
+    past_second _ (g.R.Read.remaining c.next_asking.new.reader) _ c.next_asking.new.self.number c.next_asking.new.self.has_ended c.args.state.now c.reply_to.new.state c.next_asking.new.self.line.items (string_bytes c.in-Some.reply) read some
+    (c.in_err-reply_follows.ensures.past steady (ap (λ e. Err e) same))
+
+pub returns-then-branch-clause-taken : goal.returns-then-branch-clause-taken
+returns-then-branch-clause-taken g c =
+    let read = rw c.if-not-branch.false at c.in_ok-next_asking.ensures.read in
+    let some = rw (c.in-Some.is, c.as_slice.ensures) at c.in_ok-reply.ensures in
+    let follows = rw (c.if-branch.true, c.as_str.ensures.value) at c.in_ok-reply_follows.ensures.read in
+    entry_legal _ (g.R.Read.remaining c.next_asking.new.reader) _ _ c.next_asking.new.self.number _ c.next_asking.new.self.has_ended _ c.args.state.now c.reply_to.new.state c.next_asking.new.self.line.items (string_bytes c.in-Some.reply) read some follows
+
+pub returns-clause-taken : goal.returns-clause-taken
+returns-clause-taken g c =
+    let read = rw c.if-not-branch.false at c.in_ok-next_asking.ensures.read in
+    let some = rw (c.in-Some.is, c.as_slice.ensures) at c.in_ok-reply.ensures in
+    let follows = rw (c.if-branch.false, c.as_str.ensures.value) at c.in_ok-reply_follows.ensures.read in
+    entry_unreplied _ (g.R.Read.remaining c.next_asking.new.reader) _ c.next_asking.new.self.number _ c.next_asking.new.self.has_ended c.args.state.now c.reply_to.new.state c.next_asking.new.self.line.items (string_bytes c.in-Some.reply) read some follows

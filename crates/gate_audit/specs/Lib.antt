@@ -1,0 +1,4 @@
+pub mod Journals
+pub mod Audits
+pub mod Reading
+pub mod Laws

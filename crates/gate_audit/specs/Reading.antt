@@ -1,0 +1,96 @@
+-- What reading the lines of a journal takes from the known bytes of a reader.
+use Rattle.std.specs.Prelude.{◌≡◌, ◌≢◌, ℕ, ◌+◌, ◌<◌, ◌≤◌, Bool, true, false, List, [], ◌∷◌, ◌++◌, codes, length, Option, OnSome, Some, None, IfSome}
+use Rattle.std.specs.Io.KnownBytes.{IsAtEnd}
+use Rattle.std.specs.List.{All}
+use Rattle.gate_core.specs.declared.event.Event.{Event}
+use Rattle.gate_core.specs.Steps.{step_of}
+use Rattle.gate_core.specs.Texts.{reply_text}
+use Rattle.gate_core.specs.World.{World}
+use Rattle.gate_lines.specs.Lines.{count_limit, line_limit, lines_of}
+use Rattle.gate_audit.specs.declared.entry.Taken.{Taken}
+use Rattle.gate_audit.specs.declared.entry.Taken.TheVariants as taken
+use Rattle.gate_audit.specs.declared.lines.JournalLines.{JournalLines}
+use Rattle.gate_audit.specs.Audits.{IsBegun, IsPast, IsWrong, Spells}
+use Rattle.gate_audit.specs.Journals.{asking, counted, entry_limit, reply_line}
+
+-- what is left is what stands behind these lines
+abbrev pub Leads : Option (List ℕ) → Option (List ℕ) → List (List ℕ) → Type 0
+Leads None rest lines = Unit {0}
+Leads (Some input) None lines = ⊥
+Leads (Some input) (Some rest) lines = lines_of input ≡ lines ++ lines_of rest
+
+-- where the end was seen, nothing is left
+abbrev pub TellsEnd : Bool → Option (List ℕ) → Type 0
+TellsEnd ended rest = ended ≡ true → IsAtEnd rest
+
+-- ...of an input that is known
+abbrev pub TellsRest : Bool → Option (List ℕ) → Option (List ℕ) → Type 0
+TellsRest ended input rest = ended ≡ true → OnSome input (IsAtEnd rest)
+
+-- the next line is past a limit, behind these lines and so many before them
+abbrev pub NextIsPast : Option (List ℕ) → ℕ → List (List ℕ) → Type 0
+NextIsPast input number lines = IfSome input (λ bytes.
+    (line : List ℕ) × (rest : List (List ℕ)) × (lines_of bytes ≡ lines ++ (line ∷ rest)) × IsPast (number + length lines) line)
+
+-- these lines are within the limits, behind so many others, and this is what they ask
+pub record AreTaken (number : ℕ) (lines asked : List (List ℕ)) : Type 0 where
+  pub few : number + length lines ≤ count_limit
+  pub short : All (λ line. counted line ≤ line_limit) lines
+  pub asks : asking lines ≡ asked
+
+-- these are all lines of the input
+abbrev pub AreAll : Option (List ℕ) → List (List ℕ) → Type 0
+AreAll input lines = IfSome input (λ bytes. lines_of bytes ≡ lines)
+
+-- the next line was read, or none is left
+abbrev pub LineTaken : Option (List ℕ) → Option (List ℕ) → JournalLines → JournalLines → Bool → Type 0
+LineTaken input rest old new true = Leads input rest (new.line.items ∷ []) × (counted new.line.items ≤ line_limit)
+    × (new.number ≡ old.number + 1) × TellsRest new.has_ended input rest
+LineTaken input rest old new false = TellsEnd old.has_ended input → AreAll input []
+
+-- what was read up to the next line that asks, or to the end
+abbrev pub AskingTaken : Option (List ℕ) → Option (List ℕ) → JournalLines → JournalLines → Bool → Type 0
+AskingTaken input rest old new true = (lines : List (List ℕ)) × AreTaken old.number lines (new.line.items ∷ [])
+    × Leads input rest lines × (new.number ≡ old.number + length lines) × TellsRest new.has_ended input rest
+AskingTaken input rest old new false = (lines : List (List ℕ)) × AreTaken old.number lines [] × (TellsEnd old.has_ended input → AreAll input lines)
+
+-- a line is past a limit before one that asks
+abbrev pub AskingIsPast : Option (List ℕ) → ℕ → Type 0
+AskingIsPast input number = (lines : List (List ℕ)) × AreTaken number lines [] × NextIsPast input number lines
+
+-- the state's answer to the event that a line spells
+abbrev pub Replied : World → List ℕ → World → Option (List ℕ) → Type 0
+Replied w line w' None = (event : Event) → Spells line event → ⊥
+Replied w line w' (Some reply) = (event : Event) × Spells line event × (reply ≡ reply_text (step_of w event).0) × (w' ≡ (step_of w event).1)
+
+-- another line stands in the place of the reply's, or none
+abbrev pub IsNoReply : List (List ℕ) → List (List ℕ) → List ℕ → Type 0
+IsNoReply [] more reply = more ≡ []
+IsNoReply (line ∷ []) more reply = line ≢ codes "< " ++ reply
+IsNoReply (line ∷ other ∷ lines) more reply = ⊥
+
+abbrev pub LacksReply : Option (List ℕ) → List (List ℕ) → List (List ℕ) → List ℕ → Type 0
+LacksReply input lines asked reply = IfSome input (λ bytes. (more : List (List ℕ)) × (lines_of bytes ≡ lines ++ more) × IsNoReply asked more reply)
+
+-- these lines of the input, which ask this, are a wrong entry, with any number of entries before them
+abbrev pub IsWrongIn : World → Option (List ℕ) → List (List ℕ) → List (List ℕ) → Type 0
+IsWrongIn w input lines asked = IfSome input (λ bytes. (more : List (List ℕ)) × (lines_of bytes ≡ lines ++ more) × ((count : ℕ) → IsWrong count w asked more))
+
+-- the line of this reply follows, or another line, or none
+abbrev pub ReplyTaken : Option (List ℕ) → Option (List ℕ) → JournalLines → JournalLines → List ℕ → Bool → Type 0
+ReplyTaken input rest old new reply true = (lines : List (List ℕ)) × AreTaken old.number lines ((codes "< " ++ reply) ∷ [])
+    × Leads input rest lines × (new.number ≡ old.number + length lines) × TellsRest new.has_ended input rest
+ReplyTaken input rest old new reply false = (lines : List (List ℕ)) × (asked : List (List ℕ)) × AreTaken old.number lines asked
+    × (TellsEnd old.has_ended input → LacksReply input lines asked reply)
+
+-- what the lines of one entry came to
+abbrev pub EntryTaken : Option (List ℕ) → Option (List ℕ) → JournalLines → JournalLines → World → World → Taken → Type 0
+EntryTaken input rest old new w w' taken.Legal = (lines : List (List ℕ)) × (first : List ℕ) × (event : Event)
+    × Spells first event × AreTaken old.number lines (first ∷ reply_line (step_of w event).0 ∷ [])
+    × Leads input rest lines × (new.number ≡ old.number + length lines) × TellsRest new.has_ended input rest × (w' ≡ (step_of w event).1)
+EntryTaken input rest old new w w' taken.Wrong = (lines : List (List ℕ)) × (asked : List (List ℕ)) × AreTaken old.number lines asked
+    × (TellsEnd old.has_ended input → IsWrongIn w input lines asked)
+EntryTaken input rest old new w w' taken.End = (lines : List (List ℕ)) × AreTaken old.number lines [] × (TellsEnd old.has_ended input → AreAll input lines)
+
+abbrev pub EntryIsPast : Option (List ℕ) → ℕ → Type 0
+EntryIsPast input number = (lines : List (List ℕ)) × (asked : List (List ℕ)) × AreTaken number lines asked × ((count : ℕ) → count < entry_limit → IsBegun count asked) × NextIsPast input number lines

@@ -1,0 +1,56 @@
+//! The audit of all entries in turn.
+ghost use Rattle.std.specs.Prelude.{◌≡◌, ◌≢◌, Some, None, true, IfErr, IfOk, IfSome, IsErrOf};
+ghost use Rattle.gate_lines.specs.Lines.{lines_of};
+ghost use Rattle.gate_audit.specs.Audits.{Audited};
+
+use crate::answer::Audit;
+use crate::entry::{Taken, take_entry};
+use crate::lines::JournalLines;
+use gate_core::State;
+use gate_lines::{LaneFault, Source};
+use std::alloc::Global;
+use std::hash::BuildHasher;
+
+/// The most entries that a journal may have.
+pub const MAX_ENTRIES: u64 = 100_000;
+
+/// Audits the journal that an input says, from the state that its first event met.
+///
+/// A journal is pairs of lines, `> EVENT` and `< REPLY`, with empty lines and comments anywhere. A line is past the limits
+/// where it is the 1,000,001st, or has more than `MAX_LINE` bytes, its mark not counted. Such a line is `Read` unless an
+/// entry before it is wrong, and so is a reader that fails. No more than a line and a reply is held at a time.
+pub fn audit<S: BuildHasher + Copy + Drop, R: Source>(
+    alloc: Global,
+    mut state: State<S>,
+    reader: &mut R,
+) -> Result<Audit, LaneFault>
+    ensures told { IfOk result (λ audit. IfSome (R.remaining reader.old) (λ input. Audited state (lines_of input) (Some audit))) }
+    ensures past { R.steady ≡ true → IsErrOf result LaneFault.Read → IfSome (R.remaining reader.old) (λ input. Audited state (lines_of input) None) }
+    ensures kind { IfErr result (λ fault. fault ≢ LaneFault.Write) }
+{
+    audit_entries(alloc, &mut state, reader)
+}
+
+/// The audit of all entries in turn, whose steps the state makes.
+fn audit_entries<S: BuildHasher + Copy + Drop, R: Source>(
+    alloc: Global,
+    state: &mut State<S>,
+    reader: &mut R,
+) -> Result<Audit, LaneFault>
+    ensures told { IfOk result (λ audit. IfSome (R.remaining reader.old) (λ input. Audited state.old (lines_of input) (Some audit))) }
+    ensures past { R.steady ≡ true → IsErrOf result LaneFault.Read → IfSome (R.remaining reader.old) (λ input. Audited state.old (lines_of input) None) }
+    ensures kind { IfErr result (λ fault. fault ≢ LaneFault.Write) }
+{
+    let mut lines = JournalLines::new(alloc);
+    for before in 0..MAX_ENTRIES {
+        match take_entry(alloc, state, reader, &mut lines)? {
+            Taken::Legal => {}
+            Taken::Wrong => return Ok(Audit::Illegal(before + 1)),
+            Taken::End => return Ok(Audit::Legal(before)),
+        }
+    }
+    if lines.next_asking(reader)? {
+        return Ok(Audit::Illegal(MAX_ENTRIES + 1));
+    }
+    Ok(Audit::Legal(MAX_ENTRIES))
+}

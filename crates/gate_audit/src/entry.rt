@@ -1,0 +1,101 @@
+//! One entry of a journal: the line of an event, and the line of its reply.
+ghost use Rattle.std.specs.Prelude.{◌≡◌, ◌≢◌, ◌++◌, MatchOption, ℕ, List, ◌↔◌, IsTrue, codes, true, IfErr, IfOk, IsErrOf, string_bytes};
+ghost use Rattle.std.specs.Option.{option_map};
+ghost use Rattle.gate_audit.specs.Journals.{event_line};
+ghost use Rattle.gate_audit.specs.Reading.{AskingIsPast, EntryIsPast, EntryTaken, Replied, ReplyTaken};
+
+use crate::lines::JournalLines;
+use gate_bytes::Memory;
+use gate_core::State;
+use gate_events::event_on;
+use gate_lines::{LaneFault, Source};
+use std::alloc::Global;
+use std::hash::BuildHasher;
+
+/// What the lines of an entry came to.
+#[derive(Clone, Copy, Debug, PartialEq, Eq)]
+pub(crate) enum Taken {
+    /// They spell an event, and say its reply.
+    Legal,
+    /// They don't.
+    Wrong,
+    /// There are none: the journal ends here.
+    End,
+}
+
+/// What an event line spells: the text behind its mark.
+fn spelling(line: &[u8]) -> Option<&[u8]>
+    ensures { MatchOption result ((text : List ℕ) → line.now ≢ event_line text) (λ text. line.now ≡ event_line text.now) }
+{
+    line.strip_prefix(b"> ")
+}
+
+/// Whether a line is that of the reply with this text.
+fn says(line: &[u8], reply: &str) -> bool
+    ensures { IsTrue result ↔ (line.now ≡ codes "< " ++ reply.now) }
+{
+    match line.strip_prefix(b"< ") {
+        Some(text) => text == reply.as_bytes(),
+        None => false,
+    }
+}
+
+/// The text of the reply to the event that a line spells, or `None` where it spells none.
+fn reply_to<S: BuildHasher + Copy + Drop>(
+    alloc: Global,
+    state: &mut State<S>,
+    line: &[u8],
+) -> Result<Option<String>, Memory>
+    ensures { IfOk result (λ reply. Replied state.old line.now state.new (option_map string_bytes reply)) }
+{
+    let Some(text) = spelling(line) else {
+        return Ok(None);
+    };
+    let Some(event) = event_on(alloc, text)? else {
+        return Ok(None);
+    };
+    let Ok(reply) = state.step(alloc, &event) else {
+        return Err(Memory);
+    };
+    Ok(Some(reply.text(alloc)?))
+}
+
+/// Whether the next line that asks is that of the reply with this text.
+fn reply_follows<R: Source>(
+    reader: &mut R,
+    lines: &mut JournalLines,
+    reply: &str,
+) -> Result<bool, LaneFault>
+    ensures read { IfOk result (λ follows. ReplyTaken (R.remaining reader.old) (R.remaining reader.new) lines.old lines.new reply.now follows) }
+    ensures past { R.steady ≡ true → IsErrOf result LaneFault.Read → AskingIsPast (R.remaining reader.old) lines.old.number }
+    ensures kind { IfErr result (λ fault. fault ≢ LaneFault.Write) }
+{
+    if !lines.next_asking(reader)? {
+        return Ok(false);
+    }
+    Ok(says(lines.as_slice(), reply))
+}
+
+/// Reads the lines of the next entry, and makes its step.
+pub(crate) fn take_entry<S: BuildHasher + Copy + Drop, R: Source>(
+    alloc: Global,
+    state: &mut State<S>,
+    reader: &mut R,
+    lines: &mut JournalLines,
+) -> Result<Taken, LaneFault>
+    ensures taken { IfOk result (λ taken. EntryTaken (R.remaining reader.old) (R.remaining reader.new) lines.old lines.new state.old state.new taken) }
+    ensures past { R.steady ≡ true → IsErrOf result LaneFault.Read → EntryIsPast (R.remaining reader.old) lines.old.number }
+    ensures kind { IfErr result (λ fault. fault ≢ LaneFault.Write) }
+{
+    if !lines.next_asking(reader)? {
+        return Ok(Taken::End);
+    }
+    let Some(reply) = reply_to(alloc, state, lines.as_slice())? else {
+        return Ok(Taken::Wrong);
+    };
+    if reply_follows(reader, lines, reply.as_str())? {
+        Ok(Taken::Legal)
+    } else {
+        Ok(Taken::Wrong)
+    }
+}
