@@ -1,0 +1,14 @@
+-- What legal journals come to.
+use Rattle.std.specs.Prelude.{◌≡◌, ℕ, List, ◌++◌, ◌↔◌, take}
+use Rattle.gate_core.specs.World.{World}
+use Rattle.gate_journal.specs.declared.entry.Entry.{Entry}
+use Rattle.gate_journal.specs.Legal.{IsLegal, state_after}
+
+abbrev pub LegalJournalsBeginLegal : Type 0
+LegalJournalsBeginLegal = (w : World) (entries : List Entry) (n : ℕ) → IsLegal w entries → IsLegal w (take n entries)
+
+abbrev pub LegalJournalsGoOn : Type 0
+LegalJournalsGoOn =
+    (w : World) (entries more : List Entry)
+    → (IsLegal w (entries ++ more) ↔ (IsLegal w entries × IsLegal (state_after w entries) more))
+    × (state_after w (entries ++ more) ≡ state_after (state_after w entries) more)

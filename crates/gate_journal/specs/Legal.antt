@@ -1,0 +1,37 @@
+-- Journals, and which of them are those of a run.
+use Rattle.std.specs.Prelude.{◌≡◌, ◌<◌, ◌≤◌, ℕ, ◌-◌, List, map, take, length}
+use Rattle.gate_core.specs.declared.event.Event.{Event}
+use Rattle.gate_core.specs.declared.reply.Reply.{Reply}
+use Rattle.gate_core.specs.World.{World}
+use Rattle.gate_core.specs.Runs.{run_of}
+use Rattle.gate_journal.specs.declared.entry.Entry.{Entry}
+
+-- an event under the pass of this number, and its reply
+abbrev pub entry : ℕ → Event → Reply → Entry
+entry pass event reply = record { pass = pass; event = event; reply = reply }
+
+-- the entries, oldest first, and how many more there can be without memory
+pub record Recorded : Type 0 where
+  pub entries : List Entry
+  pub room : ℕ
+
+abbrev pub events_of : List Entry → List Event
+events_of entries = map (λ (e : Entry). e.event) entries
+
+abbrev pub replies_of : List Entry → List Reply
+replies_of entries = map (λ (e : Entry). e.reply) entries
+
+-- a journal is legal from a state where its replies are those of the run over its events
+abbrev pub IsLegal : World → List Entry → Type 0
+IsLegal w entries = replies_of entries ≡ (run_of w (events_of entries)).0
+
+-- the state that it leads to
+abbrev pub state_after : World → List Entry → World
+state_after w entries = (run_of w (events_of entries)).1
+
+-- the journal is legal up to the entry before that of this number, from 1, and with it it isn't
+pub record IsFirstIllegal (w : World) (entries : List Entry) (number : ℕ) : Type 0 where
+  pub counted : 0 < number
+  pub within : number ≤ length entries
+  pub before : IsLegal w (take (number - 1) entries)
+  pub with_it : ¬ IsLegal w (take number entries)

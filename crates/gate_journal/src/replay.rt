@@ -1,0 +1,45 @@
+//! Whether a journal is the one of a run.
+ghost use Rattle.std.specs.Prelude.{◌≡◌, ◌≢◌, ◌↔◌, IfOk, IfSome, MatchBool, None};
+ghost use Rattle.gate_core.specs.Steps.{step_of};
+ghost use Rattle.gate_journal.specs.Legal.{IsLegal, IsFirstIllegal};
+
+use crate::entry::Entry;
+use crate::journal::Journal;
+use gate_bytes::Memory;
+use gate_core::{State, is_same_reply};
+use std::alloc::Global;
+use std::hash::BuildHasher;
+
+/// Makes the event of an entry: whether the reply is the one that was recorded.
+fn replays<S: BuildHasher + Copy + Drop>(
+    alloc: Global,
+    state: &mut State<S>,
+    entry: &Entry,
+) -> Result<bool, Memory>
+    ensures { IfOk result (λ same. MatchBool same ((entry.now.reply, state.new) ≡ step_of state.old entry.now.event) (entry.now.reply ≢ (step_of state.old entry.now.event).0)) }
+{
+    match state.step(alloc, &entry.event) {
+        Ok(reply) => Ok(is_same_reply(&entry.reply, &reply)),
+        Err(_) => Err(Memory),
+    }
+}
+
+/// The number, from 1, of the first entry whose reply is not that of the step after those before it: `None` where the
+/// journal is legal from this state. The events are stepped through in a copy of the state.
+pub fn replay_check<S: BuildHasher + Copy + Drop>(
+    alloc: Global,
+    state: &State<S>,
+    journal: &Journal,
+) -> Result<Option<u64>, Memory>
+    ensures legal { IfOk result (λ found. (found ≡ None) ↔ IsLegal state.now journal.now.entries) }
+    ensures first { IfOk result (λ found. IfSome found (IsFirstIllegal state.now journal.now.entries)) }
+{
+    let mut now = state.copy(alloc)?;
+    for (i, entry) in journal.entries().iter().enumerate() {
+        let same = replays(alloc, &mut now, entry)?;
+        if !same {
+            return Ok(Some(i as u64 + 1));
+        }
+    }
+    Ok(None)
+}
