@@ -1,0 +1,4 @@
+pub mod Claims
+pub mod Growing
+pub mod Owners
+pub mod Passes

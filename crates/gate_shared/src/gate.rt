@@ -1,0 +1,78 @@
+//! One state under one lock, for many callers.
+ghost use Rattle.std.specs.Prelude.{◌≡◌, ◌≤◌, [], length, Some, IfOk, IfErr, OnErr, IsErrOf};
+ghost use Rattle.gate_core.specs.Callers.{caller_of};
+ghost use Rattle.gate_shared.specs.declared.receipt.Made.{Made as TheMade};
+ghost use Rattle.gate_shared.specs.declared.receipt.Receipt.{Receipt as TheReceipt};
+ghost use Rattle.gate_shared.specs.Calls.{last_call};
+ghost use Rattle.gate_shared.specs.Held.{Called, Enrolled, Grows, IsRecorded};
+ghost use Rattle.gate_shared.specs.Settling.{SettlesAll, WhyNone};
+
+use crate::base::Base;
+use crate::pass::Pass;
+use crate::receipt::Receipt;
+use crate::settle::{SettleFault, Settled};
+use crate::shared::{CallFault, Shared};
+use gate_bytes::Memory;
+use gate_core::{Caller, Event, State};
+use std::alloc::Global;
+use std::hash::BuildHasher;
+use std::sync::{Mutex, Wait};
+
+/// One state under one lock. Each call is one step of it and one entry of its journal.
+#[derive(Drop)]
+pub struct Gate<N: Base, S: BuildHasher + Copy + Drop> {
+    pub(crate) shared: Mutex<Shared<N, S>>,
+}
+
+impl<N: Base, S: BuildHasher + Copy + Drop> Gate<N, S> {
+    /// A gate on the state of its name.
+    pub fn open(alloc: Global, state: State<S>) -> Gate<N, S>
+        requires { state ≡ N.base }
+    {
+        Gate {
+            shared: Mutex::new(Shared::new(alloc, state)),
+        }
+    }
+
+    /// A pass of a caller, with no calls and the next number.
+    pub fn enroll<R: Wait>(&self, rt: &R, alloc: Global, caller: &Caller) -> Result<Pass<N>, Memory>
+        ensures enrolled { IfOk result (Enrolled N.base caller.now) }
+        ensures caller { IfOk result (λ p. p.caller ≡ caller.now) }
+        ensures calls { IfOk result (λ p. p.calls ≡ []) }
+    {
+        self.shared.lock(rt).enroll(alloc, caller)
+    }
+
+    /// Makes an event under a pass, as one step of the gate. After a fault the pass is what it was.
+    pub fn call<R: Wait>(
+        &self,
+        rt: &R,
+        alloc: Global,
+        pass: &mut Pass<N>,
+        event: &Event,
+    ) -> Result<Receipt, CallFault>
+        ensures called { Called N.base pass.old pass.new event.now result }
+        ensures grows { IfOk result (Grows pass.old pass.new event.now) }
+        ensures recorded { IfOk result (IsRecorded N.base pass.old event.now) }
+        ensures kept { OnErr result (pass.new ≡ pass.old) }
+        ensures wrong_caller { ¬ (caller_of event.now ≡ pass.old.caller) → IsErrOf result CallFault.WrongCaller }
+        ensures pass_full { caller_of event.now ≡ pass.old.caller → 65536 ≤ length pass.old.calls → IsErrOf result CallFault.PassFull }
+        ensures history_short { (r : TheReceipt) → IsErrOf result (CallFault.HistoryShort r) → (c : TheMade) × (last_call pass.old.calls ≡ Some c) × (r ≡ c.receipt) }
+    {
+        self.shared.lock(rt).apply(alloc, pass, event)
+    }
+
+    /// Settles passes: the entries of the journal are exactly their calls, each once and at its receipt's number. A fault
+    /// hands the passes back.
+    pub fn settle<R: Wait>(
+        &self,
+        rt: &R,
+        alloc: Global,
+        passes: Vec<Pass<N>>,
+    ) -> Result<Settled, SettleFault<N>>
+        ensures ok { IfOk result (SettlesAll N.base passes.items) }
+        ensures err { IfErr result (λ fault. WhyNone N.base passes.items fault.why × (fault.passes ≡ passes)) }
+    {
+        self.shared.lock(rt).settle(alloc, passes)
+    }
+}

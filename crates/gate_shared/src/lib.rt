@@ -1,0 +1,21 @@
+//! The shared gate: one state behind one lock, the journal of its events, and passes whose receipts settle with it.
+//!
+//! The main clauses are those of `Shared::apply`, the one change that is made under the lock, of `Gate::call`, and of
+//! `Gate::settle`, by which the entries of the journal are exactly the calls of the passes.
+#![tactic(auto)]
+
+mod base;
+mod ending;
+mod gate;
+mod pass;
+mod receipt;
+mod settle;
+mod shared;
+
+pub use base::Base;
+pub use ending::{FinishFault, finish};
+pub use gate::Gate;
+pub use pass::{MAX_CALLS, Pass};
+pub use receipt::{Made, Receipt};
+pub use settle::{Owner, SettleFault, Settled, Unsettled};
+pub use shared::{CallFault, Shared};

@@ -1,0 +1,85 @@
+//! The right to make events, with those that were made under it.
+ghost use Rattle.std.specs.Prelude.{◌≡◌, ◌≤◌, ◌↔◌, IsTrue, length};
+ghost use Rattle.std.specs.Option.{option_copied};
+
+use crate::base::Base;
+use crate::receipt::Made;
+use gate_core::{Caller, is_same_event, is_same_reply};
+use gate_journal::Entry;
+use std::marker::{Model, PhantomData};
+
+/// The most calls of a pass.
+pub const MAX_CALLS: usize = 65_536;
+
+/// The right of a caller to make events of its own, with all that it made, oldest first.
+#[derive(Drop)]
+pub struct Pass<N: Base> {
+    pub(crate) number: u64,
+    pub(crate) caller: Caller,
+    pub(crate) calls: Vec<Made>,
+    pub(crate) of: PhantomData<N>,
+}
+
+impl<N: Base> Model for Pass<N> {
+    ghost use Rattle.gate_shared.specs.Calls.{PassView, Rises};
+
+    ghost Value = { PassView };
+
+    ghost view = { λ p. record { number = p.number; caller = p.caller; calls = p.calls.items } };
+
+    ghost invariant = { λ p. Rises 0 p.calls.items };
+}
+
+impl<N: Base> Pass<N> {
+    ghost use Rattle.gate_shared.specs.Calls.{Rises, last_call};
+
+    pub fn number(&self) -> u64
+        ensures { result ≡ self.now.number }
+    {
+        self.number
+    }
+
+    pub fn caller(&self) -> &Caller
+        ensures { result.now ≡ self.now.caller }
+    {
+        &self.caller
+    }
+
+    /// Its calls, oldest first: the numbers of their receipts rise.
+    pub fn calls(&self) -> &[Made]
+        ensures calls { result.now ≡ self.now.calls }
+        ensures rises { Rises 0 self.now.calls }
+    {
+        self.calls.as_slice()
+    }
+
+    /// The newest of its calls.
+    pub fn last(&self) -> Option<&Made>
+        ensures { option_copied result ≡ last_call self.now.calls }
+    {
+        self.calls.last()
+    }
+
+    /// Whether it has all the calls that it may have.
+    pub fn is_full(&self) -> bool
+        ensures { IsTrue result ↔ (65536 ≤ length self.now.calls) }
+    {
+        self.calls.len() >= MAX_CALLS
+    }
+}
+
+ghost use Rattle.gate_shared.specs.Calls.{Stands};
+
+/// Whether a call of the pass with this number stands in a journal at the place that its receipt names.
+pub(crate) fn stands(entries: &[Entry], pass: u64, call: &Made) -> bool
+    ensures { IsTrue result ↔ Stands entries.now pass call.now }
+{
+    let number = call.receipt.number;
+    if number == 0 || number > entries.len() as u64 {
+        return false;
+    }
+    let entry = &entries[(number - 1) as usize];
+    entry.pass == pass
+        && is_same_event(&entry.event, &call.event)
+        && is_same_reply(&entry.reply, &call.receipt.reply)
+}

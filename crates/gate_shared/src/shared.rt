@@ -1,0 +1,214 @@
+//! What lies under the lock, and its one change.
+ghost use Rattle.std.specs.Prelude.{◌≡◌, [], IfOk, IfErr, OnErr, MatchResult};
+ghost use Rattle.gate_core.specs.Good.{StepGives};
+ghost use Rattle.gate_core.specs.Steps.{step_of};
+
+use crate::base::Base;
+use crate::pass::{Pass, stands};
+use crate::receipt::{Made, Receipt};
+use crate::settle::{SettleFault, Settled, settle};
+use gate_bytes::{Copied, Memory};
+use gate_core::{Caller, Event, Replies, State};
+use gate_journal::{Entry, Journal};
+use std::alloc::Global;
+use std::hash::BuildHasher;
+use std::marker::{Model, PhantomData};
+use thiserror::Error;
+
+/// Why a call was not made: the first of these in their order.
+#[derive(Debug, Drop, Error)]
+pub enum CallFault {
+    /// The event is another caller's.
+    #[error("the event is another caller's")]
+    WrongCaller,
+    /// The pass has 65,536 receipts.
+    #[error("the pass is full")]
+    PassFull,
+    /// The journal does not have this last receipt of the pass at its place.
+    #[error("the journal lacks the pass's last receipt")]
+    HistoryShort(Receipt),
+    /// The journal has 100,000 entries.
+    #[error("the journal is full")]
+    AuditFull,
+    #[error("out of memory")]
+    Memory,
+}
+
+/// The state, the journal that led to it from the state of its name, and how many passes were given out.
+#[derive(Drop)]
+pub struct Shared<N: Base, S: BuildHasher + Copy + Drop> {
+    state: State<S>,
+    journal: Journal,
+    passes: u64,
+    of: PhantomData<N>,
+}
+
+impl<N: Base, S: BuildHasher + Copy + Drop> Model for Shared<N, S> {
+    ghost use Rattle.gate_shared.specs.Held.{Held, IsHeld, held};
+
+    ghost Value = { Held };
+
+    ghost view = { λ s. held s.state s.journal.entries s.passes };
+
+    ghost invariant = { λ s. IsHeld N.base (held s.state s.journal.entries s.passes) };
+}
+
+/// The step with copies of its reply, of which nothing but memory can be lacking.
+fn step<S: BuildHasher + Copy + Drop>(
+    alloc: Global,
+    state: &mut State<S>,
+    event: &Event,
+) -> Result<Replies, Memory>
+    ensures exact { IfOk result (λ r. (r.reply, state.new) ≡ step_of state.old event.now) }
+    ensures good { IfOk result (λ r. StepGives state.old event.now r.reply state.new) }
+    ensures copies { IfOk result (λ r. (r.receipt ≡ r.reply) × (r.entry ≡ r.reply)) }
+    ensures err { OnErr result (state.new ≡ state.old) }
+{
+    match state.step_recorded(alloc, event) {
+        Ok(replies) => Ok(replies),
+        Err(_) => Err(Memory),
+    }
+}
+
+impl<N: Base, S: BuildHasher + Copy + Drop> Shared<N, S> {
+    ghost use Rattle.gate_shared.specs.Held.{held, IsHeld, Enters, Enrolls, FirstFault, NoFault, Applies};
+    ghost use Rattle.gate_shared.specs.Calls.{EachBelow};
+    ghost use Rattle.gate_shared.specs.Settling.{IsSettled, WhyUnsettled};
+
+    /// The state of the name, with an empty journal.
+    pub fn new(alloc: Global, state: State<S>) -> Shared<N, S>
+        requires { state ≡ N.base }
+        ensures { result ≡ held state [] 0 }
+    {
+        Shared {
+            state,
+            journal: Journal::new(alloc),
+            passes: 0,
+            of: PhantomData,
+        }
+    }
+
+    /// What it keeps: it does nothing.
+    pub fn tells_held(&self)
+        ensures { IsHeld N.base self.now }
+    {
+        let _passes = &self.passes;
+    }
+
+    /// The first fault of a call, if there is one.
+    fn fault(&self, alloc: Global, pass: &Pass<N>, event: &Event) -> Result<(), CallFault>
+        ensures { MatchResult result (λ _. NoFault self.now pass.now event.now) (FirstFault self.now pass.now event.now) }
+    {
+        if !event.is_of(pass.caller()) {
+            return Err(CallFault::WrongCaller);
+        }
+        if pass.is_full() {
+            return Err(CallFault::PassFull);
+        }
+        if let Some(call) = pass.last() {
+            if !stands(self.journal.entries(), pass.number(), call) {
+                return match call.receipt.copy(alloc) {
+                    Ok(receipt) => Err(CallFault::HistoryShort(receipt)),
+                    Err(_) => Err(CallFault::Memory),
+                };
+            }
+        }
+        if self.journal.is_full() {
+            return Err(CallFault::AuditFull);
+        }
+        Ok(())
+    }
+
+    /// Makes an event that has no fault. All memory is taken before anything changes.
+    fn enter(&mut self, alloc: Global, pass: &mut Pass<N>, event: &Event) -> Result<Receipt, Memory>
+        requires { NoFault self.old pass.old event.now }
+        ensures ok { IfOk result (Enters self.old self.new pass.old pass.new event.now) }
+        ensures above { IfOk result (λ r. EachBelow r.number pass.old.calls) }
+        ensures shared { OnErr result (self.new ≡ self.old) }
+        ensures pass { OnErr result (pass.new ≡ pass.old) }
+    {
+        let noted = event.copy(alloc)?;
+        let kept = event.copy(alloc)?;
+        self.journal.reserve()?;
+        pass.calls.reserve(1)?;
+        let Replies {
+            reply,
+            receipt,
+            entry,
+        } = step(alloc, &mut self.state, event)?;
+        let number = self.journal.len() as u64 + 1;
+        self.journal.push(Entry {
+            pass: pass.number,
+            event: noted,
+            reply: entry,
+        });
+        pass.calls.push_reserved(Made {
+            event: kept,
+            receipt: Receipt {
+                number,
+                reply: receipt,
+            },
+        });
+        Ok(Receipt { number, reply })
+    }
+
+    /// The one change: the event is made under the pass, or nothing changes.
+    pub fn apply(
+        &mut self,
+        alloc: Global,
+        pass: &mut Pass<N>,
+        event: &Event,
+    ) -> Result<Receipt, CallFault>
+        ensures applies { Applies self.old self.new pass.old pass.new event.now result }
+        ensures above { IfOk result (λ r. EachBelow r.number pass.old.calls) }
+        ensures was { IsHeld N.base self.old }
+        ensures is { IsHeld N.base self.new }
+    {
+        self.tells_held();
+        self.fault(alloc, pass, event)?;
+        match self.enter(alloc, pass, event) {
+            Ok(receipt) => {
+                self.tells_held();
+                Ok(receipt)
+            }
+            Err(Memory) => Err(CallFault::Memory),
+        }
+    }
+
+    /// A pass of a caller, with no calls and the next number.
+    pub fn enroll(&mut self, alloc: Global, caller: &Caller) -> Result<Pass<N>, Memory>
+        ensures ok { IfOk result (Enrolls self.old self.new caller.now) }
+        ensures err { OnErr result (self.new ≡ self.old) }
+        ensures was { IsHeld N.base self.old }
+        ensures is { IsHeld N.base self.new }
+    {
+        self.tells_held();
+        let caller = caller.copy(alloc)?;
+        self.passes = self.passes.saturating_add(1);
+        Ok(Pass {
+            number: self.passes,
+            caller,
+            calls: Vec::new(alloc),
+            of: PhantomData,
+        })
+    }
+
+    /// Settles passes with the journal. A fault hands the passes back.
+    pub fn settle(&self, alloc: Global, passes: Vec<Pass<N>>) -> Result<Settled, SettleFault<N>>
+        ensures is { IsHeld N.base self.now }
+        ensures ok { IfOk result (IsSettled self.now.journal passes.items) }
+        ensures err { IfErr result (λ fault. WhyUnsettled self.now.journal passes.items fault.why × (fault.passes ≡ passes)) }
+    {
+        match settle(alloc, &self.journal, passes.as_slice()) {
+            Ok(settled) => Ok(settled),
+            Err(why) => Err(SettleFault { why, passes }),
+        }
+    }
+
+    pub fn into_state(self) -> State<S>
+        ensures { result ≡ self.state }
+    {
+        let Shared { state, .. } = self;
+        state
+    }
+}
