@@ -1,5 +1,4 @@
-"""Streams of blocks: each is told by a name, its opening, what comes before the events that are measured, these events,
-how often each reply comes in all, and how many transactions an event has."""
+"""Blocks that come and go under a pool of entries."""
 
 import families
 import stream
@@ -30,9 +29,9 @@ def payment(number):
     return stream.transaction([number], [stream.VALUE - PAYMENT])
 
 
-def connecting(number, size):
-    """The event of a block that confirms so many entries."""
-    first = number * size + 1
+def connecting(number, pool, size):
+    """The event of a block that confirms so many entries of a pool, others than the block before it."""
+    first = number * size % pool + 1
     return "chain 0 5000 %s\n" % block(number, [payment(each) for each in range(first, first + size)])
 
 
@@ -40,16 +39,9 @@ def entries(pool):
     return (stream.submission(payment(number)) for number in range(1, pool + 1))
 
 
-def confirming(pool, size, count):
-    """Blocks that confirm entries of the pool."""
-    events = [connecting(number, size) for number in range(count)]
-    name = "a block of %d transactions connected, each an entry of a pool of %d" % (size, pool)
-    return name, list(stream.coins(pool)), entries(pool), events, {"entered": 1, "admitted": pool, "chain": count}, size
-
-
-def returning(pool, size, count):
-    """Blocks that are disconnected, so that their transactions come back."""
-    before = list(entries(pool)) + [connecting(number, size) for number in range(count)]
-    events = ["chain 1 5000\n"] * count
-    name = "a block of %d transactions disconnected, each of which comes back into a pool of %d" % (size, pool)
-    return name, list(stream.coins(pool)), before, events, {"entered": 1, "admitted": pool, "chain": 2 * count}, size
+def turns(pool, size, count):
+    """Blocks that confirm entries of a pool, each of which goes again before the next comes: its opening, what comes
+    before, and each block's two events with the first words of their replies."""
+    head = stream.coins(pool), entries(pool)
+    pairs = ((connecting(number, pool, size), "chain 1 5000\n") for number in range(count))
+    return head, pairs, ("chain 101 removed %d entered 0" % size, "chain 100 removed 0 entered %d" % size)

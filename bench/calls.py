@@ -6,6 +6,9 @@ import json
 import families
 import stream
 
+TAPROOT = "5120" + "22" * 32
+DEAR = 1000000
+
 
 def call(method, *params):
     text = {"method": method, "params": list(params), "id": 1}
@@ -15,7 +18,7 @@ def call(method, *params):
 def listing(pool, count):
     """The whole pool, which is told by its txids."""
     before = [families.paying([number], [stream.VALUE - families.PAYMENT]) for number in range(1, pool + 1)]
-    wanted = {"entered": 1, "admitted": pool, "rpc": count}
+    wanted = {"entered": 1, "admitted": pool, "rpc 200": count}
     return "getrawmempool of %d entries" % pool, list(stream.coins(pool)), before, [call("getrawmempool")] * count, wanted
 
 
@@ -23,7 +26,7 @@ def entry(count):
     """The last of a chain."""
     before = list(families.chain(1, families.CHAIN))
     txid = stream.reversed_bytes(last_hash())
-    wanted = {"entered": 1, "admitted": families.CHAIN, "rpc": count}
+    wanted = {"entered": 1, "admitted": families.CHAIN, "rpc 200": count}
     return "getmempoolentry at a chain of %d" % families.CHAIN, list(stream.coins(1)), before, [call("getmempoolentry", txid)] * count, wanted
 
 
@@ -37,8 +40,24 @@ def last_hash():
     return hash
 
 
-def large_submission(count, outputs=12900):
+def denied_submission(count, outputs=12900):
     """A transaction of some 400,000 bytes, which weighs too much: it is read, and denied by A13."""
     digits = stream.transaction([1], [1000] * outputs, witness=False)
-    wanted = {"entered": 1, "rpc": count}
-    return "sendrawtransaction of %d bytes" % (len(digits) // 2), list(stream.coins(1)), [], [call("sendrawtransaction", digits)] * count, wanted
+    wanted = {"entered": 1, "rpc 500": count}
+    return "sendrawtransaction of %d bytes, denied by A13" % (len(digits) // 2), list(stream.coins(1)), [], [call("sendrawtransaction", digits)] * count, wanted
+
+
+def large_submissions(count, length=399500):
+    """Transactions of some 400,000 bytes that are admitted: nearly all of each is one witness item of a Taproot coin."""
+    made = [spending_by_script(number, length) for number in range(1, count + 1)]
+    opening = [line.replace(stream.SCRIPT, TAPROOT) for line in stream.coins(count, DEAR)]
+    wanted = {"entered": 1, "rpc 200": count}
+    return "sendrawtransaction of %d bytes, admitted" % (len(made[0]) // 2), opening, [], [call("sendrawtransaction", digits) for digits in made], wanted
+
+
+def spending_by_script(number, length):
+    """A transaction that spends a Taproot coin by a script of a leaf version that has no rules yet (BIP 341)."""
+    item = "fe" + length.to_bytes(4, "little").hex() + "02" * length
+    witness = "03" + item + "01" + "51" + "21" + "c2" + "02" * 32
+    digits = stream.transaction([number], [DEAR - length], witness=False)
+    return digits[:8] + "0001" + digits[8:-8] + witness + digits[-8:]

@@ -111,3 +111,192 @@ fn entries_that_are_refused(rt: HostRuntime) -> Result<(), Fail> {
     }
     Ok(())
 }
+
+/// Whether each of the texts between the spaces is read as the address that is printed so.
+fn all_print(alloc: Global, texts: &str, printed: &str) -> Result<bool, Fail> {
+    for text in texts.split(' ') {
+        let Some(address) = Address::parse(text) else {
+            return Ok(false);
+        };
+        if !prints(alloc, &address, printed)? {
+            return Ok(false);
+        }
+    }
+    Ok(true)
+}
+
+// RFC 4291, 2.2; RFC 5952, 1, 2, 4 and 6; Bitcoin Core 22.0, netbase_tests, embedded_test.
+#[test]
+fn texts_of_one_address(rt: HostRuntime) -> Result<(), Fail> {
+    let rows = [
+        (
+            "2001:DB8:0:0:8:800:200C:417A 2001:DB8::8:800:200C:417A",
+            "2001:db8:0:0:8:800:200c:417a",
+        ),
+        ("FF01:0:0:0:0:0:0:101 FF01::101", "ff01:0:0:0:0:0:0:101"),
+        ("0:0:0:0:0:0:0:1 ::1", "0:0:0:0:0:0:0:1"),
+        ("0:0:0:0:0:0:0:0 ::", "0:0:0:0:0:0:0:0"),
+        (
+            "2001:db8:0:0:1:0:0:1 2001:0db8:0:0:1:0:0:1 2001:db8::1:0:0:1 2001:db8::0:1:0:0:1 2001:0db8::1:0:0:1 2001:db8:0:0:1::1 2001:db8:0000:0:1::1 2001:DB8:0:0:1::1",
+            "2001:db8:0:0:1:0:0:1",
+        ),
+        (
+            "2001:db8:aaaa:bbbb:cccc:dddd:eeee:0001 2001:db8:aaaa:bbbb:cccc:dddd:eeee:01 2001:db8:aaaa:bbbb:cccc:dddd:eeee:1",
+            "2001:db8:aaaa:bbbb:cccc:dddd:eeee:1",
+        ),
+        (
+            "2001:db8:aaaa:bbbb:cccc:dddd::1 2001:db8:aaaa:bbbb:cccc:dddd:0:1",
+            "2001:db8:aaaa:bbbb:cccc:dddd:0:1",
+        ),
+        (
+            "2001:db8:0:0:0::1 2001:db8:0:0::1 2001:db8:0::1 2001:db8::1",
+            "2001:db8:0:0:0:0:0:1",
+        ),
+        (
+            "2001:db8::aaaa:0:0:1 2001:db8:0:0:aaaa::1",
+            "2001:db8:0:0:aaaa:0:0:1",
+        ),
+        (
+            "2001:db8:aaaa:bbbb:cccc:dddd:eeee:AAAA 2001:db8:aaaa:bbbb:cccc:dddd:eeee:AaAa",
+            "2001:db8:aaaa:bbbb:cccc:dddd:eeee:aaaa",
+        ),
+        (
+            "2001:db8:0:1:1:1:1:1 2001:db8::1:1:1:1:1",
+            "2001:db8:0:1:1:1:1:1",
+        ),
+        ("2001:0:0:1:0:0:0:1 2001:0:0:1::1", "2001:0:0:1:0:0:0:1"),
+        ("2001:db8::1:80", "2001:db8:0:0:0:0:1:80"),
+        ("1.2.3.4 ::FFFF:0102:0304", "1.2.3.4"),
+    ];
+    for (texts, printed) in rows {
+        assert!(rt; all_print(rt.alloc(), texts, printed)?, "{printed}");
+    }
+    Ok(())
+}
+
+// RFC 4291, 2.2 and 2.3; RFC 5952, 5 and 6; RFC 3986 has no leading zeros.
+#[test]
+fn texts_of_no_address(rt: HostRuntime) {
+    let texts = [
+        "0:0:0:0:0:0:13.1.68.3",
+        "0:0:0:0:0:FFFF:129.144.52.38",
+        "::FFFF:129.144.52.38",
+        "2001:0DB8:0:CD3",
+        "[2001:db8::1]",
+        "[2001:db8::1]:80",
+        "2001:db8::1.80",
+        "2001:db8::1p80",
+        "2001:db8::1#80",
+        ":::",
+        ":1::",
+        "1:2:3:4:5:6:7:8:9",
+        "1:2:3:4:5:6:7::8:9",
+        "127.0.0.1:8333",
+        "1.2.3",
+        "1.2.3.4.5",
+        "1.2.3.256",
+        "",
+    ];
+    for text in texts {
+        assert!(rt; Address::parse(text).is_none(), "{text}");
+    }
+}
+
+/// Whether a subnet is read, and has an address.
+fn has(subnet: &str, address: &str) -> bool {
+    match (Subnet::parse(subnet), Address::parse(address)) {
+        (Some(subnet), Some(address)) => subnet.contains(&address),
+        _ => false,
+    }
+}
+
+// RFC 4291, 2.3; Bitcoin Core 22.0, netbase_tests, subnet_test.
+#[test]
+fn subnets_and_their_addresses(rt: HostRuntime) {
+    let rows = [
+        ("1.2.3.0/24", "1.2.3.4", true),
+        ("1.2.3.0/255.255.255.0", "1.2.3.4", true),
+        ("1.2.2.0/24", "1.2.3.4", false),
+        ("1.2.3.4", "1.2.3.4", true),
+        ("1.2.3.4/32", "1.2.3.4", true),
+        ("1.2.3.4", "5.6.7.8", false),
+        ("1.2.3.4/32", "5.6.7.8", false),
+        ("::ffff:7f00:1", "127.0.0.1", true),
+        ("1:2:3:4:5:6:7:8", "1:2:3:4:5:6:7:8", true),
+        ("1:2:3:4:5:6:7:8", "1:2:3:4:5:6:7:9", false),
+        ("1:2:3:4:5:6:7:0/112", "1:2:3:4:5:6:7:1234", true),
+        ("192.168.0.1/24", "192.168.0.2", true),
+        ("192.168.0.20/29", "192.168.0.18", true),
+        ("1.2.2.1/24", "1.2.2.4", true),
+        ("1.2.2.110/31", "1.2.2.111", true),
+        ("1.2.2.20/26", "1.2.2.63", true),
+        ("::/0", "1:2:3:4:5:6:7:1234", true),
+        ("::/0", "1.2.3.4", false),
+        ("0.0.0.0/0", "1.2.3.4", true),
+        ("0.0.0.0/0", "1:2:3:4:5:6:7:1234", false),
+        (
+            "2001:0DB8:0000:CD30:0000:0000:0000:0000/60",
+            "2001:DB8:0:CD3F::",
+            true,
+        ),
+        ("2001:0DB8::CD30:0:0:0:0/60", "2001:DB8:0:CD40::", false),
+        (
+            "2001:0DB8:0:CD30:123:4567:89AB:CDEF/60",
+            "2001:DB8:0:CD30::",
+            true,
+        ),
+        ("2001:0DB8::CD30/60", "2001:DB8:0:CD30::", false),
+    ];
+    for (subnet, address, expected) in rows {
+        assert!(rt; Subnet::parse(subnet).is_some(), "{subnet}");
+        assert!(rt; has(subnet, address) == expected, "{subnet} {address}");
+    }
+}
+
+// Bitcoin Core 22.0, netbase_tests, subnet_test; netmasks of IPv6 and dotted ends are none here.
+#[test]
+fn texts_of_no_subnet(rt: HostRuntime) {
+    let texts = [
+        "1.2.3.0/-1",
+        "1.2.3.0/33",
+        "1.2.3.0/300",
+        "1:2:3:4:5:6:7:8/-1",
+        "1:2:3:4:5:6:7:8/129",
+        "1.2.3.4/255.255.232.0",
+        "1.2.3.4/255.0.255.255",
+        "1:2:3:4:5:6:7:8/ffff:ffff:ffff:fffe:ffff:ffff:ffff:ff0f",
+        "1:2:3:4:5:6:7:8/ffff:ffff:ffff:ffff:ffff:ffff:ffff:0",
+        "2001:0DB8:0:CD3/60",
+        "::ffff:127.0.0.1",
+        "fuzzy",
+        "bloop",
+        "",
+    ];
+    for text in texts {
+        assert!(rt; Subnet::parse(text).is_none(), "{text}");
+    }
+}
+
+// Bitcoin Core 22.0, netbase_tests, subnet_test: each netmask of ones before zeros, by its length.
+#[test]
+fn netmasks_by_their_lengths(rt: HostRuntime) {
+    let subnets = [
+        ("1.2.3.4/0.0.0.0", 0),
+        ("1.2.3.4/128.0.0.0", 1),
+        ("1.2.3.4/240.0.0.0", 4),
+        ("1.2.3.4/255.0.0.0", 8),
+        ("1.2.3.4/255.254.0.0", 15),
+        ("1.2.3.4/255.255.0.0", 16),
+        ("1.2.3.4/255.255.128.0", 17),
+        ("1.2.3.4/255.255.255.0", 24),
+        ("1.2.3.4/255.255.255.252", 30),
+        ("1.2.3.4/255.255.255.254", 31),
+        ("1.2.3.4/255.255.255.255", 32),
+    ];
+    for (text, length) in subnets {
+        assert!(rt;
+            Subnet::parse(text).map(|subnet| subnet.prefix()) == Some(length),
+            "{text}"
+        );
+    }
+}

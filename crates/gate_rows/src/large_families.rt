@@ -1,12 +1,9 @@
 //! Rows of large families. Their texts are put together here, since the prover reads each text in full.
 use crate::outcome;
-use crate::parts::{COINS, ENTER, MULTISIG, WITNESS};
+use crate::parts::{COINS, ENTER, EVENT, MULTISIG, VERSION, WITNESS};
 use std::alloc::{AllocError, Global};
 use std::process::Abort;
 use std::test::Fail;
-
-/// The event of a transaction with witnesses, up to the count of its inputs.
-const BEGIN: &str = "peer 1 tx 5000 020000000001";
 
 /// What stands behind the first byte of an input's index: its other bytes, no script, the sequence.
 const BEHIND_INDEX: &str = "00000000fdffffff";
@@ -45,7 +42,8 @@ fn push_end(input: &mut String, witnesses: u32) -> Result<(), AllocError> {
 
 /// The event of a transaction with one input, up to the count of its outputs.
 fn push_spending(input: &mut String, hash: &str, index: &str) -> Result<(), AllocError> {
-    input.push_str(BEGIN)?;
+    input.push_str(EVENT)?;
+    input.push_str(VERSION)?;
     input.push_str("01")?;
     push_input(input, hash, index)
 }
@@ -267,7 +265,7 @@ fn replacing_a_child_of_a_full_family(rt: HostRuntime) -> Result<(), Fail> {
 }
 
 /// Four parents with 23, 23, 24 and 24 children, and one more of the first two together.
-fn four_families(alloc: Global) -> Result<String, AllocError> {
+pub fn four_families(alloc: Global) -> Result<String, AllocError> {
     let mut input = opened(alloc)?;
     for hash in SPENT {
         push_parent(&mut input, hash)?;
@@ -275,7 +273,8 @@ fn four_families(alloc: Global) -> Result<String, AllocError> {
     for (hash, count) in PARENTS.iter().zip([23, 23, 24, 24]) {
         push_children(&mut input, hash, count)?;
     }
-    input.push_str(BEGIN)?;
+    input.push_str(EVENT)?;
+    input.push_str(VERSION)?;
     input.push_str("02")?;
     push_input(&mut input, PARENTS[0], "18")?;
     push_input(&mut input, PARENTS[1], "18")?;
@@ -285,9 +284,15 @@ fn four_families(alloc: Global) -> Result<String, AllocError> {
     Ok(input)
 }
 
-/// A transaction that conflicts with the four parents.
+/// The event of a transaction that conflicts with the four parents.
 fn push_replacement(input: &mut String) -> Result<(), AllocError> {
-    input.push_str(BEGIN)?;
+    input.push_str(EVENT)?;
+    push_spending_of_four(input)
+}
+
+/// The transaction that spends the four coins, and the end of its line.
+pub fn push_spending_of_four(input: &mut String) -> Result<(), AllocError> {
+    input.push_str(VERSION)?;
     input.push_str("04")?;
     for hash in SPENT {
         push_input(input, hash, "00")?;
@@ -298,7 +303,7 @@ fn push_replacement(input: &mut String) -> Result<(), AllocError> {
 }
 
 /// Tells long replies by their count and the last, which hangs on each submission before it.
-fn ends(
+pub fn ends(
     rt: &(impl Abort + AllocGlobal),
     input: &str,
     lines: usize,

@@ -16,6 +16,10 @@ mod large_families;
 #[cfg(test)]
 mod locking;
 #[cfg(test)]
+mod long_blocks;
+#[cfg(test)]
+mod openings;
+#[cfg(test)]
 mod parts;
 #[cfg(test)]
 mod permissions;

@@ -7,6 +7,12 @@ pub const COINS: &str =
 /// The end of the opening, and a peer that enters.
 pub const ENTER: &str = "---\npeer 1 enter 192.0.2.1\n";
 
+/// The event of a transaction, up to that one.
+pub const EVENT: &str = "peer 1 tx 5000 ";
+
+/// The version, marker and flag of a transaction with witnesses.
+pub const VERSION: &str = "020000000001";
+
 /// A witness of a signature's and a key's length.
 pub const WITNESS: &str =
     "024830303030303030303030303030303030303030303030303030303030303030303030303030303030303030303030303030303030303030303030303030303030303030303030303021020202020202020202020202020202020202020202020202020202020202020202";

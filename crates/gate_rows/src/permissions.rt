@@ -1,4 +1,4 @@
-//! Addresses, whitelists and what flags permit. Written by tools/row-tests from rows/.
+//! Sessions, addresses, whitelists and what flags permit. Written by tools/row-tests from rows/.
 use crate::row::{Row, pass};
 use std::test::Fail;
 
@@ -84,6 +84,18 @@ const DUST_BELOW_THE_LIMIT: Row = Row {
 #[test]
 fn dust_below_the_limit(rt: HostRuntime) -> Result<(), Fail> {
     pass(&rt, &DUST_BELOW_THE_LIMIT)
+}
+
+const ENTERING_AND_LEAVING: Row = Row {
+    words: "run",
+    input: "budget 1000000\ntimes 101 1000 600\ncoin <32*11> 0 100000 1 plain 0014<20*22>\ncoin <32*12> 0 100000 1 plain 0014<20*22>\ncoin <32*13> 0 100000 1 plain 0014<20*22>\ncoin <32*14> 0 100000 1 plain 0014<20*22>\nverdict * ok\n---\npeer 1 leave\npeer 1 tx 5000 00\npeer 1 enter 192.0.2.1\npeer 1 enter 192.0.2.1\npeer 1 leave\npeer 1 leave\npeer 1 tx 5000 00\npeer 1 enter 192.0.2.1\n",
+    output: "denied P1 keep peer-unknown\ndenied P1 keep peer-unknown\nentered none\ndenied P3 keep peer-known\nleft\ndenied P2 keep peer-closed\ndenied P2 keep peer-closed\ndenied P3 keep peer-known\n",
+    status: 0,
+};
+
+#[test]
+fn entering_and_leaving(rt: HostRuntime) -> Result<(), Fail> {
+    pass(&rt, &ENTERING_AND_LEAVING)
 }
 
 const FLAGS_OF_EXPLICIT_AND_IMPLICIT_ENTRIES: Row = Row {
@@ -204,6 +216,30 @@ const POOL_LISTING_PAST_THE_UPLOAD_TARGET: Row = Row {
 #[test]
 fn pool_listing_past_the_upload_target(rt: HostRuntime) -> Result<(), Fail> {
     pass(&rt, &POOL_LISTING_PAST_THE_UPLOAD_TARGET)
+}
+
+const POOL_LISTING_WITHOUT_A_FLAG: Row = Row {
+    words: "run",
+    input: "budget 1000000\ntimes 101 1000 600\ncoin <32*11> 0 100000 1 plain 0014<20*22>\ncoin <32*12> 0 100000 1 plain 0014<20*22>\ncoin <32*13> 0 100000 1 plain 0014<20*22>\ncoin <32*14> 0 100000 1 plain 0014<20*22>\nverdict * ok\n---\npeer 1 enter 192.0.2.1\npeer 1 mempool\npeer 1 mempool\n",
+    output: "entered none\ndenied P6 close mempool-no-bloom\ndenied P2 keep peer-closed\n",
+    status: 0,
+};
+
+#[test]
+fn pool_listing_without_a_flag(rt: HostRuntime) -> Result<(), Fail> {
+    pass(&rt, &POOL_LISTING_WITHOUT_A_FLAG)
+}
+
+const SAME_TRANSACTION_TWICE: Row = Row {
+    words: "run",
+    input: "budget 1000000\ntimes 101 1000 600\ncoin <32*11> 0 100000 1 plain 0014<20*22>\ncoin <32*12> 0 100000 1 plain 0014<20*22>\ncoin <32*13> 0 100000 1 plain 0014<20*22>\ncoin <32*14> 0 100000 1 plain 0014<20*22>\nverdict * ok\n---\npeer 1 enter 192.0.2.1\npeer 1 tx 5000 0200000000010<32*11>1<10*0>fdffffff01328601<10*0>160014<20*22>0248<72*30>21<33*02>00000000\npeer 1 tx 5000 0200000000010<32*11>1<10*0>fdffffff01328601<10*0>160014<20*22>0248<72*30>21<33*02>00000000\n",
+    output: "entered none\nadmitted 5ab0eb89aa597c4c79ebb7cd83e361997309eb27e186bc95d794fe37e6453fc2 fee 110 vsize 110 replaced 0\ndenied P5 keep txn-already-in-mempool\n",
+    status: 0,
+};
+
+#[test]
+fn same_transaction_twice(rt: HostRuntime) -> Result<(), Fail> {
+    pass(&rt, &SAME_TRANSACTION_TWICE)
 }
 
 const SAME_TRANSACTION_TWICE_BY_A_FORCERELAY_PEER: Row = Row {

@@ -1,4 +1,4 @@
-//! Input reports and verdicts. Written by tools/row-tests from rows/.
+//! Fees, input reports and verdicts. Written by tools/row-tests from rows/.
 use crate::row::{Row, pass};
 use std::test::Fail;
 
@@ -26,6 +26,30 @@ fn coin_of_no_template(rt: HostRuntime) -> Result<(), Fail> {
     pass(&rt, &COIN_OF_NO_TEMPLATE)
 }
 
+const FEE_AT_THE_RELAY_MINIMUM: Row = Row {
+    words: "run",
+    input: "budget 1000000\ntimes 101 1000 600\ncoin <32*11> 0 100000 1 plain 0014<20*22>\ncoin <32*12> 0 100000 1 plain 0014<20*22>\ncoin <32*13> 0 100000 1 plain 0014<20*22>\ncoin <32*14> 0 100000 1 plain 0014<20*22>\nverdict * ok\n---\npeer 1 enter 192.0.2.1\npeer 1 tx 5000 0200000000010<32*11>1<10*0>fdffffff01328601<10*0>160014<20*22>0248<72*30>21<33*02>00000000\n",
+    output: "entered none\nadmitted 5ab0eb89aa597c4c79ebb7cd83e361997309eb27e186bc95d794fe37e6453fc2 fee 110 vsize 110 replaced 0\n",
+    status: 0,
+};
+
+#[test]
+fn fee_at_the_relay_minimum(rt: HostRuntime) -> Result<(), Fail> {
+    pass(&rt, &FEE_AT_THE_RELAY_MINIMUM)
+}
+
+const FEE_BELOW_THE_RELAY_MINIMUM: Row = Row {
+    words: "run",
+    input: "budget 1000000\ntimes 101 1000 600\ncoin <32*11> 0 100000 1 plain 0014<20*22>\ncoin <32*12> 0 100000 1 plain 0014<20*22>\ncoin <32*13> 0 100000 1 plain 0014<20*22>\ncoin <32*14> 0 100000 1 plain 0014<20*22>\nverdict * ok\n---\npeer 1 enter 192.0.2.1\npeer 1 tx 5000 0200000000010<32*11>1<10*0>fdffffff01338601<10*0>160014<20*22>0248<72*30>21<33*02>00000000\n",
+    output: "entered none\ndenied A35 keep min relay fee not met\n",
+    status: 0,
+};
+
+#[test]
+fn fee_below_the_relay_minimum(rt: HostRuntime) -> Result<(), Fail> {
+    pass(&rt, &FEE_BELOW_THE_RELAY_MINIMUM)
+}
+
 const HUNDRED_AND_ONE_WITNESS_ITEMS: Row = Row {
     words: "run",
     input: "budget 1000000\ntimes 101 1000 600\ncoin <32*11> 0 100000 1 plain 0020<32*22>\ncoin <32*12> 0 100000 1 plain 0014<20*22>\ncoin <32*13> 0 100000 1 plain 0014<20*22>\ncoin <32*14> 0 100000 1 plain 0014<20*22>\nverdict * ok\n---\npeer 1 enter 192.0.2.1\npeer 1 tx 5000 0200000000010<32*11>1<10*0>fdffffff011a8601<10*0>160014<20*22>66<203*01>5100000000\n",
@@ -48,6 +72,18 @@ const HUNDRED_WITNESS_ITEMS: Row = Row {
 #[test]
 fn hundred_witness_items(rt: HostRuntime) -> Result<(), Fail> {
     pass(&rt, &HUNDRED_WITNESS_ITEMS)
+}
+
+const ID_OF_AN_OPENING_COIN: Row = Row {
+    words: "run",
+    input: "budget 1000000\ntimes 101 1000 600\ncoin <32*11> 0 100000 1 plain 0014<20*22>\ncoin <32*12> 0 100000 1 plain 0014<20*22>\ncoin <32*13> 0 100000 1 plain 0014<20*22>\ncoin <32*14> 0 100000 1 plain 0014<20*22>\nverdict * ok\ncoin 5ab0eb89aa597c4c79ebb7cd83e361997309eb27e186bc95d794fe37e6453fc2 5 1000 1 plain 0014<20*22>\n---\npeer 1 enter 192.0.2.1\npeer 1 tx 5000 0200000000010<32*11>1<10*0>fdffffff01328601<10*0>160014<20*22>0248<72*30>21<33*02>00000000\n",
+    output: "entered none\ndenied A24 keep txn-already-known\n",
+    status: 0,
+};
+
+#[test]
+fn id_of_an_opening_coin(rt: HostRuntime) -> Result<(), Fail> {
+    pass(&rt, &ID_OF_AN_OPENING_COIN)
 }
 
 const PUSH_STACK_OF_AN_INPUT: Row = Row {
@@ -96,6 +132,18 @@ const SIGOPS_OF_A_REDEEM_SCRIPT: Row = Row {
 #[test]
 fn sigops_of_a_redeem_script(rt: HostRuntime) -> Result<(), Fail> {
     pass(&rt, &SIGOPS_OF_A_REDEEM_SCRIPT)
+}
+
+const SUM_OF_COINS_OUT_OF_RANGE: Row = Row {
+    words: "run",
+    input: "budget 1000000\ntimes 101 1000 600\ncoin <32*11> 0 100000 1 plain 0014<20*22>\ncoin <32*12> 0 100000 1 plain 0014<20*22>\ncoin <32*13> 0 100000 1 plain 0014<20*22>\ncoin <32*14> 0 100000 1 plain 0014<20*22>\nverdict * ok\ncoin <32*21> 0 21<14*0> 1 plain 0014<20*22>\n---\npeer 1 enter 192.0.2.1\npeer 1 tx 5000 02000000000102<32*11><10*0>fdffffff<32*21><10*0>fdffffff01328601<10*0>160014<20*22>0248<72*30>21<34*02>48<72*30>21<33*02>00000000\n",
+    output: "entered none\ndenied A28 close bad-txns-inputvalues-outofrange\n",
+    status: 0,
+};
+
+#[test]
+fn sum_of_coins_out_of_range(rt: HostRuntime) -> Result<(), Fail> {
+    pass(&rt, &SUM_OF_COINS_OUT_OF_RANGE)
 }
 
 const VERDICT_HARD: Row = Row {

@@ -1,0 +1,74 @@
+//! Rows of long blocks. Their texts are put together here, since the prover reads each text in full.
+use crate::large_families::{ends, four_families, push_spending_of_four};
+use crate::outcome;
+use crate::parts::COINS;
+use std::alloc::{AllocError, Global};
+use std::test::Fail;
+
+/// A header up to its time, and what stands behind it: the rest of the header, the count of one transaction, and this one,
+/// a coinbase, up to the number in its script.
+const VERSION: &str =
+    " 0100000000000000000000000000000000000000000000000000000000000000000000000000000000000000000000000000000000000000000000000000000000000000";
+
+const BEHIND_TIME: &str =
+    "00000000000000000102000000010000000000000000000000000000000000000000000000000000000000000000ffffffff0403";
+
+/// The end of the number, the sequence, the output and the locktime.
+const BEHIND_NUMBER: &str =
+    "0000ffffffff0100f2052a01000000160014222222222222222222222222222222222222222200000000";
+
+/// The event of Bitcoin's first block with a second transaction, up to that one.
+const FIRST_BLOCK: &str =
+    "chain 0 5000 0100000000000000000000000000000000000000000000000000000000000000000000003ba3edfd7a7b12b27ac72c3e67768f617fc81bc3888a51323a9fb8aa4b1e5e4a29ab5f49ffff001d1dac2b7c0201000000010000000000000000000000000000000000000000000000000000000000000000ffffffff4d04ffff001d0104455468652054696d65732030332f4a616e2f32303039204368616e63656c6c6f72206f6e206272696e6b206f66207365636f6e64206261696c6f757420666f722062616e6b73ffffffff0100f2052a01000000434104678afdb0fe5548271967f1a67130b7105cd6a828e03909a67962e0ea1f61deb649f6bc3f4cef38c4f35504e51ec112de5c384df7ba0b8d578a4c702b6bf11d5fac00000000";
+
+const ALL_OUT: &[u8] =
+    b"chain 101 removed 99 entered 0\nrpc 200 {\"error\":null,\"id\":1,\"result\":[]}\n";
+
+#[test]
+fn block_that_empties_the_pool(rt: HostRuntime) -> Result<(), Fail> {
+    let mut input = four_families(rt.alloc())?;
+    input.push_str(FIRST_BLOCK)?;
+    push_spending_of_four(&mut input)?;
+    input.push_str("user a rpc 5000 {\"method\":\"getrawmempool\",\"id\":1}\n")?;
+    ends(&rt, input.as_str(), 102, ALL_OUT)
+}
+
+fn push_bytes(input: &mut String, bytes: &[u8]) -> Result<(), AllocError> {
+    for byte in bytes {
+        write!(input, "{byte:02x}")?;
+    }
+    Ok(())
+}
+
+/// A block of a coinbase alone, ten minutes behind the one of the number before.
+fn push_block(input: &mut String, number: u8) -> Result<(), AllocError> {
+    let time = 61_600 + 600 * u32::from(number);
+    input.push_str(VERSION)?;
+    push_bytes(input, &time.to_le_bytes())?;
+    input.push_str(BEHIND_TIME)?;
+    push_bytes(input, &[number])?;
+    input.push_str(BEHIND_NUMBER)
+}
+
+fn hundred_and_one_blocks(alloc: Global) -> Result<String, AllocError> {
+    let mut input = String::from_str(alloc, COINS)?;
+    input.push_str("---\nchain 0 5000")?;
+    for number in 0..101u8 {
+        push_block(&mut input, number)?;
+    }
+    input.push_str("\nchain 101 5000\nchain 100 5000\n")?;
+    Ok(input)
+}
+
+#[test]
+fn hundred_blocks_back(rt: HostRuntime) -> Result<(), Fail> {
+    let input = hundred_and_one_blocks(rt.alloc())?;
+    let (status, written) = outcome(rt.alloc(), "run", input.as_str())?;
+    let text = std::str::from_utf8(written.as_slice())?;
+    assert_eq!(rt;
+        text,
+        "chain 201 removed 0 entered 0\nrefused C6 no-undo\nchain 101 removed 0 entered 0\n"
+    );
+    assert_eq!(rt; status, 0);
+    Ok(())
+}
