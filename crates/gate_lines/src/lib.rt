@@ -11,6 +11,7 @@ mod number;
 mod part;
 mod sink;
 mod source;
+mod waiting;
 mod word;
 
 pub use fault::LaneFault;
@@ -19,6 +20,7 @@ pub use number::{MAX_NUMBER, numbers_are_decimal, read_number, read_small_number
 pub use part::Part;
 pub use sink::{Sink, end_line};
 pub use source::Source;
+pub use waiting::send_before_wait;
 pub use word::{is_one_word, next_word};
 
 #[cfg(test)]
