@@ -1,0 +1,11 @@
+pub mod Lines
+pub mod Splits
+pub mod Calls
+pub mod Runs
+pub mod TurnLemmas
+pub mod SoFar
+pub mod SentLanes
+pub mod Parting
+pub mod Ended
+pub mod LedCalls
+pub mod PartedLines

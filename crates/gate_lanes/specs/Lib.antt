@@ -1,0 +1,9 @@
+pub mod Parts
+pub mod Splitting
+pub mod Faults
+pub mod Lanes
+pub mod Turns
+pub mod Ends
+pub mod LaneCalls
+pub mod Examples
+pub mod PartedLines
