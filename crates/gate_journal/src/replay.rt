@@ -6,9 +6,23 @@ ghost use Rattle.gate_journal.specs.Legal.{IsLegal, IsFirstIllegal};
 use crate::entry::Entry;
 use crate::journal::Journal;
 use gate_bytes::Memory;
-use gate_core::{State, is_same_reply};
+use gate_core::{Event, Reply, State, is_same_reply};
 use std::alloc::Global;
 use std::hash::BuildHasher;
+
+/// The step, of which nothing but memory can be lacking.
+fn stepped<S: BuildHasher + Copy + Drop>(
+    alloc: Global,
+    state: &mut State<S>,
+    event: &Event,
+) -> Result<Reply, Memory>
+    ensures { IfOk result (λ reply. (reply, state.new) ≡ step_of state.old event.now) }
+{
+    match state.step(alloc, event) {
+        Ok(reply) => Ok(reply),
+        Err(_) => Err(Memory),
+    }
+}
 
 /// Makes the event of an entry: whether the reply is the one that was recorded.
 fn replays<S: BuildHasher + Copy + Drop>(
@@ -18,10 +32,10 @@ fn replays<S: BuildHasher + Copy + Drop>(
 ) -> Result<bool, Memory>
     ensures { IfOk result (λ same. MatchBool same ((entry.now.reply, state.new) ≡ step_of state.old entry.now.event) (entry.now.reply ≢ (step_of state.old entry.now.event).0)) }
 {
-    match state.step(alloc, &entry.event) {
-        Ok(reply) => Ok(is_same_reply(&entry.reply, &reply)),
-        Err(_) => Err(Memory),
-    }
+    let reply = stepped(alloc, state, &entry.event)?;
+    let same = is_same_reply(&entry.reply, &reply);
+    drop(reply);
+    Ok(same)
 }
 
 /// The number, from 1, of the first entry whose reply is not that of the step after those before it: `None` where the
