@@ -2,6 +2,7 @@
 use Rattle.std.specs.Prelude.{◌≡◌, ℕ, ◌-◌, ◌<◌, List, [], ◌∷◌, Option, Some, None, slice_get, IfSome}
 use Rattle.gate_core.specs.declared.caller.Caller.{Caller}
 use Rattle.gate_core.specs.declared.event.Event.{Event}
+use Rattle.gate_core.specs.declared.reply.Reply.{Reply}
 use Rattle.gate_journal.specs.declared.entry.Entry.{Entry}
 use Rattle.gate_journal.specs.Legal.{entry}
 use Rattle.gate_shared.specs.declared.receipt.Made.{Made}
@@ -12,6 +13,9 @@ pub record PassView : Type 0 where
   pub number : ℕ
   pub caller : Caller
   pub calls : List Made
+
+abbrev pub receipt : ℕ → Reply → Receipt
+receipt number reply = record { number = number; reply = reply }
 
 abbrev pub made : Event → Receipt → Made
 made event receipt = record { event = event; receipt = receipt }

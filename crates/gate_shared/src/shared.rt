@@ -1,7 +1,10 @@
 //! What lies under the lock, and its one change.
-ghost use Rattle.std.specs.Prelude.{◌≡◌, [], IfOk, IfErr, OnErr, MatchResult};
+ghost use Rattle.std.specs.Prelude.{◌≡◌, ◌+◌, ◌<◌, [], ◌∷◌, ◌++◌, length, IfOk, IfErr, OnErr, MatchResult};
+ghost use Rattle.std.specs.Vec.{vec_len, vec_capacity};
 ghost use Rattle.gate_core.specs.Good.{StepGives};
 ghost use Rattle.gate_core.specs.Steps.{step_of};
+ghost use Rattle.gate_journal.specs.Legal.{entry};
+ghost use Rattle.gate_shared.specs.Calls.{made, receipt};
 
 use crate::base::Base;
 use crate::pass::{Pass, stands};
@@ -70,6 +73,65 @@ fn step<S: BuildHasher + Copy + Drop>(
     }
 }
 
+/// An event for each who keeps it.
+#[derive(Drop)]
+struct Events {
+    /// For the journal.
+    entry: Event,
+    /// For the pass.
+    made: Event,
+}
+
+impl Events {
+    fn of(alloc: Global, event: &Event) -> Result<Events, Memory>
+        ensures { IfOk result (λ events. (events.entry ≡ event.now) × (events.made ≡ event.now)) }
+    {
+        let entry = event.copy(alloc)?;
+        match event.copy(alloc) {
+            Ok(made) => Ok(Events { entry, made }),
+            Err(Memory) => {
+                drop(entry);
+                Err(Memory)
+            }
+        }
+    }
+}
+
+/// Adds an event with its replies to a journal and to the calls of a pass, into room that was made for them.
+fn note(
+    journal: &mut Journal,
+    calls: &mut Vec<Made>,
+    pass: u64,
+    events: Events,
+    replies: Replies,
+) -> Receipt
+    requires few { length journal.old.entries < 100000 }
+    requires room { 0 < journal.old.room }
+    requires calls_room { vec_len calls.old < vec_capacity calls.old }
+    ensures number { result.number ≡ length journal.old.entries + 1 }
+    ensures reply { result.reply ≡ replies.reply }
+    ensures journal { journal.new.entries ≡ journal.old.entries ++ entry pass events.entry replies.entry ∷ [] }
+    ensures calls { calls.new.items ≡ calls.old.items ++ made events.made (receipt result.number replies.receipt) ∷ [] }
+{
+    let number = journal.len() as u64 + 1;
+    journal.push(Entry {
+        pass,
+        event: events.entry,
+        reply: replies.entry,
+    });
+    calls.push_reserved(Made {
+        event: events.made,
+        receipt: Receipt {
+            number,
+            reply: replies.receipt,
+        },
+    });
+    Receipt {
+        number,
+        reply: replies.reply,
+    }
+}
+
 impl<N: Base, S: BuildHasher + Copy + Drop> Shared<N, S> {
     ghost use Rattle.gate_shared.specs.Held.{held, IsHeld, Enters, Enrolls, FirstFault, NoFault, Applies};
     ghost use Rattle.gate_shared.specs.Calls.{EachBelow};
@@ -127,29 +189,22 @@ impl<N: Base, S: BuildHasher + Copy + Drop> Shared<N, S> {
         ensures shared { OnErr result (self.new ≡ self.old) }
         ensures pass { OnErr result (pass.new ≡ pass.old) }
     {
-        let noted = event.copy(alloc)?;
-        let kept = event.copy(alloc)?;
         self.journal.reserve()?;
         pass.calls.reserve(1)?;
-        let Replies {
-            reply,
-            receipt,
-            entry,
-        } = step(alloc, &mut self.state, event)?;
-        let number = self.journal.len() as u64 + 1;
-        self.journal.push(Entry {
-            pass: pass.number,
-            event: noted,
-            reply: entry,
-        });
-        pass.calls.push_reserved(Made {
-            event: kept,
-            receipt: Receipt {
-                number,
-                reply: receipt,
-            },
-        });
-        Ok(Receipt { number, reply })
+        let events = Events::of(alloc, event)?;
+        match step(alloc, &mut self.state, event) {
+            Ok(replies) => Ok(note(
+                &mut self.journal,
+                &mut pass.calls,
+                pass.number,
+                events,
+                replies,
+            )),
+            Err(Memory) => {
+                drop(events);
+                Err(Memory)
+            }
+        }
     }
 
     /// The one change: the event is made under the pass, or nothing changes.
