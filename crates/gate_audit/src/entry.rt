@@ -1,12 +1,14 @@
 //! One entry of a journal: the line of an event, and the line of its reply.
 ghost use Rattle.std.specs.Prelude.{◌≡◌, ◌≢◌, ◌++◌, MatchOption, ℕ, List, ◌↔◌, IsTrue, codes, true, IfErr, IfOk, IsErrOf, string_bytes};
 ghost use Rattle.std.specs.Option.{option_map};
+ghost use Rattle.gate_core.specs.Steps.{step_of};
+ghost use Rattle.gate_core.specs.Texts.{reply_text};
 ghost use Rattle.gate_audit.specs.Journals.{event_line};
 ghost use Rattle.gate_audit.specs.Reading.{AskingIsPast, EntryIsPast, EntryTaken, Replied, ReplyTaken};
 
 use crate::lines::JournalLines;
 use gate_bytes::Memory;
-use gate_core::State;
+use gate_core::{Event, Reply, State};
 use gate_events::event_on;
 use gate_lines::{LaneFault, Source};
 use std::alloc::Global;
@@ -40,6 +42,34 @@ fn says(line: &[u8], reply: &str) -> bool
     }
 }
 
+/// The state's reply to an event.
+fn replied<S: BuildHasher + Copy + Drop>(
+    alloc: Global,
+    state: &mut State<S>,
+    event: &Event,
+) -> Result<Reply, Memory>
+    ensures { IfOk result (λ reply. (reply, state.new) ≡ step_of state.old event.now) }
+{
+    match state.step(alloc, event) {
+        Ok(reply) => Ok(reply),
+        Err(_) => Err(Memory),
+    }
+}
+
+/// The text of the state's reply to an event.
+fn reply_text<S: BuildHasher + Copy + Drop>(
+    alloc: Global,
+    state: &mut State<S>,
+    event: &Event,
+) -> Result<String, Memory>
+    ensures { IfOk result (λ text. (string_bytes text ≡ reply_text (step_of state.old event.now).0) × (state.new ≡ (step_of state.old event.now).1)) }
+{
+    let reply = replied(alloc, state, event)?;
+    let text = reply.text(alloc);
+    drop(reply);
+    text
+}
+
 /// The text of the reply to the event that a line spells, or `None` where it spells none.
 fn reply_to<S: BuildHasher + Copy + Drop>(
     alloc: Global,
@@ -54,10 +84,9 @@ fn reply_to<S: BuildHasher + Copy + Drop>(
     let Some(event) = event_on(alloc, text)? else {
         return Ok(None);
     };
-    let Ok(reply) = state.step(alloc, &event) else {
-        return Err(Memory);
-    };
-    Ok(Some(reply.text(alloc)?))
+    let reply = reply_text(alloc, state, &event);
+    drop(event);
+    Ok(Some(reply?))
 }
 
 /// Whether the next line that asks is that of the reply with this text.
