@@ -14,4 +14,6 @@ pub use switching::{Switched, switch, switched_and_back};
 pub use writing::write_block;
 
 #[cfg(test)]
+mod hundred;
+#[cfg(test)]
 mod tests;
