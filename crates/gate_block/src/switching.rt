@@ -219,7 +219,9 @@ pub fn switched_and_back<S: BuildHasher + Copy + Drop>(
     depth: u64,
     blocks: Vec<Block>,
 ) -> Result<(), ChainFault>
-    ensures { chain.new ≡ chain.old }
+    ensures chain { chain.new ≡ chain.old }
+    ensures passes { OnOk result (first_failing (switch_rules chain.old depth blocks.items) ≡ None) }
+    ensures denied { IfErr result (λ fault. Tells fault (first_failing (switch_rules chain.old depth blocks.items))) }
 {
     let way = switch(alloc, chain, depth, blocks)?;
     way.back(chain);
