@@ -1,10 +1,8 @@
 -- Reading a block gives what its bytes spell.
-use Rattle.std.proofs.Common.{◌≡◌, ℕ, ◌+◌, ◌-◌, ◌<◌, ◌≤◌, Bool, true, false, cond, List, [], ◌∷◌, ◌++◌, length, take, drop, Option, Some, None, nat_lt, Result, Ok, Err, refl, sym, ap, subst, ◌∙◌, arith}
+use Rattle.std.proofs.Common.{◌≡◌, ℕ, ◌+◌, ◌<◌, ◌≤◌, Bool, true, false, cond, List, [], ◌∷◌, ◌++◌, length, take, drop, Option, Some, None, nat_lt, Result, Ok, Err, refl, sym, ap, subst, ◌∙◌, arith}
 use Rattle.std.proofs.lemmas.Bool.{le-ltb, ltb-false}
 use Rattle.std.proofs.lemmas.Bool.Decides.{nat_tests}
-use Rattle.std.proofs.lemmas.List.{append-nil, take_at, drop_at, take-append-drop, length-append, length-take, length-drop}
-use Rattle.std.specs.List.{AllByRecursion}
-use Rattle.gate_bytes.specs.Compact.{compact}
+use Rattle.std.proofs.lemmas.List.{append-nil, take_at, drop_at, take-append-drop, length-append, length-take}
 use Rattle.gate_bytes.specs.Reading.{IsBytes}
 use Rattle.gate_bytes.proofs.Numbers.{IsBytes-drop}
 use Rattle.gate_tx.specs.Tx.{Tx}
@@ -16,10 +14,9 @@ use Rattle.gate_tx.proofs.Steps.{IsRead, list_takes, list_again}
 use Rattle.gate_tx.proofs.Whole.{tx_takes}
 use Rattle.gate_tx.proofs.Again.{tx_again}
 use Rattle.gate_chain.specs.declared.Block.{Block}
-use Rattle.gate_chain.specs.declared.ChainDenial.TheVariants.{BlockDecode}
 use Rattle.gate_chain.specs.declared.ChainFault.{ChainFault}
 use Rattle.gate_chain.specs.declared.ChainFault.TheVariants.{Memory, Denied}
-use Rattle.gate_block.specs.Text.{block_text, SpellsBlock}
+use Rattle.gate_block.specs.Text.{SpellsBlock}
 use Rattle.gate_block.specs.Reading.{ended, all_transactions, with_header, decoded_block, block_fault, GivesAll, GivesBlock}
 
 tx_law : IsRead tx_at text IsTx

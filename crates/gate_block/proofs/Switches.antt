@@ -1,7 +1,7 @@
 -- Blocks that come and go at the end of a history.
-use Rattle.std.proofs.Common.{◌≡◌, ℕ, zero, suc, ◌+◌, ◌-◌, ◌<◌, ◌≤◌, Bool, true, false, cond, ◌||◌, List, [], ◌∷◌, ◌++◌, length, take, drop, reverse, Option, Some, None, nat_lt, Result, Ok, Err, IfOk, IfErr, OnErr, refl, sym, ap, subst, ◌∙◌, arith, append-nil, append_assoc, length-append}
+use Rattle.std.proofs.Common.{◌≡◌, ℕ, ◌+◌, ◌-◌, ◌≤◌, Bool, true, false, cond, ◌||◌, List, [], ◌∷◌, ◌++◌, length, take, drop, reverse, Option, Some, None, Result, Ok, Err, IfOk, IfErr, OnErr, refl, sym, ap, ◌∙◌, arith, append-nil, append_assoc, length-append}
 use Rattle.std.proofs.Math.Seq.{take-append_seam}
-use Rattle.std.proofs.lemmas.List.{take_all, drop_all, take-append-drop, take-append-le, drop_at, length-take, length-drop, reverse-append}
+use Rattle.std.proofs.lemmas.List.{take_all, drop_all, take-append-drop, drop_at, length-take, length-drop, reverse-append}
 use Rattle.gate_bytes.specs.Order.{first_failing}
 use Rattle.gate_bytes.proofs.OrderLemmas.{found_in_first, found_in_second}
 use Rattle.gate_chain.specs.declared.Block.{Block}
@@ -10,7 +10,7 @@ use Rattle.gate_chain.specs.declared.ChainFault.{ChainFault}
 use Rattle.gate_chain.specs.declared.ChainFault.TheVariants.{Memory, Denied}
 use Rattle.gate_chain.specs.Connecting.{grown, block_rules, undo_denial, Tells}
 use Rattle.gate_chain.specs.History.{History}
-use Rattle.gate_block.specs.Switching.{with_blocks, grown_by, left_of, without_last, last_blocks, switched, blocks_rules}
+use Rattle.gate_block.specs.Switching.{with_blocks, grown_by, left_of, without_last, last_blocks, blocks_rules}
 
 abbrev blocks_of : History → List Block
 blocks_of h = h.blocks

@@ -2,7 +2,7 @@
 //! median times are those of a chain that never had the blocks that went.
 use crate::switch;
 use gate_bytes::{Copied, Kept, Memory};
-use gate_chain::{Block, Chain, Header, OpenFault, OpeningCoin};
+use gate_chain::{Block, Chain, Header, OpeningCoin};
 use gate_tx::{Coin, OutPoint, Transaction, TxIn, TxOut, Txid};
 use std::alloc::{AllocError, Global};
 use std::hash::{BuildHasherDefault, FoldHasher};

@@ -1,5 +1,5 @@
 //! A block read from its bytes.
-ghost use Rattle.std.specs.Prelude.{◌≡◌, ◌≤◌, ◌+◌, length, Some, IfOk};
+ghost use Rattle.std.specs.Prelude.{◌≡◌, ◌≤◌, length, Some, IfOk};
 ghost use Rattle.gate_tx.specs.Reading.{GivesBy, many_at, vector_at, tx_at};
 ghost use Rattle.gate_tx.specs.Text.{longest};
 ghost use Rattle.gate_chain.specs.declared.Block.{Block as TheBlock};

@@ -1,9 +1,8 @@
-use Rattle.std.proofs.Common.{◌≡◌, ◌≤◌, List, ℕ, Option, Some, Err, length, take, drop, refl, sym, ap, subst, ◌∙◌, arith}
+use Rattle.std.proofs.Common.{◌≡◌, ◌≤◌, List, ℕ, Some, Err, length, take, drop, refl, sym, ap, subst, ◌∙◌, arith}
 use Rattle.gate_bytes.specs.Reading.{IsBytes}
 use Rattle.gate_tx.specs.Tx.{Tx}
 use Rattle.gate_tx.specs.Text.{longest}
-use Rattle.gate_chain.specs.declared.Block.{Block}
-use Rattle.gate_block.specs.Reading.{all_transactions, with_header, decoded_block, GivesAll, GivesBlock}
+use Rattle.gate_block.specs.Reading.{all_transactions, with_header, GivesBlock}
 use Rattle.gate_block.proofs.Spelled.{block_takes, block_again, gives_found, short_none, long_none, whole, drop_short, fails_with}
 use Rattle.gate_block.proofs.reading.read_block.Goals as goal
 

@@ -1,5 +1,4 @@
-use Rattle.std.proofs.Common.{◌≤◌, ◌+◌, ap, sym, ◌∙◌, reverse, arith, vec_len}
-use Rattle.std.specs.Vec.{vec_capacity}
+use Rattle.std.proofs.Common.{ap, sym, ◌∙◌, reverse, arith}
 use Rattle.gate_block.proofs.Switches.{gone_on, pushed, still_last}
 use Rattle.gate_block.proofs.switching.take_last.Goals as goal
 use Rattle.gate_block.proofs.switching.take_last.Goals.{in-Ok, in_default}
