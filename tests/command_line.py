@@ -58,7 +58,9 @@ def test_gate_alone(gate):
 
 def test_words_that_ask_for_nothing(gate):
     """Unknown commands, missing words, words too many and unknown options are faults of usage."""
-    for words in ("check", "check 00 00", "check - -", "run -", "run x", "run run", "admit", "--nothing", "run --nothing", "check --nothing", "RUN"):
+    for words in ("check", "check 00 00", "check - -", "run -", "run x", "run run", "admit", "--nothing", "run --nothing", "check --nothing", "RUN",
+                  "lanes x", "lanes -", "lanes --workers", "lanes --workers 2", "lanes --journal x", "lanes --journal=1", "lanes --journal --journal", "lanes -j",
+                  "run --journal", "--journal lanes", "audit x", "audit -", "audit --journal", "audit lanes"):
         is_usage(gate, words)
 
 
@@ -74,7 +76,7 @@ def test_help(gate):
     """`gate --help` names the commands, on standard output with status 0."""
     for words in ("--help", "-h", "help"):
         text = help_of(gate, words)
-        for word in ("run", "check", "--version"):
+        for word in ("run", "check", "lanes", "audit", "--version"):
             true("the help does not name %s" % word, word in text)
 
 
@@ -92,13 +94,14 @@ def test_examples_in_the_help(gate):
         "gate run < examples/rpc.txt": 0,
         "gate check - < examples/payment.hex": 0,
         "gate check 01000000000000000000": 1,
+        "gate lanes --journal < examples/lanes.txt": 0,
+        "gate audit < examples/journal.txt": 0,
     }
-    found = {words: examples(help_of(gate, words + "--help")) for words in ("", "run ", "check ")}
-    same("examples", sorted(found[""]), sorted(wanted))
-    same("examples of run", sorted(found["run "]), sorted(command for command in wanted if command.startswith("gate run")))
-    same("examples of check", sorted(found["check "]), sorted(set(wanted) - set(found["run "])))
+    for word in ("", "run", "check", "lanes", "audit"):
+        found = examples(help_of(gate, (word + " --help").strip()))
+        same("examples of gate " + word, sorted(found), sorted(command for command in wanted if command.startswith("gate " + word)))
     path = dict(os.environ, PATH=os.path.dirname(gate.program) + os.pathsep + os.environ["PATH"])
-    for command in found[""]:
+    for command in wanted:
         done = subprocess.run(["sh", "-c", command], cwd=ROOT, env=path, capture_output=True)
         same("status of " + command, done.returncode, wanted[command])
         same("standard error of " + command, done.stderr, b"")

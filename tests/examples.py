@@ -1,10 +1,10 @@
-"""The files of examples/ on permissions and RPC stand as they are made here, and each event gets the reply that is told."""
+"""The files of examples/ on permissions, RPC and lanes stand as they are made here, and each event gets the reply that is told."""
 
 import os
 
 from bitcoin import Input, Output, Transaction, WITNESS_KEY_HASH, printed
 from callers import compact
-from gate import ROOT, lines, same, same_lines
+from gate import ROOT, lines, same, same_lines, true
 
 COIN = b"\x11" * 32
 
@@ -90,6 +90,33 @@ def rpc():
     ]
 
 
+def sent(user, value):
+    """A user spends the coin, by a transaction that does not say that it may be replaced."""
+    tx = Transaction([Input(COIN, sequence=0xFFFFFFFF, witness=[b"\x30" * 72, b"\x02" * 33])], [Output(value)])
+    return tx, call(user, 5000, "sendrawtransaction", tx.hex())
+
+
+def race():
+    """The lanes of examples/lanes.txt: what is said of each, its caller's transaction, and its line."""
+    return [
+        ("one user's lane", *sent("alice", 99890)),
+        ("another's, who spends the same coin", *sent("bob", 99889)),
+    ]
+
+
+def race_text():
+    opening = ["# lanes are called at once, each for one caller: of two who spend one coin exactly one is granted"] + CHAIN
+    return lines(opening) + "".join("---\n# %s\n%s\n" % (about, line) for about, _, line in race())
+
+
+def race_output(winner):
+    """What is printed where this lane comes first, and its journal."""
+    taken = error(500, -26, "txn-mempool-conflict", "A23")
+    replies = [answer(tx.txid()) if number == winner else taken for number, (_, tx, _) in enumerate(race())]
+    journal = [part for number in (winner, 1 - winner) for part in ("> " + race()[number][2], "< " + replies[number])]
+    return ["lane 1", replies[0], "lane 2", replies[1], "settled 2"], journal
+
+
 def text_of(opening, events):
     return lines(opening + ["---"]) + lines("# %s\n%s" % (about, event) for about, event, _ in events)
 
@@ -111,3 +138,23 @@ def test_example_of_permissions(gate):
 def test_example_of_rpc(gate):
     """examples/rpc.txt."""
     holds(gate, "rpc.txt", rpc())
+
+
+def test_example_of_lanes(gate):
+    """examples/lanes.txt: either of the two comes first, and the journal says which."""
+    with open(os.path.join(ROOT, "examples", "lanes.txt")) as file:
+        text = file.read()
+    same("the example", text, race_text())
+    done = gate.run("lanes --journal", text)
+    outputs = [lines(printed + journal).encode() for printed, journal in (race_output(0), race_output(1))]
+    true("the output is neither of the two: %r" % done.stdout, done.stdout in outputs)
+    same("status", (done.status, done.stderr), (0, b""))
+
+
+def test_example_of_a_journal(gate):
+    """examples/journal.txt is a journal of examples/lanes.txt."""
+    with open(os.path.join(ROOT, "examples", "journal.txt")) as file:
+        text = file.read()
+    same("the example", text, lines(["# what the lanes of lanes.txt were answered, in the order of their calls"] + CHAIN + ["---"] + race_output(1)[1]))
+    done = gate.run("audit", text)
+    same("the audit", (done.stdout, done.stderr, done.status), (b"legal 2\n", b"", 0))

@@ -8,6 +8,10 @@ use std::alloc::{AllocError, AllocFailed};
 use std::hash::RandomState;
 use std::io::{BufReader, BufWriter, ErrorKind};
 use std::process::ExitCode;
+use std::random::RandomSource;
+use std::rt::Env;
+use std::sync::Wait;
+use std::thread::Threads;
 use std::{env, io};
 use thiserror::Error;
 
@@ -64,7 +68,7 @@ fn main(rt: HostRuntime) -> ExitCode {
 }
 
 /// The words behind the program's name.
-fn words(rt: &HostRuntime) -> Result<Vec<String>, Fault> {
+fn words(rt: &(impl Env + AllocGlobal)) -> Result<Vec<String>, Fault> {
     match env::args(rt) {
         Ok(args) => Ok(args.skip(1).collect(rt.alloc())?),
         Err(error) => Err(match error.kind() {
@@ -74,7 +78,10 @@ fn words(rt: &HostRuntime) -> Result<Vec<String>, Fault> {
     }
 }
 
-fn status(rt: &HostRuntime) -> Result<u8, Fault> {
+/// The status of what the words ask for.
+fn status<R: AllocGlobal + Env + Input + Print + Eprint + RandomSource + Threads + Wait + Sync>(
+    rt: &R,
+) -> Result<u8, Fault> {
     let alloc = rt.alloc();
     let args = words(rt)?;
     let mut words = Vec::new(alloc);
@@ -97,7 +104,7 @@ fn status(rt: &HostRuntime) -> Result<u8, Fault> {
     let Ok(hasher) = RandomState::new(rt) else {
         return Err(Fault::Random);
     };
-    Ok(run_job(alloc, hasher, &job, &mut reader, &mut writer)?)
+    Ok(run_job(rt, alloc, hasher, &job, &mut reader, &mut writer)?)
 }
 
 /// The status that follows what was printed.

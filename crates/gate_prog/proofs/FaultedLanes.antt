@@ -8,7 +8,8 @@ use Rattle.gate_core.specs.declared.reply.Reply.{Reply}
 use Rattle.gate_core.specs.declared.reply.Reply.TheVariants.{Entered, Left, Admitted, Listing, Block, Headers, Rpc, Denied, Set, Moved, Refused}
 use Rattle.gate_lines.specs.Lines.{count_limit, line_limit, is_skipped}
 use Rattle.gate_events.specs.EventLines.{line_event}
-use Rattle.gate_prog.specs.Lanes.{Run, LineAnswered, EventAnswered, fault_memory, line_too_long, too_many_lines}
+use Rattle.gate_lines.specs.Refused.{line_too_long, too_many_lines}
+use Rattle.gate_prog.specs.Lanes.{Run, LineAnswered, EventAnswered, fault_memory}
 use Rattle.gate_prog.specs.LaneRuns.{LacksFault, LanesAreRuns}
 use Rattle.gate_prog.specs.FaultedRuns.{is_fault, answers_among, answered_lines, FaultedLanesAreRuns}
 use Rattle.gate_prog.proofs.Runs.{at_true, at_false}

@@ -6,7 +6,8 @@ use Rattle.gate_core.specs.World.{World}
 use Rattle.gate_core.specs.declared.Event.{Event}
 use Rattle.gate_core.specs.declared.Reply.{Reply}
 use Rattle.gate_events.specs.EventLines.{line_event}
-use Rattle.gate_prog.specs.Lanes.{Run, LineAnswered, EventAnswered, bad_line, fault_memory, line_too_long, too_many_lines}
+use Rattle.gate_lines.specs.Refused.{bad_line, line_too_long, too_many_lines}
+use Rattle.gate_prog.specs.Lanes.{Run, LineAnswered, EventAnswered, fault_memory}
 use Rattle.gate_lines.specs.Lines.{count_limit, line_limit, is_skipped}
 use Rattle.gate_prog.specs.LaneRuns.{lane_events, lane_replies, with_event, with_answer, LacksFault, LanesAreRuns}
 

@@ -1,4 +1,8 @@
 pub mod Runs
+pub mod Printed
+pub mod LaneTexts
+pub mod Refusals
+pub mod Telling
 pub mod TextForms
 pub mod TurnLemmas
 pub mod SoFar
@@ -7,4 +11,5 @@ pub mod GateRuns
 pub mod LedLanes
 pub mod FaultedLanes
 pub mod JobRunning
+pub mod AuditedLanes
 mod CommandLemmas

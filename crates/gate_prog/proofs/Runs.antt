@@ -4,7 +4,8 @@ use Rattle.std.proofs.lemmas.Bool.{lt-ltb, le-leb}
 use Rattle.gate_core.specs.World.{World}
 use Rattle.gate_lines.specs.Lines.{line_limit, count_limit}
 use Rattle.gate_lines.proofs.Limits.{not-lt, not-le}
-use Rattle.gate_prog.specs.Lanes.{Run, LineAnswered, line_too_long, too_many_lines}
+use Rattle.gate_lines.specs.Refused.{line_too_long, too_many_lines}
+use Rattle.gate_prog.specs.Lanes.{Run, LineAnswered}
 
 pub at_true : (P Q : Type 0) (b : Bool) → b ≡ true → P → MatchBool b P Q
 at_true P Q b e p = subst (λ (c : Bool). MatchBool c P Q) (sym e) p

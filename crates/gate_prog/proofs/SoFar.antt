@@ -8,7 +8,8 @@ use Rattle.gate_lines.specs.declared.fault.LaneFault.TheVariants as faults
 use Rattle.gate_lines.specs.Lines.{FirstLines, EachLacksNewline, lines_of, unlines, count_limit}
 use Rattle.gate_lines.specs.Reading.{PieceRead, EndTold}
 use Rattle.gate_lines.specs.Writing.{TextWritten}
-use Rattle.gate_prog.specs.Lanes.{Run, StoppedBy, LaneUnread, too_many_lines}
+use Rattle.gate_lines.specs.Refused.{too_many_lines}
+use Rattle.gate_prog.specs.Lanes.{Run, StoppedBy, LaneUnread}
 use Rattle.gate_prog.specs.Turns.{AllLines, TurnTaken, LaneCame}
 use Rattle.gate_prog.specs.declared.lane.Turn.TheVariants.{Went, Ended}
 use Rattle.gate_lines.proofs.LineLists.{lines_of-unlines, lines_of-some, unlines-append, EachLacksNewline-push}

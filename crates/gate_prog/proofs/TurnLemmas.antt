@@ -9,7 +9,8 @@ use Rattle.gate_lines.specs.declared.fault.LaneFault.TheVariants as faults
 use Rattle.gate_lines.specs.Lines.{LacksNewline, FirstLines, line_limit, lines_of, unlines, count_limit}
 use Rattle.gate_lines.specs.Reading.{LineRead}
 use Rattle.gate_lines.specs.Writing.{TextWritten}
-use Rattle.gate_prog.specs.Lanes.{LineAnswered, Run, SentOf, StoppedBy, line_too_long}
+use Rattle.gate_lines.specs.Refused.{line_too_long}
+use Rattle.gate_prog.specs.Lanes.{LineAnswered, Run, SentOf, StoppedBy}
 use Rattle.gate_prog.specs.Turns.{AllLines, AnswerMade, AnswerLost, LineTaken, Responded, Unresponded, TurnTaken}
 use Rattle.gate_prog.specs.declared.lane.Turn.TheVariants.{Went, Ended}
 use Rattle.gate_lines.proofs.FirstLines.{FirstLines-none, LongLine}

@@ -7,7 +7,8 @@ use Rattle.gate_core.specs.World.{World}
 use Rattle.gate_core.specs.declared.Event.{Event}
 use Rattle.gate_core.specs.declared.Reply.{Reply}
 use Rattle.gate_events.specs.EventLines.{line_event}
-use Rattle.gate_prog.specs.Lanes.{Run, bad_line, fault_memory, line_too_long, too_many_lines}
+use Rattle.gate_lines.specs.Refused.{bad_line, line_too_long, too_many_lines}
+use Rattle.gate_prog.specs.Lanes.{Run, fault_memory}
 use Rattle.gate_lines.specs.Lines.{count_limit, line_limit, is_skipped}
 
 abbrev pub with_event : Option Event → List Event → List Event

@@ -10,18 +10,10 @@ use Rattle.gate_core.specs.Texts.{reply_text}
 use Rattle.gate_core.specs.declared.event.Event.{Event}
 use Rattle.gate_core.specs.declared.reply.Reply.{Reply}
 use Rattle.gate_lines.specs.Lines.{line_limit, count_limit, LacksNewline, EachLacksNewline, lines_of, unlines, is_skipped, FirstLines}
+use Rattle.gate_lines.specs.Refused.{bad_line, line_too_long, too_many_lines}
 use Rattle.gate_events.specs.EventLines.{line_event}
 
 -- ---- what a line is answered
-
-abbrev pub bad_line : List ℕ
-bad_line = codes "refused L1 bad-line"
-
-abbrev pub line_too_long : List ℕ
-line_too_long = codes "refused L2 line-too-long"
-
-abbrev pub too_many_lines : List ℕ
-too_many_lines = codes "refused L3 too-many-lines"
 
 abbrev pub fault_memory : List ℕ
 fault_memory = codes "fault memory"

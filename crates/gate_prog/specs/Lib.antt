@@ -2,7 +2,11 @@ pub mod Lanes
 pub mod Turns
 pub mod Checks
 pub mod Commands
+pub mod Printing
+pub mod LaneLines
+pub mod LaneJobs
 pub mod Jobs
 pub mod LaneRuns
 pub mod JobRuns
 pub mod FaultedRuns
+pub mod PrintedJournals

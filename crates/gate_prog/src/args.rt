@@ -1,13 +1,13 @@
 //! The words of the command line.
-ghost use Rattle.std.specs.Prelude.{◌≡◌, ℕ, List, [], ◌∷◌, IfOk, IfSome, Some, codes, map, option_map};
+ghost use Rattle.std.specs.Prelude.{◌≡◌, Bool, true, false, ℕ, List, [], ◌∷◌, IfOk, IfSome, Some, codes, map, option_map};
 ghost use Rattle.std.specs.Borrow.{Bor};
-ghost use Rattle.clap.specs.Words.{app_of, kind_of, subcommand_rows_of};
-ghost use Rattle.gate_prog.specs.Commands.{AsksFor, IsPlainWord, digits_job, gate_app, job_of_name, named_job, named_of};
+ghost use Rattle.clap.specs.Words.{app_of, found_of, kind_of, one_of, rows_of, subcommand_rows_of};
+ghost use Rattle.gate_prog.specs.Commands.{AsksFor, IsCommandOf, IsPlainWord, audit_app, check_app, digits_job, flag_of, gate_app, job_of_name, lanes_app, named_job, named_of, run_app};
 ghost use Rattle.gate_prog.specs.declared.args.ArgsFault.TheVariants.{Memory};
 
 use crate::job::Job;
 use clap::error::ErrorKind;
-use clap::{Arg, ArgMatches, Command};
+use clap::{Arg, ArgAction, ArgMatches, Command};
 use gate_bytes::Text;
 use std::alloc::{AllocError, Global};
 use thiserror::Error;
@@ -36,39 +36,80 @@ impl From<AllocError> for ArgsFault {
     }
 }
 
-/// The commands of the program, each with an example.
-fn gate_command<'a>(alloc: Global) -> Result<Command<'a>, AllocError>
-    ensures { IfOk result (λ command. app_of command ≡ gate_app) }
+fn check_command<'a>(alloc: Global) -> Result<Command<'a>, AllocError>
+    ensures { IfOk result (IsCommandOf check_app) }
 {
     let hex = Arg::new(alloc, "HEX").required(true).help(
         "A transaction in hexadecimal digits of either case; `-` takes them from standard input",
     );
-    let check = Command::new(alloc, "check")
+    Command::new(alloc, "check")
         .about(
             "Checks one transaction by itself: prints its ids and weight, and then `standard` or the first rule that fails",
         )
         .after_help(
             "Examples:\n  gate check 01000000000000000000\n  gate check - < examples/payment.hex",
         )
-        .arg(hex)?;
-    let run = Command::new(alloc, "run")
+        .arg(hex)
+}
+
+fn run_command<'a>(alloc: Global) -> Command<'a>
+    ensures { IsCommandOf run_app result }
+{
+    Command::new(alloc, "run")
         .about(
             "Opens a gate from standard input, and answers the events behind its line `---`, a line each",
         )
         .after_help(
             "Examples:\n  gate run < examples/first-path.txt\n  gate run < examples/permissions.txt\n  gate run < examples/rpc.txt",
-        );
+        )
+}
+
+fn lanes_command<'a>(alloc: Global) -> Result<Command<'a>, AllocError>
+    ensures { IfOk result (IsCommandOf lanes_app) }
+{
+    let journal = Arg::new(alloc, "journal")
+        .long("journal")
+        .action(ArgAction::SetTrue)
+        .help("Prints the journal too: each event with its reply, in the order of the calls");
+    Command::new(alloc, "lanes")
+        .about(
+            "Opens a gate from standard input, and answers the lanes behind it at once, each on a thread of its own: a line `---` begins a lane, and its events are one caller's",
+        )
+        .after_help("Examples:\n  gate lanes --journal < examples/lanes.txt")
+        .arg(journal)
+}
+
+fn audit_command<'a>(alloc: Global) -> Command<'a>
+    ensures { IsCommandOf audit_app result }
+{
+    Command::new(alloc, "audit")
+        .about(
+            "Opens a gate from standard input, and says whether each reply of the journal behind its line `---` is the reply to its event after those before",
+        )
+        .after_help("Examples:\n  gate audit < examples/journal.txt")
+}
+
+/// The commands of the program, each with an example.
+fn gate_command<'a>(alloc: Global) -> Result<Command<'a>, AllocError>
+    ensures { IfOk result (λ command. app_of command ≡ gate_app) }
+{
+    let check = check_command(alloc)?;
+    let run = run_command(alloc);
+    let lanes = lanes_command(alloc)?;
+    let audit = audit_command(alloc);
     Command::new(alloc, "gate")
         .about("The admission gate of a Bitcoin node's mempool")
         .after_help(
-            "Examples:\n  gate run < examples/first-path.txt\n  gate run < examples/permissions.txt\n  gate run < examples/rpc.txt\n  gate check 01000000000000000000\n  gate check - < examples/payment.hex",
+            "Examples:\n  gate run < examples/first-path.txt\n  gate run < examples/permissions.txt\n  gate run < examples/rpc.txt\n  gate check 01000000000000000000\n  gate check - < examples/payment.hex\n  gate lanes --journal < examples/lanes.txt\n  gate audit < examples/journal.txt",
         )
         .version(VERSION)
         .no_binary_name(true)
         .bin_name("gate")?
         .subcommand_required(true)
         .subcommand(check)?
-        .subcommand(run)
+        .subcommand(run)?
+        .subcommand(lanes)?
+        .subcommand(audit)
 }
 
 /// The job that the words behind the program's name ask for.
@@ -76,6 +117,9 @@ pub fn read_args<'a>(alloc: Global, words: &'a [&'a str]) -> Result<Job, ArgsFau
     ensures run { map (λ word. word.now) words.entry.now ≡ codes "run" ∷ [] → AsksFor Job.Run result }
     ensures check { (digits : List ℕ) → IsPlainWord digits → map (λ word. word.now) words.entry.now ≡ codes "check" ∷ digits ∷ [] → AsksFor (Job.Check digits) result }
     ensures input { map (λ word. word.now) words.entry.now ≡ codes "check" ∷ codes "-" ∷ [] → AsksFor Job.CheckInput result }
+    ensures lanes { map (λ word. word.now) words.entry.now ≡ codes "lanes" ∷ [] → AsksFor (Job.Lanes false) result }
+    ensures journal { map (λ word. word.now) words.entry.now ≡ codes "lanes" ∷ codes "--journal" ∷ [] → AsksFor (Job.Lanes true) result }
+    ensures audit { map (λ word. word.now) words.entry.now ≡ codes "audit" ∷ [] → AsksFor Job.Audit result }
 {
     match gate_command(alloc)?.try_get_matches_from(words) {
         Ok(matches) => job_of(alloc, &matches),
@@ -88,16 +132,37 @@ fn job_of(alloc: Global, matches: &ArgMatches<'_>) -> Result<Job, ArgsFault>
     ensures { IfSome (named_job (named_of (subcommand_rows_of matches.now))) (λ job. AsksFor job result) }
 {
     match matches.subcommand() {
-        Some((name, rest)) => named_job(alloc, name, rest.get_str("HEX")),
+        Some((name, rest)) => {
+            let journal = asks_journal(rest);
+            named_job(alloc, name, rest.get_str("HEX"), journal)
+        }
         None => Err(no_job(alloc)),
     }
 }
 
-fn named_job(alloc: Global, name: &str, digits: Option<&str>) -> Result<Job, ArgsFault>
-    ensures { IfSome (job_of_name name.now (option_map (λ (text : Bor (List ℕ)). text.now) digits.entry)) (λ job. AsksFor job result) }
+/// Whether the flag `--journal` was given.
+fn asks_journal(matches: &ArgMatches<'_>) -> bool
+    ensures { IfSome (flag_of (one_of (codes "journal") (rows_of (found_of matches.now)))) (λ flag. result ≡ flag) }
+{
+    matches.get_flag("journal")
+}
+
+fn named_job(
+    alloc: Global,
+    name: &str,
+    digits: Option<&str>,
+    journal: bool,
+) -> Result<Job, ArgsFault>
+    ensures { IfSome (job_of_name name.now (option_map (λ (text : Bor (List ℕ)). text.now) digits.entry) journal) (λ job. AsksFor job result) }
 {
     if name == "run" {
         return Ok(Job::Run);
+    }
+    if name == "lanes" {
+        return Ok(Job::Lanes { journal });
+    }
+    if name == "audit" {
+        return Ok(Job::Audit);
     }
     match digits {
         Some(digits) => digits_job(alloc, digits),

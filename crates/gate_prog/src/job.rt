@@ -1,14 +1,19 @@
 //! The jobs of the command line.
-ghost use Rattle.std.specs.Prelude.{◌≡◌, ◌≢◌, ◌++◌, ◌∷◌, [], None, true, IfOk, IfErr, OnOk};
-ghost use Rattle.gate_prog.specs.Jobs.{JobDone, JobStopped, CheckStopped, FaultPrinted, InputCheckStopped, InputChecked, RefusalStopped, GateRan, GateStopped, opening_line};
+ghost use Rattle.std.specs.Prelude.{◌≡◌, ◌≢◌, [], None, true, IfOk, IfErr, OnOk};
+ghost use Rattle.gate_prog.specs.Jobs.{JobDone, JobStopped, CheckStopped, InputCheckStopped, InputChecked, GateRan, GateStopped, PastLimits};
 
+use crate::audit_job::run_audit;
 use crate::check::{check_hex, check_input};
 use crate::lane::run_lane;
-use gate_bytes::{Memory, Text};
-use gate_lines::{LaneFault, Sink, Source, end_line};
-use gate_opening::{OpeningFault, OpeningToken, read_opening};
+use crate::lanes_job::run_lanes_job;
+use crate::refusal::refuse_opening;
+use gate_bytes::Text;
+use gate_lines::{LaneFault, Sink, Source};
+use gate_opening::{OpeningFault, read_opening};
 use std::alloc::Global;
 use std::hash::BuildHasher;
+use std::sync::Wait;
+use std::thread::Threads;
 
 /// What the program is asked to do.
 #[derive(Debug, Drop, PartialEq, Eq)]
@@ -19,26 +24,42 @@ pub enum Job {
     CheckInput,
     /// Opens a gate from the input, and answers its events.
     Run,
+    /// Opens a gate from the input, and answers the lanes behind the opening at once; `journal` asks for the journal of
+    /// their calls, too.
+    Lanes { journal: bool },
+    /// Opens a gate from the input, and says whether the journal behind the opening is legal.
+    Audit,
 }
 
-/// Does a job over a reader and a writer, and gives the status that the program ends with; a fault is status 1.
-pub fn run_job<S: BuildHasher + Copy + Drop, R: Source, W: Sink>(
+/// Does a job over a reader and a writer, and gives the status that the program ends with; a fault is status 1. Lanes run
+/// on threads of the runtime.
+pub fn run_job<
+    T: Threads + Wait + Sync,
+    S: BuildHasher + Copy + Drop + Send + Sync,
+    R: Source,
+    W: Sink,
+>(
+    rt: &T,
     alloc: Global,
     hasher: S,
     job: &Job,
     reader: &mut R,
     writer: &mut W,
 ) -> Result<u8, LaneFault>
+where
+    S::Hasher: Send + Sync,
     ensures done { IfOk result (λ status. JobDone job.now (R.remaining reader.old) (W.contents writer.old) (W.contents writer.new) status) }
     ensures sent { OnOk result (W.held writer.new ≡ []) }
     ensures stopped { IfErr result (λ fault. JobStopped job.now (R.remaining reader.old) (R.remaining reader.new) (W.contents writer.old) (W.contents writer.new) fault) }
-    ensures steady_reader { R.steady ≡ true → IfErr result (λ fault. fault ≢ LaneFault.Read) }
+    ensures steady_reader { R.steady ≡ true → IfErr result (λ fault. fault ≡ LaneFault.Read → PastLimits job.now (R.remaining reader.old)) }
     ensures steady_writer { W.steady ≡ true → IfErr result (λ fault. fault ≢ LaneFault.Write) }
 {
     match job {
         Job::Check(hex) => run_check(alloc, hex.as_str(), writer),
         Job::CheckInput => run_check_input(alloc, reader, writer),
         Job::Run => run_gate(alloc, hasher, reader, writer),
+        Job::Lanes { journal } => run_lanes_job(rt, alloc, hasher, *journal, reader, writer),
+        Job::Audit => run_audit(alloc, hasher, reader, writer),
     }
 }
 
@@ -95,29 +116,4 @@ pub fn run_gate<S: BuildHasher + Copy + Drop, R: Source, W: Sink>(
         Err(OpeningFault::Read) => Err(LaneFault::Read),
         Err(OpeningFault::Memory) => Err(LaneFault::Memory),
     }
-}
-
-/// Writes the line of an opening's fault, and gives the status that follows it.
-fn refuse_opening<W: Sink>(
-    alloc: Global,
-    writer: &mut W,
-    line: u64,
-    token: OpeningToken,
-) -> Result<u8, LaneFault>
-    ensures done { IfOk result (λ status. FaultPrinted line token (W.contents writer.old) (W.contents writer.new) status) }
-    ensures sent { OnOk result (W.held writer.new ≡ []) }
-    ensures stopped { IfErr result (λ fault. RefusalStopped line token (W.contents writer.old) (W.contents writer.new) fault) }
-    ensures steady { W.steady ≡ true → IfErr result (λ fault. fault ≢ LaneFault.Write) }
-{
-    let text = refusal_line(alloc, line, token)?;
-    writer.write_text(text.as_slice())?;
-    writer.send()?;
-    Ok(2)
-}
-
-/// `opening LINE TOKEN`, with its newline.
-fn refusal_line(alloc: Global, line: u64, token: OpeningToken) -> Result<Vec<u8>, Memory>
-    ensures { IfOk result (λ text. text.items ≡ opening_line line token ++ 10 ∷ []) }
-{
-    end_line(format!(in alloc; "opening {line} {token}")?)
 }

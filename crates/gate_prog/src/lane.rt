@@ -1,6 +1,5 @@
 //! The lane: lines read one after another, each answered before the next is read.
-ghost use Rattle.std.specs.Prelude.{◌≡◌, ◌≢◌, [], true, IfOk, IfErr, OnOk, OnErr, IsOk, IsErrOf};
-ghost use Rattle.std.specs.Io.KnownBytes.{Appends};
+ghost use Rattle.std.specs.Prelude.{◌≡◌, ◌≢◌, [], true, IfOk, IfErr, OnOk, OnErr, IsErrOf};
 ghost use Rattle.gate_prog.specs.Lanes.{LaneDone, LaneUnread, StoppedBy};
 ghost use Rattle.gate_prog.specs.Turns.{EventReplied, EventLost, AnswerMade, AnswerLost, LineTaken, TurnTaken, LaneCame};
 
@@ -9,6 +8,7 @@ use gate_core::{Event, State};
 use gate_events::event_on;
 use gate_lines::{
     Found, LaneFault, MAX_LINES, Sink, Source, asks_nothing, end_line, has_ended, next_line,
+    send_before_wait,
 };
 use std::alloc::Global;
 use std::hash::BuildHasher;
@@ -91,18 +91,6 @@ fn take_turn<S: BuildHasher + Copy + Drop, R: Source, W: Sink>(
             Ok(Turn::Ended(1))
         }
     }
-}
-
-/// Sends on what was written, unless a whole line waits to be read.
-fn send_before_wait<R: Source, W: Sink>(reader: &R, writer: &mut W) -> Result<(), LaneFault>
-    ensures kept { Appends (W.contents writer.old) (W.contents writer.new) [] }
-    ensures kind { IfErr result (λ fault. fault ≡ LaneFault.Write) }
-    ensures steady { W.steady ≡ true → IsOk result }
-{
-    if reader.has_line() {
-        return Ok(());
-    }
-    writer.send()
 }
 
 /// Answers all lines, up to the first past a limit, and gives the number of reply lines. The last of them may not be sent

@@ -1,8 +1,8 @@
 //! Openings and lanes over readers and writers in memory, and over some that break.
 use crate::parts::COINS;
 use gate_prog::{
-    ArgsFault, Job, LaneFault, OpeningFault, OpeningToken, read_args, read_opening, run_gate,
-    run_job,
+    ArgsFault, Job, LaneFault, OpeningFault, OpeningToken, read_args, read_opening, run_audit,
+    run_check, run_gate, run_lanes_job,
 };
 use std::alloc::Global;
 use std::hash::{BuildHasherDefault, FoldHasher};
@@ -85,7 +85,7 @@ fn hasher() -> BuildHasherDefault<FoldHasher> {
 fn runs(alloc: Global, input: &[u8], status: u8, text: &str) -> Result<bool, LaneFault> {
     let mut reader = input;
     let mut written = Vec::new(alloc);
-    let found = run_job(alloc, hasher(), &Job::Run, &mut reader, &mut written)?;
+    let found = run_gate(alloc, hasher(), &mut reader, &mut written)?;
     Ok(found == status && written.as_slice() == text.as_bytes())
 }
 
@@ -268,7 +268,7 @@ fn a_reader_that_breaks(rt: HostRuntime) -> Result<(), Fail> {
     let input = Interrupted(b"times 1 0 0\n---\npeer 1 leave\npeer 1 leave");
     let mut reader = BufReader::new(rt.alloc(), input)?;
     let mut written = Vec::new(rt.alloc());
-    let end = run_job(rt.alloc(), hasher(), &Job::Run, &mut reader, &mut written);
+    let end = run_gate(rt.alloc(), hasher(), &mut reader, &mut written);
     assert!(rt; end == Err(LaneFault::Read));
     assert!(rt; written.as_slice() == b"denied P1 keep peer-unknown\n".as_slice());
     Ok(())
@@ -306,7 +306,7 @@ fn replies_before_a_wait(rt: HostRuntime) -> Result<(), Fail> {
 fn run_into(alloc: Global, left: usize) -> Result<(Result<u8, LaneFault>, usize), Fail> {
     let mut reader: &[u8] = b"times 1 0 0\n---\npeer 1 leave\npeer 1 leave\npeer 1 leave\n";
     let mut writer = BufWriter::with_capacity(alloc, 0, Drops { left })?;
-    let end = run_job(alloc, hasher(), &Job::Run, &mut reader, &mut writer);
+    let end = run_gate(alloc, hasher(), &mut reader, &mut writer);
     Ok((end, reader.len()))
 }
 
@@ -323,10 +323,8 @@ const GENESIS: &str =
 
 /// Whether `gate check` writes this, with status 1.
 fn checks(alloc: Global, digits: &str, text: &str) -> Result<bool, Fail> {
-    let mut reader: &[u8] = b"";
     let mut written = Vec::new(alloc);
-    let job = read_args(alloc, &["check", digits])?;
-    let status = run_job(alloc, hasher(), &job, &mut reader, &mut written)?;
+    let status = run_check(alloc, digits, &mut written)?;
     Ok(status == 1 && written.as_slice() == text.as_bytes())
 }
 
@@ -352,11 +350,69 @@ fn asks_for_help(alloc: Global, words: &[&str]) -> bool {
 #[test]
 fn words_of_the_command_line(rt: HostRuntime) -> Result<(), Fail> {
     assert!(rt; read_args(rt.alloc(), &["run"])? == Job::Run);
+    assert!(rt; read_args(rt.alloc(), &["lanes"])? == Job::Lanes { journal: false });
+    assert!(rt; read_args(rt.alloc(), &["lanes", "--journal"])? == Job::Lanes { journal: true });
+    assert!(rt; read_args(rt.alloc(), &["audit"])? == Job::Audit);
     assert!(rt; asks_for_help(rt.alloc(), &["--help"]));
     assert!(rt; asks_for_help(rt.alloc(), &["help", "run"]));
     assert!(rt; is_usage_fault(rt.alloc(), &["run", "more"]));
     assert!(rt; is_usage_fault(rt.alloc(), &["check"]));
+    assert!(rt; is_usage_fault(rt.alloc(), &["lanes", "--workers", "2"]));
     assert!(rt; is_usage_fault(rt.alloc(), &["nothing"]));
     assert!(rt; is_usage_fault(rt.alloc(), &[]));
+    Ok(())
+}
+
+/// A journal of two entries, the second of which is wrong.
+const WRONG: &[u8] = b"times 1 0 0
+---
+> peer 1 leave
+< denied P1 keep peer-unknown
+# the peer never entered
+> peer 1 leave
+< left
+";
+
+#[test]
+fn an_audit(rt: HostRuntime) -> Result<(), Fail> {
+    let mut reader = WRONG;
+    let mut written = Vec::new(rt.alloc());
+    let status = run_audit(rt.alloc(), hasher(), &mut reader, &mut written)?;
+    assert!(rt; status == 1);
+    assert!(rt; written.as_slice() == b"illegal 2\n".as_slice());
+    Ok(())
+}
+
+/// An audit reads no further than the first entry that is wrong.
+#[test]
+fn an_audit_that_needs_no_more(rt: HostRuntime) -> Result<(), Fail> {
+    let mut reader = BufReader::new(rt.alloc(), Interrupted(WRONG))?;
+    let mut written = Vec::new(rt.alloc());
+    let end = run_audit(rt.alloc(), hasher(), &mut reader, &mut written);
+    assert!(rt; end == Ok(1));
+    Ok(())
+}
+
+/// Nothing is written of an audit whose reader breaks.
+#[test]
+fn an_audit_that_breaks(rt: HostRuntime) -> Result<(), Fail> {
+    let input = Interrupted(b"times 1 0 0\n---\n> peer 1 leave\n< denied P1 keep");
+    let mut reader = BufReader::new(rt.alloc(), input)?;
+    let mut written = Vec::new(rt.alloc());
+    let end = run_audit(rt.alloc(), hasher(), &mut reader, &mut written);
+    assert!(rt; end == Err(LaneFault::Read));
+    assert!(rt; written.is_empty());
+    Ok(())
+}
+
+/// No lane is run where the reader breaks.
+#[test]
+fn lanes_that_break(rt: HostRuntime) -> Result<(), Fail> {
+    let input = Interrupted(b"times 1 0 0\n---\npeer 1 leave\n---\npeer 2");
+    let mut reader = BufReader::new(rt.alloc(), input)?;
+    let mut written = Vec::new(rt.alloc());
+    let end = run_lanes_job(&rt, rt.alloc(), hasher(), false, &mut reader, &mut written);
+    assert!(rt; end == Err(LaneFault::Read));
+    assert!(rt; written.is_empty());
     Ok(())
 }

@@ -3,7 +3,9 @@ use crate::outcome;
 use crate::parts::{COINS, ENTER, EVENT, MULTISIG, VERSION, WITNESS};
 use std::alloc::{AllocError, Global};
 use std::process::Abort;
+use std::sync::Wait;
 use std::test::Fail;
+use std::thread::Threads;
 
 /// What stands behind the first byte of an input's index: its other bytes, no script, the sequence.
 const BEHIND_INDEX: &str = "00000000fdffffff";
@@ -83,8 +85,12 @@ fn opened(alloc: Global) -> Result<String, AllocError> {
     Ok(input)
 }
 
-fn pass(rt: &(impl Abort + AllocGlobal), input: &str, wanted: &str) -> Result<(), Fail> {
-    let (status, written) = outcome(rt.alloc(), "run", input)?;
+fn pass<R: Abort + AllocGlobal + Threads + Wait + Sync>(
+    rt: &R,
+    input: &str,
+    wanted: &str,
+) -> Result<(), Fail> {
+    let (status, written) = outcome(rt, "run", input)?;
     let text = std::str::from_utf8(written.as_slice())?;
     assert_eq!(rt; text, wanted);
     assert_eq!(rt; status, 0);
@@ -303,13 +309,13 @@ pub fn push_spending_of_four(input: &mut String) -> Result<(), AllocError> {
 }
 
 /// Tells long replies by their count and the last, which hangs on each submission before it.
-pub fn ends(
-    rt: &(impl Abort + AllocGlobal),
+pub fn ends<R: Abort + AllocGlobal + Threads + Wait + Sync>(
+    rt: &R,
     input: &str,
     lines: usize,
     last: &[u8],
 ) -> Result<(), Fail> {
-    let (status, written) = outcome(rt.alloc(), "run", input)?;
+    let (status, written) = outcome(rt, "run", input)?;
     let text = written.as_slice();
     assert_eq!(rt; text.iter().filter(|byte| **byte == b'\n').count(), lines);
     assert!(rt; text.ends_with(last));

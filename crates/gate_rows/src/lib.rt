@@ -12,6 +12,8 @@ mod families;
 #[cfg(test)]
 mod jobs;
 #[cfg(test)]
+mod lanes;
+#[cfg(test)]
 mod large_families;
 #[cfg(test)]
 mod locking;

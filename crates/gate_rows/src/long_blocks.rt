@@ -63,7 +63,7 @@ fn hundred_and_one_blocks(alloc: Global) -> Result<String, AllocError> {
 #[test]
 fn hundred_blocks_back(rt: HostRuntime) -> Result<(), Fail> {
     let input = hundred_and_one_blocks(rt.alloc())?;
-    let (status, written) = outcome(rt.alloc(), "run", input.as_str())?;
+    let (status, written) = outcome(&rt, "run", input.as_str())?;
     let text = std::str::from_utf8(written.as_slice())?;
     assert_eq!(rt;
         text,

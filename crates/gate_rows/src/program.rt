@@ -1,14 +1,20 @@
 ghost use Rattle.std.specs.Prelude.{◌≡◌, ◌≤◌, IfOk};
 
 use gate_prog::{ArgsFault, LaneFault, read_args, run_job};
-use std::alloc::Global;
 use std::hash::{BuildHasherDefault, FoldHasher};
+use std::sync::Wait;
+use std::thread::Threads;
 
 /// What the program writes to standard output for these words, parted by spaces, and this input, and its status. Help is
 /// what it writes; a fault of usage writes nothing here and has status 2.
-pub fn outcome(alloc: Global, words: &str, input: &str) -> Result<(u8, Vec<u8>), LaneFault>
+pub fn outcome<R: AllocGlobal + Threads + Wait + Sync>(
+    rt: &R,
+    words: &str,
+    input: &str,
+) -> Result<(u8, Vec<u8>), LaneFault>
     ensures status { IfOk result (λ done. done.0 ≤ 2) }
 {
+    let alloc = rt.alloc();
     let mut parts = Vec::new(alloc);
     for word in words.split(' ') {
         parts.push(word)?;
@@ -25,6 +31,6 @@ pub fn outcome(alloc: Global, words: &str, input: &str) -> Result<(u8, Vec<u8>),
     };
     let mut reader = input.as_bytes();
     let hasher: BuildHasherDefault<FoldHasher> = BuildHasherDefault::new();
-    let status = run_job(alloc, hasher, &job, &mut reader, &mut written)?;
+    let status = run_job(rt, alloc, hasher, &job, &mut reader, &mut written)?;
     Ok((status, written))
 }

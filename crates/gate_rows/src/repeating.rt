@@ -36,7 +36,7 @@ fn row(alloc: Global) -> Result<String, AllocError> {
 #[test]
 fn too_many_sigops(rt: HostRuntime) -> Result<(), Fail> {
     let input = row(rt.alloc())?;
-    let (status, written) = outcome(rt.alloc(), "run", input.as_str())?;
+    let (status, written) = outcome(&rt, "run", input.as_str())?;
     let text = std::str::from_utf8(written.as_slice())?;
     assert_eq!(rt; text, REPLIES);
     assert_eq!(rt; status, 0);

@@ -1,5 +1,5 @@
 use Rattle.std.proofs.Common.{None, refl, sym}
-use Rattle.gate_prog.specs.Lanes.{bad_line}
+use Rattle.gate_lines.specs.Refused.{bad_line}
 use Rattle.gate_prog.proofs.TextForms.{line_answered}
 use Rattle.gate_prog.proofs.lane.answer.Goals as goal
 

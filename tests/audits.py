@@ -1,0 +1,106 @@
+"""What `gate audit` takes for a journal, and what it prints."""
+
+from bitcoin import coin, payment
+from gate import lines, same
+from streams import UNREAD
+
+OPENING = lines(["times 101 1000 600", "verdict * ok", "bloom 1", coin(1)]) + "---\n"
+LONGEST = 16777216
+LISTED = '> user a rpc 0 {"method":"getrawmempool","id":1}\n< rpc 200 {"error":null,"id":1,"result":[]}\n'
+ENTERED = "> peer 1 enter 192.0.2.1\n< entered none\n"
+PARSE_ERROR = '< rpc 500 {"error":{"code":-32700,"message":"Parse error"},"id":null,"result":null}\n'
+
+
+def says(gate, journal, answer):
+    """The audit prints this line, with status 0 for a legal journal and 1 for one that is not."""
+    text = OPENING.encode() + (journal.encode() if isinstance(journal, str) else journal)
+    done = gate.run("audit", text)
+    same("standard output for %r" % text[-200:], done.stdout.decode(), answer + "\n")
+    same("standard error", done.stderr, b"")
+    same("status", done.status, 0 if answer.startswith("legal") else 1)
+
+
+def is_unread(gate, journal):
+    """The journal passes a limit of lines: nothing is printed, and standard error says why."""
+    done = gate.run("audit", OPENING + journal)
+    same("standard output", done.stdout, b"")
+    same("standard error", done.stderr, UNREAD)
+    same("status", done.status, 1)
+
+
+def test_legal_journals(gate):
+    """Each reply is that of its event after those before. Empty lines and comments are skipped; the last line needs no newline."""
+    tx = payment(1, 99000)
+    submitted = "> peer 1 tx 5000 %s\n< admitted %s fee 1000 vsize %d replaced 0\n" % (tx.hex(), tx.txid(), tx.virtual_size(1))
+    says(gate, "", "legal 0")
+    says(gate, "\n# nothing\n#", "legal 0")
+    says(gate, ENTERED, "legal 1")
+    says(gate, ENTERED[:-1], "legal 1")
+    says(gate, LISTED + ENTERED + submitted + "> peer 1 mempool\n< listing 1 %s\n" % tx.txid(), "legal 4")
+    says(gate, "\n# one\n" + ENTERED.replace("\n", "\n\n# between\n") + "\n" + LISTED, "legal 2")
+    says(gate, b"# \xff\n" + ENTERED.encode(), "legal 1")
+
+
+def test_other_spellings(gate):
+    """An event may be spelled in any way that a lane takes."""
+    tx = payment(1, 99000)
+    says(gate, "> peer 1 enter ::ffff:c000:201\n< entered none\n> peer 1 tx 5000 %s\n< admitted %s fee 1000 vsize %d replaced 0\n"
+         % (tx.hex().upper(), tx.txid(), tx.virtual_size(1)), "legal 2")
+    for digits in ("-", "0", "zz", "00"):
+        says(gate, ENTERED + "> peer 1 tx 5000 %s\n< denied A1 keep tx-decode\n> chain 0 5000 %s\n< refused C1 block-decode\n" % (digits, digits), "legal 3")
+
+
+def test_illegal_journals(gate):
+    """The first pair that is none, or whose reply is another, is named."""
+    for pair in (
+        "> peer 1 enter 192.0.2.1\n< entered noban\n", "> peer 1 enter 192.0.2.1\n< entered none \n", "> peer 1 enter 192.0.2.1\n<  entered none\n",
+        "> peer 1 enter 192.0.2.1\n< entered none\r\n", "> peer 1 enter 192.0.2.1\r\n< entered none\n", "> peer 1 enter 192.0.2.1\n<entered none\n",
+        ">peer 1 enter 192.0.2.1\n< entered none\n", ">  peer 1 enter 192.0.2.1\n< entered none\n", " > peer 1 enter 192.0.2.1\n< entered none\n",
+        "peer 1 enter 192.0.2.1\nentered none\n", "< entered none\n> peer 1 enter 192.0.2.1\n", "> peer 1 enter 192.0.2.1\n", "> peer 1 enter 192.0.2.1",
+        "> peer 1 enter 192.0.2.1\n> peer 1 enter 192.0.2.1\n< entered none\n", "> peer 1 enter 192.0.2.1\n< \n", "> peer 1 enter 192.0.2.1\n<\n",
+        "> nonsense\n< refused L1 bad-line\n", "> \n< refused L1 bad-line\n", ">\n< refused L1 bad-line\n", "> # a comment\n< refused L1 bad-line\n",
+        "> peer 1 enter 192.0.2.1\n< fault memory\n", "---\n", "===\n", "lane 1\n", "settled 0\n", "base 1\n", "> peer 1 enter 192.0.2.1\n< denied P3 keep peer-known\n",
+    ):
+        says(gate, pair, "illegal 1")
+        says(gate, LISTED + pair + LISTED, "illegal 2")
+        says(gate, LISTED * 500 + pair, "illegal 501")
+    says(gate, ENTERED * 2, "illegal 2")
+    says(gate, b"> \xff\n< refused L1 bad-line\n", "illegal 1")
+    says(gate, b"> peer 1 enter 192.0.2.1\n< entered \xff\n", "illegal 1")
+
+
+def test_a_journal_of_the_most_entries(gate):
+    """100,000 entries are legal, and any pair after them is not."""
+    pairs = "> peer 1 leave\n< denied P1 keep peer-unknown\n" * 100000
+    says(gate, pairs, "legal 100000")
+    says(gate, pairs + "# no more\n\n", "legal 100000")
+    says(gate, pairs + ENTERED, "illegal 100001")
+    says(gate, pairs + "x", "illegal 100001")
+
+
+def test_lines_at_the_limits(gate):
+    """A mark is not counted among a line's 16,777,216 bytes. What is wrong before a limit is told first."""
+    longest = "> " + "user a rpc 0 ".ljust(LONGEST, "x") + "\n"
+    says(gate, longest + PARSE_ERROR, "legal 1")
+    says(gate, longest + PARSE_ERROR.replace("Parse", "parse"), "illegal 1")
+    is_unread(gate, longest.replace("x\n", "xx\n") + PARSE_ERROR)
+    is_unread(gate, ENTERED + "> peer 1 leave\n< " + "x" * (LONGEST + 1))
+    says(gate, "> nonsense\n< refused L1 bad-line\n" + "#" * (LONGEST + 9), "illegal 1")
+
+
+def test_too_many_lines(gate):
+    """1,000,000 lines are read."""
+    says(gate, "\n" * 999998 + ENTERED, "legal 1")
+    is_unread(gate, "\n" * 1000000 + "\n")
+    is_unread(gate, "\n" * 999999 + ENTERED)
+    says(gate, "x\n" + "\n" * 1000000, "illegal 1")
+
+
+def test_openings_of_audits(gate):
+    """A fault of the opening is told as for a run. Without its last line the journal is empty."""
+    for opening, printed, status in (
+        ("", "opening 0 no-times\n", 2), ("x\n", "opening 1 bad-line\n", 2), ("times 1 0 0\n> peer 1 leave\n", "opening 2 bad-line\n", 2),
+        ("times 1 0 0\n", "legal 0\n", 0), ("times 1 0 0\n---", "legal 0\n", 0),
+    ):
+        done = gate.run("audit", opening)
+        same("%r" % opening, (done.stdout.decode(), done.stderr, done.status), (printed, b"", status))
