@@ -70,10 +70,10 @@ def most_threads(gate, text):
 def test_a_thread_for_each_lane(gate):
     """64 lanes are seen on 64 threads at once, beside the first or with it."""
     low = payment(1, 99999)
-    lane = "peer %d enter 192.0.2.1\n" + "peer %d tx 5000 {}\n".format(low.hex()) * 500
-    replies = ["entered none"] + ["denied A35 keep min relay fee not met"] * 500
+    lane = "peer %d enter 192.0.2.1\n" + "peer %d tx 5000 {}\n".format(low.hex()) * 1500
+    replies = ["entered none"] + ["denied A35 keep min relay fee not met"] * 1500
     text = laned(lane.replace("%d", str(peer)) for peer in range(64))
-    wanted = "".join(lines(["lane %d" % number] + replies) for number in range(1, 65)) + "settled %d\n" % (64 * 501)
+    wanted = "".join(lines(["lane %d" % number] + replies) for number in range(1, 65)) + "settled %d\n" % (64 * 1501)
     most = 0
     for _ in range(TRIES):
         seen, printed = most_threads(gate, text)
