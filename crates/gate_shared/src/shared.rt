@@ -11,7 +11,7 @@ use crate::pass::{Pass, stands};
 use crate::receipt::{Made, Receipt};
 use crate::settle::{SettleFault, Settled, settle};
 use gate_bytes::{Copied, Memory};
-use gate_core::{Caller, Event, Replies, State};
+use gate_core::{Caller, Event, Replies, State, StepFault};
 use gate_journal::{Entry, Journal};
 use std::alloc::Global;
 use std::hash::BuildHasher;
@@ -69,7 +69,7 @@ fn step<S: BuildHasher + Copy + Drop>(
 {
     match state.step_recorded(alloc, event) {
         Ok(replies) => Ok(replies),
-        Err(_) => Err(Memory),
+        Err(StepFault::Memory) => Err(Memory),
     }
 }
 
