@@ -1,11 +1,9 @@
 -- What is answered to an event and to a line.
-use Rattle.std.proofs.Common.{◌≡◌, ℕ, Bool, false, List, [], ◌∷◌, ◌++◌, Option, Some, None, Result, Ok, Err, IfOk, OnErr, MatchBool, subst, sym, ◌∙◌, inl, inr, refl}
+use Rattle.std.proofs.Common.{◌≡◌, ℕ, List, [], ◌∷◌, ◌++◌, Option, Some, None, Result, Ok, Err, IfOk, OnErr, inl, inr, refl}
 use Rattle.std.specs.Global.{Vec}
 use Rattle.gate_core.specs.World.{World}
 use Rattle.gate_core.specs.Texts.{reply_text}
 use Rattle.gate_core.specs.declared.event.Event.{Event}
-use Rattle.gate_events.specs.EventLines.{line_event}
-use Rattle.gate_lines.specs.Lines.{is_skipped}
 use Rattle.gate_shared.specs.Calls.{PassView}
 use Rattle.gate_shared.specs.Held.{Called, Grows}
 use Rattle.gate_shared.specs.declared.receipt.Receipt.{Receipt}
@@ -14,8 +12,8 @@ use Rattle.gate_shared.specs.declared.shared.CallFault.TheVariants.{WrongCaller,
 use Rattle.gate_lines.specs.Refused.{bad_line}
 use Rattle.gate_lanes.specs.Faults.{fault_line}
 use Rattle.gate_lanes.specs.LaneCalls.{Answer, answer_line}
-use Rattle.gate_lanes.specs.Lanes.{CallAnswered, EventAnswered, LineAnswered, MayFault}
-use Rattle.gate_lanes.specs.Turns.{CallReplied, CallLost, EventReplied, EventLost, AnswerMade, AnswerLost}
+use Rattle.gate_lanes.specs.Lanes.{CallAnswered, MayFault}
+use Rattle.gate_lanes.specs.Turns.{CallReplied, CallLost, EventReplied}
 
 -- the call was made
 call_made : (base : World) (p q : PassView) (event : Event) (r : Receipt) → Called base p q event (Ok r) → Grows p q event r → CallAnswered p event (reply_text r.reply) q

@@ -1,16 +1,14 @@
 -- A lane leads through the events of its lines.
 use Rattle.std.proofs.Common.{◌≡◌, ℕ, ◌+◌, nat_lt, nat_le, Bool, true, false, if◌then◌else◌, List, [], ◌∷◌, ◌++◌, length, Option, Some, None, Ok, Err, MatchBool, inl, inr, refl, sym, ap, subst, ◌∙◌, append_assoc, append-nil}
-use Rattle.gate_core.specs.Callers.{caller_of}
 use Rattle.gate_core.specs.declared.caller.Caller.{Caller}
 use Rattle.gate_core.specs.declared.event.Event.{Event}
 use Rattle.gate_events.specs.EventLines.{line_event}
 use Rattle.gate_lines.specs.Lines.{count_limit, line_limit, is_skipped}
 use Rattle.gate_shared.specs.Calls.{PassView}
 use Rattle.gate_shared.specs.Held.{Grows, IsOwn}
-use Rattle.gate_shared.specs.declared.shared.CallFault.{CallFault}
 use Rattle.gate_shared.specs.declared.shared.CallFault.TheVariants.{WrongCaller, PassFull, HistoryShort, AuditFull, Memory}
 use Rattle.gate_lanes.specs.LaneCalls.{Answer, answer_line, with_event, lane_events, with_answer, lane_lines, calls_made, IsAnsweredFor, AreAnsweredFor, HasCalls, LanesAreCalls}
-use Rattle.gate_lanes.specs.Lanes.{Run, LineAnswered, EventAnswered, CallAnswered, IsUnder, MayFault}
+use Rattle.gate_lanes.specs.Lanes.{Run, LineAnswered, EventAnswered, IsUnder, MayFault}
 use Rattle.gate_lines.specs.Refused.{bad_line, line_too_long, too_many_lines}
 
 -- ---- one event and many
