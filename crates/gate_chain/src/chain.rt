@@ -243,13 +243,17 @@ impl<S: BuildHasher + Copy + Drop> Chain<S> {
     }
 }
 
-/// The law of a block that is connected and disconnected again: the chain is as it was, and the block comes back.
+/// The law of a block that is connected and disconnected again: the chain is as it was, whatever happens, and the block comes
+/// back.
 pub fn there_and_back<S: BuildHasher + Copy + Drop>(
     chain: &mut Chain<S>,
     alloc: Global,
     block: Block,
 ) -> Result<Block, ChainFault>
-    ensures { IfOk result (λ b. (chain.new ≡ chain.old) × (b ≡ block)) }
+    ensures chain { chain.new ≡ chain.old }
+    ensures block { IfOk result (λ b. b ≡ block) }
+    ensures passes { OnOk result (first_failing (block_rules chain.old block) ≡ None) }
+    ensures denied { IfErr result (λ fault. Tells fault (first_failing (block_rules chain.old block))) }
 {
     chain.connect(alloc, block)?;
     Ok(chain.disconnect()?)
