@@ -1,6 +1,6 @@
 -- What the last blocks made is kept aside, and put back.
-use Rattle.std.proofs.Common.{◌≡◌, ℕ, zero, suc, ◌+◌, ◌-◌, ◌<◌, ◌≤◌, Bool, true, false, cond, ◌||◌, List, [], ◌∷◌, ◌++◌, ◌⊎◌, length, map, take, drop, get_or, Option, Some, None, is_some, refl, sym, ap, subst, ◌∙◌, inl, inr, true≢false, arith, append_assoc, length-append}
-use Rattle.std.proofs.lemmas.List.{map-append, length-map, length-take, length-drop, take-append-drop, take-append-le, drop_at, take_at, take_all, drop-map, take-map}
+use Rattle.std.proofs.Common.{◌≡◌, ℕ, zero, suc, ◌+◌, ◌-◌, ◌<◌, ◌≤◌, Bool, true, false, ◌||◌, List, [], ◌∷◌, ◌++◌, ◌⊎◌, length, map, take, drop, get_or, Option, Some, None, is_some, refl, sym, ap, subst, ◌∙◌, inl, inr, true≢false, arith, append_assoc, length-append}
+use Rattle.std.proofs.lemmas.List.{map-append, length-map, length-drop, take-append-drop, take-append-le, drop_at, take_at, take_all, drop-map, take-map}
 use Rattle.std.proofs.lemmas.List.Folds.{list_any-append}
 use Rattle.std.specs.List.{list_any, IsDistinct}
 use Rattle.std.specs.Map.{lookup, keys_of}
@@ -19,8 +19,8 @@ use Rattle.gate_chain.specs.Coins.{is_spent_in}
 use Rattle.gate_chain.specs.Headers.{header_time}
 use Rattle.gate_chain.specs.History.{History}
 use Rattle.gate_chain.specs.Keeping.{IsFaultless}
-use Rattle.gate_chain.specs.Linked.{is_spent, SpentMade, AreMaps, IsConnected, IsLinked, history, opening_in}
-use Rattle.gate_chain.specs.Lowering.{Top, lowered, above}
+use Rattle.gate_chain.specs.Linked.{is_spent, AreMaps, IsConnected, IsLinked, history, opening_in}
+use Rattle.gate_chain.specs.Lowering.{lowered}
 use Rattle.gate_chain.specs.Marking.{coins_in, coin_in, coins_made, ids_of, is_marked, mark_of, made_by_all, made_by_blocks, opening_entry}
 use Rattle.gate_chain.specs.Times.{times_of}
 use Rattle.gate_chain.specs.Tops.{placed, place_of, IsTop}

@@ -1,5 +1,5 @@
 -- What the last blocks of a chain made, kept aside while they are off.
-use Rattle.std.specs.Prelude.{◌≡◌, ℕ, ◌+◌, ◌≤◌, List, [], ◌∷◌, ◌++◌, map, take, drop, length, None}
+use Rattle.std.specs.Prelude.{◌≡◌, ℕ, ◌≤◌, List, [], ◌∷◌, ◌++◌, map, take, length, None}
 use Rattle.std.specs.List.{IsDistinct}
 use Rattle.std.specs.Map.{lookup, keys_of}
 use Rattle.std.specs.Str.{bytes_eq}
@@ -9,7 +9,6 @@ use Rattle.gate_chain.specs.declared.block.Block.{Block}
 use Rattle.gate_chain.specs.declared.connected.Connected.{Connected}
 use Rattle.gate_chain.specs.declared.connected.Place.{Place}
 use Rattle.gate_chain.specs.declared.marked.Marked.{Marked}
-use Rattle.gate_chain.specs.History.{History}
 use Rattle.gate_chain.specs.Linked.{is_spent, SpentMade, IsConnected}
 use Rattle.gate_chain.specs.Marking.{coins_in, coins_made, ids_of, is_marked}
 use Rattle.gate_chain.specs.Times.{times_of}

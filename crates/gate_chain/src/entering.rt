@@ -1,7 +1,6 @@
 //! A block's transactions, entered one after another, and taken out again.
-ghost use Rattle.std.specs.Prelude.{◌≡◌, ℕ, ◌+◌, ◌<◌, ◌≤◌, ◌++◌, ◌∷◌, ◌&&◌, ◌||◌, [], List, map, take, drop, not, true, false, cond, length, Some, None, is_some, IfOk, OnErr, OnOk, if◌then◌else◌};
+ghost use Rattle.std.specs.Prelude.{◌≡◌, ℕ, ◌≤◌, ◌++◌, ◌∷◌, ◌&&◌, ◌||◌, [], List, drop, not, false, length, None, is_some, if◌then◌else◌};
 ghost use Rattle.std.specs.Str.{bytes_eq};
-ghost use Rattle.gate_tx.specs.Ids.{txid_of};
 ghost use Rattle.gate_tx.specs.Text.{is_nonempty};
 ghost use Rattle.gate_tx.specs.Tx.{Tx};
 ghost use Rattle.gate_tx.specs.declared.OutPoint.{OutPoint as Point};
