@@ -1,10 +1,11 @@
 //! Two users race for one coin; passes settle with the journal of their gate, and with no other.
-ghost use Rattle.std.specs.Prelude.{◌≡◌};
+ghost use Rattle.std.specs.Prelude.{◌≡◌, ◌+◌, ◌<◌, length, OnOk};
 
 use crate::{Base, CallFault, Gate, Pass, Receipt, SettleFault, Unsettled};
 use gate_admit::{OpeningCoin, Verdict, Verdicts};
-use gate_bytes::{Kept, Memory, Text};
-use gate_core::{Call, Caller, Event, Opening, State, is_same_reply};
+use gate_bytes::{Copied, Kept, Memory, Text};
+use gate_core::{Call, Caller, Event, Opening, Reply, State, is_same_reply};
+use gate_journal::{Entry, Journal, replay_check};
 use gate_net::Whitelist;
 use gate_rpc::RpcWhitelist;
 use gate_tx::{Coin, OutPoint, Txid};
@@ -370,5 +371,102 @@ fn calls_are_the_caller_s_own(rt: HostRuntime) -> Result<(), Fail> {
     let state = opened(alloc)?;
     let refused = a_user_is_no_peer::<Brand, _>(&rt, alloc, state)?;
     assert!(rt; refused);
+    Ok(())
+}
+
+/// The journal that passes settle with.
+fn journal_of<N: Base, R: Wait>(
+    rt: &R,
+    alloc: Global,
+    gate: &Gate<N, Hasher>,
+    passes: Vec<Pass<N>>,
+) -> Result<Journal, Fail> {
+    match gate.settle(rt, alloc, passes) {
+        Ok(settled) => Ok(settled.journal),
+        Err(fault) => {
+            drop(fault);
+            Err(Fail::from("they do not settle"))
+        }
+    }
+}
+
+/// An entry with another reply.
+fn with_reply(alloc: Global, entry: &Entry, reply: &Reply) -> Result<Entry, Memory> {
+    let event = entry.event.copy(alloc)?;
+    match reply.copy(alloc) {
+        Ok(reply) => Ok(Entry {
+            pass: entry.pass,
+            event,
+            reply,
+        }),
+        Err(Memory) => {
+            drop(event);
+            Err(Memory)
+        }
+    }
+}
+
+fn add(journal: &mut Journal, entry: Entry) -> Result<(), Memory>
+    requires { length journal.old.entries < 100000 }
+    ensures { OnOk result (length journal.new.entries ≡ length journal.old.entries + 1) }
+{
+    match journal.reserve() {
+        Ok(()) => {
+            journal.push(entry);
+            Ok(())
+        }
+        Err(Memory) => {
+            drop(entry);
+            Err(Memory)
+        }
+    }
+}
+
+/// A journal of two events, each with the reply of the other.
+fn exchanged(alloc: Global, journal: &Journal) -> Result<Journal, Fail> {
+    let [a, b] = journal.entries() else {
+        return Err(Fail::from("not two entries"));
+    };
+    let mut other = Journal::new(alloc);
+    add(&mut other, with_reply(alloc, a, &b.reply)?)?;
+    add(&mut other, with_reply(alloc, b, &a.reply)?)?;
+    Ok(other)
+}
+
+/// The first illegal entry of a journal, and of the one with its replies exchanged.
+fn first_illegal(
+    alloc: Global,
+    opened: &State<Hasher>,
+    journal: &Journal,
+) -> Result<(Option<u64>, Option<u64>), Fail> {
+    let other = exchanged(alloc, journal)?;
+    let illegal = replay_check(alloc, opened, &other);
+    drop(other);
+    Ok((replay_check(alloc, opened, journal)?, illegal?))
+}
+
+fn race_is_replayed<N: Base, R: Wait>(
+    rt: &R,
+    alloc: Global,
+    state: State<Hasher>,
+    opened: &State<Hasher>,
+) -> Result<(Option<u64>, Option<u64>), Fail>
+    requires { state ≡ N.base }
+{
+    let gate: Gate<N, Hasher> = Gate::open(alloc, state);
+    let passes = raced(rt, alloc, &gate)?;
+    let journal = journal_of(rt, alloc, &gate, passes);
+    drop(gate);
+    first_illegal(alloc, opened, &journal?)
+}
+
+#[test]
+fn replies_belong_to_their_events(rt: HostRuntime) -> Result<(), Fail> {
+    let alloc = rt.alloc();
+    let state = opened(alloc)?;
+    let first = state.copy(alloc)?;
+    let illegal = race_is_replayed::<Brand, _>(&rt, alloc, state, &first);
+    drop(first);
+    assert!(rt; illegal? == (None, Some(1)));
     Ok(())
 }
