@@ -1,6 +1,6 @@
 -- Several blocks in the place of the last ones.
 use Rattle.std.specs.Prelude.{◌≡◌, ℕ, ◌-◌, ◌||◌, nat_lt, List, [], ◌∷◌, ◌++◌, length, take, drop, Option, Some, None}
-use Rattle.gate_bytes.specs.Order.{Rule, first_failing}
+use Rattle.gate_bytes.specs.Order.{Rule}
 use Rattle.gate_chain.specs.declared.Block.{Block}
 use Rattle.gate_chain.specs.declared.ChainDenial.{ChainDenial}
 use Rattle.gate_chain.specs.declared.ChainDenial.TheVariants.{NoUndo}
