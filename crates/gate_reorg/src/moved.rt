@@ -1,5 +1,5 @@
 //! What a chain event came to.
-ghost use Rattle.std.specs.Prelude.{◌≡◌, is_none, filter, length, IfOk};
+ghost use Rattle.std.specs.Prelude.{◌≡◌, IfOk};
 ghost use Rattle.gate_reorg.specs.Events.{count_beyond};
 
 use gate_bytes::Memory;

@@ -10,7 +10,7 @@ ghost use Rattle.gate_reorg.specs.Reorganisation.{is_young_coin, height_of, inpu
 ghost use Rattle.gate_reorg.specs.Picking.{is_premature_id};
 ghost use Rattle.gate_pool.specs.Pool.{listing_of};
 
-use gate_admit::{LentCoin, view_coin};
+use gate_admit::view_coin;
 use gate_bytes::Memory;
 use gate_chain::Chain;
 use gate_locks::{is_final, sequence_locks_met};
