@@ -53,12 +53,11 @@ impl Call {
     pub fn read(alloc: Global, user: &str, now: u64, json: &str) -> Result<Call, Memory>
         ensures { IfOk result (λ call. call ≡ called user.now now json.now) }
     {
-        let request = read_request(alloc, json)?;
         Ok(Call {
             user: kept(alloc, user)?,
             time: now,
             json: kept(alloc, json)?,
-            request,
+            request: read_request(alloc, json)?,
         })
     }
 

@@ -1,8 +1,9 @@
 //! The state, and the one step that changes it.
-ghost use Rattle.std.specs.Prelude.{◌≡◌, ◌≢◌, IfOk, OnErr};
+ghost use Rattle.std.specs.Prelude.{◌≡◌, ◌≢◌, [], IfOk, OnErr};
 ghost use Rattle.gate_core.specs.Callers.{caller_of};
 ghost use Rattle.gate_core.specs.ChainSteps.{chain_reply, chained};
 ghost use Rattle.gate_core.specs.declared.caller.Caller.TheVariants.{Chain as TheChain};
+ghost use Rattle.gate_chain.specs.History.{opened};
 ghost use Rattle.gate_chain.specs.Opening.{open_fault, IsRefusedFor};
 ghost use Rattle.gate_core.specs.World.{opened_world};
 ghost use Rattle.gate_core.specs.Planning.{world_of};
@@ -18,8 +19,8 @@ use crate::recording::Replies;
 use crate::reply::Reply;
 use crate::session::Sessions;
 use crate::switch::Switches;
-use gate_admit::{Chain, Floor, OpenFault, Pool};
-use gate_bytes::{Counted, Memory};
+use gate_admit::{Chain, Floor, OpenFault, OpeningCoin, Pool};
+use gate_bytes::{Counted, Kept, Memory};
 use gate_chain::{Block, ChainDenial};
 use gate_reorg::Moved;
 use std::alloc::Global;
@@ -55,6 +56,27 @@ impl<S: BuildHasher + Copy + Drop> Model for State<S> {
     ghost view = { λ s. world_of s.parts };
 }
 
+/// The chain of these coins and times, and an empty pool.
+fn opened_ledger<S: BuildHasher + Copy + Drop>(
+    alloc: Global,
+    hasher: S,
+    coins: Kept<OpeningCoin>,
+    times: Kept<u32>,
+) -> Result<(Chain<S>, Pool<S>), OpenFault>
+    ensures chain { IfOk result (λ ledger. ledger.0 ≡ opened coins times) }
+    ensures pool { IfOk result (λ ledger. ledger.1.entries ≡ []) }
+    ensures fault { IsRefusedFor (open_fault coins times) result }
+{
+    let chain = Chain::open(alloc, hasher, coins.into_vec(), times.into_vec())?;
+    match Pool::new(alloc, hasher) {
+        Ok(pool) => Ok((chain, pool)),
+        Err(_) => {
+            drop(chain);
+            Err(OpenFault::Memory)
+        }
+    }
+}
+
 impl<S: BuildHasher + Copy + Drop> State<S> {
     fn opened(alloc: Global, hasher: S, opening: Opening<S>) -> Result<State<S>, OpenFault>
         ensures ok { IfOk result (λ state. state ≡ opened_world opening) }
@@ -70,27 +92,31 @@ impl<S: BuildHasher + Copy + Drop> State<S> {
             blocksonly,
             bloom,
         } = opening;
-        let chain = Chain::open(alloc, hasher, coins.into_vec(), times.into_vec())?;
-        let Ok(pool) = Pool::new(alloc, hasher) else {
-            return Err(OpenFault::Memory);
-        };
         let Ok(verdicts) = Counted::new(alloc, verdicts) else {
             return Err(OpenFault::Memory);
         };
-        Ok(State {
-            parts: Parts {
-                chain,
-                pool,
-                floor: Floor::new(0),
-                sessions: Sessions::new(alloc),
-                budget,
-                verdicts,
-                whitelist,
-                rpcwhitelist,
-                blocksonly,
-                switches: Switches::opened(bloom),
-            },
-        })
+        match opened_ledger(alloc, hasher, coins, times) {
+            Ok((chain, pool)) => Ok(State {
+                parts: Parts {
+                    chain,
+                    pool,
+                    floor: Floor::new(0),
+                    sessions: Sessions::new(alloc),
+                    budget,
+                    verdicts,
+                    whitelist,
+                    rpcwhitelist,
+                    blocksonly,
+                    switches: Switches::opened(bloom),
+                },
+            }),
+            Err(fault) => {
+                drop(verdicts);
+                drop(whitelist);
+                drop(rpcwhitelist);
+                Err(fault)
+            }
+        }
     }
 
     /// The state of an opening, with an empty pool; the hasher's state serves every map of ids and outpoints. A fault names
