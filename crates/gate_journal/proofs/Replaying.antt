@@ -1,6 +1,7 @@
 -- Runs over journals, one entry after another.
-use Rattle.std.proofs.Common.{◌≡◌, ◌≢◌, ℕ, ◌+◌, ◌-◌, ◌<◌, List, [], ◌∷◌, ◌++◌, length, take, drop, get_or, refl, sym, ap, ◌∙◌, subst, arith}
+use Rattle.std.proofs.Common.{◌≡◌, ◌≢◌, ◌↔◌, IsTrue, MatchBool, Bool, true, false, ℕ, ◌+◌, ◌-◌, ◌<◌, List, [], ◌∷◌, ◌++◌, length, take, drop, get_or, refl, sym, ap, ◌∙◌, subst, arith}
 use Rattle.std.specs.Prelude.{Some, None}
+use Rattle.std.proofs.lemmas.Bool.{false≢true}
 use Rattle.std.proofs.lemmas.List.{take_more, take-append-drop}
 use Rattle.gate_core.specs.declared.reply.Reply.{Reply}
 use Rattle.gate_core.specs.World.{World}
@@ -89,3 +90,11 @@ stopped_illegal w es number first = λ h. first.with_it (legal-take w es number 
 -- a number that was found is not none
 pub found_some : (n : ℕ) → Some n ≢ None
 found_some n none = absurd (cc)
+
+-- ---- one entry
+
+-- the reply of the step is the one that was recorded, or another
+pub told_same : (same : Bool) (recorded reply : Reply) (new : World) (stepped : Reply × World) → IsTrue same ↔ (recorded ≡ reply) → (reply, new) ≡ stepped
+    → MatchBool same ((recorded, new) ≡ stepped) (recorded ≢ stepped.0)
+told_same true recorded reply new stepped told is = ap (λ (r : Reply). (r, new)) (told.0 refl) ∙ is
+told_same false recorded reply new stepped told is = λ other. false≢true (told.1 (other ∙ sym (ap (λ (p : Reply × World). p.0) is)))
