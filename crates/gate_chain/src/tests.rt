@@ -233,3 +233,22 @@ fn a_block_comes_and_goes(rt: HostRuntime) -> Result<(), Fail> {
     assert!(rt; chain.disconnect().err() == Some(ChainDenial::NoUndo));
     Ok(())
 }
+
+#[test]
+fn denials_are_printed(rt: HostRuntime) -> Result<(), Fail> {
+    let names = [
+        (ChainDenial::BlockDecode, 1, "block-decode"),
+        (ChainDenial::BlockCoinbase, 2, "block-coinbase"),
+        (ChainDenial::BlockInputs, 3, "block-inputs"),
+        (ChainDenial::TxidRepeated, 4, "block-txid-repeated"),
+        (ChainDenial::TimeTooOld, 5, "time-too-old"),
+        (ChainDenial::NoUndo, 6, "no-undo"),
+        (ChainDenial::ChainFull, 7, "chain-full"),
+    ];
+    for (denial, rule, token) in names {
+        assert!(rt; denial.rule() == rule && denial.token() == token);
+        let printed = format!(in rt.alloc(); "{denial}")?;
+        assert!(rt; printed.as_str() == token);
+    }
+    Ok(())
+}
