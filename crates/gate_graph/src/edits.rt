@@ -4,6 +4,7 @@ use crate::tests::{Hashing, empty, goes_out, is_above, is_below, named};
 use crate::{Graph, GraphFault, Id};
 use gate_bytes::Memory;
 use std::alloc::Global;
+use std::process::Abort;
 use std::test::Fail;
 
 /// The same numbers each time.
@@ -68,7 +69,9 @@ impl Pair {
     fn take_family(&mut self, alloc: Global, id: Id) -> Result<bool, GraphFault> {
         let family = self.plain.family(alloc, &id)?;
         self.plain.remove(family.as_slice());
-        Ok(goes_out(&mut self.graph, id, family.as_slice())?)
+        let same = goes_out(&mut self.graph, id, family.as_slice());
+        drop(family);
+        Ok(same?)
     }
 
     /// Takes a root out of both, if it is one in both; says whether it is the same.
@@ -118,28 +121,66 @@ impl Pair {
         self.most = self.most.max(self.graph.count());
     }
 
-    fn edit(&mut self, alloc: Global, draw: &mut Draw) -> Result<bool, GraphFault> {
-        let rows = self.plain.rows.as_slice();
-        let gone = draw.known(rows);
-        let parents = draw.ids(alloc, rows, 3)?;
-        let children = draw.ids(alloc, rows, 4)?;
+    /// Takes out what has the one id, or adds a node under the other, as is drawn.
+    fn edit_drawn(
+        &mut self,
+        alloc: Global,
+        draw: &mut Draw,
+        gone: Id,
+        parents: &[Id],
+        children: &[Id],
+    ) -> Result<bool, GraphFault> {
         let id = draw.fresh(&self.plain);
         match draw.below(12) {
             0 => self.take_family(alloc, gone),
             1..=4 => Ok(self.take_root(gone)),
-            5..=8 => self.add(alloc, id, parents.as_slice(), children.as_slice()),
-            _ => self.add(alloc, id, parents.as_slice(), &[]),
+            5..=8 => self.add(alloc, id, parents, children),
+            _ => self.add(alloc, id, parents, &[]),
         }
+    }
+
+    fn edit_below(
+        &mut self,
+        alloc: Global,
+        draw: &mut Draw,
+        gone: Id,
+        parents: &[Id],
+    ) -> Result<bool, GraphFault> {
+        let children = draw.ids(alloc, self.plain.rows.as_slice(), 4)?;
+        let agrees = self.edit_drawn(alloc, draw, gone, parents, &children);
+        drop(children);
+        agrees
+    }
+
+    fn edit(&mut self, alloc: Global, draw: &mut Draw) -> Result<bool, GraphFault> {
+        let rows = self.plain.rows.as_slice();
+        let gone = draw.known(rows);
+        let parents = draw.ids(alloc, rows, 3)?;
+        let agrees = self.edit_below(alloc, draw, gone, &parents);
+        drop(parents);
+        agrees
+    }
+
+    fn agree_below(&self, alloc: Global, id: Id) -> Result<bool, Memory> {
+        let below = self.plain.descendants(alloc, &id)?;
+        let agree = is_below(alloc, &self.graph, id, below.as_slice());
+        drop(below);
+        agree
+    }
+
+    fn agree_above(&self, alloc: Global, id: Id) -> Result<bool, Memory> {
+        let above = self.plain.ancestors(alloc, &id)?;
+        let agree = is_above(alloc, &self.graph, id, above.as_slice());
+        drop(above);
+        agree
     }
 
     /// Whether graph and list find the same of one id.
     fn agree_on(&self, alloc: Global, id: Id) -> Result<bool, Memory> {
-        let below = self.plain.descendants(alloc, &id)?;
-        let above = self.plain.ancestors(alloc, &id)?;
         Ok(
             self.graph.contains(&id) == self.plain.contains(&id)
-                && is_below(alloc, &self.graph, id, below.as_slice())?
-                && is_above(alloc, &self.graph, id, above.as_slice())?,
+                && self.agree_below(alloc, id)?
+                && self.agree_above(alloc, id)?,
         )
     }
 
@@ -154,10 +195,43 @@ impl Pair {
     }
 }
 
+/// Edits both, and compares what they find then.
+fn edit_and_compare(
+    rt: &(impl Abort + AllocGlobal),
+    pair: &mut Pair,
+    draw: &mut Draw,
+    number: u32,
+) -> Result<(), GraphFault> {
+    assert!(rt; pair.edit(rt.alloc(), draw)?, "edit {number}");
+    assert!(rt; pair.agree(rt.alloc())?, "after edit {number}");
+    Ok(())
+}
+
+fn edit_often(rt: &(impl Abort + AllocGlobal), pair: &mut Pair) -> Result<(), GraphFault> {
+    let mut draw = Draw { last: 7 };
+    for number in 0..300 {
+        edit_and_compare(rt, pair, &mut draw, number)?;
+    }
+    Ok(())
+}
+
+fn assert_counts(rt: &impl Abort, pair: &Pair) {
+    assert!(rt; pair.most > 10);
+    assert!(rt; pair.above > 10);
+    assert!(rt; pair.cycles > 10);
+    assert!(rt; pair.roots > 10);
+}
+
+/// Edits a new pair, which did enough of each at the end.
+fn edit_pair(rt: &(impl Abort + AllocGlobal), pair: &mut Pair) -> Result<(), GraphFault> {
+    edit_often(rt, pair)?;
+    assert_counts(rt, pair);
+    Ok(())
+}
+
 #[test]
 fn walks_find_what_searches_find(rt: HostRuntime) -> Result<(), Fail> {
     let alloc = rt.alloc();
-    let mut draw = Draw { last: 7 };
     let mut pair = Pair {
         graph: empty(alloc),
         plain: Plain {
@@ -168,13 +242,7 @@ fn walks_find_what_searches_find(rt: HostRuntime) -> Result<(), Fail> {
         cycles: 0,
         roots: 0,
     };
-    for number in 0..300 {
-        assert!(rt; pair.edit(alloc, &mut draw)?, "edit {number}");
-        assert!(rt; pair.agree(alloc)?, "after edit {number}");
-    }
-    assert!(rt; pair.most > 10);
-    assert!(rt; pair.above > 10);
-    assert!(rt; pair.cycles > 10);
-    assert!(rt; pair.roots > 10);
-    Ok(())
+    let result = edit_pair(&rt, &mut pair);
+    drop(pair);
+    Ok(result?)
 }

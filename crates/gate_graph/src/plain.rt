@@ -24,6 +24,15 @@ fn add_new(found: &mut Vec<Id>, ids: &[Id]) -> Result<(), Memory> {
     Ok(())
 }
 
+fn drop_id(ids: &mut Vec<Id>, id: &Id) {
+    ids.retain(|other| *other != *id);
+}
+
+/// Whether they share an id.
+fn meets(ids: &[Id], others: &[Id]) -> bool {
+    ids.iter().any(|id| others.contains(id))
+}
+
 impl Plain {
     pub fn contains(&self, id: &Id) -> bool {
         self.rows.iter().any(|row| row.id == *id)
@@ -53,8 +62,7 @@ impl Plain {
     /// Finds the rows below those that were found.
     fn find_children(&self, found: &mut Vec<Id>) -> Result<(), Memory> {
         for row in self.rows.as_slice() {
-            let below = row.parents.iter().any(|parent| found.contains(parent));
-            if below && !found.contains(&row.id) {
+            if meets(row.parents.as_slice(), found.as_slice()) && !found.contains(&row.id) {
                 found.push(row.id)?;
             }
         }
@@ -71,46 +79,76 @@ impl Plain {
         Ok(())
     }
 
-    /// An id and all that is below it, if it is a row's.
-    pub fn family(&self, alloc: Global, id: &Id) -> Result<Vec<Id>, Memory> {
-        let mut found: Vec<Id> = Vec::new(alloc);
-        found.push(*id)?;
+    /// Finds all that is below those that were found.
+    fn find_below(&self, found: &mut Vec<Id>) -> Result<(), Memory> {
         for _ in 0..self.rows.len() {
             let before = found.len();
-            self.find_children(&mut found)?;
+            self.find_children(found)?;
             if found.len() == before {
                 break;
             }
         }
-        self.ordered(alloc, found.as_slice())
+        Ok(())
+    }
+
+    /// Finds all that is above those that were found.
+    fn find_above(&self, found: &mut Vec<Id>) -> Result<(), Memory> {
+        for _ in 0..self.rows.len() {
+            let before = found.len();
+            self.find_parents(found)?;
+            if found.len() == before {
+                break;
+            }
+        }
+        Ok(())
+    }
+
+    fn found_below(&self, alloc: Global, id: &Id) -> Result<Vec<Id>, Memory> {
+        let mut found = Vec::from_slice(alloc, &[*id])?;
+        self.find_below(&mut found)?;
+        Ok(found)
+    }
+
+    /// An id and all that is below it, if it is a row's.
+    pub fn family(&self, alloc: Global, id: &Id) -> Result<Vec<Id>, Memory> {
+        let found = self.found_below(alloc, id)?;
+        let ids = self.ordered(alloc, found.as_slice());
+        drop(found);
+        ids
     }
 
     pub fn descendants(&self, alloc: Global, id: &Id) -> Result<Vec<Id>, Memory> {
         let mut found = self.family(alloc, id)?;
-        found.retain(|other| *other != *id);
+        drop_id(&mut found, id);
+        Ok(found)
+    }
+
+    fn found_above(&self, alloc: Global, id: &Id) -> Result<Vec<Id>, Memory> {
+        let mut found = Vec::from_slice(alloc, &[*id])?;
+        self.find_above(&mut found)?;
         Ok(found)
     }
 
     /// All that is above an id.
     pub fn ancestors(&self, alloc: Global, id: &Id) -> Result<Vec<Id>, Memory> {
-        let mut found: Vec<Id> = Vec::new(alloc);
-        found.push(*id)?;
-        for _ in 0..self.rows.len() {
-            let before = found.len();
-            self.find_parents(&mut found)?;
-            if found.len() == before {
-                break;
-            }
-        }
-        found.retain(|other| *other != *id);
-        self.ordered(alloc, found.as_slice())
+        let mut found = self.found_above(alloc, id)?;
+        drop_id(&mut found, id);
+        let ids = self.ordered(alloc, found.as_slice());
+        drop(found);
+        ids
+    }
+
+    fn family_meets(&self, alloc: Global, id: &Id, others: &[Id]) -> Result<bool, Memory> {
+        let family = self.family(alloc, id)?;
+        let met = meets(others, family.as_slice());
+        drop(family);
+        Ok(met)
     }
 
     /// Whether a parent is in the family of a child.
     fn leads_back(&self, alloc: Global, parents: &[Id], children: &[Id]) -> Result<bool, Memory> {
         for child in children {
-            let family = self.family(alloc, child)?;
-            if parents.iter().any(|parent| family.contains(parent)) {
+            if self.family_meets(alloc, child, parents)? {
                 return Ok(true);
             }
         }
@@ -166,7 +204,7 @@ impl Plain {
     pub fn remove_root(&mut self, id: &Id) {
         self.remove(&[*id]);
         for row in self.rows.as_mut_slice() {
-            row.parents.retain(|parent| *parent != *id);
+            drop_id(&mut row.parents, id);
         }
     }
 }
