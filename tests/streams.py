@@ -180,20 +180,25 @@ def test_want_of_memory(gate):
     said(done, 1, NO_MEMORY)
 
 
+def goes_with_its_caller(gate, words, text):
+    """The program ends, by its signal or by status 1, where its caller closes its end of the pipe."""
+    process = subprocess.Popen(gate.words(words), stdin=subprocess.PIPE, stdout=subprocess.PIPE, stderr=subprocess.PIPE)
+    process.stdout.close()
+    process.stdout = None
+    try:
+        _, error = process.communicate(text.encode(), timeout=SECONDS)
+    except subprocess.TimeoutExpired:
+        process.kill()
+        process.communicate()
+        raise Differs("it did not end within %d seconds" % SECONDS)
+    if process.returncode != -signal.SIGPIPE:
+        same("status", (process.returncode, error), (1, UNWRITTEN))
+
+
 def test_a_caller_that_goes(gate):
     """A caller that closes its end of the pipe ends the program, by its signal or by status 1, and nothing hangs."""
-    for stdin in (OPENING + "peer 1 leave\n" * 100000, OPENING + "x\n"):
-        process = subprocess.Popen(gate.words("run"), stdin=subprocess.PIPE, stdout=subprocess.PIPE, stderr=subprocess.PIPE)
-        process.stdout.close()
-        process.stdout = None
-        try:
-            _, error = process.communicate(stdin.encode(), timeout=SECONDS)
-        except subprocess.TimeoutExpired:
-            process.kill()
-            process.communicate()
-            raise Differs("it did not end within %d seconds" % SECONDS)
-        if process.returncode != -signal.SIGPIPE:
-            same("status", (process.returncode, error), (1, UNWRITTEN))
+    for text in (OPENING + "peer 1 leave\n" * 100000, OPENING + "x\n"):
+        goes_with_its_caller(gate, "run", text)
 
 
 def test_few_writes(gate):

@@ -1,7 +1,6 @@
 """Lanes on threads: that they run at once, their limits, and standard input and output."""
 
 import os
-import signal
 import subprocess
 import tempfile
 import time
@@ -9,7 +8,7 @@ import time
 from bitcoin import coin, payment
 from gate import ROOT, SECONDS, Differs, lines, same, true
 from journals import raced
-from streams import UNREAD, UNWRITTEN
+from streams import UNREAD, UNWRITTEN, goes_with_its_caller
 
 OPENING = lines(["times 101 1000 600", "verdict * ok", "bloom 1", coin(1)])
 TRIES = 5
@@ -164,18 +163,8 @@ def test_an_input_that_cannot_be_read(gate):
 
 def test_a_caller_that_goes(gate):
     """A caller that closes its end of the pipe ends the program, by its signal or by status 1, and nothing hangs."""
-    for words, text in (("lanes", laned(["peer %d leave\n" % peer * 10000 for peer in range(8)])), ("audit", OPENING + "---\n" + "> peer 1 leave\n< denied P1 keep peer-unknown\n" * 50000)):
-        process = subprocess.Popen(gate.words(words), stdin=subprocess.PIPE, stdout=subprocess.PIPE, stderr=subprocess.PIPE)
-        process.stdout.close()
-        process.stdout = None
-        try:
-            _, error = process.communicate(text.encode(), timeout=SECONDS)
-        except subprocess.TimeoutExpired:
-            process.kill()
-            process.communicate()
-            raise Differs("it did not end within %d seconds" % SECONDS)
-        if process.returncode != -signal.SIGPIPE:
-            same("status", (process.returncode, error), (1, UNWRITTEN))
+    goes_with_its_caller(gate, "lanes", laned(["peer %d leave\n" % peer * 10000 for peer in range(8)]))
+    goes_with_its_caller(gate, "audit", OPENING + "---\n" + "> peer 1 leave\n< denied P1 keep peer-unknown\n" * 50000)
 
 
 def test_the_program_ends_when_its_output_is_whole(gate):
