@@ -39,6 +39,13 @@ def entries(pool):
     return (stream.submission(payment(number)) for number in range(1, pool + 1))
 
 
+def rows(pool, size, count):
+    """Blocks that come one upon the other and confirm entries of a pool, as `turns` has them."""
+    head = stream.coins(pool), entries(pool)
+    told = ((connecting(number, pool, size), "chain %d removed %d entered 0" % (101 + number, size)) for number in range(count))
+    return head, told
+
+
 def turns(pool, size, count):
     """Blocks that confirm entries of a pool, each of which goes again before the next comes: its opening, what comes
     before, and each block's two events with the first words of their replies."""
