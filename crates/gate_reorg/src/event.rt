@@ -49,9 +49,96 @@ struct Draft<S: BuildHasher + Copy + Drop> {
     entered: usize,
 }
 
+impl<S: BuildHasher + Copy + Drop> Draft<S> {
+    /// Takes its place as pool and floor, under a tip of this height.
+    fn land(self, pool: &mut Pool<S>, floor: &mut Floor, tip: u32) -> Moved
+        ensures pool { pool.new ≡ self.pool }
+        ensures floor { floor.new ≡ self.floor }
+        ensures moved { result ≡ record { tip = tip; removed = self.removed; entered = self.entered } }
+    {
+        let Draft {
+            pool: followed,
+            floor: raised,
+            removed,
+            entered,
+        } = self;
+        *pool = followed;
+        *floor = raised;
+        Moved {
+            tip,
+            removed,
+            entered,
+        }
+    }
+}
+
+/// Makes a draft of the pool follow a chain that was changed, and gives the floor: what the new blocks confirm and contradict
+/// goes, the others' transactions come back, and then goes what the next block cannot have, what is too old and what pays too
+/// little.
+#[tactic(auto, unfolding(crate::specs::Reorganisation::returned))]
+fn follow<S: BuildHasher + Copy + Drop>(
+    alloc: Global,
+    chain: &Chain<S>,
+    draft: &mut Pool<S>,
+    floor: &Floor,
+    verdicts: &Verdicts<S>,
+    landings: &[Landing<'_>],
+    gone: &[Block],
+    now: u64,
+    budget: u64,
+) -> Result<Floor, Memory>
+    ensures { IfOk result (λ raised. returned chain.now verdicts.now now budget draft.old.entries floor.now landings.now (transactions_of gone.now) ≡ record { entries = draft.new.entries; floor = raised }) }
+{
+    let new = ids_of(alloc, draft.hasher(), landings)?;
+    confirm_all(draft, landings);
+    let returned = return_all(alloc, chain, draft, verdicts, now, &new, gone);
+    drop(new);
+    returned?;
+    take_premature(alloc, chain, draft)?;
+    expire(draft, now);
+    let mut raised = Floor::new(floor.rate());
+    trim(draft, &mut raised, budget);
+    Ok(raised)
+}
+
+/// The floor that a draft of the pool leads to, and how many entries went and came.
+#[derive(Drop)]
+struct Followed {
+    floor: Floor,
+    removed: usize,
+    entered: usize,
+}
+
+fn follow_and_count<S: BuildHasher + Copy + Drop>(
+    alloc: Global,
+    chain: &Chain<S>,
+    pool: &Pool<S>,
+    draft: &mut Pool<S>,
+    floor: &Floor,
+    verdicts: &Verdicts<S>,
+    landings: &[Landing<'_>],
+    gone: &[Block],
+    now: u64,
+    budget: u64,
+) -> Result<Followed, Memory>
+    ensures pool { IfOk result (λ followed. returned chain.now verdicts.now now budget draft.old.entries floor.now landings.now (transactions_of gone.now) ≡ record { entries = draft.new.entries; floor = followed.floor }) }
+    ensures removed { IfOk result (λ followed. followed.removed ≡ count_beyond pool.now.entries draft.new.entries) }
+    ensures entered { IfOk result (λ followed. followed.entered ≡ count_beyond draft.new.entries pool.now.entries) }
+{
+    let floor = follow(
+        alloc, chain, draft, floor, verdicts, landings, gone, now, budget,
+    )?;
+    let removed = count_beyond(alloc, pool, draft)?;
+    let entered = count_beyond(alloc, draft, pool)?;
+    Ok(Followed {
+        floor,
+        removed,
+        entered,
+    })
+}
+
 /// The pool over a chain that was changed: a copy of it, from which new blocks took out what they confirm and contradict,
 /// and into which the others' transactions came back.
-#[tactic(auto, unfolding(crate::specs::Reorganisation::returned))]
 fn redraft<S: BuildHasher + Copy + Drop>(
     alloc: Global,
     chain: &Chain<S>,
@@ -68,21 +155,20 @@ fn redraft<S: BuildHasher + Copy + Drop>(
     ensures entered { IfOk result (λ draft. draft.entered ≡ count_beyond draft.pool.entries pool.now.entries) }
 {
     let mut draft = pool.copy(alloc)?;
-    let new = ids_of(alloc, pool.hasher(), landings)?;
-    confirm_all(&mut draft, landings);
-    return_all(alloc, chain, &mut draft, verdicts, now, &new, gone)?;
-    take_premature(alloc, chain, &mut draft)?;
-    expire(&mut draft, now);
-    let mut raised = Floor::new(floor.rate());
-    trim(&mut draft, &mut raised, budget);
-    let removed = count_beyond(alloc, pool, &draft)?;
-    let entered = count_beyond(alloc, &draft, pool)?;
-    Ok(Draft {
-        pool: draft,
-        floor: raised,
-        removed,
-        entered,
-    })
+    match follow_and_count(
+        alloc, chain, pool, &mut draft, floor, verdicts, landings, gone, now, budget,
+    ) {
+        Ok(followed) => Ok(Draft {
+            pool: draft,
+            floor: followed.floor,
+            removed: followed.removed,
+            entered: followed.entered,
+        }),
+        Err(Memory) => {
+            drop(draft);
+            Err(Memory)
+        }
+    }
 }
 
 /// Connects blocks on top: what they confirm or contradict leaves the pool, and nothing else is done to it.
@@ -147,13 +233,8 @@ fn reorganise<S: BuildHasher + Copy + Drop>(
         budget,
     ) {
         Ok(draft) => {
-            *pool = draft.pool;
-            *floor = draft.floor;
-            Ok(Moved {
-                tip: chain.tip(),
-                removed: draft.removed,
-                entered: draft.entered,
-            })
+            drop(way);
+            Ok(draft.land(pool, floor, chain.tip()))
         }
         Err(Memory) => {
             way.back(chain);
