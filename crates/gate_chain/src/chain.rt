@@ -124,11 +124,11 @@ impl<S: BuildHasher + Copy + Drop> Chain<S> {
         Ok(Chain {
             opening_coins: self.opening_coins,
             opening_times: self.opening_times,
-            opening_txids: copy_ids(alloc, &self.opening_txids, 0)?,
             times: u32::copy_list(self.times.as_slice(), alloc)?,
+            opening_txids: copy_ids(alloc, &self.opening_txids, 0)?,
+            txids: copy_ids(alloc, &self.txids, 0)?,
             blocks: Connected::copy_list(self.blocks.as_slice(), alloc)?,
             coins: copy_coins(alloc, &self.coins, 0)?,
-            txids: copy_ids(alloc, &self.txids, 0)?,
         })
     }
 

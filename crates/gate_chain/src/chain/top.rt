@@ -1,5 +1,6 @@
 //! What the last blocks of a chain made, kept aside while they are off, so that they come back without memory.
-ghost use Rattle.std.specs.Prelude.{◌≡◌, ◌<◌, length, IfOk};
+ghost use Rattle.std.specs.Prelude.{◌≡◌, ◌<◌, ◌≤◌, [], length, drop, IfOk};
+ghost use Rattle.indexmap.specs.IndexMap.{spare};
 ghost use Rattle.gate_chain.specs.Lowering.{lowered, above};
 
 use super::Chain;
@@ -47,6 +48,28 @@ impl<S: BuildHasher + Copy + Drop> Model for ChainTop<S> {
     ghost view = { λ t. record { whole = t.whole.value; kept = t.kept } };
 }
 
+/// A copy of the coins from a place on, and a table with room for so many.
+fn copies_and_room<S: BuildHasher + Copy + Drop>(
+    alloc: Global,
+    coins: &IndexMap<OutPoint, Marked, S>,
+    from: usize,
+    count: usize,
+) -> Result<(IndexMap<OutPoint, Marked, S>, IndexMap<OutPoint, Marked, S>), Memory>
+    requires { from ≤ length coins.now.entries }
+    ensures copies { IfOk result (λ both. both.0.entries ≡ drop from coins.now.entries) }
+    ensures empty { IfOk result (λ both. both.1.entries ≡ []) }
+    ensures room { IfOk result (λ both. count ≤ spare both.1) }
+{
+    let room = IndexMap::with_capacity_and_hasher(alloc, count, *coins.hasher())?;
+    match copy_coins(alloc, coins, from) {
+        Ok(copies) => Ok((copies, room)),
+        Err(Memory) => {
+            drop(room);
+            Err(Memory)
+        }
+    }
+}
+
 impl<S: BuildHasher + Copy + Drop> Chain<S> {
     /// Copies what the blocks above the first so many made, and takes room for going back to the chain as it is: as many
     /// places as the chain has coins, none of them written. Going back uses them only where the chain's own tables have lost
@@ -58,16 +81,23 @@ impl<S: BuildHasher + Copy + Drop> Chain<S> {
         let blocks = self.blocks.as_slice();
         let first = &blocks[kept];
         let hasher = *self.coins.hasher();
+        let count = self.coins.len();
+        let places = place_all(alloc, &blocks[kept..])?;
+        let time_room = Vec::with_capacity(alloc, self.times.len())?;
+        let ids = copy_ids(alloc, &self.txids, first.ids)?;
+        let id_room = IndexSet::with_capacity_and_hasher(alloc, self.txids.len(), hasher)?;
+        let block_room = Vec::with_capacity(alloc, blocks.len())?;
+        let (coins, coin_room) = copies_and_room(alloc, &self.coins, first.coins, count)?;
         Ok(ChainTop {
             whole: Snapshot::of(self),
             kept,
-            places: place_all(alloc, &blocks[kept..])?,
-            coins: copy_coins(alloc, &self.coins, first.coins)?,
-            ids: copy_ids(alloc, &self.txids, first.ids)?,
-            coin_room: IndexMap::with_capacity_and_hasher(alloc, self.coins.len(), hasher)?,
-            id_room: IndexSet::with_capacity_and_hasher(alloc, self.txids.len(), hasher)?,
-            time_room: Vec::with_capacity(alloc, self.times.len())?,
-            block_room: Vec::with_capacity(alloc, blocks.len())?,
+            places,
+            coins,
+            ids,
+            coin_room,
+            id_room,
+            time_room,
+            block_room,
         })
     }
 
