@@ -12,8 +12,3 @@ mod writing;
 pub use reading::read_block;
 pub use switching::{Switched, switch, switched_and_back};
 pub use writing::write_block;
-
-#[cfg(test)]
-mod hundred;
-#[cfg(test)]
-mod tests;

@@ -27,6 +27,3 @@ pub use denial::ChainDenial;
 pub use fault::{ChainFault, OpenFault};
 pub use median::stands_in_order;
 pub use opening::OpeningCoin;
-
-#[cfg(test)]
-mod tests;

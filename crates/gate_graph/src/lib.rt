@@ -23,10 +23,3 @@ pub use law::{
     families_have_each_once, nodes_join_families, reaching_is_leading, roots_come_and_go,
     roots_leave_families,
 };
-
-#[cfg(test)]
-mod edits;
-#[cfg(test)]
-mod plain;
-#[cfg(test)]
-mod tests;

@@ -18,6 +18,3 @@ pub use judging::answers;
 pub use law::costs_are_exact;
 pub use piece::Piece;
 pub use reporting::{InputReport, report};
-
-#[cfg(test)]
-mod tests;

@@ -22,6 +22,3 @@ pub use sink::{Sink, end_line};
 pub use source::Source;
 pub use waiting::send_before_wait;
 pub use word::{is_one_word, next_word};
-
-#[cfg(test)]
-mod tests;

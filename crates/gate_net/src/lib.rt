@@ -21,6 +21,3 @@ pub use laws::{addresses_are_spelled, addresses_read_back, entries_take_nothing,
 pub use permissions::Permissions;
 pub use subnet::Subnet;
 pub use whitelist::Whitelist;
-
-#[cfg(test)]
-mod tests;

@@ -23,8 +23,3 @@ pub use entry::{Entry, LARGEST_VSIZE};
 pub use pool::{MOST_ENTRIES, Pool};
 pub use scores::Score;
 pub use view::{FamilyView, PoolView};
-
-#[cfg(test)]
-mod plain;
-#[cfg(test)]
-mod tests;

@@ -13,6 +13,3 @@ mod testing;
 pub use info::{entry_info, pool_info};
 pub use listing::{ancestors_listed, descendants_listed};
 pub use testing::test_submission;
-
-#[cfg(test)]
-mod tests;

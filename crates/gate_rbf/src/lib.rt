@@ -20,6 +20,3 @@ pub use conflict::{conflicts, has_conflict, spends_conflict};
 pub use judging::judge_replacement;
 pub use only::only_conflict;
 pub use signalling::{has_firm_conflict, signals};
-
-#[cfg(test)]
-mod tests;

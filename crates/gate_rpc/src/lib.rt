@@ -30,6 +30,3 @@ pub use request::{Command, Request};
 pub use result::{EntryInfo, RpcResult};
 pub use same::is_same_answer;
 pub use whitelist::RpcWhitelist;
-
-#[cfg(test)]
-mod tests;

@@ -20,6 +20,3 @@ pub use law::{outpoints_are_spent_once, rates_are_rounded_down, values_are_in_ra
 pub use order::the_order;
 pub use outputs::dust_threshold;
 pub use standard::is_standard;
-
-#[cfg(test)]
-mod tests;

@@ -16,6 +16,3 @@ pub use law::{
     trimming_takes_the_least,
 };
 pub use trimming::{trim, try_trim};
-
-#[cfg(test)]
-mod tests;

@@ -1,0 +1,248 @@
+//! Edits from a fixed list, each of a graph and of a plain list, which find the same after it.
+use crate::graph::{Hashing, empty, goes_out, is_above, is_below, named};
+use crate::plain_graph::{Plain, Row};
+use gate_bytes::Memory;
+use gate_graph::{Graph, GraphFault, Id};
+use std::alloc::Global;
+use std::process::Abort;
+use std::test::Fail;
+
+/// The same numbers each time.
+#[derive(Drop)]
+struct Draw {
+    last: u32,
+}
+
+impl Draw {
+    fn below(&mut self, end: u32) -> u32 {
+        self.last = self.last.wrapping_mul(1_103_515_245).wrapping_add(12_345);
+        (self.last >> 16) % end.max(1)
+    }
+
+    fn id(&mut self) -> Id {
+        [(self.below(20) % 256) as u8; 32]
+    }
+
+    /// Mostly the id of a row.
+    fn known(&mut self, rows: &[Row]) -> Id {
+        let place = self.below(24) as usize;
+        match rows.get(place.checked_rem(rows.len()).unwrap_or(0)) {
+            Some(row) if place < 22 => row.id,
+            _ => self.id(),
+        }
+    }
+
+    /// Mostly the id of no row.
+    fn fresh(&mut self, plain: &Plain) -> Id {
+        let mut id = self.id();
+        for _ in 0..8 {
+            if plain.contains(&id) {
+                id = self.id();
+            }
+        }
+        id
+    }
+
+    /// Fewer ids than this.
+    fn ids(&mut self, alloc: Global, rows: &[Row], end: u32) -> Result<Vec<Id>, Memory> {
+        let mut ids = Vec::new(alloc);
+        for _ in 0..self.below(end) {
+            ids.push(self.known(rows))?;
+        }
+        Ok(ids)
+    }
+}
+
+/// A graph, the list that it is compared with, and what the edits came to.
+#[derive(Drop)]
+struct Pair {
+    graph: Graph<Hashing>,
+    plain: Plain,
+    most: usize,
+    above: usize,
+    cycles: usize,
+    roots: usize,
+}
+
+impl Pair {
+    /// Takes a family out of both; says whether it is the same.
+    fn take_family(&mut self, alloc: Global, id: Id) -> Result<bool, GraphFault> {
+        let family = self.plain.family(alloc, &id)?;
+        self.plain.remove(family.as_slice());
+        let same = goes_out(&mut self.graph, id, family.as_slice());
+        drop(family);
+        Ok(same?)
+    }
+
+    /// Takes a root out of both, if it is one in both; says whether it is the same.
+    fn take_root(&mut self, id: Id) -> bool {
+        let is_root = self.graph.is_root(&id);
+        let agrees = is_root == self.plain.is_root(&id);
+        if is_root {
+            self.graph.remove_root(&id);
+            self.plain.remove_root(&id);
+            self.roots = self.roots.saturating_add(1);
+        }
+        agrees
+    }
+
+    /// Adds a node to both; says whether it is refused where it must be.
+    fn add(
+        &mut self,
+        alloc: Global,
+        id: Id,
+        parents: &[Id],
+        children: &[Id],
+    ) -> Result<bool, GraphFault> {
+        let fault = self.plain.fault(alloc, &id, parents, children)?;
+        let added = if children.is_empty() {
+            self.graph.add_leaf(id, parents, 100, 10)
+        } else {
+            self.graph.add_above(id, parents, children, 100, 10)
+        };
+        self.note(fault, children);
+        match added {
+            Ok(()) => {
+                self.plain.add(alloc, id, parents, children)?;
+                Ok(fault.is_none())
+            }
+            Err(GraphFault::Memory) => Err(GraphFault::Memory),
+            Err(refused) => Ok(fault == Some(refused)),
+        }
+    }
+
+    fn note(&mut self, fault: Option<GraphFault>, children: &[Id]) {
+        if fault == Some(GraphFault::Cycle) {
+            self.cycles = self.cycles.saturating_add(1);
+        }
+        if fault.is_none() && !children.is_empty() {
+            self.above = self.above.saturating_add(1);
+        }
+        self.most = self.most.max(self.graph.count());
+    }
+
+    /// Takes out what has the one id, or adds a node under the other, as is drawn.
+    fn edit_drawn(
+        &mut self,
+        alloc: Global,
+        draw: &mut Draw,
+        gone: Id,
+        parents: &[Id],
+        children: &[Id],
+    ) -> Result<bool, GraphFault> {
+        let id = draw.fresh(&self.plain);
+        match draw.below(12) {
+            0 => self.take_family(alloc, gone),
+            1..=4 => Ok(self.take_root(gone)),
+            5..=8 => self.add(alloc, id, parents, children),
+            _ => self.add(alloc, id, parents, &[]),
+        }
+    }
+
+    fn edit_below(
+        &mut self,
+        alloc: Global,
+        draw: &mut Draw,
+        gone: Id,
+        parents: &[Id],
+    ) -> Result<bool, GraphFault> {
+        let children = draw.ids(alloc, self.plain.rows.as_slice(), 4)?;
+        let agrees = self.edit_drawn(alloc, draw, gone, parents, &children);
+        drop(children);
+        agrees
+    }
+
+    fn edit(&mut self, alloc: Global, draw: &mut Draw) -> Result<bool, GraphFault> {
+        let rows = self.plain.rows.as_slice();
+        let gone = draw.known(rows);
+        let parents = draw.ids(alloc, rows, 3)?;
+        let agrees = self.edit_below(alloc, draw, gone, &parents);
+        drop(parents);
+        agrees
+    }
+
+    fn agree_below(&self, alloc: Global, id: Id) -> Result<bool, Memory> {
+        let below = self.plain.descendants(alloc, &id)?;
+        let agree = is_below(alloc, &self.graph, id, below.as_slice());
+        drop(below);
+        agree
+    }
+
+    fn agree_above(&self, alloc: Global, id: Id) -> Result<bool, Memory> {
+        let above = self.plain.ancestors(alloc, &id)?;
+        let agree = is_above(alloc, &self.graph, id, above.as_slice());
+        drop(above);
+        agree
+    }
+
+    /// Whether graph and list find the same of one id.
+    fn agree_on(&self, alloc: Global, id: Id) -> Result<bool, Memory> {
+        Ok(
+            self.graph.contains(&id) == self.plain.contains(&id)
+                && self.agree_below(alloc, id)?
+                && self.agree_above(alloc, id)?,
+        )
+    }
+
+    /// Whether they find the same of all ids.
+    fn agree(&self, alloc: Global) -> Result<bool, Memory> {
+        for name in 0..20 {
+            if !self.agree_on(alloc, named(name))? {
+                return Ok(false);
+            }
+        }
+        Ok(self.graph.count() == self.plain.rows.len())
+    }
+}
+
+/// Edits both, and compares what they find then.
+fn edit_and_compare(
+    rt: &(impl Abort + AllocGlobal),
+    pair: &mut Pair,
+    draw: &mut Draw,
+    number: u32,
+) -> Result<(), GraphFault> {
+    assert!(rt; pair.edit(rt.alloc(), draw)?, "edit {number}");
+    assert!(rt; pair.agree(rt.alloc())?, "after edit {number}");
+    Ok(())
+}
+
+fn edit_often(rt: &(impl Abort + AllocGlobal), pair: &mut Pair) -> Result<(), GraphFault> {
+    let mut draw = Draw { last: 7 };
+    for number in 0..300 {
+        edit_and_compare(rt, pair, &mut draw, number)?;
+    }
+    Ok(())
+}
+
+fn assert_counts(rt: &impl Abort, pair: &Pair) {
+    assert!(rt; pair.most > 10);
+    assert!(rt; pair.above > 10);
+    assert!(rt; pair.cycles > 10);
+    assert!(rt; pair.roots > 10);
+}
+
+/// Edits a new pair, which did enough of each at the end.
+fn edit_pair(rt: &(impl Abort + AllocGlobal), pair: &mut Pair) -> Result<(), GraphFault> {
+    edit_often(rt, pair)?;
+    assert_counts(rt, pair);
+    Ok(())
+}
+
+#[test]
+fn walks_find_what_searches_find(rt: HostRuntime) -> Result<(), Fail> {
+    let alloc = rt.alloc();
+    let mut pair = Pair {
+        graph: empty(alloc),
+        plain: Plain {
+            rows: Vec::new(alloc),
+        },
+        most: 0,
+        above: 0,
+        cycles: 0,
+        roots: 0,
+    };
+    let result = edit_pair(&rt, &mut pair);
+    drop(pair);
+    Ok(result?)
+}

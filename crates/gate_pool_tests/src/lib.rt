@@ -1,0 +1,17 @@
+//! Tests of the graph of ancestors, of the pool, of replacement, and of expiry and trim.
+#![tactic(auto)]
+
+#[cfg(test)]
+mod graph;
+#[cfg(test)]
+mod graph_edits;
+#[cfg(test)]
+mod plain_graph;
+#[cfg(test)]
+mod plain_pool;
+#[cfg(test)]
+mod pool;
+#[cfg(test)]
+mod replacement;
+#[cfg(test)]
+mod trimming;

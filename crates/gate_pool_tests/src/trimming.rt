@@ -1,0 +1,279 @@
+use gate_bytes::{Counted, Kept, Memory};
+use gate_pool::{Entry, Pool};
+use gate_trim::{Floor, try_expire, try_trim};
+use gate_tx::{Identified, OutPoint, Transaction, TxIn, TxOut, Txid};
+use std::alloc::Global;
+use std::hash::{BuildHasher, BuildHasherDefault, DefaultHasher};
+use std::test::Fail;
+
+/// An entry that spends outputs of others before it, or of a transaction outside where there are none.
+#[derive(Clone, Copy)]
+struct Coming {
+    /// The places of parents, and which of their outputs.
+    parents: [Option<(usize, u32)>; 2],
+    fee: u64,
+    vsize: u64,
+    time: u64,
+}
+
+/// What enters in turn, and the places of what is left.
+#[derive(Clone, Copy)]
+struct Case {
+    entering: [Option<Coming>; 5],
+    now: u64,
+    budget: u64,
+    left: [Option<usize>; 3],
+    floor: u64,
+}
+
+fn spending(alloc: Global, txid: Txid, index: u32) -> TxIn {
+    TxIn {
+        prevout: OutPoint { txid, index },
+        script: Kept::from_vec(Vec::new(alloc)),
+        sequence: 0,
+        witness: Kept::from_vec(Vec::new(alloc)),
+    }
+}
+
+/// What an entry spends: outputs of those before it, or of a transaction outside.
+fn inputs_of(alloc: Global, txids: &[Txid], coming: &Coming) -> Result<Vec<TxIn>, Memory> {
+    let mut inputs = Vec::new(alloc);
+    for (place, index) in coming.parents.iter().flatten() {
+        if let Some(txid) = txids.get(*place) {
+            inputs.push(spending(alloc, *txid, *index))?;
+        }
+    }
+    if inputs.is_empty() {
+        let outside = (txids.len() % 256) as u8;
+        inputs.push(spending(alloc, Txid::new([outside; 32]), 0))?;
+    }
+    Ok(inputs)
+}
+
+fn one_output(alloc: Global) -> Result<Vec<TxOut>, Memory> {
+    let mut outputs = Vec::with_capacity(alloc, 1)?;
+    outputs.push(TxOut {
+        value: 0,
+        script: Kept::from_vec(Vec::new(alloc)),
+    })?;
+    Ok(outputs)
+}
+
+fn identified(alloc: Global, inputs: Vec<TxIn>) -> Result<Option<Identified>, Memory> {
+    match Transaction::new(2, inputs, one_output(alloc)?, 0) {
+        Ok(transaction) => Ok(Some(Identified::new(alloc, transaction)?)),
+        Err(_) => Ok(None),
+    }
+}
+
+fn put<S: BuildHasher + Copy + Drop>(pool: &mut Pool<S>, entry: Entry) -> Result<(), Memory> {
+    if pool.is_new(&entry) {
+        pool.admit(entry)
+    } else {
+        Ok(())
+    }
+}
+
+fn enter<S: BuildHasher + Copy + Drop>(
+    alloc: Global,
+    pool: &mut Pool<S>,
+    txids: &mut Vec<Txid>,
+    coming: &Coming,
+) -> Result<(), Memory> {
+    let Some(identified) = identified(alloc, inputs_of(alloc, txids, coming)?)? else {
+        return Ok(());
+    };
+    txids.push(identified.txid())?;
+    let fee = coming.fee.min(1_000_000);
+    let vsize = coming.vsize.clamp(1, 1000);
+    let counted = Counted::new(alloc, identified)?;
+    put(pool, Entry::new(counted, fee, vsize, coming.time))
+}
+
+/// Lets all enter, and gives their ids.
+fn enter_all<S: BuildHasher + Copy + Drop>(
+    alloc: Global,
+    pool: &mut Pool<S>,
+    case: &Case,
+) -> Result<Vec<Txid>, Memory> {
+    let mut txids = Vec::new(alloc);
+    for coming in case.entering.iter().flatten() {
+        enter(alloc, pool, &mut txids, coming)?;
+    }
+    Ok(txids)
+}
+
+/// The ids of what should be left.
+fn left_of(alloc: Global, txids: &[Txid], case: &Case) -> Result<Vec<Txid>, Memory> {
+    let mut left = Vec::new(alloc);
+    for place in case.left.iter().flatten() {
+        if let Some(txid) = txids.get(*place) {
+            left.push(*txid)?;
+        }
+    }
+    Ok(left)
+}
+
+fn lists<S: BuildHasher + Copy + Drop>(
+    alloc: Global,
+    pool: &Pool<S>,
+    txids: &[Txid],
+) -> Result<bool, Memory> {
+    Ok(pool.listing(alloc)?.as_slice() == txids)
+}
+
+fn expire_and_trim<S: BuildHasher + Copy + Drop>(
+    pool: &mut Pool<S>,
+    floor: &mut Floor,
+    case: &Case,
+) -> Result<(), Memory> {
+    try_expire(pool, case.now)?;
+    try_trim(pool, floor, case.budget)
+}
+
+fn is_left<S: BuildHasher + Copy + Drop>(
+    alloc: Global,
+    pool: &Pool<S>,
+    txids: &[Txid],
+    case: &Case,
+) -> Result<bool, Memory> {
+    let left = left_of(alloc, txids, case)?;
+    let same = lists(alloc, pool, &left);
+    drop(left);
+    same
+}
+
+/// Whether what should be left is, in its order, and the floor is as it should be.
+fn holds_in<S: BuildHasher + Copy + Drop>(
+    alloc: Global,
+    pool: &mut Pool<S>,
+    case: &Case,
+) -> Result<bool, Memory> {
+    let mut floor = Floor::new(0);
+    let txids = enter_all(alloc, pool, case)?;
+    let trimmed = expire_and_trim(pool, &mut floor, case);
+    let left = is_left(alloc, pool, &txids, case);
+    drop(txids);
+    trimmed?;
+    Ok(floor.rate() == case.floor && left?)
+}
+
+/// The same from an empty pool.
+fn holds(alloc: Global, case: &Case) -> Result<bool, Memory> {
+    let hasher: BuildHasherDefault<DefaultHasher> = BuildHasherDefault::new();
+    let mut pool = Pool::new(alloc, hasher)?;
+    let holds = holds_in(alloc, &mut pool, case);
+    drop(pool);
+    holds
+}
+
+fn alone(fee: u64) -> Option<Coming> {
+    sized(fee, 110)
+}
+
+fn sized(fee: u64, vsize: u64) -> Option<Coming> {
+    Some(Coming {
+        parents: [None, None],
+        fee,
+        vsize,
+        time: 5000,
+    })
+}
+
+fn child(parent: usize, output: u32, fee: u64) -> Option<Coming> {
+    Some(Coming {
+        parents: [Some((parent, output)), None],
+        fee,
+        vsize: 110,
+        time: 5000,
+    })
+}
+
+/// A parent that came at the first second, with a child.
+fn aging(now: u64, left: [Option<usize>; 3]) -> Case {
+    let parent = Coming {
+        parents: [None, None],
+        fee: 110,
+        vsize: 110,
+        time: 0,
+    };
+    Case {
+        entering: [Some(parent), child(0, 0, 110), None, None, None],
+        now,
+        budget: 1_000_000,
+        left,
+        floor: 0,
+    }
+}
+
+#[test]
+fn trim_and_floor(rt: HostRuntime) -> Result<(), Fail> {
+    let case = Case {
+        entering: [alone(1000), alone(1000), alone(2000), None, None],
+        now: 5000,
+        budget: 220,
+        left: [Some(0), Some(2), None],
+        floor: 10_090,
+    };
+    assert!(rt; holds(rt.alloc(), &case)?);
+    Ok(())
+}
+
+#[test]
+fn trim_of_a_family(rt: HostRuntime) -> Result<(), Fail> {
+    let case = Case {
+        entering: [alone(110), child(0, 0, 1000), alone(2000), None, None],
+        now: 5000,
+        budget: 220,
+        left: [Some(2), None, None],
+        floor: 6045,
+    };
+    assert!(rt; holds(rt.alloc(), &case)?);
+    Ok(())
+}
+
+#[test]
+fn trim_by_the_descendants_rate(rt: HostRuntime) -> Result<(), Fail> {
+    let case = Case {
+        entering: [alone(110), child(0, 0, 1000), alone(330), alone(2000), None],
+        now: 5000,
+        budget: 330,
+        left: [Some(0), Some(1), Some(3)],
+        floor: 4000,
+    };
+    assert!(rt; holds(rt.alloc(), &case)?);
+    Ok(())
+}
+
+#[test]
+fn trim_below_a_dear_parent(rt: HostRuntime) -> Result<(), Fail> {
+    let grandchild = Coming {
+        parents: [Some((1, 0)), Some((2, 0))],
+        fee: 1780,
+        vsize: 178,
+        time: 5000,
+    };
+    let case = Case {
+        entering: [
+            sized(1128, 141),
+            child(0, 0, 110),
+            child(0, 1, 110),
+            Some(grandchild),
+            alone(2000),
+        ],
+        now: 5000,
+        budget: 600,
+        left: [Some(0), Some(1), Some(4)],
+        floor: 7562,
+    };
+    assert!(rt; holds(rt.alloc(), &case)?);
+    Ok(())
+}
+
+#[test]
+fn child_at_and_past_the_expiry_time(rt: HostRuntime) -> Result<(), Fail> {
+    let alloc = rt.alloc();
+    assert!(rt; holds(alloc, &aging(1_209_600, [Some(0), Some(1), None]))?);
+    assert!(rt; holds(alloc, &aging(1_209_601, [None, None, None]))?);
+    Ok(())
+}

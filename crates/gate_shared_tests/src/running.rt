@@ -1,0 +1,347 @@
+//! Lanes over one gate: what they write, that they run at once, and ends that fail.
+ghost use Rattle.std.specs.Prelude.{◌≡◌};
+
+use gate_core::State;
+use gate_lanes::{Lane, LaneEnd, run_lanes};
+use gate_lines::LaneFault;
+use gate_opening::read_opening;
+use gate_shared::{Base, Gate, Pass};
+use std::alloc::{AllocError, Global};
+use std::hash::{BuildHasherDefault, FoldHasher};
+use std::io::{BufReader, BufWriter, ErrorKind, Read, Write};
+use std::marker::Brand;
+use std::process::Abort;
+use std::sync::Wait;
+use std::sync::atomic::{AtomicU64, Ordering};
+use std::test::*;
+use std::thread::Threads;
+use std::{io, thread};
+
+type Hasher = BuildHasherDefault<FoldHasher>;
+
+/// A state of one block.
+fn opened(alloc: Global) -> Result<State<Hasher>, Fail> {
+    let mut text = b"times 1 1000 600\n".as_slice();
+    Ok(read_opening(alloc, BuildHasherDefault::new(), &mut text)?)
+}
+
+/// A lane over a text, which writes to memory.
+fn lane(alloc: Global, text: &'static [u8]) -> Lane<&'static [u8], Vec<u8>> {
+    Lane {
+        reader: text,
+        writer: Vec::new(alloc),
+    }
+}
+
+/// Whether a lane went to its end, and wrote this text of so many lines.
+fn wrote(end: &LaneEnd<Vec<u8>>, text: &[u8], lines: u64) -> bool {
+    end.result == Ok(lines) && end.writer.as_slice() == text
+}
+
+/// A lane with lines of all kinds, one with none that asks for anything, and one of one event.
+fn three_lanes(alloc: Global) -> Result<Vec<Lane<&'static [u8], Vec<u8>>>, AllocError> {
+    let mixed = lane(
+        alloc,
+        b"nonsense\noperator bloom on\n# skipped\n\nchain 0 5000\noperator bloom off",
+    );
+    let idle = lane(alloc, b"# nothing\n");
+    let single = lane(alloc, b"operator floor 5\n");
+    Ok(Vec::from_array(alloc, [mixed, idle, single])?)
+}
+
+/// Whether the three lanes wrote what they are to write.
+fn three_wrote(ends: &[LaneEnd<Vec<u8>>]) -> bool {
+    let [mixed, idle, single] = ends else {
+        return false;
+    };
+    wrote(
+        mixed,
+        b"refused L1 bad-line\nset\nfault wrong-caller\nset\n",
+        4,
+    ) && wrote(idle, b"", 0)
+        && wrote(single, b"set\n", 1)
+}
+
+/// Whether the passes settle with the gate, with so many calls.
+fn settles<N: Base, T: Wait>(
+    rt: &T,
+    alloc: Global,
+    gate: &Gate<N, Hasher>,
+    passes: Vec<Pass<N>>,
+    count: u64,
+) -> bool {
+    match gate.settle(rt, alloc, passes) {
+        Ok(settled) => settled.count == count,
+        Err(_) => false,
+    }
+}
+
+fn lanes_answer<N: Base + Send + Sync, T: Threads + Wait + Abort + Sync>(
+    rt: &T,
+    alloc: Global,
+    gate: &Gate<N, Hasher>,
+) -> Result<(), Fail> {
+    let lanes = three_lanes(alloc)?;
+    let (ends, passes) = run_lanes(rt, alloc, gate, lanes)?;
+    assert!(rt; three_wrote(&ends));
+    assert!(rt; settles(rt, alloc, gate, passes, 3));
+    Ok(())
+}
+
+fn lanes_answer_over<N: Base + Send + Sync, T: Threads + Wait + Abort + Sync>(
+    rt: &T,
+    alloc: Global,
+    state: State<Hasher>,
+) -> Result<(), Fail>
+    requires { state ≡ N.base }
+{
+    let gate: Gate<N, Hasher> = Gate::open(alloc, state);
+    let result = lanes_answer(rt, alloc, &gate);
+    drop(gate);
+    result
+}
+
+#[test]
+fn lanes_are_answered(rt: HostRuntime) -> Result<(), Fail> {
+    lanes_answer_over::<Brand, _>(&rt, rt.alloc(), opened(rt.alloc())?)
+}
+
+/// A reader whose bytes come once a flag is set, if it has one. It waits for 10,000,000 turns, and then tells that it gave up.
+#[derive(Drop)]
+struct Waits<'a> {
+    bytes: &'a [u8],
+    flag: Option<&'a AtomicU64>,
+    gave_up: &'a AtomicU64,
+}
+
+/// Whether the flag was set within so many turns.
+fn was_set(flag: &AtomicU64) -> bool {
+    for _ in 0..10_000_000u64 {
+        if flag.load(Ordering::SeqCst) == 1 {
+            return true;
+        }
+        thread::yield_now();
+    }
+    false
+}
+
+impl Read for Waits<'_> {
+    fn read(&mut self, buf: &mut [u8]) -> io::Result<usize> {
+        if let Some(flag) = self.flag {
+            if !was_set(flag) {
+                self.gave_up.store(1, Ordering::SeqCst);
+            }
+        }
+        self.bytes.read(buf)
+    }
+}
+
+/// A writer that sets a flag.
+#[derive(Drop)]
+struct Tells<'a>(&'a AtomicU64);
+
+impl Write for Tells<'_> {
+    fn write(&mut self, buf: &[u8]) -> io::Result<usize> {
+        self.0.store(1, Ordering::SeqCst);
+        Ok(buf.len())
+    }
+
+    fn flush(&mut self) -> io::Result<()> {
+        Ok(())
+    }
+}
+
+/// What two lanes tell each other, and whether one gave up.
+#[derive(Drop)]
+struct Flags {
+    first: AtomicU64,
+    second: AtomicU64,
+    gave_up: AtomicU64,
+}
+
+/// A lane of one event, which waits for a flag and sets one.
+fn waiting<'a>(
+    alloc: Global,
+    flag: Option<&'a AtomicU64>,
+    gave_up: &'a AtomicU64,
+    tells: &'a AtomicU64,
+) -> Result<Lane<BufReader<Waits<'a>>, BufWriter<Tells<'a>>>, Fail> {
+    let bytes = b"operator bloom on\n".as_slice();
+    let waits = Waits {
+        bytes,
+        flag,
+        gave_up,
+    };
+    Ok(Lane {
+        reader: BufReader::new(alloc, waits)?,
+        writer: BufWriter::new(alloc, Tells(tells))?,
+    })
+}
+
+/// The first lane reads its line once the second has written.
+fn two_lanes(
+    alloc: Global,
+    flags: &Flags,
+) -> Result<Vec<Lane<BufReader<Waits<'_>>, BufWriter<Tells<'_>>>>, Fail> {
+    let first = waiting(alloc, Some(&flags.second), &flags.gave_up, &flags.first)?;
+    let second = waiting(alloc, None, &flags.gave_up, &flags.second)?;
+    Ok(Vec::from_array(alloc, [first, second])?)
+}
+
+fn lanes_run_at_once<N: Base + Send + Sync, T: Threads + Wait + Abort + Sync>(
+    rt: &T,
+    alloc: Global,
+    gate: &Gate<N, Hasher>,
+) -> Result<(), Fail> {
+    let flags = Flags {
+        first: AtomicU64::new(0),
+        second: AtomicU64::new(0),
+        gave_up: AtomicU64::new(0),
+    };
+    let lanes = two_lanes(alloc, &flags)?;
+    let (ends, passes) = run_lanes(rt, alloc, gate, lanes)?;
+    assert!(rt; ends.len() == 2);
+    assert!(rt; passes.len() == 2);
+    assert!(rt; flags.gave_up.load(Ordering::SeqCst) == 0);
+    assert!(rt; flags.first.load(Ordering::SeqCst) == 1);
+    Ok(())
+}
+
+fn lanes_run_at_once_over<N: Base + Send + Sync, T: Threads + Wait + Abort + Sync>(
+    rt: &T,
+    alloc: Global,
+    state: State<Hasher>,
+) -> Result<(), Fail>
+    requires { state ≡ N.base }
+{
+    let gate: Gate<N, Hasher> = Gate::open(alloc, state);
+    let result = lanes_run_at_once(rt, alloc, &gate);
+    drop(gate);
+    result
+}
+
+#[test]
+fn a_lane_waits_for_another(rt: HostRuntime) -> Result<(), Fail> {
+    lanes_run_at_once_over::<Brand, _>(&rt, rt.alloc(), opened(rt.alloc())?)
+}
+
+/// A reader that is interrupted once its bytes are out.
+#[derive(Drop)]
+struct Interrupted<'a>(&'a [u8]);
+
+impl Read for Interrupted<'_> {
+    fn read(&mut self, buf: &mut [u8]) -> io::Result<usize> {
+        if self.0.is_empty() {
+            return Err(io::Error::from(ErrorKind::Interrupted));
+        }
+        self.0.read(buf)
+    }
+}
+
+/// A writer that takes `left` bytes, one at a time, and then none.
+#[derive(Drop)]
+struct Drops {
+    left: usize,
+}
+
+impl Write for Drops {
+    fn write(&mut self, buf: &[u8]) -> io::Result<usize> {
+        if self.left == 0 || buf.is_empty() {
+            return Ok(0);
+        }
+        self.left -= 1;
+        Ok(1)
+    }
+
+    fn flush(&mut self) -> io::Result<()> {
+        Ok(())
+    }
+}
+
+/// Whether there is one pass, of so many calls.
+fn one_pass<N: Base>(passes: &[Pass<N>], calls: usize) -> bool {
+    let [pass] = passes else {
+        return false;
+    };
+    pass.calls().len() == calls
+}
+
+const TWO_EVENTS: &[u8] = b"operator bloom on\noperator floor 5\noperator";
+
+/// A reader that breaks in a line: what stands before that line is answered.
+fn reader_breaks<N: Base + Send + Sync, T: Threads + Wait + Abort + Sync>(
+    rt: &T,
+    alloc: Global,
+    gate: &Gate<N, Hasher>,
+) -> Result<(), Fail> {
+    let broken = Lane {
+        reader: BufReader::new(alloc, Interrupted(TWO_EVENTS))?,
+        writer: Vec::new(alloc),
+    };
+    let lanes = Vec::from_array(alloc, [broken])?;
+    let (ends, passes) = run_lanes(rt, alloc, gate, lanes)?;
+    assert!(rt;
+        matches!(
+            &ends[..],
+            [LaneEnd {
+                result: Err(LaneFault::Read),
+                ..
+            }]
+        )
+    );
+    assert!(rt; ends[0].writer.as_slice() == b"set\nset\n".as_slice());
+    assert!(rt; one_pass(&passes, 2));
+    Ok(())
+}
+
+/// A writer that fills up in the second reply line: its event was called.
+fn writer_fills<N: Base + Send + Sync, T: Threads + Wait + Abort + Sync>(
+    rt: &T,
+    alloc: Global,
+    gate: &Gate<N, Hasher>,
+) -> Result<(), Fail> {
+    let full = Lane {
+        reader: TWO_EVENTS,
+        writer: BufWriter::with_capacity(alloc, 0, Drops { left: 6 })?,
+    };
+    let lanes = Vec::from_array(alloc, [full])?;
+    let (ends, passes) = run_lanes(rt, alloc, gate, lanes)?;
+    assert!(rt;
+        matches!(
+            &ends[..],
+            [LaneEnd {
+                result: Err(LaneFault::Write),
+                ..
+            }]
+        )
+    );
+    assert!(rt; one_pass(&passes, 2));
+    Ok(())
+}
+
+fn ends_fail<N: Base + Send + Sync, T: Threads + Wait + Abort + Sync>(
+    rt: &T,
+    alloc: Global,
+    gate: &Gate<N, Hasher>,
+) -> Result<(), Fail> {
+    reader_breaks(rt, alloc, gate)?;
+    writer_fills(rt, alloc, gate)
+}
+
+fn ends_fail_over<N: Base + Send + Sync, T: Threads + Wait + Abort + Sync>(
+    rt: &T,
+    alloc: Global,
+    state: State<Hasher>,
+) -> Result<(), Fail>
+    requires { state ≡ N.base }
+{
+    let gate: Gate<N, Hasher> = Gate::open(alloc, state);
+    let result = ends_fail(rt, alloc, &gate);
+    drop(gate);
+    result
+}
+
+#[test]
+fn ends_that_fail(rt: HostRuntime) -> Result<(), Fail> {
+    ends_fail_over::<Brand, _>(&rt, rt.alloc(), opened(rt.alloc())?)
+}

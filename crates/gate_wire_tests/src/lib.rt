@@ -1,0 +1,18 @@
+//! Tests of the rooms that judge what comes over the wire by itself: bytes, lines, addresses, transactions, scripts,
+//! standardness and input reports. Tests stand in crates of their own, since a crate with tests is proved twice.
+#![tactic(auto)]
+
+#[cfg(test)]
+mod addresses;
+#[cfg(test)]
+mod bytes;
+#[cfg(test)]
+mod inputs;
+#[cfg(test)]
+mod lines;
+#[cfg(test)]
+mod scripts;
+#[cfg(test)]
+mod standardness;
+#[cfg(test)]
+mod transactions;

@@ -1,0 +1,124 @@
+//! Lines over readers in memory, with buffers of few bytes, and over one that breaks.
+use gate_lines::{Found, LaneFault, Sink, Source, end_line, has_ended, next_line};
+use std::io;
+use std::io::{BufReader, BufWriter, ErrorKind, Read, Write};
+use std::process::Abort;
+use std::test::Fail;
+
+/// A reader that is interrupted once its bytes are out.
+#[derive(Drop)]
+struct Interrupted<'a>(&'a [u8]);
+
+impl Read for Interrupted<'_> {
+    fn read(&mut self, buf: &mut [u8]) -> io::Result<usize> {
+        if self.0.is_empty() {
+            return Err(io::Error::from(ErrorKind::Interrupted));
+        }
+        self.0.read(buf)
+    }
+}
+
+/// A writer that takes `left` bytes, one at a time, and then none.
+#[derive(Drop)]
+struct Drops {
+    left: usize,
+}
+
+impl Write for Drops {
+    fn write(&mut self, buf: &[u8]) -> io::Result<usize> {
+        if self.left == 0 || buf.is_empty() {
+            return Ok(0);
+        }
+        self.left -= 1;
+        Ok(1)
+    }
+
+    fn flush(&mut self) -> io::Result<()> {
+        Ok(())
+    }
+}
+
+const TEXT: &[u8] = b"first\r\n\nlonger than the buffer\nrest";
+
+fn assert_next<R: Source>(
+    rt: &impl Abort,
+    reader: &mut R,
+    line: &mut Vec<u8>,
+    found: Found,
+    text: &str,
+) -> Result<(), LaneFault> {
+    let next = next_line(reader, line)?;
+    assert_eq!(rt; next, found, "{text}");
+    assert_eq!(rt; line.as_slice(), text.as_bytes());
+    Ok(())
+}
+
+fn assert_lines<R: Source>(
+    rt: &impl Abort,
+    reader: &mut R,
+    line: &mut Vec<u8>,
+) -> Result<(), LaneFault> {
+    for text in ["first\r", "", "longer than the buffer"] {
+        assert_next(rt, reader, line, Found::Whole, text)?;
+    }
+    assert_next(rt, reader, line, Found::Rest, "rest")?;
+    let ended = has_ended(reader, line)?;
+    assert!(rt; ended);
+    Ok(())
+}
+
+#[test]
+fn lines_of_a_slice(rt: HostRuntime) -> Result<(), Fail> {
+    let mut slice = TEXT;
+    let mut line = Vec::new(rt.alloc());
+    let read = assert_lines(&rt, &mut slice, &mut line);
+    drop(line);
+    Ok(read?)
+}
+
+#[test]
+fn lines_in_parts(rt: HostRuntime) -> Result<(), Fail> {
+    let mut buffered = BufReader::with_capacity(rt.alloc(), 4, TEXT)?;
+    let mut line = Vec::new(rt.alloc());
+    let read = assert_lines(&rt, &mut buffered, &mut line);
+    drop(line);
+    drop(buffered);
+    Ok(read?)
+}
+
+#[test]
+fn lines_that_a_slice_has(rt: HostRuntime) {
+    let (whole, rest): (&[u8], &[u8]) = (b"whole\nrest", b"rest");
+    assert!(rt; whole.has_line());
+    assert!(rt; !rest.has_line());
+}
+
+#[test]
+fn lines_that_wait(rt: HostRuntime) -> Result<(), Fail> {
+    let mut reader = BufReader::new(rt.alloc(), Interrupted(b"one\ntwo\nth"))?;
+    let mut line = Vec::new(rt.alloc());
+    assert!(rt; !reader.has_line());
+    assert_eq!(rt; next_line(&mut reader, &mut line)?, Found::Whole);
+    assert!(rt; reader.has_line());
+    assert_eq!(rt; next_line(&mut reader, &mut line)?, Found::Whole);
+    assert!(rt; !reader.has_line());
+    assert_eq!(rt; next_line(&mut reader, &mut line), Err(LaneFault::Read));
+    assert_eq!(rt; std::str::from_utf8(line.as_slice())?, "th");
+    Ok(())
+}
+
+#[test]
+fn texts_that_break(rt: HostRuntime) -> Result<(), Fail> {
+    let mut writer = BufWriter::with_capacity(rt.alloc(), 0, Drops { left: 3 })?;
+    assert_eq!(rt; writer.write_text(b"ab"), Ok(()));
+    assert_eq!(rt; writer.write_text(b"cd"), Err(LaneFault::Write));
+    let mut held = BufWriter::new(rt.alloc(), Drops { left: 1 })?;
+    assert_eq!(rt; held.write_text(b"ab"), Ok(()));
+    assert_eq!(rt; held.send(), Err(LaneFault::Write));
+    let mut kept = Vec::new(rt.alloc());
+    let line = end_line(String::from_str(rt.alloc(), "ab")?)?;
+    assert_eq!(rt; kept.write_text(line.as_slice()), Ok(()));
+    assert_eq!(rt; kept.send(), Ok(()));
+    assert_eq!(rt; std::str::from_utf8(kept.as_slice())?, "ab\n");
+    Ok(())
+}
