@@ -1,8 +1,6 @@
-//! Tests of calls by RPC, of the answers that they get, and of the texts of events.
+//! Tests of calls by RPC and of the answers that they get.
 #![tactic(auto)]
 
-#[cfg(test)]
-mod events;
 #[cfg(test)]
 mod queries;
 #[cfg(test)]

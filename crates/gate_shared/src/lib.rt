@@ -19,3 +19,6 @@ pub use pass::{MAX_CALLS, Pass};
 pub use receipt::{Made, Receipt};
 pub use settle::{Owner, SettleFault, Settled, Unsettled};
 pub use shared::{CallFault, Shared};
+
+#[cfg(test)]
+mod tests;

@@ -1,5 +1,5 @@
 //! Lines of each kind, and the texts of their events.
-use gate_events::{event_text, read_event};
+use crate::{event_text, read_event};
 use std::alloc::Global;
 use std::test::Fail;
 
