@@ -5,6 +5,7 @@ use gate_rpc::RpcResult;
 use gate_tx::{Identified, OutPoint, Transaction, TxIn, TxOut, Txid};
 use std::alloc::Global;
 use std::hash::{BuildHasher, BuildHasherDefault, DefaultHasher};
+use std::process::Abort;
 use std::test::Fail;
 
 fn input(alloc: Global, txid: Txid, index: u32, sequence: u32) -> TxIn {
@@ -140,19 +141,8 @@ fn last_is_known<S: BuildHasher + Copy + Drop>(
     )
 }
 
-#[test]
-fn a_diamond_is_known(rt: HostRuntime) -> Result<(), Fail> {
-    let alloc = rt.alloc();
-    let hasher: BuildHasherDefault<DefaultHasher> = BuildHasherDefault::new();
-    let mut pool = Pool::new(alloc, hasher)?;
-    let txids = fill(alloc, &mut pool)?;
-    let listed = families_are_listed(alloc, &pool, txids)?;
-    assert!(rt; listed);
-    let first = sums_are_known(alloc, &pool, txids)?;
-    assert!(rt; first);
-    let last = last_is_known(alloc, &pool, txids)?;
-    assert!(rt; last);
-    let rates = pool_info(&pool, &Floor::new(1_001), 5_000);
+fn rates_are_known<S: BuildHasher + Copy + Drop>(pool: &Pool<S>) -> bool {
+    let rates = pool_info(pool, &Floor::new(1_001), 5_000);
     let wanted = RpcResult::Info {
         size: 539,
         budget: 5_000,
@@ -160,6 +150,30 @@ fn a_diamond_is_known(rt: HostRuntime) -> Result<(), Fail> {
         relay_rate: 1_000,
         count: 4,
     };
-    assert!(rt; rates == wanted);
+    rates == wanted
+}
+
+fn assert_diamond<S: BuildHasher + Copy + Drop>(
+    rt: &(impl Abort + AllocGlobal),
+    pool: &mut Pool<S>,
+) -> Result<(), Fail> {
+    let alloc = rt.alloc();
+    let txids = fill(alloc, pool)?;
+    let listed = families_are_listed(alloc, pool, txids)?;
+    assert!(rt; listed);
+    let first = sums_are_known(alloc, pool, txids)?;
+    assert!(rt; first);
+    let last = last_is_known(alloc, pool, txids)?;
+    assert!(rt; last);
+    assert!(rt; rates_are_known(pool));
     Ok(())
+}
+
+#[test]
+fn a_diamond_is_known(rt: HostRuntime) -> Result<(), Fail> {
+    let hasher: BuildHasherDefault<DefaultHasher> = BuildHasherDefault::new();
+    let mut pool = Pool::new(rt.alloc(), hasher)?;
+    let known = assert_diamond(&rt, &mut pool);
+    drop(pool);
+    known
 }

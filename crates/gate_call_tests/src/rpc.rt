@@ -3,6 +3,7 @@ use gate_rpc::*;
 use gate_standard::Denial;
 use gate_tx::{Txid, Wtxid};
 use std::alloc::Global;
+use std::process::Abort;
 use std::test::Fail;
 
 fn line(alloc: Global, reply: &RpcReply) -> Result<String, Fail> {
@@ -287,15 +288,48 @@ fn entry(alloc: Global) -> Result<EntryInfo, Fail> {
     })
 }
 
+fn copied_line(alloc: Global, reply: &RpcReply) -> Result<String, Fail> {
+    let copy = reply.copy(alloc)?;
+    let text = line(alloc, &copy);
+    drop(copy);
+    text
+}
+
+fn assert_line(
+    rt: &(impl Abort + AllocGlobal),
+    reply: RpcReply,
+    expected: &str,
+) -> Result<(), Fail> {
+    let text = copied_line(rt.alloc(), &reply);
+    drop(reply);
+    let text = text?;
+    let same = text.as_str() == expected;
+    drop(text);
+    assert!(rt; same, "{expected}");
+    Ok(())
+}
+
+fn failure(denial: Denial) -> RpcReply {
+    RpcReply::Failure {
+        id: Id::Unsigned(1),
+        error: RpcError::Denied(denial),
+    }
+}
+
 #[test]
 fn answers_are_compact(rt: HostRuntime) -> Result<(), Fail> {
-    let alloc = rt.alloc();
     let txid = Txid::read("c0aa5a45314ea266e7c33aff2697b64077856491385b15484cdc20bef9a4bb98").ok_or(
         "no id",
     )?;
     let wtxid = Wtxid::read(
         "0ab3c67fcbccb7a996f345d1e15136130d8da8d20dd6fa12654ae4a053e76009",
     ).ok_or("no id")?;
+    assert_line(&rt, RpcReply::NotAllowed, "rpc 403 denied U1 rpc-whitelist")?;
+    assert_line(
+        &rt,
+        one_number(1, RpcResult::Sent(txid)),
+        "rpc 200 {\"error\":null,\"id\":1,\"result\":\"c0aa5a45314ea266e7c33aff2697b64077856491385b15484cdc20bef9a4bb98\"}",
+    )?;
     let info = RpcResult::Info {
         size: 0,
         budget: 1_000_000,
@@ -303,59 +337,48 @@ fn answers_are_compact(rt: HostRuntime) -> Result<(), Fail> {
         relay_rate: 1_000,
         count: 0,
     };
-    let conflict = RpcReply::Failure {
-        id: Id::Unsigned(1),
-        error: RpcError::Denied(Denial::MempoolConflict),
-    };
-    let missing = RpcReply::Failure {
-        id: Id::Unsigned(1),
-        error: RpcError::Denied(Denial::MissingOrSpent),
-    };
+    assert_line(
+        &rt,
+        one_number(1, info),
+        "rpc 200 {\"error\":null,\"id\":1,\"result\":{\"bytes\":0,\"maxmempool\":1000000,\"mempoolminfee\":1000,\"minrelaytxfee\":1000,\"size\":0}}",
+    )?;
+    assert_line(
+        &rt,
+        failure(Denial::MempoolConflict),
+        "rpc 500 {\"error\":{\"code\":-26,\"message\":\"txn-mempool-conflict\",\"rule\":\"A23\"},\"id\":1,\"result\":null}",
+    )?;
+    assert_line(
+        &rt,
+        failure(Denial::MissingOrSpent),
+        "rpc 500 {\"error\":{\"code\":-25,\"message\":\"bad-txns-inputs-missingorspent\",\"rule\":\"A25\"},\"id\":1,\"result\":null}",
+    )?;
     let rejected = RpcResult::Rejected {
         txid,
         wtxid,
         denial: Denial::MissingOrSpent,
     };
+    assert_line(
+        &rt,
+        one_number(1, rejected),
+        "rpc 200 {\"error\":null,\"id\":1,\"result\":[{\"allowed\":false,\"reject-reason\":\"missing-inputs\",\"rule\":\"A25\",\"txid\":\"c0aa5a45314ea266e7c33aff2697b64077856491385b15484cdc20bef9a4bb98\",\"wtxid\":\"0ab3c67fcbccb7a996f345d1e15136130d8da8d20dd6fa12654ae4a053e76009\"}]}",
+    )?;
     let allowed = RpcResult::Allowed {
         txid,
         wtxid,
         fee: 110,
         vsize: 110,
     };
-    let answers = [
-        (RpcReply::NotAllowed, "rpc 403 denied U1 rpc-whitelist"),
-        (
-            one_number(1, RpcResult::Sent(txid)),
-            "rpc 200 {\"error\":null,\"id\":1,\"result\":\"c0aa5a45314ea266e7c33aff2697b64077856491385b15484cdc20bef9a4bb98\"}",
-        ),
-        (
-            one_number(1, info),
-            "rpc 200 {\"error\":null,\"id\":1,\"result\":{\"bytes\":0,\"maxmempool\":1000000,\"mempoolminfee\":1000,\"minrelaytxfee\":1000,\"size\":0}}",
-        ),
-        (
-            conflict,
-            "rpc 500 {\"error\":{\"code\":-26,\"message\":\"txn-mempool-conflict\",\"rule\":\"A23\"},\"id\":1,\"result\":null}",
-        ),
-        (
-            missing,
-            "rpc 500 {\"error\":{\"code\":-25,\"message\":\"bad-txns-inputs-missingorspent\",\"rule\":\"A25\"},\"id\":1,\"result\":null}",
-        ),
-        (
-            one_number(1, rejected),
-            "rpc 200 {\"error\":null,\"id\":1,\"result\":[{\"allowed\":false,\"reject-reason\":\"missing-inputs\",\"rule\":\"A25\",\"txid\":\"c0aa5a45314ea266e7c33aff2697b64077856491385b15484cdc20bef9a4bb98\",\"wtxid\":\"0ab3c67fcbccb7a996f345d1e15136130d8da8d20dd6fa12654ae4a053e76009\"}]}",
-        ),
-        (
-            one_number(1, allowed),
-            "rpc 200 {\"error\":null,\"id\":1,\"result\":[{\"allowed\":true,\"fees\":{\"base\":110},\"txid\":\"c0aa5a45314ea266e7c33aff2697b64077856491385b15484cdc20bef9a4bb98\",\"vsize\":110,\"wtxid\":\"0ab3c67fcbccb7a996f345d1e15136130d8da8d20dd6fa12654ae4a053e76009\"}]}",
-        ),
-        (
-            one_number(7, RpcResult::Entry(entry(alloc)?)),
-            "rpc 200 {\"error\":null,\"id\":7,\"result\":{\"ancestorcount\":1,\"ancestorfees\":20000,\"ancestorsize\":141,\"bip125-replaceable\":true,\"depends\":[],\"descendantcount\":4,\"descendantfees\":23000,\"descendantsize\":539,\"fee\":20000,\"spentby\":[\"1111111111111111111111111111111111111111111111111111111111111111\",\"1212121212121212121212121212121212121212121212121212121212121212\"],\"time\":6000,\"vsize\":141,\"weight\":562,\"wtxid\":\"1313131313131313131313131313131313131313131313131313131313131313\"}}",
-        ),
-    ];
-    for (reply, expected) in answers {
-        assert_eq!(rt; line(alloc, &reply.copy(alloc)?)?.as_str(), expected);
-    }
+    assert_line(
+        &rt,
+        one_number(1, allowed),
+        "rpc 200 {\"error\":null,\"id\":1,\"result\":[{\"allowed\":true,\"fees\":{\"base\":110},\"txid\":\"c0aa5a45314ea266e7c33aff2697b64077856491385b15484cdc20bef9a4bb98\",\"vsize\":110,\"wtxid\":\"0ab3c67fcbccb7a996f345d1e15136130d8da8d20dd6fa12654ae4a053e76009\"}]}",
+    )?;
+    let known = entry(rt.alloc())?;
+    assert_line(
+        &rt,
+        one_number(7, RpcResult::Entry(known)),
+        "rpc 200 {\"error\":null,\"id\":7,\"result\":{\"ancestorcount\":1,\"ancestorfees\":20000,\"ancestorsize\":141,\"bip125-replaceable\":true,\"depends\":[],\"descendantcount\":4,\"descendantfees\":23000,\"descendantsize\":539,\"fee\":20000,\"spentby\":[\"1111111111111111111111111111111111111111111111111111111111111111\",\"1212121212121212121212121212121212121212121212121212121212121212\"],\"time\":6000,\"vsize\":141,\"weight\":562,\"wtxid\":\"1313131313131313131313131313131313131313131313131313131313131313\"}}",
+    )?;
     Ok(())
 }
 
