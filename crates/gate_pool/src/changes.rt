@@ -81,14 +81,28 @@ impl<S: BuildHasher + Copy + Drop> Pool<S> {
     pub fn copy(&self, alloc: Global) -> Result<Pool<S>, Memory>
         ensures { IfOk result (λ pool. pool.entries ≡ self.now.entries) }
     {
-        self.tells_distinct();
         let mut pool = Pool::new(alloc, self.hasher())?;
+        match self.copy_into(alloc, &mut pool) {
+            Ok(()) => Ok(pool),
+            Err(Memory) => {
+                drop(pool);
+                Err(Memory)
+            }
+        }
+    }
+
+    /// Lets a copy of each entry enter a pool without entries.
+    fn copy_into(&self, alloc: Global, pool: &mut Pool<S>) -> Result<(), Memory>
+        requires { pool.old.entries ≡ [] }
+        ensures { OnOk result (pool.new.entries ≡ self.now.entries) }
+    {
+        self.tells_distinct();
         for slot in self.slots().as_slice() {
             match slot {
                 Some(entry) => pool.admit(entry.copy(alloc)?)?,
                 None => {}
             }
         }
-        Ok(pool)
+        Ok(())
     }
 }

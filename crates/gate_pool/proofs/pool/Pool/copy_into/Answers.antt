@@ -6,8 +6,8 @@ use Rattle.gate_pool.specs.Slots.{entries_of, at}
 use Rattle.gate_pool.proofs.Admission.{IsNew-next}
 use Rattle.gate_pool.proofs.Closing.{at_read}
 use Rattle.gate_pool.proofs.Holes.{one_more, no_more}
-use Rattle.gate_pool.proofs.pool.Pool.copy.Goals as goal
-use Rattle.gate_pool.proofs.pool.Pool.copy.Goals.{in-Some+in_ok-copy-in-Some+in_ok-admit-in-Some, in-None}
+use Rattle.gate_pool.proofs.pool.Pool.copy_into.Goals as goal
+use Rattle.gate_pool.proofs.pool.Pool.copy_into.Goals.{in-Some+in_ok-copy-in-Some+in_ok-admit-in-Some, in-None}
 
 new_entry : (g : _) (c : goal.In_ok-copy-in-Some g) → IsNew c.loop-slot.pool.entries c.in_ok-copy-in-Some.field-0
 new_entry g c =
