@@ -38,6 +38,25 @@ fn replays<S: BuildHasher + Copy + Drop>(
     Ok(same)
 }
 
+/// The number, from 1, of the first of these entries whose reply is not that of the step after those before it. The state
+/// goes on with them.
+fn first_illegal<S: BuildHasher + Copy + Drop>(
+    alloc: Global,
+    state: &mut State<S>,
+    entries: &[Entry],
+) -> Result<Option<u64>, Memory>
+    ensures legal { IfOk result (λ found. (found ≡ None) ↔ IsLegal state.old entries.now) }
+    ensures first { IfOk result (λ found. IfSome found (IsFirstIllegal state.old entries.now)) }
+{
+    for (i, entry) in entries.iter().enumerate() {
+        let same = replays(alloc, state, entry)?;
+        if !same {
+            return Ok(Some(i as u64 + 1));
+        }
+    }
+    Ok(None)
+}
+
 /// The number, from 1, of the first entry whose reply is not that of the step after those before it: `None` where the
 /// journal is legal from this state. The events are stepped through in a copy of the state.
 pub fn replay_check<S: BuildHasher + Copy + Drop>(
@@ -49,11 +68,7 @@ pub fn replay_check<S: BuildHasher + Copy + Drop>(
     ensures first { IfOk result (λ found. IfSome found (IsFirstIllegal state.now journal.now.entries)) }
 {
     let mut now = state.copy(alloc)?;
-    for (i, entry) in journal.entries().iter().enumerate() {
-        let same = replays(alloc, &mut now, entry)?;
-        if !same {
-            return Ok(Some(i as u64 + 1));
-        }
-    }
-    Ok(None)
+    let found = first_illegal(alloc, &mut now, journal.entries());
+    drop(now);
+    found
 }
