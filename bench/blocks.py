@@ -39,16 +39,16 @@ def entries(pool):
     return (stream.submission(payment(number)) for number in range(1, pool + 1))
 
 
-def rows(pool, size, count):
+def rows(coins, pool, size, count):
     """Blocks that come one upon the other and confirm entries of a pool, as `turns` has them."""
-    head = stream.coins(pool), entries(pool)
+    head = stream.coins(coins), entries(pool)
     told = ((connecting(number, pool, size), "chain %d removed %d entered 0" % (101 + number, size)) for number in range(count))
     return head, told
 
 
-def turns(pool, size, count):
-    """Blocks that confirm entries of a pool, each of which goes again before the next comes: its opening, what comes
-    before, and each block's two events with the first words of their replies."""
-    head = stream.coins(pool), entries(pool)
+def turns(coins, pool, size, count):
+    """Blocks that confirm entries of a pool, each of which goes again before the next comes: its opening with so many
+    coins, what comes before, and each block's two events with the first words of their replies."""
+    head = stream.coins(coins), entries(pool)
     pairs = ((connecting(number, pool, size), "chain 1 5000\n") for number in range(count))
     return head, pairs, ("chain 101 removed %d entered 0" % size, "chain 100 removed 0 entered %d" % size)
