@@ -58,6 +58,28 @@ fn all_limited<V: FamilyView>(alloc: Global, pool: &V, txids: &[Txid]) -> Result
     Ok(true)
 }
 
+/// Whether the families that an entry would join are within the limits with it, and it isn't among its own ancestors.
+fn fits_with<V: FamilyView>(alloc: Global, pool: &V, newcomer: &Entry) -> Result<bool, Memory>
+    requires new { entry_by_txid (V.entries pool.now) (txid_of newcomer.now.tx) ≡ None }
+    requires plain { newcomer.now ≡ record { tx = newcomer.now.tx; fee = 0; vsize = newcomer.now.vsize; time = 0 } }
+    ensures { IfOk result (λ fits. fits ≡ fits_again (V.entries pool.now) newcomer.now.tx newcomer.now.vsize) }
+{
+    let joined = Joined::new(pool, newcomer);
+    joined.tells_apart();
+    let txid = newcomer.txid();
+    let inputs = newcomer.transaction().inputs();
+    let Some(above) = ancestors(alloc, &joined, inputs, MOST_ANCESTORS)? else {
+        return Ok(false);
+    };
+    if above.contains(&txid) || !all_limited(alloc, &joined, &above)? {
+        return Ok(false);
+    }
+    match descendants(alloc, &joined, &[txid], MOST_DESCENDANTS)? {
+        Some(below) => all_limited(alloc, &joined, &below),
+        None => Ok(false),
+    }
+}
+
 /// Whether the families that a transaction of this size would join are within the limits with it, and it isn't among its own
 /// ancestors.
 pub(crate) fn fits_again<V: FamilyView>(
@@ -72,18 +94,7 @@ pub(crate) fn fits_again<V: FamilyView>(
     ensures { IfOk result (λ fits. fits ≡ fits_again (V.entries pool.now) identified.now vsize) }
 {
     let newcomer = Entry::new(identified.copy(alloc)?, 0, vsize, 0);
-    let joined = Joined::new(pool, &newcomer);
-    joined.tells_apart();
-    let txid = newcomer.txid();
-    let inputs = newcomer.transaction().inputs();
-    let Some(above) = ancestors(alloc, &joined, inputs, MOST_ANCESTORS)? else {
-        return Ok(false);
-    };
-    if above.contains(&txid) || !all_limited(alloc, &joined, &above)? {
-        return Ok(false);
-    }
-    match descendants(alloc, &joined, &[txid], MOST_DESCENDANTS)? {
-        Some(below) => all_limited(alloc, &joined, &below),
-        None => Ok(false),
-    }
+    let fits = fits_with(alloc, pool, &newcomer);
+    drop(newcomer);
+    fits
 }

@@ -126,11 +126,30 @@ pub(crate) fn keep<S: BuildHasher + Copy + Drop>(
     ensures fault { IsRefusedFor (coins_fault tip [] opening.items) result }
 {
     let mut coins = Coins::with_capacity(alloc, hasher, opening.len())?;
+    match keep_each(&mut coins, opening, tip) {
+        Ok(()) => Ok(coins),
+        Err(fault) => {
+            drop(coins);
+            Err(fault)
+        }
+    }
+}
+
+/// Keeps the coins of an opening where none are kept, or names the first fault of one.
+fn keep_each<S: BuildHasher + Copy + Drop>(
+    coins: &mut Coins<S>,
+    opening: Vec<OpeningCoin>,
+    tip: u32,
+) -> Result<(), OpenFault>
+    requires { coins.old ≡ [] }
+    ensures ok { OnOk result (coins.new ≡ opening.items) }
+    ensures fault { IsRefusedFor (coins_fault tip [] opening.items) result }
+{
     for coin in opening {
         if let Some(fault) = coins.fault(tip, &coin) {
             return Err(fault);
         }
         coins.push(coin)?;
     }
-    Ok(coins)
+    Ok(())
 }

@@ -12,17 +12,17 @@ use Rattle.gate_pool.proofs.Ids.{AreIdsOf-one}
 use Rattle.gate_admit.specs.Limits.{is_limited}
 use Rattle.gate_admit.proofs.Families.{below_one}
 use Rattle.gate_admit.proofs.OwnLimits.{fits_behind, stands_behind, ids_entries, too_many_above, too_many_below, below_itself, below_decide, some_above_fails}
-use Rattle.gate_admit.proofs.again.fits_again.Goals as goal
-use Rattle.gate_admit.proofs.again.fits_again.Goals.{then-contains-via-then-contains, then-contains-via-else-contains+in_ok-all_limited+then-not-branch}
+use Rattle.gate_admit.proofs.again.fits_with.Goals as goal
+use Rattle.gate_admit.proofs.again.fits_with.Goals.{then-contains-via-then-contains, then-contains-via-else-contains+in_ok-all_limited+then-not-branch}
 
 pub returns-in_default : goal.returns-in_default
 returns-in_default g c =
     let entries = g.V.FamilyView.entries c.args.pool.now in
     let es = c.new-joined.result in
-    let n = c.new-newcomer.result in
+    let n = c.args.newcomer.now in
     let m = stands_behind entries es n c.new-joined.ensures in
     let inputs = c.inputs-inputs.ensures ∙ ap (λ (t : Tx). t.inputs) c.transaction.ensures in
-    let same = fits_behind entries c.args.identified.now c.args.vsize es n c.new-joined.ensures (c.new-newcomer.ensures ∙ ap (λ (t : Tx). record { tx = t; fee = 0; vsize = c.args.vsize; time = 0 }) c.in_ok-copy.ensures) in
+    let same = fits_behind entries c.args.newcomer.now.tx c.args.newcomer.now.vsize es n c.new-joined.ensures c.requires.plain in
     let many = subst (λ (i : List TxIn). 25 < length (ancestors_above es i)) inputs (c.in_ok-above.ensures.many c.in_default.is) in
     sym (too_many_above es c.tells_apart.ensures n m many) ∙ same
 
@@ -37,10 +37,10 @@ pub returns-then-contains : goal.returns-then-contains
 returns-then-contains g c =
     let entries = g.V.FamilyView.entries c.args.pool.now in
     let es = c.new-joined.result in
-    let n = c.new-newcomer.result in
+    let n = c.args.newcomer.now in
     let m = stands_behind entries es n c.new-joined.ensures in
     let inputs = c.inputs-inputs.ensures ∙ ap (λ (t : Tx). t.inputs) c.transaction.ensures in
-    let same = fits_behind entries c.args.identified.now c.args.vsize es n c.new-joined.ensures (c.new-newcomer.ensures ∙ ap (λ (t : Tx). record { tx = t; fee = 0; vsize = c.args.vsize; time = 0 }) c.in_ok-copy.ensures) in
+    let same = fits_behind entries c.args.newcomer.now.tx c.args.newcomer.now.vsize es n c.new-joined.ensures c.requires.plain in
     let found : AreIdsOf c.in-Some.above.items (ancestors_above es c.inputs-inputs.result.now) = rw c.in-Some.is at c.in_ok-above.ensures.found in
     let are = subst (λ (i : List TxIn). AreIdsOf c.in-Some.above.items (ancestors_above es i)) inputs found in
     let has = c.contains.ensures.value ∙ ap (list_any (λ y. bytes_eq y c.txid-txid.result)) c.deref.ensures.value ∙ ap (λ t. list_any (λ y. bytes_eq y t) c.in-Some.above.items) c.txid-txid.ensures in
@@ -56,7 +56,7 @@ pub all_limited-requires-in-Some-2 : goal.all_limited-requires-in-Some-2
 all_limited-requires-in-Some-2 g c =
     let entries = g.V.FamilyView.entries c.args.pool.now in
     let es = c.new-joined.result in
-    let n = c.new-newcomer.result in
+    let n = c.args.newcomer.now in
     let m = stands_behind entries es n c.new-joined.ensures in
     let test : Admitted → Bool = λ e. has_txid e c.txid-txid.result in
     let found : AreIdsOf c.in-Some-2.below.items (all_below test es) = rw c.in-Some-2.is at c.in_ok-below.ensures.found test (AreIdsOf-one es n c.txid-txid.result m (sym c.txid-txid.ensures)) in
@@ -66,10 +66,10 @@ pub returns-in-Some-2 : goal.returns-in-Some-2
 returns-in-Some-2 g c =
     let entries = g.V.FamilyView.entries c.args.pool.now in
     let es = c.new-joined.result in
-    let n = c.new-newcomer.result in
+    let n = c.args.newcomer.now in
     let m = stands_behind entries es n c.new-joined.ensures in
     let inputs = c.inputs-inputs.ensures ∙ ap (λ (t : Tx). t.inputs) c.transaction.ensures in
-    let same = fits_behind entries c.args.identified.now c.args.vsize es n c.new-joined.ensures (c.new-newcomer.ensures ∙ ap (λ (t : Tx). record { tx = t; fee = 0; vsize = c.args.vsize; time = 0 }) c.in_ok-copy.ensures) in
+    let same = fits_behind entries c.args.newcomer.now.tx c.args.newcomer.now.vsize es n c.new-joined.ensures c.requires.plain in
     let above : AreIdsOf c.in-Some.above.items (ancestors_above es c.inputs-inputs.result.now) = rw c.in-Some.is at c.in_ok-above.ensures.found in
     let are = subst (λ (i : List TxIn). AreIdsOf c.in-Some.above.items (ancestors_above es i)) inputs above in
     let has = c.contains.ensures.value ∙ ap (list_any (λ y. bytes_eq y c.txid-txid.result)) c.deref.ensures.value ∙ ap (λ t. list_any (λ y. bytes_eq y t) c.in-Some.above.items) c.txid-txid.ensures in
@@ -86,9 +86,9 @@ pub returns : goal.returns
 returns g c =
     let entries = g.V.FamilyView.entries c.args.pool.now in
     let es = c.new-joined.result in
-    let n = c.new-newcomer.result in
+    let n = c.args.newcomer.now in
     let m = stands_behind entries es n c.new-joined.ensures in
-    let same = fits_behind entries c.args.identified.now c.args.vsize es n c.new-joined.ensures (c.new-newcomer.ensures ∙ ap (λ (t : Tx). record { tx = t; fee = 0; vsize = c.args.vsize; time = 0 }) c.in_ok-copy.ensures) in
+    let same = fits_behind entries c.args.newcomer.now.tx c.args.newcomer.now.vsize es n c.new-joined.ensures c.requires.plain in
     let test : Admitted → Bool = λ e. has_txid e c.txid-txid.result in
     let many : 26 < length (all_below test es) = c.in_ok-below.ensures.many test (AreIdsOf-one es n c.txid-txid.result m (sym c.txid-txid.ensures)) c.in-None.is in
     sym (too_many_below es c.tells_apart.ensures n m (subst (λ (l : List Admitted). 26 < length l) (below_one es n c.txid-txid.result m (sym c.txid-txid.ensures)) many)) ∙ same
