@@ -48,7 +48,11 @@ fn answer<S: BuildHasher + Copy + Drop>(
         return Ok(None);
     }
     match event_on(alloc, line)? {
-        Some(event) => Ok(Some(answer_event(alloc, state, &event)?)),
+        Some(event) => {
+            let replied = answer_event(alloc, state, &event);
+            drop(event);
+            Ok(Some(replied?))
+        }
         None => Ok(Some(Vec::from_slice(alloc, b"refused L1 bad-line\n")?)),
     }
 }
