@@ -3,7 +3,7 @@
 //! Where it stops before its work is done, standard error has one line that says why.
 #![tactic(auto)]
 
-use gate_prog::{ArgsFault, LaneFault, read_args, run_job};
+use gate_prog::{ArgsFault, Job, LaneFault, read_args, run_job};
 use std::alloc::{AllocError, AllocFailed};
 use std::hash::RandomState;
 use std::io::{BufReader, BufWriter, ErrorKind};
@@ -78,21 +78,15 @@ fn words(rt: &(impl Env + AllocGlobal)) -> Result<Vec<String>, Fault> {
     }
 }
 
-/// The status of what the words ask for.
-fn status<R: AllocGlobal + Env + Input + Print + Eprint + RandomSource + Threads + Wait + Sync>(
+/// The status of a job, over the standard streams.
+fn run<R: AllocGlobal + Input + Print + RandomSource + Threads + Wait + Sync>(
     rt: &R,
+    job: &Job,
 ) -> Result<u8, Fault> {
     let alloc = rt.alloc();
-    let args = words(rt)?;
-    let mut words = Vec::new(alloc);
-    for word in &args {
-        words.push(word.as_str())?;
-    }
-    let job = match read_args(alloc, words.as_slice()) {
-        Ok(job) => job,
-        Err(ArgsFault::Help(text)) => return printed(rt.print(text), 0),
-        Err(ArgsFault::Usage(text)) => return printed(rt.eprint(text), 2),
-        Err(ArgsFault::Memory) => return Err(Fault::Lane(LaneFault::Memory)),
+    // Peers choose txids and outpoints: with keys that they can't know they can't make them collide.
+    let Ok(hasher) = RandomState::new(rt) else {
+        return Err(Fault::Random);
     };
     let Ok(mut reader) = BufReader::with_capacity(alloc, BUFFER, rt.reader()) else {
         return Err(Fault::Lane(LaneFault::Memory));
@@ -100,11 +94,35 @@ fn status<R: AllocGlobal + Env + Input + Print + Eprint + RandomSource + Threads
     let Ok(mut writer) = BufWriter::with_capacity(alloc, BUFFER, io::writer(rt)) else {
         return Err(Fault::Lane(LaneFault::Memory));
     };
-    // Peers choose txids and outpoints: with keys that they can't know they can't make them collide.
-    let Ok(hasher) = RandomState::new(rt) else {
-        return Err(Fault::Random);
-    };
-    Ok(run_job(rt, alloc, hasher, &job, &mut reader, &mut writer)?)
+    Ok(run_job(rt, alloc, hasher, job, &mut reader, &mut writer)?)
+}
+
+/// The status of what these words ask for.
+fn answer<R: AllocGlobal + Input + Print + Eprint + RandomSource + Threads + Wait + Sync>(
+    rt: &R,
+    args: &[String],
+) -> Result<u8, Fault> {
+    let alloc = rt.alloc();
+    let mut words = Vec::new(alloc);
+    for word in args {
+        words.push(word.as_str())?;
+    }
+    match read_args(alloc, words.as_slice()) {
+        Ok(job) => run(rt, &job),
+        Err(ArgsFault::Help(text)) => printed(rt.print(text), 0),
+        Err(ArgsFault::Usage(text)) => printed(rt.eprint(text), 2),
+        Err(ArgsFault::Memory) => Err(Fault::Lane(LaneFault::Memory)),
+    }
+}
+
+/// The status of what the words behind the program's name ask for.
+fn status<R: AllocGlobal + Env + Input + Print + Eprint + RandomSource + Threads + Wait + Sync>(
+    rt: &R,
+) -> Result<u8, Fault> {
+    let args = words(rt)?;
+    let status = answer(rt, args.as_slice());
+    drop(args);
+    status
 }
 
 /// The status that follows what was printed.

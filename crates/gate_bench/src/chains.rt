@@ -23,30 +23,38 @@ pub fn outpoint(number: u32) -> OutPoint {
     }
 }
 
-/// So many coins, each of a transaction of its own, to a key hash.
+/// An output script that pays to a key hash.
+const SCRIPT: [u8; 22] = [
+    0x00, 0x14, 0x22, 0x22, 0x22, 0x22, 0x22, 0x22, 0x22, 0x22, 0x22, 0x22, 0x22, 0x22, 0x22, 0x22,
+    0x22, 0x22, 0x22, 0x22, 0x22, 0x22,
+];
+
+/// The coin of this number, of a transaction of its own.
+fn coin(alloc: Global, number: u32) -> Result<OpeningCoin> {
+    let script = Vec::from_slice(alloc, &SCRIPT)?;
+    Ok(OpeningCoin {
+        outpoint: outpoint(number),
+        coin: Coin {
+            value: 100_000,
+            script: Kept::from_vec(script),
+            height: 0,
+            coinbase: false,
+        },
+    })
+}
+
+/// So many coins.
 pub fn coins(alloc: Global, count: u32) -> Result<Vec<OpeningCoin>> {
     let mut coins = Vec::new(alloc);
     for number in 0..count {
-        let mut script = Vec::with_capacity(alloc, 22)?;
-        script.extend_from_slice(&[0x00, 0x14])?;
-        script.extend_from_slice(&[0x22; 20])?;
-        coins.push(OpeningCoin {
-            outpoint: outpoint(number),
-            coin: Coin {
-                value: 100_000,
-                script: Kept::from_vec(script),
-                height: 0,
-                coinbase: false,
-            },
-        })?;
+        coins.push(coin(alloc, number)?)?;
     }
     Ok(coins)
 }
 
 /// A chain of one block time over these coins.
 pub fn open(alloc: Global, coins: Vec<OpeningCoin>) -> Result<Chain<Hasher>> {
-    let mut times = Vec::new(alloc);
-    times.push(1000)?;
+    let times = Vec::from_slice(alloc, &[1000])?;
     match Chain::open(alloc, BuildHasherDefault::new(), coins, times) {
         Ok(chain) => Ok(chain),
         Err(fault) => bail!("the coins of the measurement are refused: {fault}"),

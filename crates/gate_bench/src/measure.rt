@@ -3,26 +3,47 @@ use anyhow::{Result, bail};
 use gate_tx::{Transaction, TxFault, read_tx};
 use std::alloc::Global;
 
-/// Decodes each text of `length` bytes.
-pub fn decode_all(alloc: Global, texts: &[u8], length: usize) -> Result<Vec<Transaction>> {
-    let mut decoded = Vec::new(alloc);
+/// Puts the transaction that a text spells behind others.
+fn decode(alloc: Global, text: &[u8], decoded: &mut Vec<Transaction>) -> Result<()> {
+    match read_tx(alloc, text) {
+        Ok(tx) => Ok(decoded.push(tx)?),
+        Err(TxFault::Memory) => bail!("out of memory"),
+        Err(fault) => bail!("a sample that is no transaction: {fault:?}"),
+    }
+}
+
+/// Puts the transactions that texts of `length` bytes spell behind others.
+fn decode_each(
+    alloc: Global,
+    texts: &[u8],
+    length: usize,
+    decoded: &mut Vec<Transaction>,
+) -> Result<()> {
     let mut rest = texts;
     for _ in 0..texts.len() {
         if length == 0 || rest.len() < length {
             break;
         }
         let (text, others) = rest.split_at(length);
-        match read_tx(alloc, text) {
-            Ok(tx) => decoded.push(tx)?,
-            Err(TxFault::Memory) => bail!("out of memory"),
-            Err(fault) => bail!("a sample that is no transaction: {fault:?}"),
-        }
+        decode(alloc, text, decoded)?;
         rest = others;
     }
     if !rest.is_empty() || decoded.is_empty() {
         bail!("the samples are no whole number of transactions");
     }
-    Ok(decoded)
+    Ok(())
+}
+
+/// Decodes each text of `length` bytes.
+pub fn decode_all(alloc: Global, texts: &[u8], length: usize) -> Result<Vec<Transaction>> {
+    let mut decoded = Vec::new(alloc);
+    match decode_each(alloc, texts, length, &mut decoded) {
+        Ok(()) => Ok(decoded),
+        Err(error) => {
+            drop(decoded);
+            Err(error)
+        }
+    }
 }
 
 /// Makes both ids of each transaction.
