@@ -13,6 +13,3 @@ mod laws;
 pub use event_line::{event_on, prepared, read_event};
 pub use event_printing::event_text;
 pub use laws::{texts_are_lines, texts_spell};
-
-#[cfg(test)]
-mod tests;

@@ -1,7 +1,8 @@
+use crate::paying::{input, paying};
 use crate::plain_pool::{Plain, Row};
-use gate_bytes::{Copied, Counted, Kept, Memory};
+use gate_bytes::{Copied, Counted, Memory};
 use gate_pool::{Entry, Pool};
-use gate_tx::{Identified, OutPoint, Transaction, TxIn, TxOut, Txid};
+use gate_tx::{Identified, OutPoint, TxIn, Txid};
 use std::alloc::Global;
 use std::hash::{BuildHasher, BuildHasherDefault, DefaultHasher};
 use std::test::Fail;
@@ -38,45 +39,20 @@ impl Draw {
     }
 }
 
-fn spending(point: OutPoint, alloc: Global) -> TxIn {
-    TxIn {
-        prevout: point,
-        script: Kept::from_vec(Vec::new(alloc)),
-        sequence: 0,
-        witness: Kept::from_vec(Vec::new(alloc)),
-    }
-}
-
 fn inputs_of(alloc: Global, points: &[OutPoint]) -> Result<Vec<TxIn>, Memory> {
     let mut inputs = Vec::with_capacity(alloc, points.len())?;
     for point in points {
-        inputs.push(spending(*point, alloc))?;
+        inputs.push(input(alloc, *point, 0))?;
     }
     Ok(inputs)
 }
 
-fn one_output(alloc: Global) -> Result<Vec<TxOut>, Memory> {
-    let mut outputs = Vec::with_capacity(alloc, 1)?;
-    outputs.push(TxOut {
-        value: 0,
-        script: Kept::from_vec(Vec::new(alloc)),
-    })?;
-    Ok(outputs)
-}
-
-fn transaction(alloc: Global, points: &[OutPoint]) -> Result<Option<Transaction>, Memory> {
-    let inputs = inputs_of(alloc, points)?;
-    let outputs = one_output(alloc)?;
-    Ok(Transaction::new(2, inputs, outputs, 0).ok())
-}
-
 fn made_of(
     alloc: Global,
-    transaction: Transaction,
+    identified: Identified,
     points: [OutPoint; 2],
     vsize: u64,
 ) -> Result<Made, Memory> {
-    let identified = Identified::new(alloc, transaction)?;
     let row = Row {
         txid: identified.txid(),
         wtxid: identified.wtxid(),
@@ -90,8 +66,8 @@ fn made_of(
 }
 
 fn make(alloc: Global, points: [OutPoint; 2], vsize: u64) -> Result<Option<Made>, Memory> {
-    match transaction(alloc, &points)? {
-        Some(transaction) => Ok(Some(made_of(alloc, transaction, points, vsize)?)),
+    match paying(alloc, inputs_of(alloc, &points)?)? {
+        Some(identified) => Ok(Some(made_of(alloc, identified, points, vsize)?)),
         None => Ok(None),
     }
 }

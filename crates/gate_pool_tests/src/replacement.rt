@@ -1,8 +1,9 @@
-use gate_bytes::{Counted, Kept};
+use crate::paying::{input, paying};
+use gate_bytes::Counted;
 use gate_pool::{Entry, Pool, PoolView};
 use gate_rbf::*;
 use gate_standard::Denial;
-use gate_tx::{Identified, OutPoint, Transaction, TxIn, TxOut, Txid};
+use gate_tx::{Identified, OutPoint, Transaction, Txid};
 use std::alloc::Global;
 use std::hash::{BuildHasher, BuildHasherDefault, DefaultHasher};
 use std::test::Fail;
@@ -19,15 +20,6 @@ fn output(txid: Txid) -> OutPoint {
     OutPoint { txid, index: 0 }
 }
 
-fn input(alloc: Global, prevout: OutPoint, sequence: u32) -> TxIn {
-    TxIn {
-        prevout,
-        script: Kept::from_vec(Vec::new(alloc)),
-        sequence,
-        witness: Kept::from_vec(Vec::new(alloc)),
-    }
-}
-
 /// A transaction that spends two outpoints, each input with this sequence.
 fn spending(
     alloc: Global,
@@ -38,14 +30,9 @@ fn spending(
     let mut inputs = Vec::new(alloc);
     inputs.push(input(alloc, first, sequence))?;
     inputs.push(input(alloc, second, sequence))?;
-    let mut outputs = Vec::new(alloc);
-    outputs.push(TxOut {
-        value: 0,
-        script: Kept::from_vec(Vec::new(alloc)),
-    })?;
-    match Transaction::new(2, inputs, outputs, 0) {
-        Ok(transaction) => Ok(Identified::new(alloc, transaction)?),
-        Err(_) => Err(Fail::new("no transaction")),
+    match paying(alloc, inputs)? {
+        Some(identified) => Ok(identified),
+        None => Err(Fail::new("no transaction")),
     }
 }
 

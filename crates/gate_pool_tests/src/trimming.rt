@@ -1,7 +1,8 @@
-use gate_bytes::{Counted, Kept, Memory};
+use crate::paying::{input, paying};
+use gate_bytes::{Counted, Memory};
 use gate_pool::{Entry, Pool};
 use gate_trim::{Floor, try_expire, try_trim};
-use gate_tx::{Identified, OutPoint, Transaction, TxIn, TxOut, Txid};
+use gate_tx::{OutPoint, TxIn, Txid};
 use std::alloc::Global;
 use std::hash::{BuildHasher, BuildHasherDefault, DefaultHasher};
 use std::test::Fail;
@@ -26,44 +27,27 @@ struct Case {
     floor: u64,
 }
 
-fn spending(alloc: Global, txid: Txid, index: u32) -> TxIn {
-    TxIn {
-        prevout: OutPoint { txid, index },
-        script: Kept::from_vec(Vec::new(alloc)),
-        sequence: 0,
-        witness: Kept::from_vec(Vec::new(alloc)),
-    }
-}
-
 /// What an entry spends: outputs of those before it, or of a transaction outside.
 fn inputs_of(alloc: Global, txids: &[Txid], coming: &Coming) -> Result<Vec<TxIn>, Memory> {
     let mut inputs = Vec::new(alloc);
     for (place, index) in coming.parents.iter().flatten() {
         if let Some(txid) = txids.get(*place) {
-            inputs.push(spending(alloc, *txid, *index))?;
+            inputs.push(input(
+                alloc,
+                OutPoint {
+                    txid: *txid,
+                    index: *index,
+                },
+                0,
+            ))?;
         }
     }
     if inputs.is_empty() {
         let outside = (txids.len() % 256) as u8;
-        inputs.push(spending(alloc, Txid::new([outside; 32]), 0))?;
+        let txid = Txid::new([outside; 32]);
+        inputs.push(input(alloc, OutPoint { txid, index: 0 }, 0))?;
     }
     Ok(inputs)
-}
-
-fn one_output(alloc: Global) -> Result<Vec<TxOut>, Memory> {
-    let mut outputs = Vec::with_capacity(alloc, 1)?;
-    outputs.push(TxOut {
-        value: 0,
-        script: Kept::from_vec(Vec::new(alloc)),
-    })?;
-    Ok(outputs)
-}
-
-fn identified(alloc: Global, inputs: Vec<TxIn>) -> Result<Option<Identified>, Memory> {
-    match Transaction::new(2, inputs, one_output(alloc)?, 0) {
-        Ok(transaction) => Ok(Some(Identified::new(alloc, transaction)?)),
-        Err(_) => Ok(None),
-    }
 }
 
 fn put<S: BuildHasher + Copy + Drop>(pool: &mut Pool<S>, entry: Entry) -> Result<(), Memory> {
@@ -80,7 +64,7 @@ fn enter<S: BuildHasher + Copy + Drop>(
     txids: &mut Vec<Txid>,
     coming: &Coming,
 ) -> Result<(), Memory> {
-    let Some(identified) = identified(alloc, inputs_of(alloc, txids, coming)?)? else {
+    let Some(identified) = paying(alloc, inputs_of(alloc, txids, coming)?)? else {
         return Ok(());
     };
     txids.push(identified.txid())?;

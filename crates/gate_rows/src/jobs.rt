@@ -243,7 +243,10 @@ fn a_verdict_stands_once(rt: HostRuntime) -> Result<(), Fail> {
 #[test]
 fn the_rest_of_the_reader(rt: HostRuntime) -> Result<(), Fail> {
     let mut reader: &[u8] = b"times 1 0 0\n---\npeer 1 leave";
-    assert!(rt; read_opening(rt.alloc(), hasher(), &mut reader).is_ok());
+    let opened = read_opening(rt.alloc(), hasher(), &mut reader);
+    let is_open = opened.is_ok();
+    drop(opened);
+    assert!(rt; is_open);
     assert!(rt; reader == b"peer 1 leave".as_slice());
     Ok(())
 }

@@ -19,6 +19,3 @@ pub use pass::{MAX_CALLS, Pass};
 pub use receipt::{Made, Receipt};
 pub use settle::{Owner, SettleFault, Settled, Unsettled};
 pub use shared::{CallFault, Shared};
-
-#[cfg(test)]
-mod tests;

@@ -1,5 +1,5 @@
 //! Inputs parted into lanes, with readers in memory and one that breaks.
-use crate::{MAX_LANES, split_lanes};
+use gate_lanes::{MAX_LANES, split_lanes};
 use gate_lines::LaneFault;
 use std::alloc::Global;
 use std::io;

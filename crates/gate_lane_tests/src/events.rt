@@ -1,5 +1,5 @@
 //! Lines of each kind, and the texts of their events.
-use crate::{event_text, read_event};
+use gate_events::{event_text, read_event};
 use std::alloc::Global;
 use std::test::Fail;
 
@@ -8,7 +8,9 @@ fn prints(alloc: Global, line: &str, text: &str) -> Result<bool, Fail> {
     let Some(event) = read_event(alloc, line)? else {
         return Ok(false);
     };
-    Ok(event_text(alloc, &event)?.as_str() == text)
+    let printed = event_text(alloc, &event);
+    drop(event);
+    Ok(printed?.as_str() == text)
 }
 
 const PEERS: [(&str, &str); 9] = [

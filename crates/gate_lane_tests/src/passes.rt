@@ -1,13 +1,13 @@
 //! Two users race for one coin; passes settle with the journal of their gate, and with no other.
 ghost use Rattle.std.specs.Prelude.{◌≡◌, ◌+◌, ◌<◌, length, OnOk};
 
-use crate::{Base, CallFault, Gate, Pass, Receipt, SettleFault, Unsettled};
 use gate_admit::{OpeningCoin, Verdict, Verdicts};
 use gate_bytes::{Copied, Kept, Memory, Text};
 use gate_core::{Call, Caller, Event, Opening, Reply, State, is_same_reply};
 use gate_journal::{Entry, Journal, replay_check};
 use gate_net::Whitelist;
 use gate_rpc::RpcWhitelist;
+use gate_shared::{Base, CallFault, Gate, Pass, Receipt, SettleFault, Unsettled};
 use gate_tx::{Coin, OutPoint, Txid};
 use std::alloc::Global;
 use std::hash::{BuildHasherDefault, FoldHasher};

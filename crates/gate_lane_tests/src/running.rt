@@ -1,8 +1,8 @@
 //! Lanes over one gate: what they write, that they run at once, and ends that fail.
 ghost use Rattle.std.specs.Prelude.{◌≡◌};
 
-use crate::{Lane, LaneEnd, run_lanes};
 use gate_core::State;
+use gate_lanes::{Lane, LaneEnd, run_lanes};
 use gate_lines::LaneFault;
 use gate_opening::read_opening;
 use gate_shared::{Base, Gate, Pass};
