@@ -4,6 +4,7 @@ pub mod Valuing
 mod Examples
 pub mod Families
 pub mod Found
+pub mod Finding
 pub mod Weighing
 pub mod Passing
 pub mod Staying

@@ -28,7 +28,9 @@ pub fn audit<S: BuildHasher + Copy + Drop, R: Source>(
     ensures past { R.steady ≡ true → IsErrOf result LaneFault.Read → IfSome (R.remaining reader.old) (λ input. Audited state (lines_of input) None) }
     ensures kind { IfErr result (λ fault. fault ≢ LaneFault.Write) }
 {
-    audit_entries(alloc, &mut state, reader)
+    let audited = audit_entries(alloc, &mut state, reader);
+    drop(state);
+    audited
 }
 
 /// The audit of all entries in turn, whose steps the state makes.

@@ -151,6 +151,29 @@ fn extend<S: BuildHasher + Copy + Drop>(
     })
 }
 
+/// Disconnects so many blocks, and gives them back with what they made, which is kept aside.
+fn take_off<S: BuildHasher + Copy + Drop>(
+    alloc: Global,
+    chain: &mut Chain<S>,
+    depth: usize,
+) -> Result<(ChainTop<S>, Vec<Block>), Memory>
+    requires some { 0 < depth }
+    requires within { depth ≤ length chain.old.blocks }
+    ensures top { IfOk result (λ off. off.0 ≡ record { whole = chain.old; kept = length chain.old.blocks - depth }) }
+    ensures blocks { IfOk result (λ off. off.1.items ≡ last_blocks chain.old depth) }
+    ensures chain { OnOk result (chain.new ≡ without_last chain.old depth) }
+    ensures err { OnErr result (chain.new ≡ chain.old) }
+{
+    let top = chain.top(alloc, chain.connected() - depth)?;
+    match take_last(alloc, chain, depth) {
+        Ok(gone) => Ok((top, gone)),
+        Err(Memory) => {
+            drop(top);
+            Err(Memory)
+        }
+    }
+}
+
 /// Puts blocks in the place of the last ones. What these made is kept aside, so that they come back where the others fail.
 fn replace<S: BuildHasher + Copy + Drop>(
     alloc: Global,
@@ -169,8 +192,7 @@ fn replace<S: BuildHasher + Copy + Drop>(
 {
     let before = Snapshot::of(chain);
     let connected = blocks.len();
-    let top = chain.top(alloc, chain.connected() - depth)?;
-    let gone = take_last(alloc, chain, depth)?;
+    let (top, gone) = take_off(alloc, chain, depth)?;
     match connect_all(alloc, chain, blocks) {
         Ok(()) => Ok(Switched {
             before,

@@ -1,4 +1,4 @@
-ghost use Rattle.std.specs.Prelude.{◌≡◌, IfOk};
+ghost use Rattle.std.specs.Prelude.{◌≡◌, ◌++◌, IfOk, OnOk};
 
 use crate::memory::Memory;
 use std::alloc::Global;
@@ -17,10 +17,20 @@ pub trait Copied: Drop {
         ensures { IfOk result (λ copies. copies.items ≡ items.now) }
     {
         let mut copies = Vec::with_capacity(alloc, items.len())?;
-        for item in items {
-            copies.push(item.copy(alloc)?)?;
-        }
+        Self::put_copies(items, alloc, &mut copies)?;
         Ok(copies)
+    }
+
+    /// Puts a copy of each item at the end of a list.
+    fn put_copies(items: &[Self], alloc: Global, list: &mut Vec<Self>) -> Result<(), Memory>
+    where
+        Self: Sized,
+        ensures { OnOk result (list.new.items ≡ list.old.items ++ items.now) }
+    {
+        for item in items {
+            list.push(item.copy(alloc)?)?;
+        }
+        Ok(())
     }
 }
 
