@@ -5,7 +5,7 @@ use Rattle.std.proofs.lemmas.List.Elements.{All-cons, All-head, All-nil, All-tai
 use Rattle.std.proofs.lemmas.Slice.Eq.{bytes_eq-Decides}
 use Rattle.std.specs.List.{All}
 use Rattle.std.specs.Str.{bytes_eq}
-use Rattle.gate_core.specs.declared.event.Event.{Event}
+use Rattle.gate_message.specs.declared.event.Event.{Event}
 use Rattle.gate_core.specs.Runs.{run_of}
 use Rattle.gate_core.specs.Steps.{step_of}
 use Rattle.gate_core.specs.World.{World}

@@ -1,8 +1,8 @@
 -- What a legal journal tells.
 use Rattle.std.proofs.Common.{◌≡◌, ℕ, List, length, map, refl, sym, ap, ◌∙◌}
-use Rattle.gate_core.specs.declared.event.Event.{Event}
+use Rattle.gate_message.specs.declared.event.Event.{Event}
 use Rattle.gate_core.specs.Runs.{run_of}
-use Rattle.gate_core.specs.Texts.{reply_text}
+use Rattle.gate_message.specs.Texts.{reply_text}
 use Rattle.gate_core.specs.World.{World}
 use Rattle.gate_audit.specs.Journals.{IsJournal}
 use Rattle.gate_audit.specs.Laws.{LegalJournalsAreRuns, RunsHaveLegalJournals, events_among, replies_among}

@@ -1,7 +1,7 @@
 -- What an audit finds in the lines of a journal.
 use Rattle.std.specs.Prelude.{◌≡◌, ◌≢◌, ℕ, ◌+◌, ◌<◌, ◌≤◌, List, [], ◌∷◌, ◌++◌, length, ◌⊎◌, Option, Some, None}
 use Rattle.gate_lines.specs.Lines.{count_limit, line_limit}
-use Rattle.gate_core.specs.declared.event.Event.{Event}
+use Rattle.gate_message.specs.declared.event.Event.{Event}
 use Rattle.gate_core.specs.Runs.{run_of}
 use Rattle.gate_core.specs.Steps.{step_of}
 use Rattle.gate_core.specs.World.{World}

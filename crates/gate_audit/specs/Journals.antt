@@ -2,10 +2,10 @@
 use Rattle.std.specs.Prelude.{◌≡◌, ℕ, ◌-◌, ◌≤◌, ◌==◌, ◌&&◌, ◌||◌, if◌then◌else◌, not, Bool, false, List, [], ◌∷◌, ◌++◌, filter, length, map, codes, Some}
 use Rattle.std.specs.List.{All}
 use Rattle.gate_lines.specs.Lines.{count_limit, line_limit, is_skipped}
-use Rattle.gate_core.specs.declared.event.Event.{Event}
-use Rattle.gate_core.specs.declared.reply.Reply.{Reply}
+use Rattle.gate_message.specs.declared.event.Event.{Event}
+use Rattle.gate_message.specs.declared.reply.Reply.{Reply}
 use Rattle.gate_core.specs.Runs.{run_of}
-use Rattle.gate_core.specs.Texts.{reply_text}
+use Rattle.gate_message.specs.Texts.{reply_text}
 use Rattle.gate_core.specs.World.{World}
 use Rattle.gate_events.specs.EventLines.{line_event}
 

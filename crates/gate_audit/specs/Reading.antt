@@ -2,9 +2,9 @@
 use Rattle.std.specs.Prelude.{◌≡◌, ◌≢◌, ℕ, ◌+◌, ◌<◌, ◌≤◌, Bool, true, false, List, [], ◌∷◌, ◌++◌, codes, length, Option, OnSome, Some, None, IfSome}
 use Rattle.std.specs.Io.KnownBytes.{IsAtEnd}
 use Rattle.std.specs.List.{All}
-use Rattle.gate_core.specs.declared.event.Event.{Event}
+use Rattle.gate_message.specs.declared.event.Event.{Event}
 use Rattle.gate_core.specs.Steps.{step_of}
-use Rattle.gate_core.specs.Texts.{reply_text}
+use Rattle.gate_message.specs.Texts.{reply_text}
 use Rattle.gate_core.specs.World.{World}
 use Rattle.gate_lines.specs.Lines.{count_limit, line_limit, lines_of}
 use Rattle.gate_audit.specs.declared.entry.Taken.{Taken}

@@ -2,15 +2,16 @@
 ghost use Rattle.std.specs.Prelude.{◌≡◌, ◌≢◌, ◌++◌, MatchOption, ℕ, List, ◌↔◌, IsTrue, codes, true, IfErr, IfOk, IsErrOf, string_bytes};
 ghost use Rattle.std.specs.Option.{option_map};
 ghost use Rattle.gate_core.specs.Steps.{step_of};
-ghost use Rattle.gate_core.specs.Texts.{reply_text};
+ghost use Rattle.gate_message.specs.Texts.{reply_text};
 ghost use Rattle.gate_audit.specs.Journals.{event_line};
 ghost use Rattle.gate_audit.specs.Reading.{AskingIsPast, EntryIsPast, EntryTaken, Replied, ReplyTaken};
 
 use crate::lines::JournalLines;
 use gate_bytes::Memory;
-use gate_core::{Event, Reply, State};
+use gate_core::State;
 use gate_events::event_on;
 use gate_lines::{LaneFault, Source};
+use gate_message::{Event, Reply};
 use std::alloc::Global;
 use std::hash::BuildHasher;
 

@@ -9,13 +9,13 @@ use Rattle.gate_rpc.specs.declared.request.Command.TheVariants.{SendRawTransacti
 use Rattle.gate_rpc.specs.declared.request.Request.{Request}
 use Rattle.gate_rpc.specs.declared.fault.CallError.{CallError}
 use Rattle.gate_rpc.specs.declared.reply.RpcReply.TheVariants.{NotAllowed}
-use Rattle.gate_core.specs.declared.event.Event.TheVariants.{Rpc}
-use Rattle.gate_core.specs.declared.reply.Reply.{Reply}
-use Rattle.gate_core.specs.declared.reply.Reply.TheVariants.{Rpc as Answered}
+use Rattle.gate_message.specs.declared.event.Event.TheVariants.{Rpc}
+use Rattle.gate_message.specs.declared.reply.Reply.{Reply}
+use Rattle.gate_message.specs.declared.reply.Reply.TheVariants.{Rpc as Answered}
 use Rattle.gate_core.specs.AccessLaws.{ListsBar, OnlySendersChange, QuestionsChangeNothing, sends, sends_by}
 use Rattle.gate_core.specs.RpcSteps.{is_barred, commanded, called_by, rpc_step}
 use Rattle.gate_core.specs.Steps.{step_of}
-use Rattle.gate_core.specs.UserCalls.{UserCall, name_called}
+use Rattle.gate_message.specs.UserCalls.{UserCall, name_called}
 use Rattle.gate_core.specs.World.{World}
 
 barred : (w : World) (user : List ℕ) (now : ℕ) (request : Result Request CallError) → is_barred w user request ≡ true → rpc_step w user now request ≡ (Answered NotAllowed, w)

@@ -10,9 +10,9 @@ use Rattle.gate_rpc.specs.declared.fault.CallError.{CallError}
 use Rattle.gate_rpc.specs.declared.reply.RpcReply.{RpcReply}
 use Rattle.gate_rpc.specs.declared.reply.RpcReply.TheVariants.{NotAllowed}
 use Rattle.gate_rpc.specs.Faults.{reply_of}
-use Rattle.gate_core.specs.declared.reply.Reply.{Reply}
-use Rattle.gate_core.specs.declared.reply.Reply.TheVariants.{Rpc}
-use Rattle.gate_core.specs.Good.{offered_by, offered}
+use Rattle.gate_message.specs.declared.reply.Reply.{Reply}
+use Rattle.gate_message.specs.declared.reply.Reply.TheVariants.{Rpc}
+use Rattle.gate_message.specs.Spelled.{offered_by, offered}
 use Rattle.gate_core.specs.RpcSteps.{is_barred, commanded, called_by, sent, rpc_step}
 use Rattle.gate_core.specs.World.{World, standing_of}
 

@@ -19,14 +19,14 @@ use Rattle.gate_chain.specs.declared.ChainDenial.{ChainDenial}
 use Rattle.gate_reorg.specs.Events.{present, event_rules, event_of}
 use Rattle.gate_reorg.proofs.Origins.{floors_never_fall}
 use Rattle.gate_reorg.proofs.Spending.{events_keep_the_budget}
-use Rattle.gate_core.specs.declared.caller.Caller.TheVariants.{Operator}
-use Rattle.gate_core.specs.declared.event.Event.{Event}
-use Rattle.gate_core.specs.declared.event.Event.TheVariants.{Enter, Leave, Tx as Submit, Mempool, GetBlock, Headers, Rpc, SetFloor, Set as Turn, Chain as Extend}
-use Rattle.gate_core.specs.declared.refusal.Refusal.{Refusal}
-use Rattle.gate_core.specs.declared.reply.Reply.{Reply}
-use Rattle.gate_core.specs.declared.reply.Reply.TheVariants.{Admitted}
+use Rattle.gate_message.specs.declared.caller.Caller.TheVariants.{Operator}
+use Rattle.gate_message.specs.declared.event.Event.{Event}
+use Rattle.gate_message.specs.declared.event.Event.TheVariants.{Enter, Leave, Tx as Submit, Mempool, GetBlock, Headers, Rpc, SetFloor, Set as Turn, Chain as Extend}
+use Rattle.gate_message.specs.declared.refusal.Refusal.{Refusal}
+use Rattle.gate_message.specs.declared.reply.Reply.{Reply}
+use Rattle.gate_message.specs.declared.reply.Reply.TheVariants.{Admitted}
 use Rattle.gate_core.specs.Access.{entering_rules, session_rules, submission_rules, listing_rules, block_rules, headers_rules}
-use Rattle.gate_core.specs.Callers.{caller_of}
+use Rattle.gate_message.specs.Callers.{caller_of}
 use Rattle.gate_core.specs.Opening.{Start}
 use Rattle.gate_core.specs.PeerSteps.{decided, answered, entered, left, submitted, listed, block_given, headers_given}
 use Rattle.gate_core.specs.Runs.{run_of}

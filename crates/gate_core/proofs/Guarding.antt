@@ -5,15 +5,15 @@ use Rattle.gate_bytes.specs.Order.{Rule, first_failing}
 use Rattle.gate_tx.specs.Tx.{Tx}
 use Rattle.gate_standard.specs.declared.Denial.TheVariants.{Decode, MempoolFull}
 use Rattle.gate_net.specs.Permissions.{Permissions}
-use Rattle.gate_core.specs.declared.event.Event.TheVariants.{Tx as Submit, Mempool, GetBlock, Headers}
-use Rattle.gate_core.specs.declared.refusal.Refusal.{Refusal}
-use Rattle.gate_core.specs.declared.refusal.Refusal.TheVariants.{PeerUnknown, PeerClosed, PeerKnown, BlocksOnly, AlreadyInMempool, MempoolNoBloom, MempoolUploadTarget, HeadersDuringDownload, UnknownBlock, HistoricalUploadTarget, Admission}
-use Rattle.gate_core.specs.declared.refusal.Then.TheVariants.{Keep, Close, Relay}
-use Rattle.gate_core.specs.declared.reply.Reply.{Reply}
+use Rattle.gate_message.specs.declared.event.Event.TheVariants.{Tx as Submit, Mempool, GetBlock, Headers}
+use Rattle.gate_message.specs.declared.refusal.Refusal.{Refusal}
+use Rattle.gate_message.specs.declared.refusal.Refusal.TheVariants.{PeerUnknown, PeerClosed, PeerKnown, BlocksOnly, AlreadyInMempool, MempoolNoBloom, MempoolUploadTarget, HeadersDuringDownload, UnknownBlock, HistoricalUploadTarget, Admission}
+use Rattle.gate_message.specs.declared.refusal.Then.TheVariants.{Keep, Close, Relay}
+use Rattle.gate_message.specs.declared.reply.Reply.{Reply}
 use Rattle.gate_core.specs.Access.{is_known, is_closed, is_historical, is_above_tip, is_pooled, lacks_relay, lacks_bloom, lacks_upload, lacks_headers, lacks_history}
 use Rattle.gate_core.specs.AccessLaws.{FlagsGuard, NobanIsKept}
 use Rattle.gate_core.specs.PeerSteps.{answered, submitted, listed, block_given, headers_given}
-use Rattle.gate_core.specs.Refusals.{then_of}
+use Rattle.gate_message.specs.Refusals.{then_of}
 use Rattle.gate_core.specs.SessionLaws.{IsDenied}
 use Rattle.gate_core.specs.Sessions.{flags_in}
 use Rattle.gate_core.specs.Steps.{step_of}

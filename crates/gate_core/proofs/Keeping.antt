@@ -31,17 +31,18 @@ use Rattle.gate_reorg.specs.Events.{Happened, present, event_rules, event_of}
 use Rattle.gate_reorg.specs.Reorganisation.{transactions_of as block_transactions}
 use Rattle.gate_reorg.proofs.Keeping.{events_keep_pools_good}
 use Rattle.gate_reorg.proofs.Origins.{events_bring_nothing_else}
-use Rattle.gate_core.specs.declared.event.Event.{Event}
-use Rattle.gate_core.specs.declared.event.Event.TheVariants.{Enter, Leave, Tx as Submit, Mempool, GetBlock, Headers, Rpc, SetFloor, Set as Turn, Chain as Extend}
+use Rattle.gate_message.specs.declared.event.Event.{Event}
+use Rattle.gate_message.specs.declared.event.Event.TheVariants.{Enter, Leave, Tx as Submit, Mempool, GetBlock, Headers, Rpc, SetFloor, Set as Turn, Chain as Extend}
 use Rattle.gate_core.specs.Opening.{Start}
-use Rattle.gate_core.specs.declared.refusal.Refusal.{Refusal}
-use Rattle.gate_core.specs.declared.reply.Reply.{Reply}
+use Rattle.gate_message.specs.declared.refusal.Refusal.{Refusal}
+use Rattle.gate_message.specs.declared.reply.Reply.{Reply}
 use Rattle.gate_core.specs.World.{World, opened_world, standing_of}
 use Rattle.gate_core.specs.Access.{entering_rules, session_rules, submission_rules, listing_rules, block_rules, headers_rules}
 use Rattle.gate_core.specs.PeerSteps.{decided, answered, entered, left, submitted, listed, block_given, headers_given}
 use Rattle.gate_core.specs.ChainSteps.{chained_as}
 use Rattle.gate_core.specs.Steps.{step_of}
-use Rattle.gate_core.specs.Good.{IsApartFrom, IsGoodWorld, IsSpelled, StepGives, limits_of, offered, transactions_in, transactions_of}
+use Rattle.gate_message.specs.Spelled.{IsSpelled, offered, transactions_of}
+use Rattle.gate_core.specs.Good.{IsApartFrom, IsGoodWorld, StepGives, limits_of, transactions_in}
 use Rattle.gate_rpc.specs.Calls.{request_of}
 use Rattle.gate_core.proofs.Calls.{call_gives}
 

@@ -3,11 +3,12 @@ use Rattle.std.proofs.Common.{◌≡◌, List, [], ◌∷◌, ◌++◌, Contains
 use Rattle.std.specs.List.{All, flat_map}
 use Rattle.std.proofs.lemmas.List.Elements.{All-head, All-tail, Contains-append_left, Contains-append_right, Contains-append_cases}
 use Rattle.gate_tx.specs.Tx.{Tx}
-use Rattle.gate_core.specs.declared.event.Event.{Event}
-use Rattle.gate_core.specs.declared.reply.Reply.{Reply}
+use Rattle.gate_message.specs.declared.event.Event.{Event}
+use Rattle.gate_message.specs.declared.reply.Reply.{Reply}
 use Rattle.gate_core.specs.World.{World}
 use Rattle.gate_core.specs.Steps.{step_of}
-use Rattle.gate_core.specs.Good.{IsGoodWorld, IsApartFrom, IsSpelled, transactions_in, transactions_of}
+use Rattle.gate_message.specs.Spelled.{IsSpelled, transactions_of}
+use Rattle.gate_core.specs.Good.{IsGoodWorld, IsApartFrom, transactions_in}
 use Rattle.gate_core.specs.Runs.{run_of, IsRunApart, LeadsTo}
 use Rattle.gate_core.proofs.Keeping.{apart_part, apart_stays, step_budget, step_good, step_from}
 

@@ -22,8 +22,8 @@ use Rattle.gate_rpc.specs.declared.reply.RpcReply.TheVariants.{NotAllowed, Answe
 use Rattle.gate_rpc.specs.declared.result.RpcResult.{RpcResult}
 use Rattle.gate_rpc.specs.declared.result.RpcResult.TheVariants.{Sent, Allowed, Rejected, Txids, Entry, Info}
 use Rattle.gate_rpc.specs.Faults.{reply_of}
-use Rattle.gate_core.specs.declared.event.Event.TheVariants.{Rpc as Calls}
-use Rattle.gate_core.specs.declared.reply.Reply.TheVariants.{Rpc}
+use Rattle.gate_message.specs.declared.event.Event.TheVariants.{Rpc as Calls}
+use Rattle.gate_message.specs.declared.reply.Reply.TheVariants.{Rpc}
 use Rattle.gate_core.specs.RpcSteps.{is_barred, replied, of_entry, sent, sent_as, commanded, called_by, rpc_step}
 use Rattle.gate_core.specs.Runs.{CallsLeaveNothingStale}
 use Rattle.gate_core.specs.Steps.{step_of}

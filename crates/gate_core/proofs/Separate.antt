@@ -10,17 +10,17 @@ use Rattle.gate_admit.specs.declared.Grant.{Grant}
 use Rattle.gate_admit.specs.Submission.{submit_of}
 use Rattle.gate_chain.specs.declared.ChainDenial.{ChainDenial}
 use Rattle.gate_reorg.specs.Events.{Happened, present, event_rules, event_of}
-use Rattle.gate_core.specs.declared.caller.Caller.TheVariants.{Peer}
-use Rattle.gate_core.specs.declared.event.Event.{Event}
-use Rattle.gate_core.specs.declared.event.Event.TheVariants.{Enter, Leave, Tx as Submit, Mempool, GetBlock, Headers, Rpc, SetFloor, Set as Turn, Chain as Extend}
-use Rattle.gate_core.specs.declared.refusal.Refusal.{Refusal}
-use Rattle.gate_core.specs.declared.refusal.Refusal.TheVariants.{Admission}
-use Rattle.gate_core.specs.declared.refusal.Then.{Then}
-use Rattle.gate_core.specs.declared.refusal.Then.TheVariants.{Keep, Close, Relay}
-use Rattle.gate_core.specs.declared.reply.Reply.{Reply}
+use Rattle.gate_message.specs.declared.caller.Caller.TheVariants.{Peer}
+use Rattle.gate_message.specs.declared.event.Event.{Event}
+use Rattle.gate_message.specs.declared.event.Event.TheVariants.{Enter, Leave, Tx as Submit, Mempool, GetBlock, Headers, Rpc, SetFloor, Set as Turn, Chain as Extend}
+use Rattle.gate_message.specs.declared.refusal.Refusal.{Refusal}
+use Rattle.gate_message.specs.declared.refusal.Refusal.TheVariants.{Admission}
+use Rattle.gate_message.specs.declared.refusal.Then.{Then}
+use Rattle.gate_message.specs.declared.refusal.Then.TheVariants.{Keep, Close, Relay}
+use Rattle.gate_message.specs.declared.reply.Reply.{Reply}
 use Rattle.gate_net.specs.Permissions.{Permissions}
-use Rattle.gate_core.specs.Callers.{caller_of}
-use Rattle.gate_core.specs.Refusals.{then_of}
+use Rattle.gate_message.specs.Callers.{caller_of}
+use Rattle.gate_message.specs.Refusals.{then_of}
 use Rattle.gate_core.specs.Sessions.{Session, session, session_of, flags_in, closed}
 use Rattle.gate_core.specs.World.{World, flags_at, standing_of}
 use Rattle.gate_core.specs.Access.{entering_rules, session_rules, submission_rules, listing_rules, block_rules, headers_rules}

@@ -1,10 +1,11 @@
 -- A plan, its change, and the reply that is settled after it.
 use Rattle.std.proofs.Common.{◌≡◌, Option, ap, ◌∙◌}
 use Rattle.gate_standard.specs.declared.Denial.{Denial}
-use Rattle.gate_core.specs.declared.event.Event.{Event}
+use Rattle.gate_message.specs.declared.event.Event.{Event}
 use Rattle.gate_core.specs.declared.planning.Change.{Change}
-use Rattle.gate_core.specs.declared.reply.Reply.{Reply}
-use Rattle.gate_core.specs.Planning.{made_by, settled}
+use Rattle.gate_message.specs.declared.reply.Reply.{Reply}
+use Rattle.gate_message.specs.Replies.{settled}
+use Rattle.gate_core.specs.Planning.{made_by}
 use Rattle.gate_core.specs.Steps.{step_of}
 use Rattle.gate_core.specs.World.{World}
 

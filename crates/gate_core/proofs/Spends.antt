@@ -19,10 +19,10 @@ use Rattle.gate_admit.specs.Submission.{admitted, entry_of, submitted_by, submit
 use Rattle.gate_admit.proofs.Granted.{decided_live}
 use Rattle.gate_reorg.specs.Events.{present, event_rules, event_of}
 use Rattle.gate_reorg.proofs.Spending.{SpendOnce, below_once, entered_once, events_spend_once, part_once}
-use Rattle.gate_core.specs.declared.event.Event.{Event}
-use Rattle.gate_core.specs.declared.event.Event.TheVariants.{Enter, Leave, Tx as Submit, Mempool, GetBlock, Headers, Rpc, SetFloor, Set as Turn, Chain as Extend}
-use Rattle.gate_core.specs.declared.refusal.Refusal.{Refusal}
-use Rattle.gate_core.specs.declared.reply.Reply.{Reply}
+use Rattle.gate_message.specs.declared.event.Event.{Event}
+use Rattle.gate_message.specs.declared.event.Event.TheVariants.{Enter, Leave, Tx as Submit, Mempool, GetBlock, Headers, Rpc, SetFloor, Set as Turn, Chain as Extend}
+use Rattle.gate_message.specs.declared.refusal.Refusal.{Refusal}
+use Rattle.gate_message.specs.declared.reply.Reply.{Reply}
 use Rattle.gate_core.specs.Access.{entering_rules, session_rules, submission_rules, listing_rules, block_rules, headers_rules}
 use Rattle.gate_core.specs.ChainSteps.{chained_as}
 use Rattle.gate_core.specs.PeerSteps.{decided, answered, entered, left, submitted, listed, block_given, headers_given}

@@ -9,20 +9,20 @@ use Rattle.gate_rpc.specs.declared.request.Command.TheVariants.{SendRawTransacti
 use Rattle.gate_rpc.specs.declared.request.Request.{Request}
 use Rattle.gate_rpc.specs.declared.fault.CallError.{CallError}
 use Rattle.gate_rpc.specs.declared.reply.RpcReply.TheVariants.{NotAllowed}
-use Rattle.gate_core.specs.declared.caller.Caller.TheVariants.{Peer}
-use Rattle.gate_core.specs.declared.event.Event.{Event}
-use Rattle.gate_core.specs.declared.event.Event.TheVariants.{Tx as Submit, Mempool, GetBlock, Headers, Rpc}
-use Rattle.gate_core.specs.declared.refusal.Refusal.{Refusal}
-use Rattle.gate_core.specs.declared.refusal.Refusal.TheVariants.{BlocksOnly}
-use Rattle.gate_core.specs.declared.refusal.Then.TheVariants.{Close}
-use Rattle.gate_core.specs.declared.reply.Reply.TheVariants.{Rpc as Answered}
+use Rattle.gate_message.specs.declared.caller.Caller.TheVariants.{Peer}
+use Rattle.gate_message.specs.declared.event.Event.{Event}
+use Rattle.gate_message.specs.declared.event.Event.TheVariants.{Tx as Submit, Mempool, GetBlock, Headers, Rpc}
+use Rattle.gate_message.specs.declared.refusal.Refusal.{Refusal}
+use Rattle.gate_message.specs.declared.refusal.Refusal.TheVariants.{BlocksOnly}
+use Rattle.gate_message.specs.declared.refusal.Then.TheVariants.{Close}
+use Rattle.gate_message.specs.declared.reply.Reply.TheVariants.{Rpc as Answered}
 use Rattle.gate_core.specs.Access.{is_historical}
-use Rattle.gate_core.specs.Callers.{caller_of}
-use Rattle.gate_core.specs.Refusals.{then_of}
+use Rattle.gate_message.specs.Callers.{caller_of}
+use Rattle.gate_message.specs.Refusals.{then_of}
 use Rattle.gate_core.specs.SessionLaws.{IsDenied}
 use Rattle.gate_core.specs.Sessions.{Session, session_of, flags_in}
 use Rattle.gate_core.specs.Steps.{step_of}
-use Rattle.gate_core.specs.UserCalls.{UserCall, name_called}
+use Rattle.gate_message.specs.UserCalls.{UserCall, name_called}
 use Rattle.gate_core.specs.World.{World}
 
 -- ---- peers

@@ -1,18 +1,12 @@
 -- What a chain event comes to in a state.
-use Rattle.std.specs.Prelude.{ℕ, List, Option, Some, None, Result, Ok, Err}
+use Rattle.std.specs.Prelude.{ℕ, List, Option, Some, None}
 use Rattle.gate_bytes.specs.Order.{first_failing}
 use Rattle.gate_chain.specs.declared.Block.{Block}
 use Rattle.gate_chain.specs.declared.ChainDenial.{ChainDenial}
-use Rattle.gate_reorg.specs.declared.moved.Moved.{Moved as Move}
 use Rattle.gate_reorg.specs.Events.{Happened, present, event_rules, event_of}
-use Rattle.gate_core.specs.declared.reply.Reply.{Reply}
-use Rattle.gate_core.specs.declared.reply.Reply.TheVariants.{Moved, Refused}
+use Rattle.gate_message.specs.declared.reply.Reply.{Reply}
+use Rattle.gate_message.specs.declared.reply.Reply.TheVariants.{Moved, Refused}
 use Rattle.gate_core.specs.World.{World, standing_of}
-
--- what is told of an event that came to this
-abbrev pub chain_reply : Result Move ChainDenial → Reply
-chain_reply (Ok moved) = Moved moved
-chain_reply (Err denial) = Refused denial
 
 -- where a rule fails it is told, and nothing changes
 abbrev pub chained_as : World → Happened → Option ChainDenial → Reply × World

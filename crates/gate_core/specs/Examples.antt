@@ -1,11 +1,11 @@
 -- The step and what it rests on at small values, by computation.
 use Rattle.std.specs.Prelude.{◌≡◌, ℕ, Bool, true, false, List, [], ◌∷◌, None, Some, Result, Ok, Err, codes}
 use Rattle.gate_standard.specs.declared.Denial.TheVariants.{Decode, VinEmpty}
-use Rattle.gate_core.specs.declared.event.Event.TheVariants.{Enter, Leave, Tx as Submit, Mempool, GetBlock, Headers as AskHeaders, SetFloor, Set as Turn}
-use Rattle.gate_core.specs.declared.switch.Switch.TheVariants.{Download}
-use Rattle.gate_core.specs.declared.refusal.Then.TheVariants.{Keep, Close, Relay}
-use Rattle.gate_core.specs.declared.refusal.Refusal.TheVariants.{PeerUnknown, PeerClosed, PeerKnown, BlocksOnly, AlreadyInMempool, MempoolNoBloom, MempoolUploadTarget, HeadersDuringDownload, UnknownBlock, HistoricalUploadTarget, Admission}
-use Rattle.gate_core.specs.declared.reply.Reply.TheVariants.{Entered, Left, Listing, Block, Headers, Rpc, Denied, Set}
+use Rattle.gate_message.specs.declared.event.Event.TheVariants.{Enter, Leave, Tx as Submit, Mempool, GetBlock, Headers as AskHeaders, SetFloor, Set as Turn}
+use Rattle.gate_message.specs.declared.switch.Switch.TheVariants.{Download}
+use Rattle.gate_message.specs.declared.refusal.Then.TheVariants.{Keep, Close, Relay}
+use Rattle.gate_message.specs.declared.refusal.Refusal.TheVariants.{PeerUnknown, PeerClosed, PeerKnown, BlocksOnly, AlreadyInMempool, MempoolNoBloom, MempoolUploadTarget, HeadersDuringDownload, UnknownBlock, HistoricalUploadTarget, Admission}
+use Rattle.gate_message.specs.declared.reply.Reply.TheVariants.{Entered, Left, Listing, Block, Headers, Rpc, Denied, Set}
 use Rattle.gate_net.specs.Addresses.{V4}
 use Rattle.gate_net.specs.Permissions.{Permissions, no_permissions, permissions_text}
 use Rattle.gate_core.specs.Switching.{unswitched}

@@ -1,10 +1,5 @@
 pub mod Sessions
-pub mod UserCalls
-pub mod Equality
 pub mod Switching
-pub mod Callers
-pub mod Refusals
-pub mod Texts
 pub mod Opening
 pub mod World
 pub mod Access
@@ -13,7 +8,6 @@ pub mod RpcSteps
 pub mod ChainSteps
 pub mod Steps
 pub mod Planning
-pub mod Recording
 pub mod Good
 pub mod Runs
 pub mod SessionLaws

@@ -8,14 +8,14 @@ use Rattle.gate_standard.specs.declared.Denial.TheVariants.{Decode}
 use Rattle.gate_admit.specs.declared.Grant.{Grant}
 use Rattle.gate_pool.specs.Pool.{listing_of}
 use Rattle.gate_admit.specs.Submission.{Submitted, submit_of}
-use Rattle.gate_core.specs.declared.refusal.Then.{Then}
-use Rattle.gate_core.specs.declared.refusal.Then.TheVariants.{Keep, Close, Relay}
-use Rattle.gate_core.specs.declared.refusal.Refusal.{Refusal}
-use Rattle.gate_core.specs.declared.refusal.Refusal.TheVariants.{Admission}
-use Rattle.gate_core.specs.declared.reply.Reply.{Reply}
-use Rattle.gate_core.specs.declared.reply.Reply.TheVariants.{Entered, Left, Admitted, Listing, Block, Headers, Denied}
+use Rattle.gate_message.specs.declared.refusal.Then.{Then}
+use Rattle.gate_message.specs.declared.refusal.Then.TheVariants.{Keep, Close, Relay}
+use Rattle.gate_message.specs.declared.refusal.Refusal.{Refusal}
+use Rattle.gate_message.specs.declared.refusal.Refusal.TheVariants.{Admission}
+use Rattle.gate_message.specs.declared.reply.Reply.{Reply}
+use Rattle.gate_message.specs.declared.reply.Reply.TheVariants.{Entered, Left, Admitted, Listing, Block, Headers, Denied}
 use Rattle.gate_net.specs.Permissions.{Permissions}
-use Rattle.gate_core.specs.Refusals.{then_of}
+use Rattle.gate_message.specs.Refusals.{then_of}
 use Rattle.gate_core.specs.Sessions.{Session, session, flags_in, closed}
 use Rattle.gate_core.specs.World.{World, flags_at, standing_of}
 use Rattle.gate_core.specs.Access.{seconds_at}

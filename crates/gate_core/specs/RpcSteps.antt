@@ -22,9 +22,9 @@ use Rattle.gate_rpc.specs.declared.reply.RpcReply.{RpcReply}
 use Rattle.gate_rpc.specs.declared.reply.RpcReply.TheVariants.{NotAllowed, Answer, Failure}
 use Rattle.gate_rpc.specs.Faults.{reply_of}
 use Rattle.gate_rpc.specs.Lists.{is_allowed}
-use Rattle.gate_core.specs.declared.reply.Reply.{Reply}
-use Rattle.gate_core.specs.declared.reply.Reply.TheVariants.{Rpc}
-use Rattle.gate_core.specs.UserCalls.{name_called}
+use Rattle.gate_message.specs.declared.reply.Reply.{Reply}
+use Rattle.gate_message.specs.declared.reply.Reply.TheVariants.{Rpc}
+use Rattle.gate_message.specs.UserCalls.{name_called}
 use Rattle.gate_core.specs.World.{World, standing_of}
 
 -- the answer to the call of this id

@@ -8,20 +8,21 @@ use Rattle.gate_pool.specs.Pool.{Admitted as Entry, spent_by, listing_of, size_o
 use Rattle.gate_trim.specs.Laws.{IsYoung}
 use Rattle.gate_admit.specs.Coins.{view_coin}
 use Rattle.gate_admit.specs.Good.{AreApart, IsLimited}
-use Rattle.gate_core.specs.declared.caller.Caller.TheVariants.{Operator}
-use Rattle.gate_core.specs.declared.event.Event.{Event}
-use Rattle.gate_core.specs.declared.event.Event.TheVariants.{Tx as Submit, Rpc as Calls}
-use Rattle.gate_core.specs.Callers.{caller_of}
+use Rattle.gate_message.specs.declared.caller.Caller.TheVariants.{Operator}
+use Rattle.gate_message.specs.declared.event.Event.{Event}
+use Rattle.gate_message.specs.declared.event.Event.TheVariants.{Tx as Submit, Rpc as Calls}
+use Rattle.gate_message.specs.Callers.{caller_of}
 use Rattle.gate_core.specs.Opening.{Start}
-use Rattle.gate_core.specs.declared.reply.Reply.{Reply}
-use Rattle.gate_core.specs.declared.reply.Reply.TheVariants.{Admitted, Listing, Rpc as Answered}
+use Rattle.gate_message.specs.declared.reply.Reply.{Reply}
+use Rattle.gate_message.specs.declared.reply.Reply.TheVariants.{Admitted, Listing, Rpc as Answered}
 use Rattle.gate_rpc.specs.declared.id.Id.{Id}
 use Rattle.gate_rpc.specs.declared.reply.RpcReply.TheVariants.{Answer}
 use Rattle.gate_rpc.specs.declared.result.RpcResult.TheVariants.{Sent}
-use Rattle.gate_core.specs.UserCalls.{UserCall}
+use Rattle.gate_message.specs.UserCalls.{UserCall}
 use Rattle.gate_core.specs.World.{World, opened_world}
 use Rattle.gate_core.specs.Steps.{step_of}
-use Rattle.gate_core.specs.Good.{IsGoodWorld, IsSpelled, StepGives, transactions_in, transactions_of}
+use Rattle.gate_message.specs.Spelled.{IsSpelled, transactions_of}
+use Rattle.gate_core.specs.Good.{IsGoodWorld, StepGives, transactions_in}
 
 -- the replies to events in turn, and the state after the last
 abbrev pub run_of : World → List Event → List Reply × World

@@ -2,18 +2,18 @@
 use Rattle.std.specs.Prelude.{◌≡◌, ◌≢◌, ℕ, false, List, slice_get, Some}
 use Rattle.std.specs.List.{All}
 use Rattle.gate_standard.specs.declared.Denial.TheVariants.{MempoolFull}
-use Rattle.gate_core.specs.declared.caller.Caller.TheVariants.{Peer}
-use Rattle.gate_core.specs.declared.event.Event.{Event}
-use Rattle.gate_core.specs.declared.event.Event.TheVariants.{Enter, Leave, Tx as Submit, Mempool, GetBlock, Headers, Rpc, SetFloor, Set as Turn, Chain as Extend}
-use Rattle.gate_core.specs.declared.refusal.Refusal.TheVariants.{PeerClosed, PeerKnown, Admission}
-use Rattle.gate_core.specs.declared.refusal.Then.TheVariants.{Keep}
-use Rattle.gate_core.specs.declared.reply.Reply.{Reply}
-use Rattle.gate_core.specs.declared.reply.Reply.TheVariants.{Entered, Left, Admitted, Listing, Block, Headers, Rpc as Answered, Denied, Set, Moved, Refused}
+use Rattle.gate_message.specs.declared.caller.Caller.TheVariants.{Peer}
+use Rattle.gate_message.specs.declared.event.Event.{Event}
+use Rattle.gate_message.specs.declared.event.Event.TheVariants.{Enter, Leave, Tx as Submit, Mempool, GetBlock, Headers, Rpc, SetFloor, Set as Turn, Chain as Extend}
+use Rattle.gate_message.specs.declared.refusal.Refusal.TheVariants.{PeerClosed, PeerKnown, Admission}
+use Rattle.gate_message.specs.declared.refusal.Then.TheVariants.{Keep}
+use Rattle.gate_message.specs.declared.reply.Reply.{Reply}
+use Rattle.gate_message.specs.declared.reply.Reply.TheVariants.{Entered, Left, Admitted, Listing, Block, Headers, Rpc as Answered, Denied, Set, Moved, Refused}
 use Rattle.gate_rpc.specs.declared.error.RpcError.{RpcError}
 use Rattle.gate_rpc.specs.declared.error.RpcError.TheVariants as errors
 use Rattle.gate_rpc.specs.declared.reply.RpcReply.{RpcReply}
 use Rattle.gate_rpc.specs.declared.reply.RpcReply.TheVariants.{NotAllowed, Answer, Failure}
-use Rattle.gate_core.specs.Callers.{caller_of}
+use Rattle.gate_message.specs.Callers.{caller_of}
 use Rattle.gate_core.specs.Sessions.{Session, session_of}
 use Rattle.gate_core.specs.World.{World}
 use Rattle.gate_core.specs.Runs.{run_of}

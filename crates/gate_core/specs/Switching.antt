@@ -1,8 +1,8 @@
 -- What the operator turns on and off.
 use Rattle.std.specs.Prelude.{Bool, false}
-use Rattle.gate_core.specs.declared.switch.Switch.{Switch}
-use Rattle.gate_core.specs.declared.switch.Switch.TheVariants.{Bloom, Upload, Historic, Download}
-use Rattle.gate_core.specs.declared.switch.Switches.{Switches}
+use Rattle.gate_message.specs.declared.switch.Switch.{Switch}
+use Rattle.gate_message.specs.declared.switch.Switch.TheVariants.{Bloom, Upload, Historic, Download}
+use Rattle.gate_core.specs.declared.switches.Switches.{Switches}
 
 -- the switches of an opening: only bloom filters may be on there
 abbrev pub unswitched : Bool → Switches

@@ -9,7 +9,7 @@ use Rattle.gate_net.specs.Addresses.{Address}
 use Rattle.gate_net.specs.Permissions.{Permissions}
 use Rattle.gate_net.specs.Whitelists.{flags_of}
 use Rattle.gate_rpc.specs.Lists.{Lists}
-use Rattle.gate_core.specs.declared.switch.Switches.{Switches}
+use Rattle.gate_core.specs.declared.switches.Switches.{Switches}
 use Rattle.gate_core.specs.Sessions.{Session}
 use Rattle.gate_core.specs.Switching.{unswitched}
 use Rattle.gate_core.specs.Opening.{Start}

@@ -8,12 +8,11 @@ ghost use Rattle.gate_query.specs.Answers.{tested};
 ghost use Rattle.gate_core.specs.World.{World, standing_of};
 ghost use Rattle.gate_core.specs.Planning.{Fits, Plans, world_of};
 
-use crate::call::Call;
 use crate::parts::Parts;
 use crate::planning::{Change, Plan};
-use crate::reply::Reply;
 use gate_admit::{Prepared, plan_submission};
 use gate_bytes::{Copied, Kept, Memory};
+use gate_message::{Call, Reply};
 use gate_query::{ancestors_listed, descendants_listed, entry_info, pool_info, test_submission};
 use gate_rpc::{Command, EntryInfo, Id, Request, RpcError, RpcReply, RpcResult};
 use gate_standard::Denial;

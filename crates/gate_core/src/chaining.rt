@@ -1,6 +1,7 @@
 //! Events of the chain.
 ghost use Rattle.std.specs.Prelude.{◌≡◌, IfOk, OnErr};
-ghost use Rattle.gate_core.specs.ChainSteps.{chain_reply, chained};
+ghost use Rattle.gate_message.specs.Replies.{chain_reply};
+ghost use Rattle.gate_core.specs.ChainSteps.{chained};
 ghost use Rattle.gate_core.specs.Planning.{world_of};
 
 use crate::parts::Parts;

@@ -1,31 +1,21 @@
-//! The gate as one value: events, replies, sessions, settings and the one step.
+//! The gate as one value: sessions, settings and the one step.
 //!
 //! A `State` stands for its chain, pool, floor, sessions and settings. The main clause is that of `State::step`, which
 //! gives the reply and the state of the written step, and keeps the pool good.
 #![tactic(auto)]
 
-mod call;
-mod caller;
 mod calling;
 mod chaining;
-mod event;
 mod examples;
 mod laws;
 mod opening;
 mod parts;
 mod peering;
 mod planning;
-mod recording;
-mod refusal;
-mod reply;
-mod same;
 mod session;
 mod state;
-mod switch;
+mod switches;
 
-pub use call::Call;
-pub use caller::Caller;
-pub use event::Event;
 pub use laws::{
     access_follows_the_order, admissions_leave_nothing_stale, closed_sessions_change_nothing,
     closed_stays_closed, denials_leave_the_pool, flags_guard, lists_bar, noban_is_kept,
@@ -33,9 +23,5 @@ pub use laws::{
     runs_keep_families, runs_keep_the_budget, runs_keep_the_pool_sound, steps_give_the_run,
 };
 pub use opening::Opening;
-pub use recording::Replies;
-pub use refusal::{Refusal, Then};
-pub use reply::Reply;
-pub use same::{is_same_event, is_same_reply};
 pub use state::{State, StepFault};
-pub use switch::{Switch, Switches};
+pub use switches::Switches;

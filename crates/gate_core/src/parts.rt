@@ -1,19 +1,19 @@
 //! What a state is made of, and its step in two: a plan that takes all memory and changes nothing, and its change.
 ghost use Rattle.std.specs.Prelude.{◌≡◌, ◌≢◌, IfOk, Ok};
-ghost use Rattle.gate_core.specs.Callers.{caller_of};
-ghost use Rattle.gate_core.specs.declared.caller.Caller.TheVariants.{Chain as TheChain};
-ghost use Rattle.gate_core.specs.declared.reply.Reply.{Reply};
+ghost use Rattle.gate_message.specs.Callers.{caller_of};
+ghost use Rattle.gate_message.specs.declared.caller.Caller.TheVariants.{Chain as TheChain};
+ghost use Rattle.gate_message.specs.declared.reply.Reply.{Reply};
 ghost use Rattle.gate_core.specs.Steps.{step_of};
 ghost use Rattle.gate_admit.specs.Planning.{planned_of};
-ghost use Rattle.gate_core.specs.Planning.{Fits, Plans, admitted_as, made_by, settled, world_of};
+ghost use Rattle.gate_message.specs.Replies.{settled};
+ghost use Rattle.gate_core.specs.Planning.{Fits, Plans, admitted_as, made_by, world_of};
 
-use crate::event::Event;
 use crate::planning::{Change, Plan};
-use crate::reply::Reply;
 use crate::session::Sessions;
-use crate::switch::Switches;
+use crate::switches::Switches;
 use gate_admit::{Chain, Coming, Floor, Pool, Verdicts, commit_submission};
 use gate_bytes::{Copied, Counted, Memory};
+use gate_message::{Event, Reply};
 use gate_net::Whitelist;
 use gate_rpc::RpcWhitelist;
 use gate_standard::Denial;
@@ -107,8 +107,13 @@ impl<S: BuildHasher + Copy + Drop> Parts<S> {
         ensures pool { IfOk result (λ copies. copies.1.entries ≡ self.now.pool.entries) }
     {
         let pool = self.pool.copy(alloc)?;
-        let chain = self.chain.copy(alloc)?;
-        Ok((chain, pool))
+        match self.chain.copy(alloc) {
+            Ok(chain) => Ok((chain, pool)),
+            Err(fault) => {
+                drop(pool);
+                Err(fault)
+            }
+        }
     }
 
     /// Copies of the lists that the operator gave.
@@ -117,29 +122,60 @@ impl<S: BuildHasher + Copy + Drop> Parts<S> {
         ensures rpcwhitelist { IfOk result (λ copies. copies.1 ≡ self.now.rpcwhitelist) }
     {
         let whitelist = self.whitelist.copy(alloc)?;
-        let rpcwhitelist = self.rpcwhitelist.copy(alloc)?;
-        Ok((whitelist, rpcwhitelist))
+        match self.rpcwhitelist.copy(alloc) {
+            Ok(rpcwhitelist) => Ok((whitelist, rpcwhitelist)),
+            Err(fault) => {
+                drop(whitelist);
+                Err(fault)
+            }
+        }
+    }
+
+    /// The same verdicts, and a copy of the sessions.
+    fn copy_sessions(&self, alloc: Global) -> Result<(Counted<Verdicts<S>>, Sessions), Memory>
+        ensures verdicts { IfOk result (λ copies. copies.0 ≡ self.now.verdicts) }
+        ensures sessions { IfOk result (λ copies. copies.1.all ≡ self.now.sessions.all) }
+    {
+        let verdicts = self.verdicts.copy(alloc)?;
+        match self.sessions.copy() {
+            Ok(sessions) => Ok((verdicts, sessions)),
+            Err(fault) => {
+                drop(verdicts);
+                Err(fault)
+            }
+        }
     }
 
     /// A copy of the whole, with the same verdicts.
     pub(crate) fn copy(&self, alloc: Global) -> Result<Parts<S>, Memory>
         ensures { IfOk result (λ copy. world_of copy ≡ world_of self.now) }
     {
-        let verdicts = self.verdicts.copy(alloc)?;
-        let sessions = self.sessions.copy()?;
-        let (whitelist, rpcwhitelist) = self.copy_lists(alloc)?;
         let (chain, pool) = self.copy_ledger(alloc)?;
-        Ok(Parts {
-            chain,
-            pool,
-            floor: self.floor,
-            sessions,
-            budget: self.budget,
-            verdicts,
-            whitelist,
-            rpcwhitelist,
-            blocksonly: self.blocksonly,
-            switches: self.switches,
-        })
+        let Ok((verdicts, sessions)) = self.copy_sessions(alloc) else {
+            drop(chain);
+            drop(pool);
+            return Err(Memory);
+        };
+        match self.copy_lists(alloc) {
+            Ok((whitelist, rpcwhitelist)) => Ok(Parts {
+                chain,
+                pool,
+                floor: self.floor,
+                sessions,
+                budget: self.budget,
+                verdicts,
+                whitelist,
+                rpcwhitelist,
+                blocksonly: self.blocksonly,
+                switches: self.switches,
+            }),
+            Err(fault) => {
+                drop(chain);
+                drop(pool);
+                drop(verdicts);
+                drop(sessions);
+                Err(fault)
+            }
+        }
     }
 }

@@ -11,10 +11,9 @@ ghost use Rattle.gate_core.specs.Planning.{Fits, Plans, world_of};
 
 use crate::parts::Parts;
 use crate::planning::{Change, Plan};
-use crate::refusal::{Refusal, Then};
-use crate::reply::Reply;
 use gate_admit::{Prepared, plan_submission};
 use gate_bytes::Memory;
+use gate_message::{Refusal, Reply, Then};
 use gate_net::{Address, Permissions};
 use gate_standard::Denial;
 use std::alloc::Global;

@@ -1,11 +1,7 @@
 //! What a step is planned as.
-use crate::refusal::{Refusal, Then};
-use crate::reply::Reply;
-use crate::switch::Switch;
 use gate_admit::Coming;
+use gate_message::{Reply, Switch};
 use gate_net::Permissions;
-use gate_rpc::{RpcError, RpcReply};
-use gate_standard::Denial;
 
 /// What a step changes.
 #[derive(Drop)]
@@ -36,37 +32,6 @@ impl Plan {
         Plan {
             reply,
             change: Change::Nothing,
-        }
-    }
-}
-
-impl Reply {
-    ghost use Rattle.std.specs.Prelude.{◌≡◌};
-    ghost use Rattle.gate_core.specs.Planning.{denied_instead, settled};
-
-    /// This reply, or in its place the denial of what it says was admitted.
-    pub(crate) fn settled(self, denial: Option<Denial>) -> Reply
-        ensures { result ≡ settled self denial }
-    {
-        match denial {
-            Some(denial) => self.denied(denial),
-            None => self,
-        }
-    }
-
-    /// The denial that takes the place of this reply to a submission: it closes nothing.
-    fn denied(self, denial: Denial) -> Reply
-        ensures { result ≡ denied_instead self denial }
-    {
-        match self {
-            Reply::Rpc(RpcReply::Answer { id, .. }) => Reply::Rpc(RpcReply::Failure {
-                id,
-                error: RpcError::Denied(denial),
-            }),
-            _ => Reply::Denied {
-                refusal: Refusal::Admission(denial),
-                then: Then::Keep,
-            },
         }
     }
 }

@@ -1,27 +1,26 @@
 //! The state, and the one step that changes it.
 ghost use Rattle.std.specs.Prelude.{◌≡◌, ◌≢◌, [], IfOk, OnErr};
-ghost use Rattle.gate_core.specs.Callers.{caller_of};
-ghost use Rattle.gate_core.specs.ChainSteps.{chain_reply, chained};
-ghost use Rattle.gate_core.specs.declared.caller.Caller.TheVariants.{Chain as TheChain};
+ghost use Rattle.gate_message.specs.Callers.{caller_of};
+ghost use Rattle.gate_message.specs.Replies.{chain_reply};
+ghost use Rattle.gate_core.specs.ChainSteps.{chained};
+ghost use Rattle.gate_message.specs.declared.caller.Caller.TheVariants.{Chain as TheChain};
 ghost use Rattle.gate_chain.specs.History.{opened};
 ghost use Rattle.gate_chain.specs.Opening.{open_fault, IsRefusedFor};
 ghost use Rattle.gate_core.specs.World.{opened_world};
 ghost use Rattle.gate_core.specs.Planning.{world_of};
-ghost use Rattle.gate_core.specs.Recording.{AreCopies};
+ghost use Rattle.gate_message.specs.Recording.{AreCopies};
 ghost use Rattle.gate_core.specs.Steps.{step_of};
 ghost use Rattle.gate_core.specs.Good.{IsGoodWorld, StepGives};
 
-use crate::event::Event;
 use crate::opening::Opening;
 use crate::parts::Parts;
 use crate::planning::Plan;
-use crate::recording::Replies;
-use crate::reply::Reply;
 use crate::session::Sessions;
-use crate::switch::Switches;
+use crate::switches::Switches;
 use gate_admit::{Chain, Floor, OpenFault, OpeningCoin, Pool};
 use gate_bytes::{Counted, Kept, Memory};
 use gate_chain::{Block, ChainDenial};
+use gate_message::{Event, Replies, Reply};
 use gate_reorg::Moved;
 use std::alloc::Global;
 use std::hash::BuildHasher;

@@ -5,8 +5,8 @@ use Rattle.std.specs.Str.{bytes_eq}
 use Rattle.std.proofs.lemmas.Slice.Eq.{bytes_eq-Decides}
 use Rattle.gate_lines.specs.Numbers.{max_number}
 use Rattle.gate_net.specs.Spelling.{IsAddress}
-use Rattle.gate_core.specs.declared.event.Event.{Event}
-use Rattle.gate_core.specs.declared.event.Event.TheVariants.{Enter}
+use Rattle.gate_message.specs.declared.event.Event.{Event}
+use Rattle.gate_message.specs.declared.event.Event.TheVariants.{Enter}
 use Rattle.gate_events.specs.EventTexts.{text_of}
 use Rattle.gate_events.proofs.Letters.{all_letters, letters_joined}
 

@@ -12,8 +12,8 @@ use Rattle.gate_lines.specs.Numbers.{number_of, max_number}
 use Rattle.gate_lines.specs.Words.{part_of}
 use Rattle.gate_lines.proofs.Decimals.{number_decimal, decimal_number}
 use Rattle.gate_chain.specs.declared.Block.{Block}
-use Rattle.gate_core.specs.declared.event.Event.{Event}
-use Rattle.gate_core.specs.declared.event.Event.TheVariants.{Chain}
+use Rattle.gate_message.specs.declared.event.Event.{Event}
+use Rattle.gate_message.specs.declared.event.Event.TheVariants.{Chain}
 use Rattle.gate_events.specs.ChainLines.{block_of, blocks_of, words_of, has_gap}
 use Rattle.gate_events.specs.EventLines.{numbered_of, with_blocks, timed_blocks_of, chain_event_of}
 use Rattle.gate_events.specs.EventTexts.{block_word, block_words}

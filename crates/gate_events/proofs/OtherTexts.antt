@@ -7,11 +7,11 @@ use Rattle.std.proofs.lemmas.Option.{option_and_then_some}
 use Rattle.gate_lines.specs.Numbers.{number_of}
 use Rattle.gate_lines.specs.Words.{part_of}
 use Rattle.gate_lines.proofs.Decimals.{number_decimal}
-use Rattle.gate_core.specs.UserCalls.{called}
-use Rattle.gate_core.specs.declared.event.Event.{Event}
-use Rattle.gate_core.specs.declared.event.Event.TheVariants.{Rpc, SetFloor, Set}
-use Rattle.gate_core.specs.declared.switch.Switch.{Switch}
-use Rattle.gate_core.specs.declared.switch.Switch.TheVariants.{Bloom, Upload, Historic, Download}
+use Rattle.gate_message.specs.UserCalls.{called}
+use Rattle.gate_message.specs.declared.event.Event.{Event}
+use Rattle.gate_message.specs.declared.event.Event.TheVariants.{Rpc, SetFloor, Set}
+use Rattle.gate_message.specs.declared.switch.Switch.{Switch}
+use Rattle.gate_message.specs.declared.switch.Switch.TheVariants.{Bloom, Upload, Historic, Download}
 use Rattle.gate_events.specs.EventLines.{numbered_of, call_event_of, user_event, user_event_of, switch_of, is_on_of, switch_event_of, setting_event, operator_event_of}
 use Rattle.gate_events.specs.EventTexts.{switch_word, on_word, text_of}
 use Rattle.gate_events.proofs.Again.{either, option_map_is, some_is, same_word}

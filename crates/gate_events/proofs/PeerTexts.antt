@@ -9,8 +9,8 @@ use Rattle.gate_lines.specs.Numbers.{max_number, small_number_of}
 use Rattle.gate_lines.specs.Words.{part_of, is_word}
 use Rattle.gate_net.specs.Addresses.{Address, address_of, address_text}
 use Rattle.gate_net.proofs.Printed.{read_back}
-use Rattle.gate_core.specs.declared.event.Event.{Event}
-use Rattle.gate_core.specs.declared.event.Event.TheVariants.{Enter, Leave, Tx as Submit, Mempool, GetBlock, Headers}
+use Rattle.gate_message.specs.declared.event.Event.{Event}
+use Rattle.gate_message.specs.declared.event.Event.TheVariants.{Enter, Leave, Tx as Submit, Mempool, GetBlock, Headers}
 use Rattle.gate_events.specs.EventLines.{numbered_of, prepared_of, enter_event_of, tx_event_of, worded_event, peer_event, peer_event_of}
 use Rattle.gate_events.specs.EventTexts.{transaction_word}
 use Rattle.gate_events.proofs.Again.{IsAgainIn, again_behind, either, option_map_is, some_is, same_word}

@@ -5,7 +5,7 @@ use Rattle.std.specs.Str.{bytes_eq, is_utf8}
 use Rattle.std.proofs.lemmas.Option.{option_and_then_some}
 use Rattle.std.proofs.lemmas.Str.{IsUtf8-from_ascii, is_utf8-from_IsUtf8}
 use Rattle.gate_lines.specs.Words.{part_of}
-use Rattle.gate_core.specs.declared.event.Event.{Event}
+use Rattle.gate_message.specs.declared.event.Event.{Event}
 use Rattle.gate_events.specs.EventLines.{peer_event_of, user_event_of, chain_event_of, operator_event_of, called_event, event_of, line_event}
 use Rattle.gate_events.specs.EventTexts.{text_of}
 use Rattle.gate_events.specs.TextLaws.{TextsSpell}

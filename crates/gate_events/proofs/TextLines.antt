@@ -8,8 +8,8 @@ use Rattle.gate_lines.specs.Lines.{LacksNewline, is_skipped, line_limit}
 use Rattle.gate_lines.specs.Numbers.{max_number}
 use Rattle.gate_net.specs.Addresses.{Address, V4, V6, address_text}
 use Rattle.gate_net.specs.Spelling.{IsAddress}
-use Rattle.gate_core.specs.declared.event.Event.{Event}
-use Rattle.gate_core.specs.declared.event.Event.TheVariants.{Enter, Leave, Tx as Submit, Mempool, GetBlock, Headers, Rpc, SetFloor, Set, Chain}
+use Rattle.gate_message.specs.declared.event.Event.{Event}
+use Rattle.gate_message.specs.declared.event.Event.TheVariants.{Enter, Leave, Tx as Submit, Mempool, GetBlock, Headers, Rpc, SetFloor, Set, Chain}
 use Rattle.gate_events.specs.EventLines.{event_of}
 use Rattle.gate_events.specs.EventTexts.{text_of}
 use Rattle.gate_events.specs.TextLaws.{TextsAreLines}

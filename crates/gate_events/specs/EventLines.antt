@@ -7,11 +7,11 @@ use Rattle.hex.specs.declared.error.FromHexError.{FromHexError}
 use Rattle.gate_tx.specs.Tx.{Tx}
 use Rattle.gate_tx.specs.Reading.{decoded}
 use Rattle.gate_net.specs.Addresses.{address_of}
-use Rattle.gate_core.specs.UserCalls.{called}
-use Rattle.gate_core.specs.declared.event.Event.{Event}
-use Rattle.gate_core.specs.declared.event.Event.TheVariants as events
-use Rattle.gate_core.specs.declared.switch.Switch.{Switch}
-use Rattle.gate_core.specs.declared.switch.Switch.TheVariants.{Bloom, Upload, Historic, Download}
+use Rattle.gate_message.specs.UserCalls.{called}
+use Rattle.gate_message.specs.declared.event.Event.{Event}
+use Rattle.gate_message.specs.declared.event.Event.TheVariants as events
+use Rattle.gate_message.specs.declared.switch.Switch.{Switch}
+use Rattle.gate_message.specs.declared.switch.Switch.TheVariants.{Bloom, Upload, Historic, Download}
 use Rattle.gate_chain.specs.declared.Block.{Block}
 use Rattle.gate_events.specs.ChainLines.{blocks_of}
 use Rattle.gate_lines.specs.Lines.{if_text}

@@ -8,11 +8,11 @@ use Rattle.gate_tx.specs.Text.{text}
 use Rattle.gate_net.specs.Addresses.{Address, address_text}
 use Rattle.gate_chain.specs.declared.Block.{Block}
 use Rattle.gate_block.specs.Text.{block_text}
-use Rattle.gate_core.specs.UserCalls.{UserCall}
-use Rattle.gate_core.specs.declared.event.Event.{Event}
-use Rattle.gate_core.specs.declared.event.Event.TheVariants.{Enter, Leave, Tx as Submit, Mempool, GetBlock, Headers, Rpc, SetFloor, Set, Chain}
-use Rattle.gate_core.specs.declared.switch.Switch.{Switch}
-use Rattle.gate_core.specs.declared.switch.Switch.TheVariants.{Bloom, Upload, Historic, Download}
+use Rattle.gate_message.specs.UserCalls.{UserCall}
+use Rattle.gate_message.specs.declared.event.Event.{Event}
+use Rattle.gate_message.specs.declared.event.Event.TheVariants.{Enter, Leave, Tx as Submit, Mempool, GetBlock, Headers, Rpc, SetFloor, Set, Chain}
+use Rattle.gate_message.specs.declared.switch.Switch.{Switch}
+use Rattle.gate_message.specs.declared.switch.Switch.TheVariants.{Bloom, Upload, Historic, Download}
 
 -- the text of a transaction in hex of lower case; what spelled none is `-`
 abbrev pub transaction_word : Option Tx → List ℕ

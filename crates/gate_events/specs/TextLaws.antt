@@ -1,7 +1,7 @@
 -- What holds of the texts of events.
 use Rattle.std.specs.Prelude.{◌≡◌, ◌≤◌, ℕ, false, List, length, Some}
 use Rattle.gate_lines.specs.Lines.{LacksNewline, is_skipped, line_limit}
-use Rattle.gate_core.specs.declared.event.Event.{Event}
+use Rattle.gate_message.specs.declared.event.Event.{Event}
 use Rattle.gate_events.specs.EventLines.{line_event}
 use Rattle.gate_events.specs.EventTexts.{text_of}
 

@@ -5,7 +5,7 @@ ghost use Rattle.gate_events.specs.EventTexts.{call_text, on_word, switch_text, 
 use crate::chain_printing::chain_text;
 use gate_admit::Prepared;
 use gate_bytes::Memory;
-use gate_core::{Call, Event, Switch};
+use gate_message::{Call, Event, Switch};
 use std::alloc::Global;
 
 /// The line that spells the event, without its newline: hex in lower case, `-` for what spelled no transaction or no block,

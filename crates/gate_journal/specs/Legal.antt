@@ -1,7 +1,7 @@
 -- Journals, and which of them are those of a run.
 use Rattle.std.specs.Prelude.{◌≡◌, ◌<◌, ◌≤◌, ℕ, ◌-◌, List, map, take, length}
-use Rattle.gate_core.specs.declared.event.Event.{Event}
-use Rattle.gate_core.specs.declared.reply.Reply.{Reply}
+use Rattle.gate_message.specs.declared.event.Event.{Event}
+use Rattle.gate_message.specs.declared.reply.Reply.{Reply}
 use Rattle.gate_core.specs.World.{World}
 use Rattle.gate_core.specs.Runs.{run_of}
 use Rattle.gate_journal.specs.declared.entry.Entry.{Entry}

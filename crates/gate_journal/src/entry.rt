@@ -1,6 +1,6 @@
 //! What a journal keeps of an event.
 use gate_bytes::{Copied, Memory};
-use gate_core::{Event, Reply};
+use gate_message::{Event, Reply};
 use std::alloc::Global;
 
 /// An event with its reply, and the number of the pass under which it was made.

@@ -6,7 +6,8 @@ ghost use Rattle.gate_journal.specs.Legal.{IsLegal, IsFirstIllegal};
 use crate::entry::Entry;
 use crate::journal::Journal;
 use gate_bytes::Memory;
-use gate_core::{Event, Reply, State, is_same_reply};
+use gate_core::State;
+use gate_message::{Event, Reply, is_same_reply};
 use std::alloc::Global;
 use std::hash::BuildHasher;
 

@@ -1,10 +1,11 @@
 //! Two users race for one coin; passes settle with the journal of their gate, and with no other.
-ghost use Rattle.std.specs.Prelude.{◌≡◌, ◌+◌, ◌<◌, length, OnOk};
+ghost use Rattle.std.specs.Prelude.{◌≡◌, ◌+◌, ◌<◌, length, IfOk, OnOk};
 
 use gate_admit::{OpeningCoin, Verdict, Verdicts};
 use gate_bytes::{Copied, Kept, Memory, Text};
-use gate_core::{Call, Caller, Event, Opening, Reply, State, is_same_reply};
+use gate_core::{Opening, State};
 use gate_journal::{Entry, Journal, replay_check};
+use gate_message::{Call, Caller, Event, Reply, is_same_reply};
 use gate_net::Whitelist;
 use gate_rpc::RpcWhitelist;
 use gate_shared::{Base, CallFault, Gate, Pass, Receipt, SettleFault, Unsettled};
@@ -83,6 +84,20 @@ fn opened(alloc: Global) -> Result<State<Hasher>, Fail> {
     let hasher = BuildHasherDefault::new();
     let opening = opening(alloc, hasher)?;
     Ok(State::open(alloc, hasher, opening)?)
+}
+
+/// The same state twice.
+fn opened_twice(alloc: Global) -> Result<(State<Hasher>, State<Hasher>), Fail>
+    ensures { IfOk result (λ states. states.1 ≡ states.0) }
+{
+    let state = opened(alloc)?;
+    match state.copy(alloc) {
+        Ok(copy) => Ok((state, copy)),
+        Err(fault) => {
+            drop(state);
+            Err(Fail::from(fault))
+        }
+    }
 }
 
 /// The pass of a caller that makes one event.
@@ -318,8 +333,7 @@ fn another_gate_lacks_it<N: Base, R: Wait>(
 #[test]
 fn passes_belong_to_a_gate(rt: HostRuntime) -> Result<(), Fail> {
     let alloc = rt.alloc();
-    let state = opened(alloc)?;
-    let other = state.copy(alloc)?;
+    let (state, other) = opened_twice(alloc)?;
     let lacked = another_gate_lacks_it::<Brand, _>(&rt, alloc, state, other)?;
     assert!(rt; lacked);
     Ok(())
@@ -463,8 +477,7 @@ fn race_is_replayed<N: Base, R: Wait>(
 #[test]
 fn replies_belong_to_their_events(rt: HostRuntime) -> Result<(), Fail> {
     let alloc = rt.alloc();
-    let state = opened(alloc)?;
-    let first = state.copy(alloc)?;
+    let (state, first) = opened_twice(alloc)?;
     let illegal = race_is_replayed::<Brand, _>(&rt, alloc, state, &first);
     drop(first);
     assert!(rt; illegal? == (None, Some(1)));

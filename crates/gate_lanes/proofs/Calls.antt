@@ -2,8 +2,8 @@
 use Rattle.std.proofs.Common.{◌≡◌, ℕ, List, [], ◌∷◌, ◌++◌, Option, Some, None, Result, Ok, Err, IfOk, OnErr, inl, inr, refl}
 use Rattle.std.specs.Global.{Vec}
 use Rattle.gate_core.specs.World.{World}
-use Rattle.gate_core.specs.Texts.{reply_text}
-use Rattle.gate_core.specs.declared.event.Event.{Event}
+use Rattle.gate_message.specs.Texts.{reply_text}
+use Rattle.gate_message.specs.declared.event.Event.{Event}
 use Rattle.gate_shared.specs.Calls.{PassView}
 use Rattle.gate_shared.specs.Held.{Called, Grows}
 use Rattle.gate_shared.specs.declared.receipt.Receipt.{Receipt}

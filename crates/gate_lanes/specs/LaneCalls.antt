@@ -1,9 +1,9 @@
 -- A lane by the events that its lines spell and the answers to them: the calls of its pass, and the lines that it writes.
 use Rattle.std.specs.Prelude.{◌≡◌, ℕ, ◌+◌, nat_lt, nat_le, if◌then◌else◌, List, [], ◌∷◌, length, Option, Some, None, Result, Ok, Err}
-use Rattle.gate_core.specs.Callers.{caller_of}
-use Rattle.gate_core.specs.Texts.{reply_text}
-use Rattle.gate_core.specs.declared.caller.Caller.{Caller}
-use Rattle.gate_core.specs.declared.event.Event.{Event}
+use Rattle.gate_message.specs.Callers.{caller_of}
+use Rattle.gate_message.specs.Texts.{reply_text}
+use Rattle.gate_message.specs.declared.caller.Caller.{Caller}
+use Rattle.gate_message.specs.declared.event.Event.{Event}
 use Rattle.gate_events.specs.EventLines.{line_event}
 use Rattle.gate_lines.specs.Lines.{count_limit, line_limit, is_skipped}
 use Rattle.gate_shared.specs.Calls.{PassView}

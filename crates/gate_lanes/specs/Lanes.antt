@@ -2,9 +2,9 @@
 use Rattle.std.specs.Prelude.{◌≡◌, ℕ, ◌+◌, ◌≤◌, nat_lt, nat_le, true, List, [], ◌∷◌, ◌++◌, length, Option, Some, None, IfSome, ◌⊎◌, MatchBool}
 use Rattle.std.specs.Io.{StartsWith}
 use Rattle.std.specs.Io.KnownBytes.{Appends, Consumes}
-use Rattle.gate_core.specs.Callers.{caller_of}
-use Rattle.gate_core.specs.Texts.{reply_text}
-use Rattle.gate_core.specs.declared.event.Event.{Event}
+use Rattle.gate_message.specs.Callers.{caller_of}
+use Rattle.gate_message.specs.Texts.{reply_text}
+use Rattle.gate_message.specs.declared.event.Event.{Event}
 use Rattle.gate_events.specs.EventLines.{line_event}
 use Rattle.gate_lines.specs.declared.fault.LaneFault.{LaneFault}
 use Rattle.gate_lines.specs.declared.fault.LaneFault.TheVariants as faults

@@ -7,9 +7,9 @@ ghost use Rattle.gate_lanes.specs.Turns.{CallReplied, CallLost, EventReplied, Ev
 
 use crate::entrance::Entrance;
 use gate_bytes::Memory;
-use gate_core::Event;
 use gate_events::event_on;
 use gate_lines::{asks_nothing, end_line};
+use gate_message::Event;
 use gate_shared::{Base, CallFault, Pass, Receipt};
 use std::alloc::Global;
 use std::hash::BuildHasher;

@@ -56,7 +56,7 @@ all_from number r r' said so xs ys text =
     ap (λ t. all_said 0 nothing_said (lines_of t)) text ∙ ap (all_said 0 nothing_said) (lines_of-unlines so.lines ys so.clean) ∙ so.goes (lines_of ys)
 
 pub Heard-ended : (number : ℕ) (r r' r'' : Option (List ℕ)) (said new : Said)
-    → Heard number r r' said → StepTaken number r' r'' said new (Ok Ended) → OpeningGathered r r'' (Ok new)
+    → Heard number r r' said → StepTaken number r' r'' said new (Ok Ended) → OpeningGathered r r'' new (Ok tt)
 Heard-ended number None r' r'' said new so h = tt
 Heard-ended number (Some xs) None r'' said new so h = absurd so.read
 Heard-ended number (Some xs) (Some ys) r'' said new so (says, left) = (
@@ -73,7 +73,7 @@ Heard-unread number r r' r'' said so (piece, read, clean) =
     (so.lines, piece, said, Consumes-trans r r' r'' _ _ so.read read, so.clean, clean, so.unended, heard number r r' said so)
 
 pub Heard-fault : (fault : OpeningFault) (number : ℕ) (r r' r'' : Option (List ℕ)) (said new : Said)
-    → Heard number r r' said → StepTaken number r' r'' said new (Err fault) → OpeningGathered r r'' (Err fault)
+    → Heard number r r' said → StepTaken number r' r'' said new (Err fault) → OpeningGathered r r'' new (Err fault)
 Heard-fault (Line n token) number None r' r'' said new so h = tt
 Heard-fault (Line n token) number (Some xs) None r'' said new so h = absurd so.read
 Heard-fault (Line n token) number (Some xs) (Some ys) r'' said new so h = all_from number (Some xs) (Some ys) said so xs ys so.read ∙ h
@@ -82,11 +82,11 @@ Heard-fault Memory number r r' r'' said new so h = tt
 
 -- ---- after the last line that an opening may have
 
-pub Heard-end : (number : ℕ) (r r' r'' : Option (List ℕ)) (said : Said) → Heard number r r' said → Consumes r' r'' [] → OnSome r' (IsAtEnd r'') → OpeningGathered r r'' (Ok said)
+pub Heard-end : (number : ℕ) (r r' r'' : Option (List ℕ)) (said : Said) → Heard number r r' said → Consumes r' r'' [] → OnSome r' (IsAtEnd r'') → OpeningGathered r r'' said (Ok tt)
 Heard-end number r r' r'' said so read end = Heard-ended number r r' r'' said said so (step_nothing number r' r'' said read end)
 
 pub Heard-full : (number : ℕ) (r r' r'' : Option (List ℕ)) (said : Said) (byte line : ℕ) → count_limit ≤ number → line ≡ number + 1
-    → Heard number r r' said → Consumes r' r'' (byte ∷ []) → OpeningGathered r r'' (Err (Line line BadLine))
+    → Heard number r r' said → Consumes r' r'' (byte ∷ []) → OpeningGathered r r'' said (Err (Line line BadLine))
 Heard-full number None r' r'' said byte line full is so read = tt
 Heard-full number (Some xs) None r'' said byte line full is so read = absurd so.read
 Heard-full number (Some xs) (Some ys) None said byte line full is so read = absurd read
@@ -96,7 +96,7 @@ Heard-full number (Some xs) (Some ys) (Some zs) said byte line full is so read =
     ∙ ap (λ t. all_said number said (lines_of t)) read ∙ ap (all_said number said) f.2
     ∙ all_said-full number said f.0 f.1 full ∙ ap (λ n. Err (Line n BadLine)) (sym is)
 
-pub Heard-untold : (fault : LaneFault) (number : ℕ) (r r' r'' : Option (List ℕ)) (said : Said) → Heard number r r' said → EndTold r' r'' (Err fault) → OpeningGathered r r'' (Err (unread_by fault))
+pub Heard-untold : (fault : LaneFault) (number : ℕ) (r r' r'' : Option (List ℕ)) (said : Said) → Heard number r r' said → EndTold r' r'' (Err fault) → OpeningGathered r r'' said (Err (unread_by fault))
 Heard-untold lane.Read number r r' r'' said so h = Heard-unread number r r' r'' said so ([], h, tt)
 Heard-untold lane.Write number r r' r'' said so h = absurd h
 Heard-untold lane.Memory number r r' r'' said so h = tt

@@ -5,6 +5,7 @@ use Rattle.std.specs.Str.{bytes_eq}
 use Rattle.hex.specs.Hex.{decode_of}
 use Rattle.hex.specs.declared.error.FromHexError.{FromHexError}
 use Rattle.gate_tx.specs.Ids.{read_id}
+use Rattle.gate_tx.specs.declared.OutPoint.{OutPoint}
 use Rattle.gate_admit.specs.declared.verdicts.Verdict.{Verdict}
 use Rattle.gate_admit.specs.declared.verdicts.Verdict.TheVariants.{Good, Soft, Hard}
 use Rattle.gate_net.specs.Whitelists.{entry_of}
@@ -42,20 +43,25 @@ is_coinbase_of text =
     else if bytes_eq text (codes "cb") then Some true
     else None
 
--- `TXID INDEX VALUE HEIGHT plain|cb`, and what stands after it
+-- `TXID INDEX`, and what stands after it
+abbrev pub outpoint_of : List ℕ → Option (OutPoint × List ℕ)
+outpoint_of text = do
+  p ← part_of text
+  q ← part_of p.1
+  txid ← read_id p.0
+  index ← small_number_of q.0
+  Some (record { txid = txid; index = index }, q.1)
+
+-- `VALUE HEIGHT plain|cb`, and what stands after it
 abbrev pub coin_head_of : List ℕ → Option (CoinHead × List ℕ)
 coin_head_of text = do
   p ← part_of text
   q ← part_of p.1
   r ← part_of q.1
-  s ← part_of r.1
-  t ← part_of s.1
-  txid ← read_id p.0
-  index ← small_number_of q.0
-  value ← number_of r.0
-  height ← small_number_of s.0
-  coinbase ← is_coinbase_of t.0
-  Some (record { outpoint = record { txid = txid; index = index }; value = pos value; height = height; coinbase = coinbase }, t.1)
+  value ← number_of p.0
+  height ← small_number_of q.0
+  coinbase ← is_coinbase_of r.0
+  Some (record { value = pos value; height = height; coinbase = coinbase }, r.1)
 
 abbrev pub script_from : Result (List ℕ) FromHexError → Option (List ℕ)
 script_from (Ok script) = Some script
@@ -69,18 +75,19 @@ script_of text =
     else script_from (decode_of text)
 
 -- a coin, as a line says it
-abbrev pub coin_line : CoinHead → List ℕ → OpeningLine
-coin_line head script = says.Coin (record {
-  outpoint = head.outpoint;
+abbrev pub coin_line : OutPoint → CoinHead → List ℕ → OpeningLine
+coin_line outpoint head script = says.Coin (record {
+  outpoint = outpoint;
   coin = record { value = head.value; script = script; height = head.height; coinbase = head.coinbase };
 })
 
 -- `TXID INDEX VALUE HEIGHT plain|cb SCRIPT`
 abbrev pub coin_line_of : List ℕ → Option OpeningLine
 coin_line_of text = do
-  p ← coin_head_of text
-  script ← script_of p.1
-  Some (coin_line p.0 script)
+  p ← outpoint_of text
+  q ← coin_head_of p.1
+  script ← script_of q.1
+  Some (coin_line p.0 q.0 script)
 
 abbrev pub verdict_of : List ℕ → Option Verdict
 verdict_of text =

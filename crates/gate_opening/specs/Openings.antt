@@ -43,10 +43,10 @@ StepTaken number input rest old new (Err (Line line token)) = IfSome input (λ t
 StepTaken number input rest old new (Err Read) = PieceRead input rest
 StepTaken number input rest old new (Err Memory) = Unit {0}
 
--- what reading all lines gave
-abbrev pub OpeningGathered : Option (List ℕ) → Option (List ℕ) → Result Said OpeningFault → Type 0
-OpeningGathered input rest (Ok said) =
+-- what reading all lines gave, where nothing was said before
+abbrev pub OpeningGathered : Option (List ℕ) → Option (List ℕ) → Said → Result (Unit {0}) OpeningFault → Type 0
+OpeningGathered input rest said (Ok done) =
     IfSome input (λ text. (all_said 0 nothing_said (lines_of text) ≡ Ok said) × Consumes input rest (opening_part text))
-OpeningGathered input rest (Err (Line line token)) = IfSome input (λ text. all_said 0 nothing_said (lines_of text) ≡ Err (Line line token))
-OpeningGathered input rest (Err Read) = OpeningUnread input rest
-OpeningGathered input rest (Err Memory) = Unit {0}
+OpeningGathered input rest said (Err (Line line token)) = IfSome input (λ text. all_said 0 nothing_said (lines_of text) ≡ Err (Line line token))
+OpeningGathered input rest said (Err Read) = OpeningUnread input rest
+OpeningGathered input rest said (Err Memory) = Unit {0}

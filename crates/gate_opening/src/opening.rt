@@ -1,7 +1,7 @@
 //! The opening: its lines read one after another, up to a line `---` or the end of the input.
 ghost use Rattle.std.specs.Prelude.{◌≡◌, ◌≢◌, ◌<◌, ℕ, true, IfOk, IfErr, OnOk, Ok, Err, IfSome, IsErrOf};
 ghost use Rattle.gate_core.specs.Good.{IsGoodWorld};
-ghost use Rattle.gate_opening.specs.Said.{is_end, spelled};
+ghost use Rattle.gate_opening.specs.Said.{is_end, nothing_said, spelled};
 ghost use Rattle.gate_opening.specs.Openings.{StepTaken, OpeningGathered, OpeningUnread, LeavesRest};
 
 use crate::draft::Draft;
@@ -55,25 +55,25 @@ fn take_step<S: BuildHasher + Copy + Drop, R: Source>(
     }
 }
 
-/// Reads all that an opening says.
+/// Reads all that an opening says into a draft that holds nothing.
 fn gather<S: BuildHasher + Copy + Drop, R: Source>(
     alloc: Global,
-    hasher: S,
     reader: &mut R,
-) -> Result<Draft<S>, OpeningFault>
-    ensures gathered { OpeningGathered (R.remaining reader.old) (R.remaining reader.new) result }
+    draft: &mut Draft<S>,
+) -> Result<(), OpeningFault>
+    requires { draft.old ≡ nothing_said }
+    ensures gathered { OpeningGathered (R.remaining reader.old) (R.remaining reader.new) draft.new result }
     ensures steady { R.steady ≡ true → IfErr result (λ fault. fault ≢ OpeningFault.Read) }
 {
-    let mut draft = Draft::new(alloc, hasher);
     let mut line = Vec::new(alloc);
     for number in 0..MAX_LINES {
-        match take_step(alloc, reader, &mut line, number, &mut draft)? {
+        match take_step(alloc, reader, &mut line, number, draft)? {
             Step::Went => {}
-            Step::Ended => return Ok(draft),
+            Step::Ended => return Ok(()),
         }
     }
     if has_ended(reader, &mut line)? {
-        return Ok(draft);
+        return Ok(());
     }
     Err(OpeningFault::Line(MAX_LINES + 1, OpeningToken::BadLine))
 }
@@ -95,5 +95,12 @@ pub fn read_opening<S: BuildHasher + Copy + Drop, R: Source>(
     ensures unread { IsErrOf result OpeningFault.Read → OpeningUnread (R.remaining reader.old) (R.remaining reader.new) }
     ensures steady { R.steady ≡ true → IfErr result (λ fault. fault ≢ OpeningFault.Read) }
 {
-    gather(alloc, hasher, reader)?.open(alloc, hasher)
+    let mut draft = Draft::new(alloc, hasher);
+    match gather(alloc, reader, &mut draft) {
+        Ok(()) => draft.open(alloc, hasher),
+        Err(fault) => {
+            drop(draft);
+            Err(fault)
+        }
+    }
 }

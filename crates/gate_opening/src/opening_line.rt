@@ -1,7 +1,7 @@
 //! What one line of an opening says.
 ghost use Rattle.std.specs.Prelude.{◌≡◌, MatchOption, IfOk, None, Some};
 ghost use Rattle.std.specs.Option.{option_map};
-ghost use Rattle.gate_opening.specs.OpeningLines.{opening_line_of, budget_line_of, times_line_of, coin_line_of, coin_head_of, script_of, verdict_line_of, row_of, verdict_of, is_coinbase_of, whitelist_line_of, rpc_line_of, set_line_of, on_of};
+ghost use Rattle.gate_opening.specs.OpeningLines.{opening_line_of, budget_line_of, times_line_of, coin_line_of, outpoint_of, coin_head_of, script_of, verdict_line_of, row_of, verdict_of, is_coinbase_of, whitelist_line_of, rpc_line_of, set_line_of, on_of};
 
 use crate::setting::Setting;
 use gate_admit::{Verdict, VerdictRow};
@@ -90,6 +90,9 @@ fn times_line(rest: &str) -> Option<OpeningLine>
 fn coin_line(alloc: Global, rest: &str) -> Result<Option<OpeningLine>, Memory>
     ensures { IfOk result (λ read. read ≡ coin_line_of rest.now) }
 {
+    let Some((outpoint, rest)) = coin_outpoint(rest) else {
+        return Ok(None);
+    };
     let Some((head, script)) = coin_head(rest) else {
         return Ok(None);
     };
@@ -97,7 +100,7 @@ fn coin_line(alloc: Global, rest: &str) -> Result<Option<OpeningLine>, Memory>
         return Ok(None);
     };
     Ok(Some(OpeningLine::Coin(OpeningCoin {
-        outpoint: head.outpoint,
+        outpoint,
         coin: Coin {
             value: head.value,
             script,
@@ -107,39 +110,40 @@ fn coin_line(alloc: Global, rest: &str) -> Result<Option<OpeningLine>, Memory>
     })))
 }
 
-/// What a coin's line says before its script.
+/// `TXID INDEX`, and what stands after it
+fn coin_outpoint(rest: &str) -> Option<(OutPoint, &str)>
+    ensures { MatchOption result (outpoint_of rest.now ≡ None) (λ p. outpoint_of rest.now ≡ Some (p.0, p.1.now)) }
+{
+    let (txid, rest) = next_word(rest)?;
+    let (index, rest) = next_word(rest)?;
+    let outpoint = OutPoint {
+        txid: Txid::read(txid)?,
+        index: read_small_number(index)?,
+    };
+    Some((outpoint, rest))
+}
+
+/// What a coin's line says between its outpoint and its script.
 #[derive(Clone, Copy, Debug)]
 struct CoinHead {
-    outpoint: OutPoint,
     value: i64,
     height: u32,
     coinbase: bool,
 }
 
+/// `VALUE HEIGHT plain|cb`, and what stands after it
 fn coin_head(rest: &str) -> Option<(CoinHead, &str)>
     ensures { MatchOption result (coin_head_of rest.now ≡ None) (λ p. coin_head_of rest.now ≡ Some (p.0, p.1.now)) }
 {
-    let (txid, rest) = next_word(rest)?;
-    let (index, rest) = next_word(rest)?;
     let (value, rest) = next_word(rest)?;
     let (height, rest) = next_word(rest)?;
     let (kind, script) = next_word(rest)?;
-    let outpoint = OutPoint {
-        txid: Txid::read(txid)?,
-        index: read_small_number(index)?,
+    let head = CoinHead {
+        value: read_number(value)? as i64,
+        height: read_small_number(height)?,
+        coinbase: is_coinbase(kind)?,
     };
-    let value = read_number(value)? as i64;
-    let height = read_small_number(height)?;
-    let coinbase = is_coinbase(kind)?;
-    Some((
-        CoinHead {
-            outpoint,
-            value,
-            height,
-            coinbase,
-        },
-        script,
-    ))
+    Some((head, script))
 }
 
 fn is_coinbase(kind: &str) -> Option<bool>

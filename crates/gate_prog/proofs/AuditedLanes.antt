@@ -11,8 +11,8 @@ use Rattle.gate_audit.specs.Journals.{AreWithin, entry_limit, entry_lines, event
 use Rattle.gate_audit.proofs.Telling.{runs_have_legal_journals}
 use Rattle.gate_core.specs.Runs.{run_of}
 use Rattle.gate_core.specs.World.{World}
-use Rattle.gate_core.specs.declared.event.Event.{Event}
-use Rattle.gate_core.specs.declared.reply.Reply.{Reply}
+use Rattle.gate_message.specs.declared.event.Event.{Event}
+use Rattle.gate_message.specs.declared.reply.Reply.{Reply}
 use Rattle.gate_events.specs.EventLines.{line_event}
 use Rattle.gate_events.specs.EventTexts.{text_of}
 use Rattle.gate_events.proofs.SpelledTexts.{texts_spell}

@@ -1,10 +1,10 @@
 -- A lane without a fault of memory leads through the events of its lines.
 use Rattle.std.proofs.Common.{◌≡◌, ◌≢◌, ℕ, ◌+◌, nat_lt, nat_le, Bool, true, false, if◌then◌else◌, List, [], ◌∷◌, ◌++◌, length, Option, Some, None, MatchBool, inl, inr, sym, ap, subst, ◌∙◌}
 use Rattle.gate_core.specs.Runs.{LeadsTo, StepsGiveTheRun}
-use Rattle.gate_core.specs.Texts.{reply_text}
+use Rattle.gate_message.specs.Texts.{reply_text}
 use Rattle.gate_core.specs.World.{World}
-use Rattle.gate_core.specs.declared.Event.{Event}
-use Rattle.gate_core.specs.declared.Reply.{Reply}
+use Rattle.gate_message.specs.declared.Event.{Event}
+use Rattle.gate_message.specs.declared.Reply.{Reply}
 use Rattle.gate_events.specs.EventLines.{line_event}
 use Rattle.gate_lines.specs.Refused.{bad_line, line_too_long, too_many_lines}
 use Rattle.gate_prog.specs.Lanes.{Run, LineAnswered, EventAnswered, fault_memory}

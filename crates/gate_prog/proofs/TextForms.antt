@@ -2,13 +2,13 @@
 use Rattle.std.proofs.Common.{◌≡◌, ℕ, Bool, false, List, [], ◌∷◌, ◌++◌, Option, Result, Ok, Err, OnErr, MatchBool, subst, sym, inl, inr, refl}
 use Rattle.gate_core.specs.World.{World}
 use Rattle.gate_core.specs.Good.{StepGives}
-use Rattle.gate_core.specs.Texts.{reply_text}
-use Rattle.gate_core.specs.declared.reply.Reply.{Reply}
+use Rattle.gate_message.specs.Texts.{reply_text}
+use Rattle.gate_message.specs.declared.reply.Reply.{Reply}
 use Rattle.gate_lines.specs.Lines.{is_skipped}
 use Rattle.gate_events.specs.EventLines.{line_event}
 use Rattle.gate_prog.specs.Lanes.{fault_memory, EventAnswered, LineAnswered}
 use Rattle.gate_prog.specs.Turns.{EventReplied, EventLost}
-use Rattle.gate_core.specs.declared.event.Event.{Event}
+use Rattle.gate_message.specs.declared.event.Event.{Event}
 
 -- a fact that holds on either outcome
 pub OnErr-always : {T E : Type 0} (r : Result T E) (P : Type 0) → P → OnErr r P

@@ -2,10 +2,10 @@
 use Rattle.std.specs.Prelude.{◌≡◌, ◌≢◌, ℕ, ◌+◌, nat_lt, nat_le, if◌then◌else◌, List, [], ◌∷◌, length, Option, Some, None}
 use Rattle.gate_core.specs.Good.{IsGoodWorld}
 use Rattle.gate_core.specs.Runs.{run_of, IsRunApart}
-use Rattle.gate_core.specs.Texts.{reply_text}
+use Rattle.gate_message.specs.Texts.{reply_text}
 use Rattle.gate_core.specs.World.{World}
-use Rattle.gate_core.specs.declared.Event.{Event}
-use Rattle.gate_core.specs.declared.Reply.{Reply}
+use Rattle.gate_message.specs.declared.Event.{Event}
+use Rattle.gate_message.specs.declared.Reply.{Reply}
 use Rattle.gate_events.specs.EventLines.{line_event}
 use Rattle.gate_lines.specs.Refused.{bad_line, line_too_long, too_many_lines}
 use Rattle.gate_prog.specs.Lanes.{Run, fault_memory}

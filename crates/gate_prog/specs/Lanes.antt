@@ -6,9 +6,9 @@ use Rattle.gate_core.specs.World.{World}
 use Rattle.gate_lines.specs.declared.fault.LaneFault.{LaneFault}
 use Rattle.gate_lines.specs.declared.fault.LaneFault.TheVariants as faults
 use Rattle.gate_core.specs.Good.{StepGives}
-use Rattle.gate_core.specs.Texts.{reply_text}
-use Rattle.gate_core.specs.declared.event.Event.{Event}
-use Rattle.gate_core.specs.declared.reply.Reply.{Reply}
+use Rattle.gate_message.specs.Texts.{reply_text}
+use Rattle.gate_message.specs.declared.event.Event.{Event}
+use Rattle.gate_message.specs.declared.reply.Reply.{Reply}
 use Rattle.gate_lines.specs.Lines.{line_limit, count_limit, LacksNewline, EachLacksNewline, lines_of, unlines, is_skipped, FirstLines}
 use Rattle.gate_lines.specs.Refused.{bad_line, line_too_long, too_many_lines}
 use Rattle.gate_events.specs.EventLines.{line_event}

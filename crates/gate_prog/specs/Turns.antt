@@ -9,7 +9,7 @@ use Rattle.gate_lines.specs.Lines.{LacksNewline, line_limit, count_limit, lines_
 use Rattle.gate_lines.specs.Reading.{PieceRead}
 use Rattle.gate_prog.specs.declared.lane.Turn.{Turn}
 use Rattle.gate_prog.specs.declared.lane.Turn.TheVariants.{Went, Ended}
-use Rattle.gate_core.specs.declared.event.Event.{Event}
+use Rattle.gate_message.specs.declared.event.Event.{Event}
 use Rattle.gate_prog.specs.Lanes.{EventAnswered, LineAnswered, Run, SentOf, StoppedBy, LaneUnread}
 
 -- a line with its newline answers the event

@@ -4,12 +4,13 @@ ghost use Rattle.gate_prog.specs.Lanes.{LaneDone, LaneUnread, StoppedBy};
 ghost use Rattle.gate_prog.specs.Turns.{EventReplied, EventLost, AnswerMade, AnswerLost, LineTaken, TurnTaken, LaneCame};
 
 use gate_bytes::Memory;
-use gate_core::{Event, State};
+use gate_core::State;
 use gate_events::event_on;
 use gate_lines::{
     Found, LaneFault, MAX_LINES, Sink, Source, asks_nothing, end_line, has_ended, next_line,
     send_before_wait,
 };
+use gate_message::Event;
 use std::alloc::Global;
 use std::hash::BuildHasher;
 

@@ -3,11 +3,12 @@ use Rattle.std.proofs.Common.{◌≡◌, ◌<◌, List, [], ◌∷◌, ◌++◌,
 use Rattle.std.specs.List.{flat_map}
 use Rattle.std.proofs.lemmas.List.Elements.{Contains-append_left, Contains-append_right, Contains-append_cases}
 use Rattle.gate_tx.specs.Tx.{Tx}
-use Rattle.gate_core.specs.declared.event.Event.{Event}
-use Rattle.gate_core.specs.declared.reply.Reply.{Reply}
+use Rattle.gate_message.specs.declared.event.Event.{Event}
+use Rattle.gate_message.specs.declared.reply.Reply.{Reply}
 use Rattle.gate_core.specs.World.{World}
 use Rattle.gate_core.specs.Steps.{step_of}
-use Rattle.gate_core.specs.Good.{IsGoodWorld, IsApartFrom, StepGives, transactions_in, transactions_of}
+use Rattle.gate_message.specs.Spelled.{transactions_of}
+use Rattle.gate_core.specs.Good.{IsGoodWorld, IsApartFrom, StepGives, transactions_in}
 use Rattle.gate_core.specs.Runs.{run_of, IsRunApart}
 use Rattle.gate_core.proofs.Keeping.{apart_part}
 use Rattle.gate_core.proofs.Running.{apart_first, apart_rest}

@@ -1,8 +1,8 @@
 -- What a pass holds, and where its calls stand in a journal.
 use Rattle.std.specs.Prelude.{◌≡◌, ℕ, ◌-◌, ◌<◌, List, [], ◌∷◌, Option, Some, None, slice_get, IfSome}
-use Rattle.gate_core.specs.declared.caller.Caller.{Caller}
-use Rattle.gate_core.specs.declared.event.Event.{Event}
-use Rattle.gate_core.specs.declared.reply.Reply.{Reply}
+use Rattle.gate_message.specs.declared.caller.Caller.{Caller}
+use Rattle.gate_message.specs.declared.event.Event.{Event}
+use Rattle.gate_message.specs.declared.reply.Reply.{Reply}
 use Rattle.gate_journal.specs.declared.entry.Entry.{Entry}
 use Rattle.gate_journal.specs.Legal.{entry}
 use Rattle.gate_shared.specs.declared.receipt.Made.{Made}

@@ -1,8 +1,8 @@
 -- The value under the lock, and what becomes of it in one call.
 use Rattle.std.specs.Prelude.{◌≡◌, ℕ, ◌+◌, ◌-◌, ◌^◌, ◌<◌, ◌≤◌, min, List, [], ◌∷◌, ◌++◌, length, Some, Result, Ok, Err}
-use Rattle.gate_core.specs.declared.caller.Caller.{Caller}
-use Rattle.gate_core.specs.declared.event.Event.{Event}
-use Rattle.gate_core.specs.Callers.{caller_of}
+use Rattle.gate_message.specs.declared.caller.Caller.{Caller}
+use Rattle.gate_message.specs.declared.event.Event.{Event}
+use Rattle.gate_message.specs.Callers.{caller_of}
 use Rattle.gate_core.specs.Good.{IsGoodWorld}
 use Rattle.gate_core.specs.Runs.{IsRunApart}
 use Rattle.gate_core.specs.Steps.{step_of}

@@ -1,6 +1,6 @@
 //! One state under one lock, for many callers.
 ghost use Rattle.std.specs.Prelude.{◌≡◌, ◌≤◌, [], length, Some, IfOk, IfErr, OnErr, IsErrOf};
-ghost use Rattle.gate_core.specs.Callers.{caller_of};
+ghost use Rattle.gate_message.specs.Callers.{caller_of};
 ghost use Rattle.gate_shared.specs.declared.receipt.Made.{Made as TheMade};
 ghost use Rattle.gate_shared.specs.declared.receipt.Receipt.{Receipt as TheReceipt};
 ghost use Rattle.gate_shared.specs.Calls.{last_call};
@@ -13,7 +13,8 @@ use crate::receipt::Receipt;
 use crate::settle::{SettleFault, Settled};
 use crate::shared::{CallFault, Shared};
 use gate_bytes::Memory;
-use gate_core::{Caller, Event, State};
+use gate_core::State;
+use gate_message::{Caller, Event};
 use std::alloc::Global;
 use std::hash::BuildHasher;
 use std::sync::{Mutex, Wait};

@@ -4,8 +4,8 @@ ghost use Rattle.std.specs.Option.{option_copied};
 
 use crate::base::Base;
 use crate::receipt::Made;
-use gate_core::{Caller, is_same_event, is_same_reply};
 use gate_journal::Entry;
+use gate_message::{Caller, is_same_event, is_same_reply};
 use std::marker::{Model, PhantomData};
 
 /// The most calls of a pass.

@@ -1,5 +1,5 @@
 use Rattle.std.proofs.Common.{ap}
-use Rattle.gate_core.specs.declared.reply.Reply.{Reply}
+use Rattle.gate_message.specs.declared.reply.Reply.{Reply}
 use Rattle.gate_core.specs.World.{World}
 use Rattle.gate_core.proofs.ClosedSessions.{step_closed}
 use Rattle.gate_core.proofs.laws.closed_sessions_change_nothing.Goals as goal

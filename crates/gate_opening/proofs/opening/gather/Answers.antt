@@ -5,7 +5,7 @@ use Rattle.gate_opening.proofs.Steps.{end_not_unread}
 use Rattle.gate_opening.proofs.opening.gather.Goals as goal
 
 pub loop-number-init : goal.loop-number-init
-loop-number-init g c = Heard-start _ _ c.new-draft.ensures
+loop-number-init g c = Heard-start _ _ c.requires
 
 pub loop-number-preserved : goal.loop-number-preserved
 loop-number-preserved g c =

@@ -1,5 +1,5 @@
 use Rattle.std.proofs.Common.{ap, ◌∙◌}
-use Rattle.gate_core.specs.Planning.{settled}
+use Rattle.gate_message.specs.Replies.{settled}
 use Rattle.gate_core.proofs.Settling.{settled_step}
 use Rattle.gate_core.proofs.state.State.plan_and_record.Goals as goal
 

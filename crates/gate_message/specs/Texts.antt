@@ -6,13 +6,13 @@ use Rattle.gate_tx.specs.Ids.{id_text}
 use Rattle.gate_chain.specs.declared.ChainDenial.{ChainDenial}
 use Rattle.gate_chain.specs.Denials.{rule_of as chain_rule, token_of}
 use Rattle.gate_reorg.specs.declared.Moved.{Moved as Change}
-use Rattle.gate_core.specs.declared.refusal.Refusal.{Refusal}
-use Rattle.gate_core.specs.declared.reply.Reply.{Reply}
-use Rattle.gate_core.specs.declared.reply.Reply.TheVariants.{Entered, Left, Admitted, Listing, Block, Headers, Rpc, Denied, Set, Moved, Refused}
+use Rattle.gate_message.specs.declared.refusal.Refusal.{Refusal}
+use Rattle.gate_message.specs.declared.reply.Reply.{Reply}
+use Rattle.gate_message.specs.declared.reply.Reply.TheVariants.{Entered, Left, Admitted, Listing, Block, Headers, Rpc, Denied, Set, Moved, Refused}
 use Rattle.gate_rpc.specs.declared.reply.RpcReply.{RpcReply}
 use Rattle.gate_rpc.specs.Replies.{reply_status, reply_text as answer_text}
 use Rattle.gate_net.specs.Permissions.{Permissions, permissions_text}
-use Rattle.gate_core.specs.Refusals.{rule_text, refusal_token, then_text}
+use Rattle.gate_message.specs.Refusals.{rule_text, refusal_token, then_text}
 
 abbrev pub entered_text : Permissions → List ℕ
 entered_text flags = codes "entered " ++ permissions_text flags

@@ -3,10 +3,10 @@ use Rattle.std.specs.Prelude.{ℕ, ◌==◌, Bool, ◌||◌, if◌then◌else◌
 use Rattle.std.specs.Int.{is_in_range}
 use Rattle.std.specs.Fmt.{decimal}
 use Rattle.gate_standard.specs.Denials.{rule_of, token_of}
-use Rattle.gate_core.specs.declared.refusal.Then.{Then}
-use Rattle.gate_core.specs.declared.refusal.Then.TheVariants.{Keep, Close, Relay}
-use Rattle.gate_core.specs.declared.refusal.Refusal.{Refusal}
-use Rattle.gate_core.specs.declared.refusal.Refusal.TheVariants.{PeerUnknown, PeerClosed, PeerKnown, BlocksOnly, AlreadyInMempool, MempoolNoBloom, MempoolUploadTarget, HeadersDuringDownload, UnknownBlock, HistoricalUploadTarget, Admission}
+use Rattle.gate_message.specs.declared.refusal.Then.{Then}
+use Rattle.gate_message.specs.declared.refusal.Then.TheVariants.{Keep, Close, Relay}
+use Rattle.gate_message.specs.declared.refusal.Refusal.{Refusal}
+use Rattle.gate_message.specs.declared.refusal.Refusal.TheVariants.{PeerUnknown, PeerClosed, PeerKnown, BlocksOnly, AlreadyInMempool, MempoolNoBloom, MempoolUploadTarget, HeadersDuringDownload, UnknownBlock, HistoricalUploadTarget, Admission}
 use Rattle.gate_net.specs.Permissions.{Permissions}
 
 abbrev pub rule_text : Refusal → List ℕ

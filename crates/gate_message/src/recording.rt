@@ -1,8 +1,7 @@
 //! A reply for each who keeps it.
 ghost use Rattle.std.specs.Prelude.{◌≡◌, IfOk};
-ghost use Rattle.gate_core.specs.ChainSteps.{chain_reply};
-ghost use Rattle.gate_core.specs.Planning.{settled};
-ghost use Rattle.gate_core.specs.Recording.{AreCopies};
+ghost use Rattle.gate_message.specs.Replies.{chain_reply, settled};
+ghost use Rattle.gate_message.specs.Recording.{AreCopies};
 
 use crate::reply::Reply;
 use gate_bytes::{Copied, Memory};
@@ -22,23 +21,40 @@ pub struct Replies {
     pub entry: Reply,
 }
 
+fn copied_twice(alloc: Global, reply: &Reply) -> Result<(Reply, Reply), Memory>
+    ensures { IfOk result (λ copies. (copies.0 ≡ reply.now) × (copies.1 ≡ reply.now)) }
+{
+    let first = reply.copy(alloc)?;
+    match reply.copy(alloc) {
+        Ok(second) => Ok((first, second)),
+        Err(fault) => {
+            drop(first);
+            Err(fault)
+        }
+    }
+}
+
 impl Replies {
     /// A reply with its copies.
-    pub(crate) fn of(alloc: Global, reply: Reply) -> Result<Replies, Memory>
+    pub fn of(alloc: Global, reply: Reply) -> Result<Replies, Memory>
         ensures reply { IfOk result (λ replies. replies.reply ≡ reply) }
         ensures copies { IfOk result AreCopies }
     {
-        let receipt = reply.copy(alloc)?;
-        let entry = reply.copy(alloc)?;
-        Ok(Replies {
-            reply,
-            receipt,
-            entry,
-        })
+        match copied_twice(alloc, &reply) {
+            Ok((receipt, entry)) => Ok(Replies {
+                reply,
+                receipt,
+                entry,
+            }),
+            Err(fault) => {
+                drop(reply);
+                Err(fault)
+            }
+        }
     }
 
     /// Those to the chain's event, which take no memory.
-    pub(crate) fn of_chain(outcome: Result<Moved, ChainDenial>) -> Replies
+    pub fn of_chain(outcome: Result<Moved, ChainDenial>) -> Replies
         ensures reply { result.reply ≡ chain_reply outcome }
         ensures copies { AreCopies result }
     {
@@ -50,7 +66,7 @@ impl Replies {
     }
 
     /// These, or in the place of each the denial of what they say was admitted.
-    pub(crate) fn settled(self, denial: Option<Denial>) -> Replies
+    pub fn settled(self, denial: Option<Denial>) -> Replies
         ensures reply { result.reply ≡ settled self.reply denial }
         ensures copies { AreCopies self → AreCopies result }
     {

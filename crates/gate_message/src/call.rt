@@ -2,7 +2,7 @@
 ghost use Rattle.std.specs.Prelude.{◌≡◌, IfOk};
 ghost use Rattle.std.specs.Option.{option_map};
 ghost use Rattle.gate_rpc.specs.Calls.{request_of};
-ghost use Rattle.gate_core.specs.UserCalls.{called, name_called};
+ghost use Rattle.gate_message.specs.UserCalls.{called, name_called};
 
 use gate_bytes::{Copied, Exact, Memory, Text};
 use gate_rpc::{CallError, Command, Request, RpcFault};
@@ -22,7 +22,7 @@ pub struct Call {
 impl Model for Call {
     ghost use Rattle.std.specs.Prelude.{◌≡◌};
     ghost use Rattle.gate_rpc.specs.Calls.{request_of};
-    ghost use Rattle.gate_core.specs.UserCalls.{UserCall, called};
+    ghost use Rattle.gate_message.specs.UserCalls.{UserCall, called};
 
     ghost Value = { UserCall };
 
@@ -101,7 +101,7 @@ impl Call {
 impl Call {
     ghost use Rattle.std.specs.Prelude.{IfSome};
     ghost use Rattle.gate_tx.specs.Text.{IsTx};
-    ghost use Rattle.gate_core.specs.Good.{offered};
+    ghost use Rattle.gate_message.specs.Spelled.{offered};
 
     /// That the transaction that it offers has a text: it does nothing.
     pub(crate) fn tells_spelled(&self)
@@ -140,7 +140,7 @@ impl Copied for Call {
 
 /// Calls are equal where their users, seconds and texts are: what these ask for is then the same.
 impl PartialEq for Call {
-    ghost use Rattle.gate_core.specs.Equality.{call_eq, call_decides};
+    ghost use Rattle.gate_message.specs.Equality.{call_eq, call_decides};
     ghost use Rattle.gate_admit.specs.Equality.{deciding};
 
     ghost eq = { call_eq };
@@ -153,14 +153,14 @@ impl PartialEq for Call {
 }
 
 impl Eq for Call {
-    ghost use Rattle.gate_core.specs.Equality.{call_decides};
+    ghost use Rattle.gate_message.specs.Equality.{call_decides};
     ghost use Rattle.gate_admit.specs.Equality.{deciding_all};
 
     ghost laws = { deciding_all call_decides };
 }
 
 impl Exact for Call {
-    ghost use Rattle.gate_core.specs.Equality.{call_decides};
+    ghost use Rattle.gate_message.specs.Equality.{call_decides};
 
     ghost exact = { call_decides };
 }

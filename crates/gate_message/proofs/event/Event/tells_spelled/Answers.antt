@@ -5,8 +5,8 @@ use Rattle.gate_tx.specs.Tx.{Tx}
 use Rattle.gate_chain.specs.declared.Block.{Block}
 use Rattle.gate_reorg.specs.Events.{present}
 use Rattle.gate_reorg.specs.Reorganisation.{transactions_of}
-use Rattle.gate_core.specs.Good.{IsSpelled}
-use Rattle.gate_core.proofs.event.Event.tells_spelled.Goals as goal
+use Rattle.gate_message.specs.Spelled.{IsSpelled}
+use Rattle.gate_message.proofs.event.Event.tells_spelled.Goals as goal
 
 pub returns-in-Chain : goal.returns-in-Chain
 returns-in-Chain c =

@@ -64,7 +64,7 @@ pub enum Event {
 }
 
 impl Event {
-    ghost use Rattle.gate_core.specs.Callers.{caller_of};
+    ghost use Rattle.gate_message.specs.Callers.{caller_of};
 
     /// Who makes it.
     pub fn caller(&self, alloc: Global) -> Result<Caller, Memory>
@@ -89,7 +89,7 @@ impl Event {
 }
 
 impl Event {
-    ghost use Rattle.gate_core.specs.Callers.{caller_of, peer_of};
+    ghost use Rattle.gate_message.specs.Callers.{caller_of, peer_of};
 
     /// The peer that makes it, where one does.
     fn peer(&self) -> Option<u64>
@@ -133,10 +133,10 @@ impl Event {
 }
 
 impl Event {
-    ghost use Rattle.gate_core.specs.Good.{IsSpelled};
+    ghost use Rattle.gate_message.specs.Spelled.{IsSpelled};
 
     /// That its transactions have a text: it does nothing.
-    pub(crate) fn tells_spelled(&self)
+    pub fn tells_spelled(&self)
         ensures { IsSpelled self.now }
     {
         match self {

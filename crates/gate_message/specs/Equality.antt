@@ -4,7 +4,7 @@ use Rattle.std.specs.Bool.{Decides}
 use Rattle.std.specs.Str.{bytes_eq}
 use Rattle.std.proofs.lemmas.Slice.Eq.{bytes_eq-Decides}
 use Rattle.std.proofs.lemmas.Bool.Decides.{Decides-eqb, Decides-and, Decides-like}
-use Rattle.gate_core.specs.UserCalls.{UserCall, called}
+use Rattle.gate_message.specs.UserCalls.{UserCall, called}
 
 abbrev pub call_eq : UserCall → UserCall → Bool
 call_eq a b = eqb a.time b.time && (bytes_eq a.user b.user && bytes_eq a.json b.json)

@@ -1,6 +1,6 @@
 //! Why an event is refused, and what follows for the session.
 ghost use Rattle.std.specs.Prelude.{◌≡◌, Some};
-ghost use Rattle.gate_core.specs.Refusals.{closing, rule_text, refusal_token, then_of, then_text};
+ghost use Rattle.gate_message.specs.Refusals.{closing, rule_text, refusal_token, then_of, then_text};
 
 use gate_net::Permissions;
 use gate_standard::Denial;

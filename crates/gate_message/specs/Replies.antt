@@ -1,0 +1,38 @@
+-- Which reply is given to an event of the chain, and which takes the place of one.
+use Rattle.std.specs.Prelude.{Option, Some, None, Result, Ok, Err}
+use Rattle.gate_chain.specs.declared.ChainDenial.{ChainDenial}
+use Rattle.gate_standard.specs.declared.Denial.{Denial}
+use Rattle.gate_reorg.specs.declared.moved.Moved.{Moved as Move}
+use Rattle.gate_rpc.specs.declared.error.RpcError.TheVariants as errors
+use Rattle.gate_rpc.specs.declared.reply.RpcReply.TheVariants.{NotAllowed, Answer, Failure}
+use Rattle.gate_message.specs.declared.refusal.Refusal.TheVariants.{Admission}
+use Rattle.gate_message.specs.declared.refusal.Then.TheVariants.{Keep}
+use Rattle.gate_message.specs.declared.reply.Reply.{Reply}
+use Rattle.gate_message.specs.declared.reply.Reply.TheVariants.{Entered, Left, Admitted, Listing, Block, Headers, Rpc, Denied, Set, Moved, Refused}
+
+-- what is told of an event that came to this
+abbrev pub chain_reply : Result Move ChainDenial → Reply
+chain_reply (Ok moved) = Moved moved
+chain_reply (Err denial) = Refused denial
+
+-- the denial in the place of a reply to a submission: a call's answer keeps its id
+abbrev pub denied_instead : Reply → Denial → Reply
+denied_instead (Entered flags) denial = Denied (Admission denial) Keep
+denied_instead Left denial = Denied (Admission denial) Keep
+denied_instead (Admitted txid fee vsize replaced) denial = Denied (Admission denial) Keep
+denied_instead (Listing txids) denial = Denied (Admission denial) Keep
+denied_instead (Block height time) denial = Denied (Admission denial) Keep
+denied_instead (Headers first count) denial = Denied (Admission denial) Keep
+denied_instead (Rpc NotAllowed) denial = Denied (Admission denial) Keep
+denied_instead (Rpc (Answer id result)) denial = Rpc (Failure id (errors.Denied denial))
+denied_instead (Rpc (Failure id error)) denial = Denied (Admission denial) Keep
+denied_instead (Denied refusal then) denial = Denied (Admission denial) Keep
+denied_instead Set denial = Denied (Admission denial) Keep
+denied_instead (Moved moved) denial = Denied (Admission denial) Keep
+denied_instead (Refused denied) denial = Denied (Admission denial) Keep
+
+-- the reply once the change is made: the planned one, or in its place the denial of what was granted and is gone again (A46),
+-- which closes nothing
+abbrev pub settled : Reply → Option Denial → Reply
+settled reply None = reply
+settled reply (Some denial) = denied_instead reply denial

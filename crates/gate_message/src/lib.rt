@@ -1,0 +1,23 @@
+//! What callers ask of the gate, and what it answers: events, replies and refusals, with their copies, their equality and the
+//! lines of replies.
+//!
+//! The main clauses are those of `Reply::text`, the line of each reply, and of `Event::caller`, who makes an event.
+#![tactic(auto)]
+
+mod call;
+mod caller;
+mod event;
+mod recording;
+mod refusal;
+mod reply;
+mod same;
+mod switch;
+
+pub use call::Call;
+pub use caller::Caller;
+pub use event::Event;
+pub use recording::Replies;
+pub use refusal::{Refusal, Then};
+pub use reply::Reply;
+pub use same::{is_same_event, is_same_reply};
+pub use switch::Switch;
