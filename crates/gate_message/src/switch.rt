@@ -1,4 +1,5 @@
 //! What the operator turns on and off.
+
 /// What is turned on or off.
 #[derive(Clone, Copy, Debug, PartialEq, Eq)]
 pub enum Switch {
