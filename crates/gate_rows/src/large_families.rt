@@ -85,14 +85,15 @@ fn opened(alloc: Global) -> Result<String, AllocError> {
     Ok(input)
 }
 
+/// Runs an input, whose replies have to be `first` and `rest`.
 fn pass<R: Abort + AllocGlobal + Threads + Wait + Sync>(
     rt: &R,
     input: &str,
-    wanted: &str,
+    first: &[u8],
+    rest: &[u8],
 ) -> Result<(), Fail> {
-    let (status, written) = outcome(rt, "run", input)?;
-    let text = std::str::from_utf8(written.as_slice())?;
-    assert_eq!(rt; text, wanted);
+    let (status, written) = outcome(rt, "run", input.as_bytes())?;
+    assert!(rt; written.as_slice().strip_prefix(first) == Some(rest));
     assert_eq!(rt; status, 0);
     Ok(())
 }
@@ -205,16 +206,21 @@ const LINKS: [(&str, &str); 26] = [
     ),
 ];
 
-const CHAIN_REPLIES: &str =
-    "entered none\nadmitted 5ab0eb89aa597c4c79ebb7cd83e361997309eb27e186bc95d794fe37e6453fc2 fee 110 vsize 110 replaced 0\nadmitted c0aa5a45314ea266e7c33aff2697b64077856491385b15484cdc20bef9a4bb98 fee 110 vsize 110 replaced 0\nadmitted bea5f61ae154244d6b5b4cc596c58deb263bc16aee4b9d86e51fd42810082118 fee 110 vsize 110 replaced 0\nadmitted db5c57752e2269d77ee6c74d5a8595036a43a915374c5453fba63bf612fb6d72 fee 110 vsize 110 replaced 0\nadmitted a94cf102fceaeb4470adda1d18a76a30a702ccd5bd169eeefc29e7144875885e fee 110 vsize 110 replaced 0\nadmitted 7bb9dcf54d78de516ba0422cfab9d161fb10cf9c9488a2509384d009cbb4bbec fee 110 vsize 110 replaced 0\nadmitted f262526826530a115ee9a7be1557d15804bbcb674bdd3b6294b33d5831dcae71 fee 110 vsize 110 replaced 0\nadmitted 0e4ca944045675522d58eb1f403e899f0e094cc14bf9dd5b1d7386255ff96354 fee 110 vsize 110 replaced 0\nadmitted 598cd771dbe740eef228ecf507542606eaf093c4cbc4e6654f2dca532b9bdb8e fee 110 vsize 110 replaced 0\nadmitted 87b9567e986b5f36c92f7fbe20bf377fd8bd27c2b585fc628afc2c49a63fe866 fee 110 vsize 110 replaced 0\nadmitted ee8c881f16e06ca746369370720733a2bb23c44be279b4584ea7d67f0b657a92 fee 110 vsize 110 replaced 0\nadmitted f1de4f6b662b16db71506478a3f29a45a5af8c56576231673e1f4fcdc9140867 fee 110 vsize 110 replaced 0\nadmitted 318cacc14d49800f964632cf3a66aeceb1593e9edb8380854459b798f6ed4e84 fee 110 vsize 110 replaced 0\nadmitted d18fc3e06b1e0928e36cb673a893a9a61fcfebddb4478f4b1411fd6df3b74915 fee 110 vsize 110 replaced 0\nadmitted 5efef16f157e4df67432ce514c370edfd177542da0ecf717bace364ce4c5d784 fee 110 vsize 110 replaced 0\nadmitted a9a9ee31369e25737158f6c0e58978601715f3c1e029cda930181fd70d19c8c9 fee 110 vsize 110 replaced 0\nadmitted 1514f94a9af0818da03e08bcac2ad4814a734020361a13caf594a21b371e2049 fee 110 vsize 110 replaced 0\nadmitted 7ad9128d841e38b2c6ce28a1d704436b28603321495aef5463948d319f49cb9c fee 110 vsize 110 replaced 0\nadmitted 5c529ab39ab475eb09113d6d5fc81cf9328a1e651659e925f81a7047ee79bf67 fee 110 vsize 110 replaced 0\nadmitted dd17eaa82c0499dd48951f6a889ab111de193e120a474289b7166069c7690491 fee 110 vsize 110 replaced 0\nadmitted 8d878448774b0e720e0b2f0e15337623c1b55ede0b926899c92d3485c9a74805 fee 110 vsize 110 replaced 0\nadmitted 66307fb753b7518c193945746ba9be5502cd47a08eeab35530e2685c457d0b68 fee 110 vsize 110 replaced 0\nadmitted 592f6dfb0ef1173f784bd4a201999394aca1987ca9cf579fb228e4e05ab91e86 fee 110 vsize 110 replaced 0\nadmitted 0310b5d62432082a3d3662795ac0a0f2c0aed54fbbad73afe51c44cdbc6c60eb fee 110 vsize 110 replaced 0\nadmitted 8b429047851ee2b18db9f050121e91025ed17027cdb696d4d0453dae6c29ddd0 fee 110 vsize 110 replaced 0\ndenied A36 keep too-long-mempool-chain\n";
+const CHAIN_REPLIES: &[u8] =
+    b"entered none\nadmitted 5ab0eb89aa597c4c79ebb7cd83e361997309eb27e186bc95d794fe37e6453fc2 fee 110 vsize 110 replaced 0\nadmitted c0aa5a45314ea266e7c33aff2697b64077856491385b15484cdc20bef9a4bb98 fee 110 vsize 110 replaced 0\nadmitted bea5f61ae154244d6b5b4cc596c58deb263bc16aee4b9d86e51fd42810082118 fee 110 vsize 110 replaced 0\nadmitted db5c57752e2269d77ee6c74d5a8595036a43a915374c5453fba63bf612fb6d72 fee 110 vsize 110 replaced 0\nadmitted a94cf102fceaeb4470adda1d18a76a30a702ccd5bd169eeefc29e7144875885e fee 110 vsize 110 replaced 0\nadmitted 7bb9dcf54d78de516ba0422cfab9d161fb10cf9c9488a2509384d009cbb4bbec fee 110 vsize 110 replaced 0\nadmitted f262526826530a115ee9a7be1557d15804bbcb674bdd3b6294b33d5831dcae71 fee 110 vsize 110 replaced 0\nadmitted 0e4ca944045675522d58eb1f403e899f0e094cc14bf9dd5b1d7386255ff96354 fee 110 vsize 110 replaced 0\nadmitted 598cd771dbe740eef228ecf507542606eaf093c4cbc4e6654f2dca532b9bdb8e fee 110 vsize 110 replaced 0\nadmitted 87b9567e986b5f36c92f7fbe20bf377fd8bd27c2b585fc628afc2c49a63fe866 fee 110 vsize 110 replaced 0\nadmitted ee8c881f16e06ca746369370720733a2bb23c44be279b4584ea7d67f0b657a92 fee 110 vsize 110 replaced 0\nadmitted f1de4f6b662b16db71506478a3f29a45a5af8c56576231673e1f4fcdc9140867 fee 110 vsize 110 replaced 0\nadmitted 318cacc14d49800f964632cf3a66aeceb1593e9edb8380854459b798f6ed4e84 fee 110 vsize 110 replaced 0\nadmitted d18fc3e06b1e0928e36cb673a893a9a61fcfebddb4478f4b1411fd6df3b74915 fee 110 vsize 110 replaced 0\nadmitted 5efef16f157e4df67432ce514c370edfd177542da0ecf717bace364ce4c5d784 fee 110 vsize 110 replaced 0\nadmitted a9a9ee31369e25737158f6c0e58978601715f3c1e029cda930181fd70d19c8c9 fee 110 vsize 110 replaced 0\nadmitted 1514f94a9af0818da03e08bcac2ad4814a734020361a13caf594a21b371e2049 fee 110 vsize 110 replaced 0\nadmitted 7ad9128d841e38b2c6ce28a1d704436b28603321495aef5463948d319f49cb9c fee 110 vsize 110 replaced 0\nadmitted 5c529ab39ab475eb09113d6d5fc81cf9328a1e651659e925f81a7047ee79bf67 fee 110 vsize 110 replaced 0\nadmitted dd17eaa82c0499dd48951f6a889ab111de193e120a474289b7166069c7690491 fee 110 vsize 110 replaced 0\nadmitted 8d878448774b0e720e0b2f0e15337623c1b55ede0b926899c92d3485c9a74805 fee 110 vsize 110 replaced 0\nadmitted 66307fb753b7518c193945746ba9be5502cd47a08eeab35530e2685c457d0b68 fee 110 vsize 110 replaced 0\nadmitted 592f6dfb0ef1173f784bd4a201999394aca1987ca9cf579fb228e4e05ab91e86 fee 110 vsize 110 replaced 0\nadmitted 0310b5d62432082a3d3662795ac0a0f2c0aed54fbbad73afe51c44cdbc6c60eb fee 110 vsize 110 replaced 0\nadmitted 8b429047851ee2b18db9f050121e91025ed17027cdb696d4d0453dae6c29ddd0 fee 110 vsize 110 replaced 0\ndenied A36 keep too-long-mempool-chain\n";
+
+fn push_chain(input: &mut String) -> Result<(), AllocError> {
+    for (hash, amount) in &LINKS {
+        push_payment(input, hash, "00", amount)?;
+    }
+    Ok(())
+}
 
 #[test]
 fn chain_of_twenty_five(rt: HostRuntime) -> Result<(), Fail> {
     let mut input = opened(rt.alloc())?;
-    for (hash, amount) in LINKS {
-        push_payment(&mut input, hash, "00", amount)?;
-    }
-    pass(&rt, input.as_str(), CHAIN_REPLIES)
+    push_chain(&mut input)?;
+    pass(&rt, input.as_str(), CHAIN_REPLIES, b"")
 }
 
 /// The coins that the four parents spend, and the parents, by their hashes.
@@ -233,8 +239,8 @@ const PARENTS: [&str; 4] = [
 ];
 
 /// What the first parent and 25 of its children are answered.
-const FAMILY_REPLIES: &str =
-    "entered none\nadmitted e4bebd24e4b48c12f4ee3725f01cb45a9505cb01b99cbf15aa2ebe2403ad1cdd fee 22000 vsize 885 replaced 0\nadmitted d29a536be1df8300075e959944313e3b07942b1d464bd31678553bce29af1305 fee 110 vsize 110 replaced 0\nadmitted 32f96582e6de5953b9062f9be4062acd4d14396b5c64d9ed26b2f7ccae472555 fee 110 vsize 110 replaced 0\nadmitted 618b89888655e41b779d1411e2c696e79eca576ff91ce5f6ffe86ffe2f194d29 fee 110 vsize 110 replaced 0\nadmitted 1aebcd6e85127ef3dc5f7c79d8786dcecc25411f4761bf6f034d596a48bde7b3 fee 110 vsize 110 replaced 0\nadmitted 258489bce402c5afdb59540c62be7a3d4d67b30978a4bfa46d33bb7b8a7c0dc6 fee 110 vsize 110 replaced 0\nadmitted d0f24a61f121b6f5f9f2c3d2b0d65f9e9ba5da7e14098be2e5356cedeb2ed5ee fee 110 vsize 110 replaced 0\nadmitted af5a4e045dff1973df9973f4c50e3af349eddad7a72645a3e1a61eaebd89ed0c fee 110 vsize 110 replaced 0\nadmitted e5669ae714dbdf1873748d6dd57b8aeb447572c93df00065bcdf8270cec748bd fee 110 vsize 110 replaced 0\nadmitted 34a5e67b6177f7cf0d6770c4fbc8a5e045f0892ffdffec775b1a53e8e7f38ab9 fee 110 vsize 110 replaced 0\nadmitted a751452aaebcd0e884daba1341706d198c815ca27f97d72d7cdf38a8f8564d52 fee 110 vsize 110 replaced 0\nadmitted fe7ed223645780aabbb0a0d95e658d9c88ddf13c96143a7e3b57fe5acf65b4ae fee 110 vsize 110 replaced 0\nadmitted fed75ec994a8111e5742759d08f1ecdff2f4c0ff80878fceeadfba0a3aec2f77 fee 110 vsize 110 replaced 0\nadmitted a04d60ec627f66f891899661d5516132e85533e7b17b68881a31804531479916 fee 110 vsize 110 replaced 0\nadmitted 8db52f5912f2b9fc98b6e7b8840aa305954ca5fb9cb464e81225feaa8c8b1ca6 fee 110 vsize 110 replaced 0\nadmitted f9d30c897a30e905be13336cb521fdbcd6df605a6314962b419232d7b6606ca7 fee 110 vsize 110 replaced 0\nadmitted 7d117009726d0b06902b33ab343400be02faf8096902b3eb35e3f46ec4579c9c fee 110 vsize 110 replaced 0\nadmitted f13f35b00eeb9ba374ae0f1ac64ddf89f89a3bba5ed2305866f628476a7a3b0b fee 110 vsize 110 replaced 0\nadmitted 24b0441e3c819b3602344961c3acd9a0ea385d79f06e5a73b4b43e414680bc6f fee 110 vsize 110 replaced 0\nadmitted f9cfb8ad8cf6d0f4a613be6f30820834859feea4b5f8a268217e3dc2a72b075b fee 110 vsize 110 replaced 0\nadmitted 73119d4bcbf616f8790739a54abbcc703cbe60a7451d21a31d49e115b929faf1 fee 110 vsize 110 replaced 0\nadmitted 882dc81b1e03f3425a1e3c19142b5963ff78d48beffe17950a890ab8caf44eb1 fee 110 vsize 110 replaced 0\nadmitted cea70d9a4cea9681aef8a8e99536465ec6b45a2eaff521b89cfb48743df97176 fee 110 vsize 110 replaced 0\nadmitted f5ff44a490dfa279a2e1750fd579c59c60a2cb010c441cc47cbce594e74c7943 fee 110 vsize 110 replaced 0\nadmitted 4efa0f25c8f019b4753c15ef6d8b81956e60f0365f6af5994f172cfc3b830c73 fee 110 vsize 110 replaced 0\nadmitted 1e373cb9f63677d82cd6ee2d5438257574c5b8c2ed06e5359e965eafea53d6b1 fee 110 vsize 110 replaced 0\n";
+const FAMILY_REPLIES: &[u8] =
+    b"entered none\nadmitted e4bebd24e4b48c12f4ee3725f01cb45a9505cb01b99cbf15aa2ebe2403ad1cdd fee 22000 vsize 885 replaced 0\nadmitted d29a536be1df8300075e959944313e3b07942b1d464bd31678553bce29af1305 fee 110 vsize 110 replaced 0\nadmitted 32f96582e6de5953b9062f9be4062acd4d14396b5c64d9ed26b2f7ccae472555 fee 110 vsize 110 replaced 0\nadmitted 618b89888655e41b779d1411e2c696e79eca576ff91ce5f6ffe86ffe2f194d29 fee 110 vsize 110 replaced 0\nadmitted 1aebcd6e85127ef3dc5f7c79d8786dcecc25411f4761bf6f034d596a48bde7b3 fee 110 vsize 110 replaced 0\nadmitted 258489bce402c5afdb59540c62be7a3d4d67b30978a4bfa46d33bb7b8a7c0dc6 fee 110 vsize 110 replaced 0\nadmitted d0f24a61f121b6f5f9f2c3d2b0d65f9e9ba5da7e14098be2e5356cedeb2ed5ee fee 110 vsize 110 replaced 0\nadmitted af5a4e045dff1973df9973f4c50e3af349eddad7a72645a3e1a61eaebd89ed0c fee 110 vsize 110 replaced 0\nadmitted e5669ae714dbdf1873748d6dd57b8aeb447572c93df00065bcdf8270cec748bd fee 110 vsize 110 replaced 0\nadmitted 34a5e67b6177f7cf0d6770c4fbc8a5e045f0892ffdffec775b1a53e8e7f38ab9 fee 110 vsize 110 replaced 0\nadmitted a751452aaebcd0e884daba1341706d198c815ca27f97d72d7cdf38a8f8564d52 fee 110 vsize 110 replaced 0\nadmitted fe7ed223645780aabbb0a0d95e658d9c88ddf13c96143a7e3b57fe5acf65b4ae fee 110 vsize 110 replaced 0\nadmitted fed75ec994a8111e5742759d08f1ecdff2f4c0ff80878fceeadfba0a3aec2f77 fee 110 vsize 110 replaced 0\nadmitted a04d60ec627f66f891899661d5516132e85533e7b17b68881a31804531479916 fee 110 vsize 110 replaced 0\nadmitted 8db52f5912f2b9fc98b6e7b8840aa305954ca5fb9cb464e81225feaa8c8b1ca6 fee 110 vsize 110 replaced 0\nadmitted f9d30c897a30e905be13336cb521fdbcd6df605a6314962b419232d7b6606ca7 fee 110 vsize 110 replaced 0\nadmitted 7d117009726d0b06902b33ab343400be02faf8096902b3eb35e3f46ec4579c9c fee 110 vsize 110 replaced 0\nadmitted f13f35b00eeb9ba374ae0f1ac64ddf89f89a3bba5ed2305866f628476a7a3b0b fee 110 vsize 110 replaced 0\nadmitted 24b0441e3c819b3602344961c3acd9a0ea385d79f06e5a73b4b43e414680bc6f fee 110 vsize 110 replaced 0\nadmitted f9cfb8ad8cf6d0f4a613be6f30820834859feea4b5f8a268217e3dc2a72b075b fee 110 vsize 110 replaced 0\nadmitted 73119d4bcbf616f8790739a54abbcc703cbe60a7451d21a31d49e115b929faf1 fee 110 vsize 110 replaced 0\nadmitted 882dc81b1e03f3425a1e3c19142b5963ff78d48beffe17950a890ab8caf44eb1 fee 110 vsize 110 replaced 0\nadmitted cea70d9a4cea9681aef8a8e99536465ec6b45a2eaff521b89cfb48743df97176 fee 110 vsize 110 replaced 0\nadmitted f5ff44a490dfa279a2e1750fd579c59c60a2cb010c441cc47cbce594e74c7943 fee 110 vsize 110 replaced 0\nadmitted 4efa0f25c8f019b4753c15ef6d8b81956e60f0365f6af5994f172cfc3b830c73 fee 110 vsize 110 replaced 0\nadmitted 1e373cb9f63677d82cd6ee2d5438257574c5b8c2ed06e5359e965eafea53d6b1 fee 110 vsize 110 replaced 0\n";
 
 /// The first parent with 25 children, the last of which comes in by the second try.
 fn family(alloc: Global) -> Result<String, AllocError> {
@@ -244,18 +250,16 @@ fn family(alloc: Global) -> Result<String, AllocError> {
     Ok(input)
 }
 
-fn replies(alloc: Global, rest: &str) -> Result<String, AllocError> {
-    let mut text = String::from_str(alloc, FAMILY_REPLIES)?;
-    text.push_str(rest)?;
-    Ok(text)
-}
-
 #[test]
 fn twenty_five_children_of_one_parent(rt: HostRuntime) -> Result<(), Fail> {
     let mut input = family(rt.alloc())?;
     push_payment(&mut input, PARENTS[0], "19", CHILD)?;
-    let wanted = replies(rt.alloc(), "denied A36 keep too-long-mempool-chain\n")?;
-    pass(&rt, input.as_str(), wanted.as_str())
+    pass(
+        &rt,
+        input.as_str(),
+        FAMILY_REPLIES,
+        b"denied A36 keep too-long-mempool-chain\n",
+    )
 }
 
 #[test]
@@ -263,30 +267,40 @@ fn replacing_a_child_of_a_full_family(rt: HostRuntime) -> Result<(), Fail> {
     let mut input = family(rt.alloc())?;
     push_payment(&mut input, PARENTS[0], "00", "dc0a000000000000")?;
     push_payment(&mut input, PARENTS[0], "19", CHILD)?;
-    let wanted = replies(
-        rt.alloc(),
-        "admitted 542cb10c503ac84bba3dc729f87391023bcd7a6c7f5f5177ed53dadd228e8bfa fee 220 vsize 110 replaced 1\ndenied A36 keep too-long-mempool-chain\n",
-    )?;
-    pass(&rt, input.as_str(), wanted.as_str())
+    pass(
+        &rt,
+        input.as_str(),
+        FAMILY_REPLIES,
+        b"admitted 542cb10c503ac84bba3dc729f87391023bcd7a6c7f5f5177ed53dadd228e8bfa fee 220 vsize 110 replaced 1\ndenied A36 keep too-long-mempool-chain\n",
+    )
+}
+
+/// A child of the first two parents together.
+fn push_common_child(input: &mut String) -> Result<(), AllocError> {
+    input.push_str(EVENT)?;
+    input.push_str(VERSION)?;
+    input.push_str("02")?;
+    push_input(input, PARENTS[0], "18")?;
+    push_input(input, PARENTS[1], "18")?;
+    input.push_str("01")?;
+    push_output(input, "8813000000000000")?;
+    push_end(input, 2)
+}
+
+fn push_families(input: &mut String) -> Result<(), AllocError> {
+    for hash in &SPENT {
+        push_parent(input, hash)?;
+    }
+    for (hash, count) in PARENTS.iter().zip([23, 23, 24, 24]) {
+        push_children(input, hash, count)?;
+    }
+    push_common_child(input)
 }
 
 /// Four parents with 23, 23, 24 and 24 children, and one more of the first two together.
 pub fn four_families(alloc: Global) -> Result<String, AllocError> {
     let mut input = opened(alloc)?;
-    for hash in SPENT {
-        push_parent(&mut input, hash)?;
-    }
-    for (hash, count) in PARENTS.iter().zip([23, 23, 24, 24]) {
-        push_children(&mut input, hash, count)?;
-    }
-    input.push_str(EVENT)?;
-    input.push_str(VERSION)?;
-    input.push_str("02")?;
-    push_input(&mut input, PARENTS[0], "18")?;
-    push_input(&mut input, PARENTS[1], "18")?;
-    input.push_str("01")?;
-    push_output(&mut input, "8813000000000000")?;
-    push_end(&mut input, 2)?;
+    push_families(&mut input)?;
     Ok(input)
 }
 
@@ -300,7 +314,7 @@ fn push_replacement(input: &mut String) -> Result<(), AllocError> {
 pub fn push_spending_of_four(input: &mut String) -> Result<(), AllocError> {
     input.push_str(VERSION)?;
     input.push_str("04")?;
-    for hash in SPENT {
+    for hash in &SPENT {
         push_input(input, hash, "00")?;
     }
     input.push_str("01")?;
@@ -315,7 +329,7 @@ pub fn ends<R: Abort + AllocGlobal + Threads + Wait + Sync>(
     lines: usize,
     last: &[u8],
 ) -> Result<(), Fail> {
-    let (status, written) = outcome(rt, "run", input)?;
+    let (status, written) = outcome(rt, "run", input.as_bytes())?;
     let text = written.as_slice();
     assert_eq!(rt; text.iter().filter(|byte| **byte == b'\n').count(), lines);
     assert!(rt; text.ends_with(last));
@@ -355,8 +369,8 @@ const WIDE: &str = "c732d88bdffeb25ded0c52b2afc185c1c1e220cf9d371987bcac6abcfafe
 const SIZES_COIN: &str =
     "coin 2121212121212121212121212121212121212121212121212121212121212121 0 100000000 1 plain 00142222222222222222222222222222222222222222\n";
 
-const SIZES_REPLIES: &str =
-    "entered none\nadmitted 73d0fefabc6aacbc8719379dcf20e2c1c185c1afb2520ced5db2fedf8bd832c7 fee 19910000 vsize 60005 replaced 0\ndenied A36 keep too-long-mempool-chain\nadmitted cf291fbb98ccf043cd09b4c42c69757d511509e263c800373e8a10b261299562 fee 39940000 vsize 40005 replaced 0\nadmitted 0d4adca85e61d79a92dddc98a9cdb3af42fa9e183c5d8d2eadb104694f08d9f3 fee 39966000 vsize 1133 replaced 0\n";
+const SIZES_REPLIES: &[u8] =
+    b"entered none\nadmitted 73d0fefabc6aacbc8719379dcf20e2c1c185c1afb2520ced5db2fedf8bd832c7 fee 19910000 vsize 60005 replaced 0\ndenied A36 keep too-long-mempool-chain\nadmitted cf291fbb98ccf043cd09b4c42c69757d511509e263c800373e8a10b261299562 fee 39940000 vsize 40005 replaced 0\nadmitted 0d4adca85e61d79a92dddc98a9cdb3af42fa9e183c5d8d2eadb104694f08d9f3 fee 39966000 vsize 1133 replaced 0\n";
 
 /// Outputs of 400 virtual bytes each, by their signature operations.
 fn push_wide_outputs(input: &mut String, outputs: u32) -> Result<(), AllocError> {
@@ -373,33 +387,45 @@ fn push_wide_child(input: &mut String, count: &str, outputs: u32) -> Result<(), 
     push_end(input, 1)
 }
 
-fn sizes(alloc: Global) -> Result<String, AllocError> {
-    let mut input = String::from_str(alloc, COINS)?;
-    input.push_str(SIZES_COIN)?;
-    input.push_str(ENTER)?;
+fn push_wide_parent(input: &mut String) -> Result<(), AllocError> {
     push_spending(
-        &mut input,
+        input,
         "2121212121212121212121212121212121212121212121212121212121212121",
         "00",
     )?;
     input.push_str("98")?;
-    push_wide_outputs(&mut input, 150)?;
-    push_output(&mut input, "005a620200000000")?;
-    push_output(&mut input, "005a620200000000")?;
-    push_end(&mut input, 1)?;
-    push_wide_child(&mut input, "6e", 110)?;
-    push_wide_child(&mut input, "64", 100)?;
-    push_spending(&mut input, WIDE, "97")?;
+    push_wide_outputs(input, 150)?;
+    push_output(input, "005a620200000000")?;
+    push_output(input, "005a620200000000")?;
+    push_end(input, 1)
+}
+
+fn push_low_child(input: &mut String) -> Result<(), AllocError> {
+    push_spending(input, WIDE, "97")?;
     input.push_str("22")?;
     for _ in 0..34 {
-        push_output(&mut input, "e803000000000000")?;
+        push_output(input, "e803000000000000")?;
     }
-    push_end(&mut input, 1)?;
+    push_end(input, 1)
+}
+
+fn push_sizes(input: &mut String) -> Result<(), AllocError> {
+    input.push_str(SIZES_COIN)?;
+    input.push_str(ENTER)?;
+    push_wide_parent(input)?;
+    push_wide_child(input, "6e", 110)?;
+    push_wide_child(input, "64", 100)?;
+    push_low_child(input)
+}
+
+fn sizes(alloc: Global) -> Result<String, AllocError> {
+    let mut input = String::from_str(alloc, COINS)?;
+    push_sizes(&mut input)?;
     Ok(input)
 }
 
 #[test]
 fn sizes_of_a_family(rt: HostRuntime) -> Result<(), Fail> {
     let input = sizes(rt.alloc())?;
-    pass(&rt, input.as_str(), SIZES_REPLIES)
+    pass(&rt, input.as_str(), SIZES_REPLIES, b"")
 }

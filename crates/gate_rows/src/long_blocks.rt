@@ -50,20 +50,24 @@ fn push_block(input: &mut String, number: u8) -> Result<(), AllocError> {
     input.push_str(BEHIND_NUMBER)
 }
 
-fn hundred_and_one_blocks(alloc: Global) -> Result<String, AllocError> {
-    let mut input = String::from_str(alloc, COINS)?;
+fn push_chain(input: &mut String) -> Result<(), AllocError> {
     input.push_str("---\nchain 0 5000")?;
     for number in 0..101u8 {
-        push_block(&mut input, number)?;
+        push_block(input, number)?;
     }
-    input.push_str("\nchain 101 5000\nchain 100 5000\n")?;
+    input.push_str("\nchain 101 5000\nchain 100 5000\n")
+}
+
+fn hundred_and_one_blocks(alloc: Global) -> Result<String, AllocError> {
+    let mut input = String::from_str(alloc, COINS)?;
+    push_chain(&mut input)?;
     Ok(input)
 }
 
 #[test]
 fn hundred_blocks_back(rt: HostRuntime) -> Result<(), Fail> {
     let input = hundred_and_one_blocks(rt.alloc())?;
-    let (status, written) = outcome(&rt, "run", input.as_str())?;
+    let (status, written) = outcome(&rt, "run", input.as_bytes())?;
     let text = std::str::from_utf8(written.as_slice())?;
     assert_eq!(rt;
         text,

@@ -10,7 +10,7 @@ use std::thread::Threads;
 pub fn outcome<R: AllocGlobal + Threads + Wait + Sync>(
     rt: &R,
     words: &str,
-    input: &str,
+    input: &[u8],
 ) -> Result<(u8, Vec<u8>), LaneFault>
     ensures status { IfOk result (λ done. done.0 ≤ 2) }
 {
@@ -29,7 +29,7 @@ pub fn outcome<R: AllocGlobal + Threads + Wait + Sync>(
         Err(ArgsFault::Usage(_)) => return Ok((2, written)),
         Err(ArgsFault::Memory) => return Err(LaneFault::Memory),
     };
-    let mut reader = input.as_bytes();
+    let mut reader = input;
     let hasher: BuildHasherDefault<FoldHasher> = BuildHasherDefault::new();
     let status = run_job(rt, alloc, hasher, &job, &mut reader, &mut written)?;
     Ok((status, written))

@@ -25,18 +25,22 @@ fn push_submission(input: &mut String, count: &str, outputs: u32) -> Result<(), 
     input.push_str("00000000\n")
 }
 
+fn push_submissions(input: &mut String) -> Result<(), AllocError> {
+    input.push_str(ENTER)?;
+    push_submission(input, "c8", 200)?;
+    push_submission(input, "c7", 199)
+}
+
 fn row(alloc: Global) -> Result<String, AllocError> {
     let mut input = String::from_str(alloc, COINS)?;
-    input.push_str(ENTER)?;
-    push_submission(&mut input, "c8", 200)?;
-    push_submission(&mut input, "c7", 199)?;
+    push_submissions(&mut input)?;
     Ok(input)
 }
 
 #[test]
 fn too_many_sigops(rt: HostRuntime) -> Result<(), Fail> {
     let input = row(rt.alloc())?;
-    let (status, written) = outcome(&rt, "run", input.as_str())?;
+    let (status, written) = outcome(&rt, "run", input.as_bytes())?;
     let text = std::str::from_utf8(written.as_slice())?;
     assert_eq!(rt; text, REPLIES);
     assert_eq!(rt; status, 0);

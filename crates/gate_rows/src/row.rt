@@ -1,4 +1,4 @@
-//! A row, and what passes it.
+//! Rows, and what passes them.
 use crate::outcome;
 use std::alloc::Global;
 use std::process::Abort;
@@ -6,13 +6,23 @@ use std::sync::Wait;
 use std::test::Fail;
 use std::thread::Threads;
 
-/// A worked row: the words of the command line, what is read, what has to be written, and the status. In what is read
-/// `<72*30>` stands for `30` 72 times.
+/// What a row reads.
+#[derive(Clone, Copy, Debug)]
+pub enum Input {
+    /// As it stands.
+    Plain(&'static [u8]),
+    /// With `<72*30>` for `30` 72 times.
+    Short(&'static [u8]),
+}
+
+/// A worked row: its folder below `rows/`, the words of the command line, what is read, each output that is right (lanes
+/// that race have more than one), and the status.
 #[derive(Clone, Copy, Debug)]
 pub struct Row {
+    pub name: &'static str,
     pub words: &'static str,
-    pub input: &'static str,
-    pub output: &'static str,
+    pub input: Input,
+    pub outputs: &'static [&'static [u8]],
     pub status: u8,
 }
 
@@ -29,51 +39,43 @@ fn push_repeated(input: &mut String, part: &str) -> Result<(), Fail> {
 }
 
 fn expanded(alloc: Global, text: &str) -> Result<String, Fail> {
-    let Some((front, rest)) = text.split_once('<') else {
-        return Ok(String::from_str(alloc, text)?);
-    };
-    let mut input = String::from_str(alloc, front)?;
-    for part in rest.split('<') {
+    let mut parts = text.split('<');
+    let mut input = String::from_str(alloc, parts.next().unwrap_or(""))?;
+    for part in parts {
         push_repeated(&mut input, part)?;
     }
     Ok(input)
 }
 
-/// Runs a row on this input, which has to lead to one of these outputs.
-fn passes<R: Abort + AllocGlobal + Threads + Wait + Sync>(
-    rt: &R,
-    row: &Row,
-    input: &str,
-    other: &str,
-) -> Result<(), Fail> {
-    let (status, written) = outcome(rt, row.words, input)?;
-    let text = std::str::from_utf8(written.as_slice())?;
-    if text != other {
-        assert_eq!(rt; text, row.output);
+fn run<R: AllocGlobal + Threads + Wait + Sync>(rt: &R, row: &Row) -> Result<(u8, Vec<u8>), Fail> {
+    match row.input {
+        Input::Plain(bytes) => Ok(outcome(rt, row.words, bytes)?),
+        Input::Short(bytes) => {
+            let input = expanded(rt.alloc(), std::str::from_utf8(bytes)?)?;
+            Ok(outcome(rt, row.words, input.as_bytes())?)
+        }
     }
-    assert_eq!(rt; status, row.status);
+}
+
+fn pass<R: Abort + AllocGlobal + Threads + Wait + Sync>(rt: &R, row: &Row) -> Result<(), Fail> {
+    let (status, written) = run(rt, row)?;
+    let text = std::str::from_utf8(written.as_slice())?;
+    assert!(rt;
+        row.outputs.contains(&text.as_bytes()),
+        "{} writes: {text}",
+        row.name
+    );
+    assert_eq!(rt; status, row.status, "the status of {}", row.name);
     Ok(())
 }
 
-pub fn pass<R: Abort + AllocGlobal + Threads + Wait + Sync>(rt: &R, row: &Row) -> Result<(), Fail> {
-    let input = expanded(rt.alloc(), row.input)?;
-    passes(rt, row, input.as_str(), row.output)
-}
-
-/// A row in which lanes race: another output is right, too.
-pub fn pass_either<R: Abort + AllocGlobal + Threads + Wait + Sync>(
+/// Runs each row, up to the first that does not lead to its output and status.
+pub fn pass_all<R: Abort + AllocGlobal + Threads + Wait + Sync>(
     rt: &R,
-    row: &Row,
-    other: &str,
+    rows: &[Row],
 ) -> Result<(), Fail> {
-    let input = expanded(rt.alloc(), row.input)?;
-    passes(rt, row, input.as_str(), other)
-}
-
-/// A row whose input stands as it is.
-pub fn pass_whole<R: Abort + AllocGlobal + Threads + Wait + Sync>(
-    rt: &R,
-    row: &Row,
-) -> Result<(), Fail> {
-    passes(rt, row, row.input, row.output)
+    for row in rows {
+        pass(rt, row)?;
+    }
+    Ok(())
 }
