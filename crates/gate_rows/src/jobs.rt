@@ -1,5 +1,4 @@
 //! Openings and lanes over readers and writers in memory, and over some that break.
-use crate::parts::COINS;
 use gate_prog::{
     ArgsFault, Job, LaneFault, OpeningFault, OpeningToken, read_args, read_opening, run_audit,
     run_check, run_gate, run_lanes_job,
@@ -124,83 +123,6 @@ denied P1 keep peer-unknown
 denied P1 keep peer-unknown
 ";
     assert!(rt; runs(rt.alloc(), input, 0, replies)?);
-    Ok(())
-}
-
-/// What stands behind the opening in the row of lines without a form; one of them is not UTF-8.
-const WITHOUT_A_FORM: &[u8] = b"---
-
-# a comment
-\x20
----
-===
-peer 1
-peer 1 leave\x20
-peer  1 leave
-peer 01 leave
-peer -1 leave
-peer 9007199254740992 leave
-peer 9007199254740991 leave
-peer 1 enter 192.0.2.01
-peer 1 enter 192.0.2.256
-peer 1 enter 1:2:3:4:5:6:7
-peer 1 enter ::192.0.2.1
-peer 1 getblock 4294967296
-peer 1 getblock 4294967295
-operator bloom yes
-operator floor
-chain 0
-user a rpc 0
-user a rpc 0\x20
-peer 1 leave \xff
-Peer 1 leave
-chain 0 5000
-chain 0 5000 zz
-chain 1 5000 zz
-peer 1 enter 192.0.2.1
-peer 1 tx 5000 zz
-peer 1 tx 5000 -
-peer 1 tx 5000 0
-";
-
-/// The replies of that row.
-const WITHOUT_A_FORM_REPLIES: &str = "refused L1 bad-line
-refused L1 bad-line
-refused L1 bad-line
-refused L1 bad-line
-refused L1 bad-line
-refused L1 bad-line
-refused L1 bad-line
-refused L1 bad-line
-refused L1 bad-line
-denied P1 keep peer-unknown
-refused L1 bad-line
-refused L1 bad-line
-refused L1 bad-line
-refused L1 bad-line
-refused L1 bad-line
-denied P1 keep peer-unknown
-refused L1 bad-line
-refused L1 bad-line
-refused L1 bad-line
-refused L1 bad-line
-refused L1 bad-line
-refused L1 bad-line
-refused L1 bad-line
-chain 100 removed 0 entered 0
-refused C1 block-decode
-refused C1 block-decode
-entered none
-denied A1 keep tx-decode
-denied A1 keep tx-decode
-denied A1 keep tx-decode
-";
-
-#[test]
-fn lines_without_a_form(rt: HostRuntime) -> Result<(), Fail> {
-    let mut input = Vec::from_slice(rt.alloc(), COINS.as_bytes())?;
-    input.extend_from_slice(WITHOUT_A_FORM)?;
-    assert!(rt; runs(rt.alloc(), input.as_slice(), 0, WITHOUT_A_FORM_REPLIES)?);
     Ok(())
 }
 

@@ -13,6 +13,17 @@ const ROWS: &[Row] = &[
         status: 0,
     },
     Row {
+        name: "lines-without-a-form",
+        words: "run",
+        input: Input::Plain(
+            b"budget 1000000\ntimes 101 1000 600\ncoin 1111111111111111111111111111111111111111111111111111111111111111 0 100000 1 plain 00142222222222222222222222222222222222222222\ncoin 1212121212121212121212121212121212121212121212121212121212121212 0 100000 1 plain 00142222222222222222222222222222222222222222\ncoin 1313131313131313131313131313131313131313131313131313131313131313 0 100000 1 plain 00142222222222222222222222222222222222222222\ncoin 1414141414141414141414141414141414141414141414141414141414141414 0 100000 1 plain 00142222222222222222222222222222222222222222\nverdict * ok\n---\n\n# a comment\n \n---\n===\npeer 1\npeer 1 leave \npeer  1 leave\npeer 01 leave\npeer -1 leave\npeer 9007199254740992 leave\npeer 9007199254740991 leave\npeer 1 enter 192.0.2.01\npeer 1 enter 192.0.2.256\npeer 1 enter 1:2:3:4:5:6:7\npeer 1 enter ::192.0.2.1\npeer 1 getblock 4294967296\npeer 1 getblock 4294967295\noperator bloom yes\noperator floor\nchain 0\nuser a rpc 0\nuser a rpc 0 \npeer 1 leave \xff\nPeer 1 leave\nchain 0 5000\nchain 0 5000 zz\nchain 1 5000 zz\npeer 1 enter 192.0.2.1\npeer 1 tx 5000 zz\npeer 1 tx 5000 -\npeer 1 tx 5000 0\n",
+        ),
+        outputs: &[
+            b"refused L1 bad-line\nrefused L1 bad-line\nrefused L1 bad-line\nrefused L1 bad-line\nrefused L1 bad-line\nrefused L1 bad-line\nrefused L1 bad-line\nrefused L1 bad-line\nrefused L1 bad-line\ndenied P1 keep peer-unknown\nrefused L1 bad-line\nrefused L1 bad-line\nrefused L1 bad-line\nrefused L1 bad-line\nrefused L1 bad-line\ndenied P1 keep peer-unknown\nrefused L1 bad-line\nrefused L1 bad-line\nrefused L1 bad-line\nrefused L1 bad-line\nrefused L1 bad-line\nrefused L1 bad-line\nrefused L1 bad-line\nchain 100 removed 0 entered 0\nrefused C1 block-decode\nrefused C1 block-decode\nentered none\ndenied A1 keep tx-decode\ndenied A1 keep tx-decode\ndenied A1 keep tx-decode\n",
+        ],
+        status: 0,
+    },
+    Row {
         name: "one-coin-one-submission-one-listing",
         words: "run",
         input: Input::Short(
