@@ -12,7 +12,7 @@ use crate::parts::Parts;
 use crate::planning::{Change, Plan};
 use gate_admit::{Prepared, plan_submission};
 use gate_bytes::{Copied, Kept, Memory};
-use gate_message::{Call, Reply};
+use gate_message::{Boxed, Call, Reply};
 use gate_query::{ancestors_listed, descendants_listed, entry_info, pool_info, test_submission};
 use gate_rpc::{Command, EntryInfo, Id, Request, RpcError, RpcReply, RpcResult};
 use gate_standard::Denial;
@@ -20,17 +20,27 @@ use gate_tx::Txid;
 use std::alloc::Global;
 use std::hash::BuildHasher;
 
+/// An answer with which nothing changes.
+fn answered(alloc: Global, answer: RpcReply) -> Result<Plan, Memory>
+    ensures reply { IfOk result (λ plan. plan.reply ≡ Reply.Rpc answer) }
+    ensures change { IfOk result (λ plan. plan.change ≡ Change.Nothing) }
+{
+    Ok(Plan::telling(Reply::Rpc(Boxed::new(alloc, answer)?)))
+}
+
 /// The answer to the call of this id, with which nothing changes.
 fn telling(alloc: Global, id: &Id, outcome: Result<RpcResult, RpcError>) -> Result<Plan, Memory>
     ensures ok { IfOk result (λ plan. (w : World) → Plans w (told w id.now outcome) plan) }
     ensures change { IfOk result (λ plan. plan.change ≡ Change.Nothing) }
 {
     let id = id.copy(alloc)?;
-    let answer = match outcome {
-        Ok(found) => RpcReply::Answer { id, result: found },
-        Err(error) => RpcReply::Failure { id, error },
-    };
-    Ok(Plan::telling(Reply::Rpc(answer)))
+    answered(
+        alloc,
+        match outcome {
+            Ok(found) => RpcReply::Answer { id, result: found },
+            Err(error) => RpcReply::Failure { id, error },
+        },
+    )
 }
 
 /// What a call results in that asks for the ids of an entry's family.
@@ -71,11 +81,11 @@ impl<S: BuildHasher + Copy + Drop> Parts<S> {
         ensures same { world_of self.new ≡ world_of self.old }
     {
         if self.bars(call) {
-            return Ok(Plan::telling(Reply::Rpc(RpcReply::NotAllowed)));
+            return answered(alloc, RpcReply::NotAllowed);
         }
         match call.request() {
             Ok(request) => self.command(alloc, call.time(), request),
-            Err(error) => Ok(Plan::telling(Reply::Rpc(error.copy(alloc)?.into_reply()))),
+            Err(error) => answered(alloc, error.copy(alloc)?.into_reply()),
         }
     }
 
@@ -155,17 +165,20 @@ impl<S: BuildHasher + Copy + Drop> Parts<S> {
             self.budget,
         )?;
         match decision {
-            Ok(coming) => Ok(Plan {
-                reply: Reply::Rpc(RpcReply::Answer {
-                    id,
-                    result: RpcResult::Sent(txid),
-                }),
-                change: Change::Admit { coming },
-            }),
-            Err(denial) => Ok(Plan::telling(Reply::Rpc(RpcReply::Failure {
-                id,
-                error: RpcError::Denied(denial),
-            }))),
+            Ok(coming) => {
+                let result = RpcResult::Sent(txid);
+                let answer = Boxed::new(alloc, RpcReply::Answer { id, result })?;
+                Ok(Plan {
+                    reply: Reply::Rpc(answer),
+                    change: Change::Admit {
+                        coming: Boxed::new(alloc, coming)?,
+                    },
+                })
+            }
+            Err(denial) => {
+                let error = RpcError::Denied(denial);
+                answered(alloc, RpcReply::Failure { id, error })
+            }
         }
     }
 }

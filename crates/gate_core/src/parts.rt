@@ -57,7 +57,7 @@ impl<S: BuildHasher + Copy + Drop> Parts<S> {
             Event::Mempool { peer } => self.listing(alloc, *peer),
             Event::GetBlock { peer, height } => Ok(self.giving_block(*peer, *height)),
             Event::Headers { peer, height } => Ok(self.giving_headers(*peer, *height)),
-            Event::Rpc(call) => self.calling(alloc, call),
+            Event::Rpc(call) => self.calling(alloc, call.get()),
             Event::SetFloor { rate } => Ok(Plan {
                 reply: Reply::Set,
                 change: Change::SetFloor { rate: *rate },
@@ -85,7 +85,7 @@ impl<S: BuildHasher + Copy + Drop> Parts<S> {
             Change::Close { peer } => self.sessions.close(peer),
             Change::SetFloor { rate } => self.floor = Floor::new(rate),
             Change::Turn { switch, on } => self.switches = self.switches.set(switch, on),
-            Change::Admit { coming } => return self.admit(coming),
+            Change::Admit { coming } => return self.admit(coming.into_inner()),
         }
         None
     }

@@ -13,7 +13,7 @@ use crate::parts::Parts;
 use crate::planning::{Change, Plan};
 use gate_admit::{Prepared, plan_submission};
 use gate_bytes::Memory;
-use gate_message::{Refusal, Reply, Then};
+use gate_message::{Boxed, Refusal, Reply, Then};
 use gate_net::{Address, Permissions};
 use gate_standard::Denial;
 use std::alloc::Global;
@@ -175,7 +175,9 @@ impl<S: BuildHasher + Copy + Drop> Parts<S> {
                     vsize: coming.grant.vsize,
                     replaced: coming.grant.replaced,
                 },
-                change: Change::Admit { coming },
+                change: Change::Admit {
+                    coming: Boxed::new(alloc, coming)?,
+                },
             }),
             Err(denial) => Ok(self.refusing(peer, Refusal::Admission(denial))),
         }

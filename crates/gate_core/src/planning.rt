@@ -1,6 +1,6 @@
 //! What a step is planned as.
 use gate_admit::Coming;
-use gate_message::{Reply, Switch};
+use gate_message::{Boxed, Reply, Switch};
 use gate_net::Permissions;
 
 /// What a step changes.
@@ -11,7 +11,7 @@ pub(crate) enum Change {
     Close { peer: u64 },
     SetFloor { rate: u64 },
     Turn { switch: Switch, on: bool },
-    Admit { coming: Coming },
+    Admit { coming: Boxed<Coming> },
 }
 
 /// What an event changes, and the reply to it; a denial takes the reply's place where what comes does not stay in the pool.

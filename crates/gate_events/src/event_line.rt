@@ -4,7 +4,7 @@ ghost use Rattle.gate_events.specs.EventLines.{line_event, event_of, numbered_of
 
 use crate::chain_line::blocks_in;
 use gate_admit::Prepared;
-use gate_bytes::{Kept, Memory};
+use gate_bytes::{Counted, Kept, Memory};
 use gate_chain::Block;
 use gate_lines::{is_one_word, next_word, read_number, read_small_number};
 use gate_message::{Call, Event, Switch};
@@ -181,7 +181,8 @@ fn call_event(alloc: Global, user: &str, rest: &str) -> Result<Option<Event>, Me
     if json.is_empty() {
         return Ok(None);
     }
-    Ok(Some(Event::Rpc(Call::read(alloc, user, now, json)?)))
+    let call = Call::read(alloc, user, now, json)?;
+    Ok(Some(Event::Rpc(Counted::new(alloc, call)?)))
 }
 
 /// `floor RATE`, or a switch with `on|off`.

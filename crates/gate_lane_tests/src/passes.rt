@@ -2,7 +2,7 @@
 ghost use Rattle.std.specs.Prelude.{◌≡◌, ◌+◌, ◌<◌, length, IfOk, OnOk};
 
 use gate_admit::{OpeningCoin, Verdict, Verdicts};
-use gate_bytes::{Copied, Kept, Memory, Text};
+use gate_bytes::{Copied, Counted, Kept, Memory, Text};
 use gate_core::{Opening, State};
 use gate_journal::{Entry, Journal, replay_check};
 use gate_message::{Call, Caller, Event, Reply, is_same_reply};
@@ -136,7 +136,7 @@ fn asked<N: Base, R: Wait>(
     json: &str,
 ) -> Result<Pass<N>, Memory> {
     let call = Call::read(alloc, name, 5000, json)?;
-    let event = Event::Rpc(call);
+    let event = Event::Rpc(Counted::new(alloc, call)?);
     let user = user(alloc, name)?;
     let pass = called(rt, alloc, gate, &user, &event);
     drop(event);

@@ -5,7 +5,7 @@ use crate::call::Call;
 use crate::caller::Caller;
 use crate::switch::Switch;
 use gate_admit::Prepared;
-use gate_bytes::{Copied, Kept, Memory, Text};
+use gate_bytes::{Copied, Counted, Kept, Memory, Text};
 use gate_chain::Block;
 use gate_net::Address;
 use gate_reorg::tells_spelled;
@@ -44,7 +44,7 @@ pub enum Event {
         height: u32,
     },
     /// A user calls by RPC.
-    Rpc(Call),
+    Rpc(Counted<Call>),
     /// The operator sets the pool's floor, in satoshi per 1,000 virtual bytes.
     SetFloor {
         rate: u64,
@@ -78,7 +78,7 @@ impl Event {
             Event::GetBlock { peer, .. } => Ok(Caller::Peer(*peer)),
             Event::Headers { peer, .. } => Ok(Caller::Peer(*peer)),
             Event::Rpc(call) => {
-                let user = String::from_str(alloc, call.user())?;
+                let user = String::from_str(alloc, call.get().user())?;
                 Ok(Caller::User(Text::from_string(user)))
             }
             Event::SetFloor { .. } => Ok(Caller::Operator),
@@ -116,7 +116,7 @@ impl Event {
         match caller {
             Caller::Peer(number) => self.peer() == Some(*number),
             Caller::User(name) => match self {
-                Event::Rpc(call) => call.user() == name.as_str(),
+                Event::Rpc(call) => call.get().user() == name.as_str(),
                 _ => false,
             },
             Caller::Operator => match self {
@@ -141,7 +141,7 @@ impl Event {
     {
         match self {
             Event::Tx { transaction, .. } => transaction.tells_spelled(),
-            Event::Rpc(call) => call.tells_spelled(),
+            Event::Rpc(call) => call.get().tells_spelled(),
             Event::Chain { blocks, .. } => tells_spelled(blocks.as_slice()),
             _ => (),
         }

@@ -151,7 +151,7 @@ pub fn is_same_reply(a: &Reply, b: &Reply) -> bool
                 count: other_count,
             },
         ) => first == other_first && count == other_count,
-        (Reply::Rpc(answer), Reply::Rpc(other)) => is_same_answer(answer, other),
+        (Reply::Rpc(answer), Reply::Rpc(other)) => is_same_answer(answer.get(), other.get()),
         (
             Reply::Denied { refusal, then },
             Reply::Denied {
