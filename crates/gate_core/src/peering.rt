@@ -35,6 +35,7 @@ impl<S: BuildHasher + Copy + Drop> Parts<S> {
     }
 
     /// A refusal to a peer, which closes the peer's session where that follows.
+    #[inline(always)]
     fn refusing(&self, peer: u64, refusal: Refusal) -> Plan
         ensures reply { Plans (world_of self.now) (refused (world_of self.now) peer refusal) result }
         ensures fits { (sessions : Seated) (pool : Pooled) → Fits result.change sessions pool }

@@ -1,7 +1,7 @@
 //! A value behind a pointer.
 ghost use Rattle.std.specs.Prelude.{◌≡◌, IfOk};
 
-use gate_bytes::Memory;
+use gate_bytes::{Copied, Memory};
 use std::alloc::Global;
 use std::marker::Model;
 
@@ -49,6 +49,12 @@ impl<T: Drop> Boxed<T> {
         Ok(Boxed {
             value: Box::new(alloc, value)?,
         })
+    }
+}
+
+impl<T: Copied> Copied for Boxed<T> {
+    fn copy(&self, alloc: Global) -> Result<Boxed<T>, Memory> {
+        Boxed::new(alloc, self.get().copy(alloc)?)
     }
 }
 
