@@ -188,6 +188,14 @@ fn two_lanes(
     Ok(Vec::from_array(alloc, [first, second])?)
 }
 
+/// Whether two lanes ended, the second wrote before the first read, and none gave up.
+fn both_ended<N: Base, W>(ends: &[LaneEnd<W>], passes: &[Pass<N>], flags: &Flags) -> bool {
+    ends.len() == 2
+        && passes.len() == 2
+        && flags.gave_up.load(Ordering::SeqCst) == 0
+        && flags.first.load(Ordering::SeqCst) == 1
+}
+
 fn lanes_run_at_once<N: Base + Send + Sync, T: Threads + Wait + Abort + Sync>(
     rt: &T,
     alloc: Global,
@@ -200,10 +208,7 @@ fn lanes_run_at_once<N: Base + Send + Sync, T: Threads + Wait + Abort + Sync>(
     };
     let lanes = two_lanes(alloc, &flags)?;
     let (ends, passes) = run_lanes(rt, alloc, gate, lanes)?;
-    assert!(rt; ends.len() == 2);
-    assert!(rt; passes.len() == 2);
-    assert!(rt; flags.gave_up.load(Ordering::SeqCst) == 0);
-    assert!(rt; flags.first.load(Ordering::SeqCst) == 1);
+    assert!(rt; both_ended(&ends, &passes, &flags));
     Ok(())
 }
 
@@ -266,6 +271,22 @@ fn one_pass<N: Base>(passes: &[Pass<N>], calls: usize) -> bool {
     pass.calls().len() == calls
 }
 
+/// Whether the one lane ended with this fault.
+fn failed<W>(ends: &[LaneEnd<W>], fault: LaneFault) -> bool {
+    let [end] = ends else {
+        return false;
+    };
+    end.result == Err(fault)
+}
+
+/// Whether the one lane wrote the replies to two events.
+fn answered(ends: &[LaneEnd<Vec<u8>>]) -> bool {
+    let [end] = ends else {
+        return false;
+    };
+    end.writer.as_slice() == b"set\nset\n".as_slice()
+}
+
 const TWO_EVENTS: &[u8] = b"operator bloom on\noperator floor 5\noperator";
 
 /// A reader that breaks in a line: what stands before that line is answered.
@@ -280,17 +301,7 @@ fn reader_breaks<N: Base + Send + Sync, T: Threads + Wait + Abort + Sync>(
     };
     let lanes = Vec::from_array(alloc, [broken])?;
     let (ends, passes) = run_lanes(rt, alloc, gate, lanes)?;
-    assert!(rt;
-        matches!(
-            &ends[..],
-            [LaneEnd {
-                result: Err(LaneFault::Read),
-                ..
-            }]
-        )
-    );
-    assert!(rt; ends[0].writer.as_slice() == b"set\nset\n".as_slice());
-    assert!(rt; one_pass(&passes, 2));
+    assert!(rt; failed(&ends, LaneFault::Read) && answered(&ends) && one_pass(&passes, 2));
     Ok(())
 }
 
@@ -306,16 +317,7 @@ fn writer_fills<N: Base + Send + Sync, T: Threads + Wait + Abort + Sync>(
     };
     let lanes = Vec::from_array(alloc, [full])?;
     let (ends, passes) = run_lanes(rt, alloc, gate, lanes)?;
-    assert!(rt;
-        matches!(
-            &ends[..],
-            [LaneEnd {
-                result: Err(LaneFault::Write),
-                ..
-            }]
-        )
-    );
-    assert!(rt; one_pass(&passes, 2));
+    assert!(rt; failed(&ends, LaneFault::Write) && one_pass(&passes, 2));
     Ok(())
 }
 
