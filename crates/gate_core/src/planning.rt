@@ -1,6 +1,7 @@
 //! What a step is planned as.
 use gate_admit::Coming;
-use gate_message::{Boxed, Reply, Switch};
+use gate_bytes::Boxed;
+use gate_message::{Reply, Switch};
 use gate_net::Permissions;
 
 /// What a step changes.

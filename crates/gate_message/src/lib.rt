@@ -4,7 +4,6 @@
 //! The main clauses are those of `Reply::text`, the line of each reply, and of `Event::caller`, who makes an event.
 #![tactic(auto)]
 
-mod boxed;
 mod call;
 mod caller;
 mod event;
@@ -14,7 +13,6 @@ mod reply;
 mod same;
 mod switch;
 
-pub use boxed::Boxed;
 pub use call::Call;
 pub use caller::Caller;
 pub use event::Event;

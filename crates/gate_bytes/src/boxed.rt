@@ -1,7 +1,8 @@
 //! A value behind a pointer.
 ghost use Rattle.std.specs.Prelude.{◌≡◌, IfOk};
 
-use gate_bytes::{Copied, Memory};
+use crate::copied::Copied;
+use crate::memory::Memory;
 use std::alloc::Global;
 use std::marker::Model;
 
