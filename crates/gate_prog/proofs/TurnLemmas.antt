@@ -1,7 +1,6 @@
 -- One turn of a lane, from what was read and what was answered.
-use Rattle.std.proofs.Common.{◌≡◌, ◌≢◌, ℕ, ◌<◌, ◌≤◌, List, [], ◌∷◌, ◌++◌, length, Option, OnSome, Some, None, Ok, Err, refl, ap, subst, ◌∙◌, arith, inl, inr, take, length-take-le}
+use Rattle.std.proofs.Common.{◌≡◌, ◌≢◌, ℕ, ◌<◌, ◌≤◌, List, [], ◌∷◌, ◌++◌, length, true, Option, OnSome, Some, None, Ok, Err, refl, ap, subst, ◌∙◌, arith, inl, inr, take, length-take-le}
 use Rattle.std.specs.Io.KnownBytes.{Appends, Consumes, IsAtEnd}
-use Rattle.std.specs.Global.{Vec}
 use Rattle.std.proofs.KnownBytes.{Appends-nil}
 use Rattle.gate_core.specs.World.{World}
 use Rattle.gate_lines.specs.declared.fault.LaneFault.{LaneFault}
@@ -62,16 +61,16 @@ unresponded fault w w' s s' line reply answered h =
     let part = text_stopped fault w w' reply h in
     inr (reply, part.0, answered, part.1, part.2)
 
-pub line_unwritten : (fault : LaneFault) (w w' : Option (List ℕ)) (s s' : World) (line : List ℕ) (text : Vec ℕ) → AnswerMade s line (Some text) s'
-    → TextWritten w w' text.items (Err fault) → LineTaken w w' s line s' (Err fault)
+pub line_unwritten : (fault : LaneFault) (w w' : Option (List ℕ)) (s s' : World) (line text : List ℕ) → AnswerMade s line true text s'
+    → TextWritten w w' text (Err fault) → LineTaken w w' s line s' (Err fault)
 line_unwritten faults.Read w w' s s' line text made h = absurd h
 line_unwritten faults.Write w w' s s' line text (reply, is, answered) h =
     unresponded faults.Write w w' s s' line reply answered (subst (λ (t : List ℕ). TextWritten w w' t (Err faults.Write)) is h)
 line_unwritten faults.Memory w w' s s' line text (reply, is, answered) h =
     unresponded faults.Memory w w' s s' line reply answered (subst (λ (t : List ℕ). TextWritten w w' t (Err faults.Memory)) is h)
 
-pub line_written : (w w' : Option (List ℕ)) (s s' : World) (line : List ℕ) (text : Vec ℕ) → AnswerMade s line (Some text) s'
-    → Appends w w' text.items → LineTaken w w' s line s' (Ok 1)
+pub line_written : (w w' : Option (List ℕ)) (s s' : World) (line text : List ℕ) → AnswerMade s line true text s'
+    → Appends w w' text → LineTaken w w' s line s' (Ok 1)
 line_written w w' s s' line text (reply, is, answered) h = (reply ∷ [], answered, subst (Appends w w') is h, refl)
 
 -- ---- what a turn ensures

@@ -1,7 +1,6 @@
 -- What one turn of a lane does.
-use Rattle.std.specs.Prelude.{◌≡◌, ℕ, ◌<◌, ◌≤◌, List, [], ◌∷◌, ◌++◌, length, Option, Some, None, IfSome, ◌⊎◌, Result, Ok, Err}
+use Rattle.std.specs.Prelude.{◌≡◌, ℕ, ◌<◌, ◌≤◌, Bool, true, false, List, [], ◌∷◌, ◌++◌, length, Option, Some, IfSome, ◌⊎◌, Result, Ok, Err}
 use Rattle.std.specs.Io.KnownBytes.{Appends, Consumes}
-use Rattle.std.specs.Global.{Vec}
 use Rattle.gate_lines.specs.declared.fault.LaneFault.{LaneFault}
 use Rattle.gate_lines.specs.declared.fault.LaneFault.TheVariants as faults
 use Rattle.gate_core.specs.World.{World}
@@ -21,9 +20,9 @@ abbrev pub EventLost : World → Event → World → Type 0
 EventLost old event new = (reply : List ℕ) × EventAnswered old (Some event) reply new
 
 -- a reply with its newline, or none, answers the line
-abbrev pub AnswerMade : World → List ℕ → Option (Vec ℕ) → World → Type 0
-AnswerMade old line None new = LineAnswered old line [] new
-AnswerMade old line (Some text) new = (reply : List ℕ) × (text.items ≡ reply ++ 10 ∷ []) × LineAnswered old line (reply ∷ []) new
+abbrev pub AnswerMade : World → List ℕ → Bool → List ℕ → World → Type 0
+AnswerMade old line false text new = LineAnswered old line [] new
+AnswerMade old line true text new = (reply : List ℕ) × (text ≡ reply ++ 10 ∷ []) × LineAnswered old line (reply ∷ []) new
 
 -- memory ran out before the step, or in the text of its reply
 abbrev pub AnswerLost : World → List ℕ → World → Type 0

@@ -1,5 +1,5 @@
 //! The lane: lines read one after another, each answered before the next is read.
-ghost use Rattle.std.specs.Prelude.{◌≡◌, ◌≢◌, [], true, IfOk, IfErr, OnOk, OnErr, IsErrOf};
+ghost use Rattle.std.specs.Prelude.{◌≡◌, ◌≢◌, [], true, IfOk, IfErr, OnOk, OnErr, IsErrOf, string_bytes};
 ghost use Rattle.gate_prog.specs.Lanes.{LaneDone, LaneUnread, StoppedBy};
 ghost use Rattle.gate_prog.specs.Turns.{EventReplied, EventLost, AnswerMade, AnswerLost, LineTaken, TurnTaken, LaneCame};
 
@@ -7,8 +7,7 @@ use gate_bytes::Memory;
 use gate_core::State;
 use gate_events::event_on;
 use gate_lines::{
-    Found, LaneFault, MAX_LINES, Sink, Source, asks_nothing, end_line, has_ended, next_line,
-    send_before_wait,
+    Found, LaneFault, MAX_LINES, Sink, Source, asks_nothing, has_ended, next_line, send_before_wait,
 };
 use gate_message::Event;
 use std::alloc::Global;
@@ -21,57 +20,73 @@ pub(crate) enum Turn {
     Ended(u64),
 }
 
-/// The reply line to an event, with its newline. A step that memory ran out in is answered too.
+/// Puts a text in the place of what `reply` holds, in its memory where it has room.
+fn set_text(reply: &mut String, text: &str) -> Result<(), Memory>
+    ensures { OnOk result (string_bytes reply.new ≡ text.now) }
+{
+    reply.clear();
+    Ok(reply.push_str(text)?)
+}
+
+/// Puts the reply line to an event, with its newline, in the place of what `reply` holds. A step that memory ran out in is
+/// answered too.
 fn answer_event<S: BuildHasher + Copy + Drop>(
     alloc: Global,
     state: &mut State<S>,
     event: &Event,
-) -> Result<Vec<u8>, Memory>
-    ensures ok { IfOk result (λ line. EventReplied state.old event.now line.items state.new) }
+    reply: &mut String,
+) -> Result<(), Memory>
+    ensures ok { OnOk result (EventReplied state.old event.now (string_bytes reply.new) state.new) }
     ensures err { OnErr result (EventLost state.old event.now state.new) }
 {
-    let Ok(reply) = state.step(alloc, event) else {
-        return Ok(Vec::from_slice(alloc, b"fault memory\n")?);
+    let Ok(answer) = state.step(alloc, event) else {
+        return set_text(reply, "fault memory\n");
     };
-    end_line(reply.text(alloc)?)
+    reply.clear();
+    answer.push_text(alloc, reply)?;
+    Ok(reply.push('\n')?)
 }
 
-/// Answers a line within the limits, by its reply line with a newline; `None` for a line that is skipped.
+/// Answers a line within the limits, and tells whether it has a reply line: that line, with its newline, then stands in
+/// `reply`. A line that is skipped has none.
 fn answer<S: BuildHasher + Copy + Drop>(
     alloc: Global,
     state: &mut State<S>,
     line: &[u8],
-) -> Result<Option<Vec<u8>>, Memory>
-    ensures ok { IfOk result (λ reply. AnswerMade state.old line.now reply state.new) }
+    reply: &mut String,
+) -> Result<bool, Memory>
+    ensures ok { IfOk result (λ is_answered. AnswerMade state.old line.now is_answered (string_bytes reply.new) state.new) }
     ensures err { OnErr result (AnswerLost state.old line.now state.new) }
 {
     if asks_nothing(line) {
-        return Ok(None);
+        return Ok(false);
     }
     match event_on(alloc, line)? {
         Some(event) => {
-            let replied = answer_event(alloc, state, &event);
+            let replied = answer_event(alloc, state, &event, reply);
             drop(event);
-            Ok(Some(replied?))
+            replied?;
         }
-        None => Ok(Some(Vec::from_slice(alloc, b"refused L1 bad-line\n")?)),
+        None => set_text(reply, "refused L1 bad-line\n")?,
     }
+    Ok(true)
 }
 
-/// Answers a line within the limits, and writes its reply line.
+/// Answers a line within the limits, and writes its reply line, which is made in `reply`.
 fn respond<S: BuildHasher + Copy + Drop, W: Sink>(
     alloc: Global,
     state: &mut State<S>,
     writer: &mut W,
     line: &[u8],
+    reply: &mut String,
 ) -> Result<u64, LaneFault>
     ensures taken { LineTaken (W.contents writer.old) (W.contents writer.new) state.old line.now state.new result }
     ensures steady { W.steady ≡ true → IfErr result (λ fault. fault ≢ LaneFault.Write) }
 {
-    let Some(reply) = answer(alloc, state, line)? else {
+    if !answer(alloc, state, line, reply)? {
         return Ok(0);
-    };
-    writer.write_text(reply.as_slice())?;
+    }
+    writer.write_text(reply.as_bytes())?;
     Ok(1)
 }
 
@@ -82,14 +97,21 @@ fn take_turn<S: BuildHasher + Copy + Drop, R: Source, W: Sink>(
     reader: &mut R,
     writer: &mut W,
     line: &mut Vec<u8>,
+    reply: &mut String,
 ) -> Result<Turn, LaneFault>
     ensures taken { TurnTaken (R.remaining reader.old) (R.remaining reader.new) (W.contents writer.old) (W.contents writer.new) state.old state.new result }
     ensures steady_reader { R.steady ≡ true → IfErr result (λ fault. fault ≢ LaneFault.Read) }
     ensures steady_writer { W.steady ≡ true → IfErr result (λ fault. fault ≢ LaneFault.Write) }
 {
     match next_line(reader, line)? {
-        Found::Whole => Ok(Turn::Went(respond(alloc, state, writer, line.as_slice())?)),
-        Found::Rest => Ok(Turn::Ended(respond(alloc, state, writer, line.as_slice())?)),
+        Found::Whole => {
+            let replies = respond(alloc, state, writer, line.as_slice(), reply)?;
+            Ok(Turn::Went(replies))
+        }
+        Found::Rest => {
+            let replies = respond(alloc, state, writer, line.as_slice(), reply)?;
+            Ok(Turn::Ended(replies))
+        }
         Found::End => Ok(Turn::Ended(0)),
         Found::TooLong => {
             writer.write_text(b"refused L2 line-too-long\n")?;
@@ -112,9 +134,10 @@ fn answer_lines<S: BuildHasher + Copy + Drop, R: Source, W: Sink>(
 {
     let mut count = 0;
     let mut line = Vec::new(alloc);
+    let mut reply = String::new(alloc);
     for _ in 0..MAX_LINES {
         send_before_wait(reader, writer)?;
-        match take_turn(alloc, state, reader, writer, &mut line)? {
+        match take_turn(alloc, state, reader, writer, &mut line, &mut reply)? {
             Turn::Went(replies) => count += replies,
             Turn::Ended(replies) => return Ok(count + replies),
         }

@@ -2,6 +2,12 @@ use gate_bytes::*;
 use std::alloc::Global;
 use std::test::Fail;
 
+fn count_text(alloc: Global, count: u64) -> Result<Vec<u8>, Memory> {
+    let mut out = Vec::new(alloc);
+    put_compact(&mut out, count)?;
+    Ok(out)
+}
+
 #[test]
 fn counts_are_written_in_one_form(rt: HostRuntime) -> Result<(), Fail> {
     let forms: [(u64, &[u8]); 8] = [
@@ -15,8 +21,7 @@ fn counts_are_written_in_one_form(rt: HostRuntime) -> Result<(), Fail> {
         (0x1_0000_0000, &[0xff, 0, 0, 0, 0, 1, 0, 0, 0]),
     ];
     for (count, form) in forms {
-        let mut out = Vec::new(rt.alloc());
-        put_compact(&mut out, count)?;
+        let out = count_text(rt.alloc(), count)?;
         assert_eq!(rt; out.as_slice(), form, "of {count}");
         assert_eq!(rt; compact_size(count), form.len(), "of {count}");
     }

@@ -3,5 +3,5 @@ use Rattle.gate_prog.proofs.lane.respond.Goals as goal
 
 pub returns-clause-taken : goal.returns-clause-taken
 returns-clause-taken g c =
-    let made = rw c.in-Some.is at c.in_ok-reply.ensures.ok in
-    line_written _ _ c.args.state.now c.answer.new.state c.args.line.now c.in-Some.reply made (rw c.as_slice.ensures.value at c.in_ok-write_text.ensures.written)
+    let made = rw c.if-answer.false at c.in_ok-answer.ensures.ok in
+    line_written _ _ c.args.state.now c.answer.new.state c.args.line.now _ made (rw c.as_bytes.ensures.value at c.in_ok-write_text.ensures.written)
