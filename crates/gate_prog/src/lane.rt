@@ -43,7 +43,9 @@ fn answer_event<S: BuildHasher + Copy + Drop>(
         return set_text(reply, "fault memory\n");
     };
     reply.clear();
-    answer.push_text(alloc, reply)?;
+    let told = answer.push_text(alloc, reply);
+    drop(answer);
+    told?;
     Ok(reply.push('\n')?)
 }
 
@@ -104,14 +106,8 @@ fn take_turn<S: BuildHasher + Copy + Drop, R: Source, W: Sink>(
     ensures steady_writer { W.steady ≡ true → IfErr result (λ fault. fault ≢ LaneFault.Write) }
 {
     match next_line(reader, line)? {
-        Found::Whole => {
-            let replies = respond(alloc, state, writer, line.as_slice(), reply)?;
-            Ok(Turn::Went(replies))
-        }
-        Found::Rest => {
-            let replies = respond(alloc, state, writer, line.as_slice(), reply)?;
-            Ok(Turn::Ended(replies))
-        }
+        Found::Whole => Ok(Turn::Went(respond(alloc, state, writer, line.as_slice(), reply)?)),
+        Found::Rest => Ok(Turn::Ended(respond(alloc, state, writer, line.as_slice(), reply)?)),
         Found::End => Ok(Turn::Ended(0)),
         Found::TooLong => {
             writer.write_text(b"refused L2 line-too-long\n")?;
