@@ -2,12 +2,12 @@
 use Rattle.std.proofs.Common.{◌≡◌, ◌≢◌, ℕ, ◌<◌, ◌≤◌, List, [], ◌∷◌, ◌++◌, length, Option, OnSome, Some, None, Ok, Err, refl, ap, subst, ◌∙◌, arith, inl, inr, take, length-take-le}
 use Rattle.std.specs.Io.KnownBytes.{Appends, Consumes, IsAtEnd}
 use Rattle.std.specs.Global.{Vec}
-use Rattle.std.proofs.KnownBytes.{Appends-nil}
+use Rattle.std.proofs.KnownBytes.{Appends-nil, Appends-trans}
 use Rattle.gate_shared.specs.Calls.{PassView}
 use Rattle.gate_lines.specs.declared.fault.LaneFault.{LaneFault}
 use Rattle.gate_lines.specs.declared.fault.LaneFault.TheVariants as faults
 use Rattle.gate_lines.specs.Lines.{LacksNewline, FirstLines, line_limit, lines_of, unlines, count_limit}
-use Rattle.gate_lines.specs.Reading.{LineRead}
+use Rattle.gate_lines.specs.Reading.{LineAsked}
 use Rattle.gate_lines.specs.Writing.{TextWritten}
 use Rattle.gate_lanes.specs.Lanes.{LineAnswered, Run, SentOf, StoppedBy}
 use Rattle.gate_lanes.specs.Turns.{AllLines, AnswerMade, AnswerLost, LineTaken, Responded, Unresponded, TurnTaken}
@@ -76,10 +76,36 @@ line_written w w' s s' line text (reply, is, answered) h = (reply ∷ [], answer
 
 -- ---- what a turn ensures
 
-pub unread_turn : (fault : LaneFault) (r r' w : Option (List ℕ)) (line : List ℕ) (s : Option PassView) → LineRead r r' line (Err fault) → TurnTaken r r' w w s s (Err fault)
-unread_turn faults.Read r r' w line s h = ((line, h.0, h.1), Appends-nil w, refl)
-unread_turn faults.Write r r' w line s h = absurd h
-unread_turn faults.Memory r r' w line s h = λ number few. stopped_at_once faults.Memory number r w w s s (λ e. cc) (Appends-nil w) refl
+pub unread_turn : (fault : LaneFault) (r r' w w' : Option (List ℕ)) (line : List ℕ) (s : Option PassView) → Appends w w' [] → LineAsked r r' line (Err fault)
+    → TurnTaken r r' w w' s s (Err fault)
+unread_turn faults.Read r r' w w' line s kept h = ((line, h.0, h.1), kept, refl)
+unread_turn faults.Write r r' w w' line s kept h = λ number few. stopped_at_once faults.Write number r w w' s s (λ e. cc) kept refl
+unread_turn faults.Memory r r' w w' line s kept h = λ number few. stopped_at_once faults.Memory number r w w' s s (λ e. cc) kept refl
+
+sent_stop : (fault : LaneFault) (number : ℕ) (r w w' w'' : Option (List ℕ)) (s s' : Option PassView) → Appends w w' [] → StoppedBy fault number r w' w'' s s'
+    → StoppedBy fault number r w w'' s s'
+sent_stop fault number r w w' w'' s s' kept (lines, replies, sent, first, goes, wrote, all) =
+    (lines, replies, sent, first, goes, Appends-trans w w' w'' [] sent kept wrote, all)
+
+-- ---- a turn in which what was written before was sent on
+
+pub went_sent : (r r' w w' w'' : Option (List ℕ)) (s s' : Option PassView) (count : ℕ) → Appends w w' [] → TurnTaken r r' w' w'' s s' (Ok (Went count))
+    → TurnTaken r r' w w'' s s' (Ok (Went count))
+went_sent r r' w w' w'' s s' count kept (line, replies, read, clean, short, answered, wrote, counts, few) =
+    (line, replies, read, clean, short, answered, Appends-trans w w' w'' [] (unlines replies) kept wrote, counts, few)
+
+pub ended_sent : (r r' w w' w'' : Option (List ℕ)) (s s' : Option PassView) (count : ℕ) → Appends w w' [] → TurnTaken r r' w' w'' s s' (Ok (Ended count))
+    → TurnTaken r r' w w'' s s' (Ok (Ended count))
+ended_sent r r' w w' w'' s s' count kept (lines, replies, all, wrote, counts, few, goes) =
+    (lines, replies, all, Appends-trans w w' w'' [] (unlines replies) kept wrote, counts, few, goes)
+
+pub fault_sent : (fault : LaneFault) (r r' w w' w'' : Option (List ℕ)) (s s' : Option PassView) → Appends w w' [] → TurnTaken r r' w' w'' s s' (Err fault)
+    → TurnTaken r r' w w'' s s' (Err fault)
+fault_sent faults.Read r r' w w' w'' s s' kept (piece, wrote, same) = (piece, Appends-trans w w' w'' [] [] kept wrote, same)
+fault_sent faults.Write r r' w w' w'' s s' kept h = λ number few. sent_stop faults.Write number r w w' w'' s s' kept (h number few)
+fault_sent faults.Memory r r' w w' w'' s s' kept h = λ number few. sent_stop faults.Memory number r w w' w'' s s' kept (h number few)
+
+-- ---- a turn that was stopped
 
 turn_stopped : (fault : LaneFault) (r r' w w' : Option (List ℕ)) (s s' : Option PassView) (line : List ℕ)
     → FirstLines r (line ∷ []) → length line ≤ line_limit → LineTaken w w' s line s' (Err fault) → TurnTaken r r' w w' s s' (Err fault)

@@ -4,9 +4,7 @@ ghost use Rattle.gate_lanes.specs.Ends.{LaneRan};
 ghost use Rattle.gate_lanes.specs.Turns.{LineTaken, TurnTaken, LaneCame};
 
 use crate::entrance::Entrance;
-use gate_lines::{
-    Found, LaneFault, MAX_LINES, Sink, Source, has_ended, next_line, send_before_wait,
-};
+use gate_lines::{Found, LaneFault, MAX_LINES, Sink, Source, has_ended, next_line_or_send};
 use gate_shared::{Base, Pass};
 use std::hash::BuildHasher;
 use std::sync::Wait;
@@ -57,7 +55,7 @@ impl<N: Base, S: BuildHasher + Copy + Drop, T: Wait> Entrance<'_, N, S, T> {
         Ok(1)
     }
 
-    /// Reads the next line and answers it before anything more is read.
+    /// Reads the next line and answers it before anything more is read. What was written is sent on before a wait.
     fn take_turn<R: Source, W: Sink>(
         &self,
         pass: &mut Option<Pass<N>>,
@@ -69,7 +67,7 @@ impl<N: Base, S: BuildHasher + Copy + Drop, T: Wait> Entrance<'_, N, S, T> {
         ensures steady_reader { R.steady ≡ true → IfErr result (λ fault. fault ≢ LaneFault.Read) }
         ensures steady_writer { W.steady ≡ true → IfErr result (λ fault. fault ≢ LaneFault.Write) }
     {
-        match next_line(reader, line)? {
+        match next_line_or_send(reader, writer, line)? {
             Found::Whole => Ok(Turn::Went(self.respond(pass, writer, line.as_slice())?)),
             Found::Rest => Ok(Turn::Ended(self.respond(pass, writer, line.as_slice())?)),
             Found::End => Ok(Turn::Ended(0)),
@@ -95,13 +93,12 @@ impl<N: Base, S: BuildHasher + Copy + Drop, T: Wait> Entrance<'_, N, S, T> {
         let mut count = 0;
         let mut line = Vec::new(self.alloc);
         for _ in 0..MAX_LINES {
-            send_before_wait(reader, writer)?;
             match self.take_turn(pass, reader, writer, &mut line)? {
                 Turn::Went(replies) => count += replies,
                 Turn::Ended(replies) => return Ok(count + replies),
             }
         }
-        send_before_wait(reader, writer)?;
+        writer.send()?;
         if has_ended(reader, &mut line)? {
             return Ok(count);
         }

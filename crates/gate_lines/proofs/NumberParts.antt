@@ -1,6 +1,7 @@
 -- Parts of a line, and numbers.
-use Rattle.std.proofs.Common.{◌≡◌, ◌≢◌, ℕ, ◌<◌, ◌≤◌, ◌==◌, ◌&&◌, nat_lt, nat_le, if◌then◌else◌, Bool, true, false, List, length, get_or, Option, Some, None, Result, Ok, Err, MatchOption, refl, ap, sym, subst, ◌∙◌, arith, Bor}
-use Rattle.std.specs.List.{position_or_len, before_first, after_first}
+use Rattle.std.proofs.Common.{◌≡◌, ◌≢◌, ℕ, ◌≤◌, ◌==◌, ◌&&◌, nat_lt, nat_le, if◌then◌else◌, Bool, true, false, List, length, get_or, Option, Some, None, Result, Ok, Err, refl, ap, sym, subst, ◌∙◌, ◌+◌, arith, take, drop}
+use Rattle.std.proofs.lemmas.List.Sums.{position_or_len_is}
+use Rattle.memchr.specs.Find.{IsFirstByte, is_byte}
 use Rattle.std.specs.Str.{all_ascii_digits}
 use Rattle.std.specs.Str.Parse.{digits_value, ParsesUnsigned}
 use Rattle.std.proofs.lemmas.Bool.{true≢false, lt-ltb, le-leb, leb-true, ltb-true}
@@ -12,13 +13,25 @@ use Rattle.gate_lines.specs.Numbers.{number_of, is_plain, no_leading_zero, max_n
 not-lt : (a b : ℕ) → a ≡ b → nat_lt a b ≡ false
 not-lt a b h = grind (arith, nat_tests)
 
-pub parted : (line : List ℕ) (r : Option (Bor (List ℕ) × Bor (List ℕ)))
-    → MatchOption r (position_or_len (λ b. b == 32) line ≡ length line)
-    (λ x. (position_or_len (λ b. b == 32) line < length line) × (x.0.now ≡ before_first (λ b. b == 32) line) × (x.1.now ≡ after_first (λ b. b == 32) line))
-    → MatchOption r (part_of line ≡ None) (λ p. part_of line ≡ Some (p.0.now, p.1.now))
+not_true : (b : Bool) → (b ≡ true → ⊥) → b ≡ false
+not_true true h = absurd (h refl)
+not_true false h = refl
+
+pub space_is : (x : ℕ) → is_byte 32 x ≡ true → x ≡ 32
+space_is x e = grind (arith, nat_tests)
+
+-- the first space parts the line
+pub parted_at : (line : List ℕ) (place : ℕ) → IsFirstByte (is_byte 32) line (Some place) → part_of line ≡ Some (take place line, drop (place + 1) line)
 unfolding part_of
-parted line None h = rw (not-lt _ _ h)
-parted line (Some x) h = rw (lt-ltb _ _ h.0, h.1, h.2)
+parted_at line place first =
+    let at = position_or_len_is (λ b. b == 32) line place 0 (omega (arith, first.0.high)) (λ k low. not_true _ (first.0.before k (omega arith) low)) (λ _. first.1) in
+    rw (at, lt-ltb _ _ first.0.high) refl
+
+pub unparted : (line : List ℕ) → IsFirstByte (is_byte 32) line None → part_of line ≡ None
+unfolding part_of
+unparted line none =
+    let at = position_or_len_is (λ b. b == 32) line (length line) 0 (omega arith) (λ k low. not_true _ (none k (omega arith) low)) (λ l. absurd (omega (arith, l))) in
+    rw (not-lt _ _ at) refl
 
 pub own : IsNumeralModel (λ ds. all_ascii_digits ds ≡ true) (digits_value 10)
 own = numerals_by_value _ tells_all_ascii_digits

@@ -1,6 +1,7 @@
 -- A part of a line, from the bytes that a reader shows; and a line, from its parts.
-use Rattle.std.proofs.Common.{◌≡◌, ℕ, zero, suc, ◌+◌, ◌-◌, ◌<◌, ◌≤◌, true, List, [], ◌∷◌, ◌++◌, length, take, get_or, Option, OnSome, Some, None, Ok, refl, sym, ap, subst, ◌∙◌, arith, append_assoc, append-nil, length-append, length-take-le, take-take}
-use Rattle.std.proofs.lemmas.List.{take_more}
+use Rattle.std.proofs.Common.{◌≡◌, ℕ, zero, suc, ◌+◌, ◌-◌, ◌<◌, ◌≤◌, true, List, [], ◌∷◌, ◌++◌, length, take, get_or, Option, OnSome, Some, None, Ok, refl, sym, ap, subst, ◌∙◌, arith, append_assoc, append-nil, length-append, length-take-le, take-take, nat_lt, ⊎_elim}
+use Rattle.std.proofs.lemmas.List.{take_all, take_more}
+use Rattle.std.proofs.lemmas.Bool.{cases_Bool, ltb-true, ltb-false}
 use Rattle.std.proofs.lemmas.Bool.Decides.{nat_tests}
 use Rattle.std.specs.Io.KnownBytes.{Consumes, IsAtEnd}
 use Rattle.std.proofs.KnownBytes.{Consumes-trans}
@@ -8,7 +9,7 @@ use Rattle.memchr.specs.Find.{IsFirstByte, is_byte}
 use Rattle.gate_lines.specs.declared.part.Part.{Part}
 use Rattle.gate_lines.specs.declared.part.Part.TheVariants.{Newline, More, TooLong, End}
 use Rattle.gate_lines.specs.Lines.{LacksNewline}
-use Rattle.gate_lines.specs.Parts.{PartShown, PartTaken}
+use Rattle.gate_lines.specs.Parts.{LineShown, PartShown, PartTaken}
 
 is_newline : (x : ℕ) → x ≡ 10 → is_byte 10 x ≡ true
 is_newline x e = grind (arith, nat_tests)
@@ -23,7 +24,7 @@ lacks_before [] (suc n) within h = absurd (omega arith)
 lacks_before (x ∷ xs) (suc n) within h =
     (λ e. h 0 (omega arith) (omega arith) (is_newline x e), lacks_before xs n (omega arith) (λ k low high p. h (suc k) (omega arith) (omega arith) p))
 
-pub shown_newline : (shown front old new : List ℕ) (most room place : ℕ) → front ≡ take most shown → most ≤ length shown → most ≤ room + 1
+shown_newline : (shown front old new : List ℕ) (most room place : ℕ) → front ≡ take most shown → most ≤ length shown → most ≤ room + 1
     → IsFirstByte (is_byte 10) front (Some place) → new ≡ old ++ take place front → PartShown Newline (take (place + 1) shown) old new room
 shown_newline shown front old new most room place is within few first grown =
     let long : length front ≡ most = ap length is ∙ length-take-le most shown within in
@@ -36,23 +37,29 @@ shown_newline shown front old new most room place is within few first grown =
       grown,
     )
 
+pub line_shown : (shown front old new : List ℕ) (most room place : ℕ) → front ≡ take most shown → most ≤ length shown → most ≤ room + 1
+    → IsFirstByte (is_byte 10) front (Some place) → new ≡ old ++ take place front → LineShown (Some (place + 1)) shown old new room
+line_shown shown front old new most room place is within few first grown = (
+  omega (arith, ap length is, length-take-le most shown within, first.0.high),
+  shown_newline shown front old new most room place is within few first grown,
+)
+
 all_lack : (front : List ℕ) → IsFirstByte (is_byte 10) front None → LacksNewline front
-all_lack front none = subst LacksNewline (take_all' front) (lacks_before front (length front) (omega arith) none)
-  where
-    take_all' : (xs : List ℕ) → take (length xs) xs ≡ xs
-    take_all' [] = refl
-    take_all' (x ∷ xs) = ap (λ l. x ∷ l) (take_all' xs)
+all_lack front none = subst LacksNewline (take_all (length front) front (omega arith)) (lacks_before front (length front) (omega arith) none)
 
-pub shown_too_long : (shown front line : List ℕ) (most room : ℕ) → front ≡ take most shown → most ≤ length shown → most ≡ room + 1
-    → IsFirstByte (is_byte 10) front None → PartShown TooLong (take most shown) line line room
-shown_too_long shown front line most room is within over none =
-    (subst LacksNewline is (all_lack front none), length-take-le most shown within ∙ over, refl)
+-- what is looked at is all that is shown, or as much as may be kept and one byte more
+same_front : (shown : List ℕ) (most room : ℕ) → (length shown ≤ room → most ≡ length shown) → (room < length shown → most ≡ room + 1)
+    → take most shown ≡ take (room + 1) shown
+same_front shown most room all some = ⊎_elim
+    (λ over. ap (λ n. take n shown) (some (ltb-true room (length shown) over)))
+    (λ under.
+    let fits = ltb-false room (length shown) under in
+    ap (λ n. take n shown) (all fits) ∙ take_all (length shown) shown (omega arith) ∙ sym (take_all (room + 1) shown (omega (arith, fits))))
+    (cases_Bool (nat_lt room (length shown)))
 
-pub shown_more : (shown front old new : List ℕ) (most room : ℕ) → front ≡ take most shown → most ≤ length shown → most ≤ room → 0 < most
-    → IsFirstByte (is_byte 10) front None → new ≡ old ++ front → PartShown More (take most shown) old new room
-shown_more shown front old new most room is within short some none grown =
-    let long = length-take-le most shown within in
-    (subst LacksNewline is (all_lack front none), omega (arith, long), omega (arith, long), grown ∙ ap (λ l. old ++ l) is)
+pub none_shown : (shown front line : List ℕ) (most room : ℕ) → front ≡ take most shown → (length shown ≤ room → most ≡ length shown)
+    → (room < length shown → most ≡ room + 1) → IsFirstByte (is_byte 10) front None → LineShown None shown line line room
+none_shown shown front line most room is all some none = (subst LacksNewline (is ∙ same_front shown most room all some) (all_lack front none), refl)
 
 -- ---- a line from its parts
 

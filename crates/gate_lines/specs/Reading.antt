@@ -26,6 +26,13 @@ LineReadWithin most old new line (Err faults.Write) = ⊥
 abbrev pub LineRead : Option (List ℕ) → Option (List ℕ) → List ℕ → Result Found LaneFault → Type 0
 LineRead old new line result = LineReadWithin line_limit old new line result
 
+-- the same, of a line before which what was written may be sent on: where that fails, nothing was read
+abbrev pub LineAsked : Option (List ℕ) → Option (List ℕ) → List ℕ → Result Found LaneFault → Type 0
+LineAsked old new line (Ok found) = LineRead old new line (Ok found)
+LineAsked old new line (Err faults.Read) = LineRead old new line (Err faults.Read)
+LineAsked old new line (Err faults.Memory) = LineRead old new line (Err faults.Memory)
+LineAsked old new line (Err faults.Write) = Consumes old new []
+
 -- whether the input ends, and what was taken to tell
 abbrev pub EndTold : Option (List ℕ) → Option (List ℕ) → Result Bool LaneFault → Type 0
 EndTold old new (Ok true) = Consumes old new [] × OnSome old (IsAtEnd new)

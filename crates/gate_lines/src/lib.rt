@@ -20,5 +20,5 @@ pub use number::{MAX_NUMBER, numbers_are_decimal, read_number, read_small_number
 pub use part::Part;
 pub use sink::{Sink, end_line};
 pub use source::Source;
-pub use waiting::send_before_wait;
+pub use waiting::next_line_or_send;
 pub use word::{is_one_word, next_word};

@@ -1,6 +1,6 @@
 //! A part of a line, from the bytes that a reader holds.
 ghost use Rattle.std.specs.Prelude.{◌≡◌, ◌≤◌, length, take, [], IfOk, OnErr};
-ghost use Rattle.gate_lines.specs.Parts.{PartShown};
+ghost use Rattle.gate_lines.specs.Parts.{LineShown, PartShown};
 
 use gate_bytes::Memory;
 use memchr::memchr;
@@ -18,6 +18,25 @@ pub enum Part {
     End,
 }
 
+/// Appends to `line` the line that `shown` begins with, where its newline is shown and it has at most `room` bytes, and
+/// gives how many of the bytes that are shown were taken.
+pub(crate) fn append_line(
+    shown: &[u8],
+    line: &mut Vec<u8>,
+    room: usize,
+) -> Result<Option<usize>, Memory>
+    ensures ok { IfOk result (λ taken. LineShown taken shown.now line.old.items line.new.items room) }
+    ensures err { OnErr result (line.new.items ≡ line.old.items) }
+{
+    let most = room.saturating_add(1).min(shown.len());
+    let front = &shown[..most];
+    let Some(at) = memchr(b'\n', front) else {
+        return Ok(None);
+    };
+    line.extend_from_slice(&front[..at])?;
+    Ok(Some(at + 1))
+}
+
 /// Appends to `line` what `shown` begins with, up to a newline and at most `room` bytes, and gives how many of the bytes
 /// that are shown were taken.
 pub(crate) fn append_part(
@@ -33,15 +52,12 @@ pub(crate) fn append_part(
     if shown.is_empty() {
         return Ok((Part::End, 0));
     }
-    let most = room.saturating_add(1).min(shown.len());
-    let front = &shown[..most];
-    if let Some(at) = memchr(b'\n', front) {
-        line.extend_from_slice(&front[..at])?;
-        return Ok((Part::Newline, at + 1));
+    if let Some(taken) = append_line(shown, line, room)? {
+        return Ok((Part::Newline, taken));
     }
-    if most > room {
-        return Ok((Part::TooLong, most));
+    if shown.len() > room {
+        return Ok((Part::TooLong, room + 1));
     }
-    line.extend_from_slice(front)?;
-    Ok((Part::More, most))
+    line.extend_from_slice(shown)?;
+    Ok((Part::More, shown.len()))
 }

@@ -1,10 +1,10 @@
 //! Readers of lines.
 ghost use Rattle.std.specs.Prelude.{◌≡◌, ◌≢◌, ◌++◌, Bool, true, false, IfErr, IfSome, OnOk};
-ghost use Rattle.gate_lines.specs.Parts.{PartTaken};
+ghost use Rattle.gate_lines.specs.Parts.{PartTaken, WaitingTaken};
 
 use crate::fault::LaneFault;
-use crate::part::{Part, append_part};
-use memchr::memchr;
+use crate::part::{Part, append_line, append_part};
+use gate_bytes::Memory;
 use std::io::{BufRead, BufReader, ErrorKind, Read};
 
 /// A reader of lines. One over bytes in memory never fails.
@@ -12,8 +12,10 @@ pub trait Source: BufRead {
     // Whether no read of this type fails.
     ghost steady: { Bool };
 
-    /// Whether a whole line waits in memory, so that the next one is there without a wait. It reads nothing.
-    fn has_line(&self) -> bool;
+    /// Moves the next line to the end of `line`, where all of it waits in memory and has at most `room` bytes, and tells
+    /// whether it did; its newline is taken and not kept. Else nothing is taken. It reads nothing, so it never waits.
+    fn take_waiting(&mut self, line: &mut Vec<u8>, room: usize) -> Result<bool, Memory>
+        ensures { WaitingTaken (Self.remaining self.old) (Self.remaining self.new) line.old.items line.new.items room result };
 
     /// Moves what the reader holds, or else its next bytes, to the end of `line`: up to a newline, which is taken and not
     /// kept, and at most `room` bytes and one that isn't kept.
@@ -31,8 +33,13 @@ pub trait Source: BufRead {
 impl Source for &[u8] {
     ghost steady = { true };
 
-    fn has_line(&self) -> bool {
-        memchr(b'\n', *self).is_some()
+    fn take_waiting(&mut self, line: &mut Vec<u8>, room: usize) -> Result<bool, Memory> {
+        let shown: &[u8] = *self;
+        let Some(taken) = append_line(shown, line, room)? else {
+            return Ok(false);
+        };
+        *self = &shown[taken..];
+        Ok(true)
     }
 
     fn take_part(&mut self, line: &mut Vec<u8>, room: usize) -> Result<Part, LaneFault> {
@@ -53,8 +60,11 @@ impl Source for &[u8] {
 impl<R: Read> Source for BufReader<R> {
     ghost steady = { false };
 
-    fn has_line(&self) -> bool {
-        memchr(b'\n', self.buffer()).is_some()
+    fn take_waiting(&mut self, line: &mut Vec<u8>, room: usize) -> Result<bool, Memory> {
+        if self.buffer().is_empty() {
+            return Ok(false);
+        }
+        take_shown_line(self, line, room)
     }
 
     fn take_part(&mut self, line: &mut Vec<u8>, room: usize) -> Result<Part, LaneFault> {
@@ -70,6 +80,24 @@ impl<R: Read> Source for BufReader<R> {
             }),
         }
     }
+}
+
+/// Takes the line that a reader shows, where it shows all of it. A reader that holds some bytes shows them without a read.
+fn take_shown_line<R: BufRead>(
+    reader: &mut R,
+    line: &mut Vec<u8>,
+    room: usize,
+) -> Result<bool, Memory>
+    ensures { WaitingTaken (R.remaining reader.old) (R.remaining reader.new) line.old.items line.new.items room result }
+{
+    let Ok(shown) = reader.fill_buf() else {
+        return Ok(false);
+    };
+    let Some(taken) = append_line(shown, line, room)? else {
+        return Ok(false);
+    };
+    reader.consume(taken);
+    Ok(true)
 }
 
 /// Takes a part of a line from what a reader shows. A byte is taken only once `line` has it.

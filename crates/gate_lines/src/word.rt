@@ -2,11 +2,14 @@
 ghost use Rattle.std.specs.Prelude.{◌≡◌, MatchOption, None, Some};
 ghost use Rattle.gate_lines.specs.Words.{part_of, is_word};
 
+use memchr::memchr;
+
 /// What stands before the first space, and what stands after it.
 pub fn next_word(line: &str) -> Option<(&str, &str)>
     ensures { MatchOption result (part_of line.now ≡ None) (λ p. part_of line.now ≡ Some (p.0.now, p.1.now)) }
 {
-    line.split_once(' ')
+    let space = memchr(b' ', line.as_bytes())?;
+    Some((&line[..space], &line[space + 1..]))
 }
 
 /// Whether the text is one word: it isn't empty, and no space is in it.

@@ -33,6 +33,6 @@ line_answered old new line reply event full is answered =
     (subst (λ (o : Option Event). EventAnswered old o reply new) (sym is) answered)
 
 -- the step was made, and the text of its reply with a newline
-pub text_replied : (old new : World) (line : List ℕ) (event : Event) (answer : Reply) (text : List ℕ) → line ≡ text ++ 10 ∷ [] → text ≡ reply_text answer
-    → StepGives old event answer new → EventReplied old event line new
-text_replied old new line event answer text is same gives = (text, is, inl (answer, same, gives))
+pub text_replied : (old new : World) (text : List ℕ) (event : Event) (answer : Reply) → text ≡ reply_text answer ++ 10 ∷ [] → StepGives old event answer new
+    → EventReplied old event text new
+text_replied old new text event answer is gives = (reply_text answer, is, inl (answer, refl, gives))

@@ -1,5 +1,6 @@
 //! The lane: lines read one after another, each answered before the next is read.
-ghost use Rattle.std.specs.Prelude.{◌≡◌, ◌≢◌, [], true, IfOk, IfErr, OnOk, OnErr, IsErrOf, string_bytes};
+ghost use Rattle.std.specs.Prelude.{◌≡◌, ◌≢◌, ◌++◌, ◌∷◌, [], true, IfOk, IfErr, OnOk, OnErr, IsErrOf, string_bytes};
+ghost use Rattle.gate_message.specs.Texts.{reply_text};
 ghost use Rattle.gate_prog.specs.Lanes.{LaneDone, LaneUnread, StoppedBy};
 ghost use Rattle.gate_prog.specs.Turns.{EventReplied, EventLost, AnswerMade, AnswerLost, LineTaken, TurnTaken, LaneCame};
 
@@ -7,9 +8,9 @@ use gate_bytes::Memory;
 use gate_core::State;
 use gate_events::event_on;
 use gate_lines::{
-    Found, LaneFault, MAX_LINES, Sink, Source, asks_nothing, has_ended, next_line, send_before_wait,
+    Found, LaneFault, MAX_LINES, Sink, Source, asks_nothing, has_ended, next_line_or_send,
 };
-use gate_message::Event;
+use gate_message::{Event, Reply};
 use std::alloc::Global;
 use std::hash::BuildHasher;
 
@@ -28,6 +29,15 @@ fn set_text(reply: &mut String, text: &str) -> Result<(), Memory>
     Ok(reply.push_str(text)?)
 }
 
+/// Puts the line of an answer, with its newline, in the place of what `reply` holds.
+fn set_answer(alloc: Global, answer: &Reply, reply: &mut String) -> Result<(), Memory>
+    ensures { OnOk result (string_bytes reply.new ≡ reply_text answer.now ++ 10 ∷ []) }
+{
+    reply.clear();
+    answer.push_text(alloc, reply)?;
+    Ok(reply.push('\n')?)
+}
+
 /// Puts the reply line to an event, with its newline, in the place of what `reply` holds. A step that memory ran out in is
 /// answered too.
 fn answer_event<S: BuildHasher + Copy + Drop>(
@@ -39,14 +49,13 @@ fn answer_event<S: BuildHasher + Copy + Drop>(
     ensures ok { OnOk result (EventReplied state.old event.now (string_bytes reply.new) state.new) }
     ensures err { OnErr result (EventLost state.old event.now state.new) }
 {
-    let Ok(answer) = state.step(alloc, event) else {
-        return set_text(reply, "fault memory\n");
+    let step = state.step(alloc, event);
+    let told = match &step {
+        Ok(answer) => set_answer(alloc, answer, reply),
+        Err(_) => set_text(reply, "fault memory\n"),
     };
-    reply.clear();
-    let told = answer.push_text(alloc, reply);
-    drop(answer);
-    told?;
-    Ok(reply.push('\n')?)
+    drop(step);
+    told
 }
 
 /// Answers a line within the limits, and tells whether it has a reply line: that line, with its newline, then stands in
@@ -63,14 +72,13 @@ fn answer<S: BuildHasher + Copy + Drop>(
     if asks_nothing(line) {
         return Ok(false);
     }
-    match event_on(alloc, line)? {
-        Some(event) => {
-            let replied = answer_event(alloc, state, &event, reply);
-            drop(event);
-            replied?;
-        }
-        None => set_text(reply, "refused L1 bad-line\n")?,
-    }
+    let event = event_on(alloc, line)?;
+    let replied = match &event {
+        Some(event) => answer_event(alloc, state, event, reply),
+        None => set_text(reply, "refused L1 bad-line\n"),
+    };
+    drop(event);
+    replied?;
     Ok(true)
 }
 
@@ -92,7 +100,7 @@ fn respond<S: BuildHasher + Copy + Drop, W: Sink>(
     Ok(1)
 }
 
-/// Reads the next line and answers it before anything more is read.
+/// Reads the next line and answers it before anything more is read. What was written is sent on before a wait.
 fn take_turn<S: BuildHasher + Copy + Drop, R: Source, W: Sink>(
     alloc: Global,
     state: &mut State<S>,
@@ -105,7 +113,7 @@ fn take_turn<S: BuildHasher + Copy + Drop, R: Source, W: Sink>(
     ensures steady_reader { R.steady ≡ true → IfErr result (λ fault. fault ≢ LaneFault.Read) }
     ensures steady_writer { W.steady ≡ true → IfErr result (λ fault. fault ≢ LaneFault.Write) }
 {
-    match next_line(reader, line)? {
+    match next_line_or_send(reader, writer, line)? {
         Found::Whole => Ok(Turn::Went(respond(alloc, state, writer, line.as_slice(), reply)?)),
         Found::Rest => Ok(Turn::Ended(respond(alloc, state, writer, line.as_slice(), reply)?)),
         Found::End => Ok(Turn::Ended(0)),
@@ -132,13 +140,12 @@ fn answer_lines<S: BuildHasher + Copy + Drop, R: Source, W: Sink>(
     let mut line = Vec::new(alloc);
     let mut reply = String::new(alloc);
     for _ in 0..MAX_LINES {
-        send_before_wait(reader, writer)?;
         match take_turn(alloc, state, reader, writer, &mut line, &mut reply)? {
             Turn::Went(replies) => count += replies,
             Turn::Ended(replies) => return Ok(count + replies),
         }
     }
-    send_before_wait(reader, writer)?;
+    writer.send()?;
     if has_ended(reader, &mut line)? {
         return Ok(count);
     }

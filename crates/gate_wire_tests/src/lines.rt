@@ -1,5 +1,7 @@
 //! Lines over readers in memory, with buffers of few bytes, and over one that breaks.
-use gate_lines::{Found, LaneFault, Sink, Source, end_line, has_ended, next_line};
+use gate_lines::{
+    Found, LaneFault, Sink, Source, end_line, has_ended, next_line, next_line_or_send,
+};
 use std::io;
 use std::io::{BufReader, BufWriter, ErrorKind, Read, Write};
 use std::process::Abort;
@@ -87,22 +89,39 @@ fn lines_in_parts(rt: HostRuntime) -> Result<(), Fail> {
 }
 
 #[test]
-fn lines_that_a_slice_has(rt: HostRuntime) {
-    let (whole, rest): (&[u8], &[u8]) = (b"whole\nrest", b"rest");
-    assert!(rt; whole.has_line());
-    assert!(rt; !rest.has_line());
+fn lines_that_a_slice_has(rt: HostRuntime) -> Result<(), Fail> {
+    let mut bytes: &[u8] = b"whole\nrest";
+    let mut line = Vec::new(rt.alloc());
+    assert_eq!(rt; bytes.take_waiting(&mut line, 4)?, false);
+    assert_eq!(rt; bytes.take_waiting(&mut line, 5)?, true);
+    assert_eq!(rt; std::str::from_utf8(line.as_slice())?, "whole");
+    assert_eq!(rt; bytes.take_waiting(&mut line, 5)?, false);
+    assert_eq!(rt; std::str::from_utf8(bytes)?, "rest");
+    Ok(())
 }
 
 #[test]
 fn lines_that_wait(rt: HostRuntime) -> Result<(), Fail> {
     let mut reader = BufReader::new(rt.alloc(), Interrupted(b"one\ntwo\nth"))?;
+    let mut writer = BufWriter::new(rt.alloc(), Drops { left: 9 })?;
     let mut line = Vec::new(rt.alloc());
-    assert!(rt; !reader.has_line());
-    assert_eq!(rt; next_line(&mut reader, &mut line)?, Found::Whole);
-    assert!(rt; reader.has_line());
-    assert_eq!(rt; next_line(&mut reader, &mut line)?, Found::Whole);
-    assert!(rt; !reader.has_line());
-    assert_eq!(rt; next_line(&mut reader, &mut line), Err(LaneFault::Read));
+    assert_eq!(rt; writer.write_text(b"a"), Ok(()));
+    assert_eq!(rt;
+        next_line_or_send(&mut reader, &mut writer, &mut line),
+        Ok(Found::Whole)
+    );
+    assert_eq!(rt; writer.buffer().len(), 0);
+    assert_eq!(rt; writer.write_text(b"b"), Ok(()));
+    assert_eq!(rt;
+        next_line_or_send(&mut reader, &mut writer, &mut line),
+        Ok(Found::Whole)
+    );
+    assert_eq!(rt; writer.buffer().len(), 1);
+    assert_eq!(rt;
+        next_line_or_send(&mut reader, &mut writer, &mut line),
+        Err(LaneFault::Read)
+    );
+    assert_eq!(rt; writer.buffer().len(), 0);
     assert_eq!(rt; std::str::from_utf8(line.as_slice())?, "th");
     Ok(())
 }
