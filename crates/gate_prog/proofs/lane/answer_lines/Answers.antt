@@ -7,7 +7,7 @@ loop-init g c = SoFar-start _ _ _
 
 pub returns-in_err-replies-clause-came : goal.returns-in_err-replies-clause-came
 returns-in_err-replies-clause-came g c =
-    let p = err_from_is_err_and c.from_residual-in_err-replies.result c.from_residual-in_err-replies.ensures.1 in
+    let p = err_from_is_err_and c.from_residual.result c.from_residual.ensures.1 in
     rw (p.1, p.2) (SoFar-fault c.in_err-replies.field-0.0 c.loop.counter _ (g.R.Read.remaining c.loop.reader) _ _ _ _ _ _ _ c.loop.count c.loop-test.true c.loop.invariant c.in_err-replies.ensures.taken)
 
 pub returns-in-Ended-clause-came : goal.returns-in-Ended-clause-came
