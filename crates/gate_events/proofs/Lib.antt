@@ -10,3 +10,4 @@ pub mod OtherTexts
 pub mod ChainTexts
 pub mod SpelledTexts
 pub mod TextLines
+pub mod Digits

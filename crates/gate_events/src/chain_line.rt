@@ -3,20 +3,18 @@ ghost use Rattle.std.specs.Prelude.{◌≡◌, ◌==◌, IfOk, map, length};
 ghost use Rattle.std.specs.List.{list_any};
 ghost use Rattle.gate_events.specs.ChainLines.{block_of, blocks_of, words_of};
 
+use crate::hexadecimal::decode;
 use gate_block::read_block;
 use gate_bytes::{Kept, Memory};
 use gate_chain::{Block, ChainFault};
-use hex::FromHexError;
 use std::alloc::{AllocError, Global};
 
 /// The block that a word of hex spells; a word that isn't hex spells none.
 fn block_in(alloc: Global, word: &[u8]) -> Result<Option<Block>, Memory>
     ensures { IfOk result (λ block. block ≡ block_of word.now) }
 {
-    let bytes = match hex::decode(alloc, word) {
-        Ok(bytes) => bytes,
-        Err(FromHexError::OutOfMemory) => return Err(Memory),
-        Err(_) => return Ok(None),
+    let Some(bytes) = decode(alloc, word)? else {
+        return Ok(None);
     };
     match read_block(alloc, bytes.as_slice()) {
         Ok(block) => Ok(Some(block)),

@@ -3,13 +3,13 @@ ghost use Rattle.std.specs.Prelude.{◌≡◌, IfOk, MatchOption, None, Some};
 ghost use Rattle.gate_events.specs.EventLines.{line_event, event_of, numbered_of, peer_event_of, worded_event, enter_event_of, tx_event_of, user_event_of, call_event_of, chain_event_of, timed_blocks_of, operator_event_of, switch_event_of, switch_of, is_on_of, prepared_of};
 
 use crate::chain_line::blocks_in;
+use crate::hexadecimal::decode;
 use gate_admit::Prepared;
 use gate_bytes::{Counted, Kept, Memory};
 use gate_chain::Block;
 use gate_lines::{is_one_word, next_word, read_number, read_small_number};
 use gate_message::{Call, Event, Switch};
 use gate_net::Address;
-use hex::FromHexError;
 use std::alloc::Global;
 
 /// The event that the bytes of a line spell, without its newline; bytes that are not UTF-8 spell none.
@@ -237,9 +237,8 @@ fn is_on(text: &str) -> Option<bool>
 pub fn prepared(alloc: Global, text: &str) -> Result<Prepared, Memory>
     ensures { IfOk result (λ transaction. transaction ≡ prepared_of text.now) }
 {
-    match hex::decode(alloc, text) {
-        Ok(bytes) => Prepared::new(alloc, bytes.as_slice()),
-        Err(FromHexError::OutOfMemory) => Err(Memory),
-        Err(_) => Ok(Prepared::undecodable()),
+    match decode(alloc, text.as_bytes())? {
+        Some(bytes) => Prepared::new(alloc, bytes.as_slice()),
+        None => Ok(Prepared::undecodable()),
     }
 }

@@ -8,6 +8,7 @@ mod chain_line;
 mod chain_printing;
 mod event_line;
 mod event_printing;
+mod hexadecimal;
 mod laws;
 
 pub use event_line::{event_on, prepared, read_event};
