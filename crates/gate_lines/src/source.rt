@@ -1,5 +1,6 @@
 //! Readers of lines.
-ghost use Rattle.std.specs.Prelude.{◌≡◌, ◌≢◌, ◌++◌, Bool, true, false, IfErr, IfSome, OnOk};
+ghost use Rattle.std.specs.Prelude.{◌≡◌, ◌≢◌, ◌+◌, ◌++◌, Bool, true, false, take, IfErr, IfOk, IfSome, OnOk};
+ghost use Rattle.gate_lines.specs.Lines.{LacksNewline};
 ghost use Rattle.gate_lines.specs.Parts.{PartTaken, WaitingTaken};
 
 use crate::fault::LaneFault;
@@ -13,9 +14,11 @@ pub trait Source: BufRead {
     ghost steady: { Bool };
 
     /// Moves the next line to the end of `line`, where all of it waits in memory and has at most `room` bytes, and tells
-    /// whether it did; its newline is taken and not kept. Else nothing is taken. It reads nothing, so it never waits.
+    /// whether it did; its newline is taken and not kept. Else nothing is taken. It reads nothing, so it never waits. A
+    /// reader over bytes in memory has all of them waiting.
     fn take_waiting(&mut self, line: &mut Vec<u8>, room: usize) -> Result<bool, Memory>
-        ensures { WaitingTaken (Self.remaining self.old) (Self.remaining self.new) line.old.items line.new.items room result };
+        ensures taken { WaitingTaken (Self.remaining self.old) (Self.remaining self.new) line.old.items line.new.items room result }
+        ensures none { steady ≡ true → IfOk result (λ taken. taken ≡ false → IfSome (Self.remaining self.old) (λ bytes. LacksNewline (take (room + 1) bytes))) };
 
     /// Moves what the reader holds, or else its next bytes, to the end of `line`: up to a newline, which is taken and not
     /// kept, and at most `room` bytes and one that isn't kept.
