@@ -1,4 +1,4 @@
-# make gate    proves and builds the program crate by crate, and says where it lies; make gate CPU=x86-64-v3 compiles it for that level of processors and later ones, where hashing is faster
+# make gate    proves and builds the program crate by crate, and says where it lies; make gate CPU=x86-64-v3 compiles it for that level of processors and later ones alone
 # make demo    prints its replies to examples/first-path.txt: by the proved program where it is built, else compiled without the proofs, in about a minute
 # make check   quick: proves what changed since the last check, crate by crate
 # make test    everything from nothing: proofs, must-fail edits, tests, programs; then the rows and the program's own tests on the built program
