@@ -32,8 +32,3 @@ pub use pool::Pool;
 pub use prepared::Prepared;
 pub use submission::submit;
 pub use verdicts::{Verdict, VerdictRow, Verdicts};
-
-#[cfg(test)]
-mod fixture;
-#[cfg(test)]
-mod tests;

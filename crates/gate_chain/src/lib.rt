@@ -17,6 +17,3 @@ pub use chain::Chain;
 pub use fault::OpenFault;
 pub use median::stands_in_order;
 pub use opening::OpeningCoin;
-
-#[cfg(test)]
-mod tests;

@@ -22,6 +22,3 @@ pub use opening::Opening;
 pub use refusal::{Refusal, Then};
 pub use reply::Reply;
 pub use state::{State, StepFault};
-
-#[cfg(test)]
-mod tests;

@@ -15,6 +15,3 @@ pub use gate_tx::Coin;
 pub use judging::answers;
 pub use piece::Piece;
 pub use reporting::{InputReport, report};
-
-#[cfg(test)]
-mod tests;

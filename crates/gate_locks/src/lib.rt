@@ -10,6 +10,3 @@ mod relative;
 
 pub use finality::is_final;
 pub use relative::sequence_locks_met;
-
-#[cfg(test)]
-mod tests;

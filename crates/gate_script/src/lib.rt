@@ -22,6 +22,3 @@ pub use pushes::{is_push_only, push_stack};
 pub use reading::Ops;
 pub use templates::Template;
 pub use witness::witness_program;
-
-#[cfg(test)]
-mod tests;

@@ -17,6 +17,3 @@ pub use denial::Denial;
 pub use order::the_order;
 pub use outputs::dust_threshold;
 pub use standard::is_standard;
-
-#[cfg(test)]
-mod tests;

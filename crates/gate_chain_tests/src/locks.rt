@@ -1,0 +1,138 @@
+use gate_bytes::Kept;
+use gate_chain::{Chain, OpenFault};
+use gate_locks::{is_final, sequence_locks_met};
+use gate_tx::{OutPoint, Transaction, TxIn, TxOut, Txid};
+use std::alloc::{AllocError, Global};
+use std::test::Fail;
+
+/// A transaction with one input, and an output of nothing.
+fn spending(
+    alloc: Global,
+    version: i32,
+    sequence: u32,
+    locktime: u32,
+) -> Result<Option<Transaction>, AllocError> {
+    let mut inputs = Vec::with_capacity(alloc, 1)?;
+    inputs.push(TxIn {
+        prevout: OutPoint {
+            txid: Txid::new([0x11; 32]),
+            index: 0,
+        },
+        script: Kept::from_vec(Vec::new(alloc)),
+        sequence,
+        witness: Kept::from_vec(Vec::new(alloc)),
+    })?;
+    let mut outputs = Vec::with_capacity(alloc, 1)?;
+    outputs.push(TxOut {
+        value: 0,
+        script: Kept::from_vec(Vec::new(alloc)),
+    })?;
+    Ok(Transaction::new(version, inputs, outputs, locktime).ok())
+}
+
+fn is_final_with(
+    alloc: Global,
+    locktime: u32,
+    sequence: u32,
+    next_height: u32,
+    mtp: u32,
+) -> Result<Option<bool>, AllocError> {
+    let tx = spending(alloc, 2, sequence, locktime)?;
+    Ok(tx.map(|tx| is_final(&tx, next_height, mtp)))
+}
+
+/// A chain up to height 100, with 600 seconds from one block to the next.
+fn hundred_blocks(alloc: Global) -> Result<Chain, OpenFault> {
+    let mut times = Vec::new(alloc);
+    for height in 0..101u32 {
+        times.push(1000 + 600 * height)?;
+    }
+    Chain::open(alloc, Vec::new(alloc), times)
+}
+
+fn is_met(tx: &Transaction, height: u32, chain: &Chain) -> Option<bool> {
+    let tip = chain.tip();
+    if tx.inputs().len() != 1 || height > tip + 1 {
+        return None;
+    }
+    Some(sequence_locks_met(tx, &[height], chain))
+}
+
+fn is_met_with(
+    alloc: Global,
+    chain: &Chain,
+    version: i32,
+    sequence: u32,
+    height: u32,
+) -> Result<Option<bool>, AllocError> {
+    match spending(alloc, version, sequence, 0)? {
+        Some(tx) => Ok(is_met(&tx, height, chain)),
+        None => Ok(None),
+    }
+}
+
+#[test]
+fn locktimes_of_heights_and_times(rt: HostRuntime) -> Result<(), Fail> {
+    let rows = [
+        (0, 0, 0, true),
+        (100, 101, 0, true),
+        (101, 101, 4_000_000_000, false),
+        (499_999_999, 499_999_999, 4_000_000_000, false),
+        (500_000_000, 4_000_000_000, 500_000_000, false),
+        (500_000_000, 0, 500_000_001, true),
+    ];
+    for (locktime, next_height, mtp, met) in rows {
+        let open = is_final_with(rt.alloc(), locktime, 0, next_height, mtp)?;
+        assert_eq!(rt; open, Some(met));
+        let waived = is_final_with(rt.alloc(), locktime, 0xffff_ffff, next_height, mtp)?;
+        assert_eq!(rt; waived, Some(true));
+    }
+    Ok(())
+}
+
+// BIP 68: a lock of n blocks is met n blocks above the coin's.
+#[test]
+fn relative_locks_by_height(rt: HostRuntime) -> Result<(), Fail> {
+    let chain = hundred_blocks(rt.alloc())?;
+    let rows = [
+        (2, 10, 91, true),
+        (2, 11, 91, false),
+        (1, 11, 91, true),
+        (-1, 11, 91, false),
+        (2, 0x8000_000b, 91, true),
+        (2, 0x001f_000a, 91, true),
+        (2, 0x001f_000b, 91, false),
+        (2, 0, 101, true),
+        (2, 1, 101, false),
+    ];
+    for (version, sequence, height, met) in rows {
+        let is_met = is_met_with(rt.alloc(), &chain, version, sequence, height)?;
+        assert_eq!(rt; is_met, Some(met));
+    }
+    Ok(())
+}
+
+// BIP 68: a lock of n units is met 512 * n seconds after the median time past of the block before the coin's, here
+// 1000 + 600 * (height - 6) from height 11 on.
+#[test]
+fn relative_locks_by_time(rt: HostRuntime) -> Result<(), Fail> {
+    let chain = hundred_blocks(rt.alloc())?;
+    let rows = [
+        (2, 0x0040_006f, 1, true),
+        (2, 0x0040_0070, 1, false),
+        (2, 0x0040_006f, 0, true),
+        (2, 0x0040_0070, 0, false),
+        (2, 0x0040_0069, 11, true),
+        (2, 0x0040_006a, 11, false),
+        (-1, 0x0040_0070, 1, false),
+        (1, 0x0040_0070, 1, true),
+        (2, 0xc040_0070, 1, true),
+        (2, 0x0040_0000, 101, true),
+        (2, 0x0040_0001, 101, false),
+    ];
+    for (version, sequence, height, met) in rows {
+        let is_met = is_met_with(rt.alloc(), &chain, version, sequence, height)?;
+        assert_eq!(rt; is_met, Some(met));
+    }
+    Ok(())
+}

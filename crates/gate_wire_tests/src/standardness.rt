@@ -1,0 +1,295 @@
+use gate_bytes::Kept;
+use gate_standard::*;
+use gate_tx::{OutPoint, Transaction, TxIn, TxOut, Txid};
+use std::alloc::Global;
+use std::test::Fail;
+
+fn joined(alloc: Global, parts: &[&[u8]]) -> Result<Kept<u8>, Fail> {
+    let mut bytes = Vec::new(alloc);
+    for part in parts {
+        bytes.extend_from_slice(part)?;
+    }
+    Ok(Kept::from_vec(bytes))
+}
+
+/// An input: the byte that its outpoint's id is made of, where 0 stands for the null outpoint, and its script.
+type Input<'a> = (u8, &'a [u8]);
+
+fn spending(alloc: Global, input: &Input<'_>) -> Result<TxIn, Fail> {
+    let (id, script) = *input;
+    let prevout = OutPoint {
+        txid: Txid::new([id; 32]),
+        index: if id == 0 { u32::MAX } else { 0 },
+    };
+    Ok(TxIn {
+        prevout,
+        script: joined(alloc, &[script])?,
+        sequence: 0xffff_fffd,
+        witness: Kept::from_vec(Vec::new(alloc)),
+    })
+}
+
+/// An output: its value, and the parts of its script.
+type Output<'a> = (i64, &'a [&'a [u8]]);
+
+fn paying(alloc: Global, output: &Output<'_>) -> Result<TxOut, Fail> {
+    let (value, parts) = *output;
+    Ok(TxOut {
+        value,
+        script: joined(alloc, parts)?,
+    })
+}
+
+fn inputs_of(alloc: Global, told: &[Input<'_>]) -> Result<Vec<TxIn>, Fail> {
+    let mut inputs = Vec::new(alloc);
+    for input in told {
+        inputs.push(spending(alloc, input)?)?;
+    }
+    Ok(inputs)
+}
+
+fn outputs_of(alloc: Global, told: &[Output<'_>]) -> Result<Vec<TxOut>, Fail> {
+    let mut outputs = Vec::new(alloc);
+    for output in told {
+        outputs.push(paying(alloc, output)?)?;
+    }
+    Ok(outputs)
+}
+
+fn transaction(
+    alloc: Global,
+    version: i32,
+    inputs: &[Input<'_>],
+    outputs: &[Output<'_>],
+) -> Result<Transaction, Fail> {
+    let inputs = inputs_of(alloc, inputs)?;
+    let outputs = outputs_of(alloc, outputs)?;
+    Ok(Transaction::new(version, inputs, outputs, 0)?)
+}
+
+/// The decision of both layers in turn.
+fn denial_of(alloc: Global, tx: &Transaction) -> Result<Option<Denial>, Fail> {
+    Ok(match check_transaction(alloc, tx)? {
+        Some(denial) => Some(denial),
+        None => is_standard(tx),
+    })
+}
+
+fn first_denial_of(
+    alloc: Global,
+    version: i32,
+    inputs: &[Input<'_>],
+    outputs: &[Output<'_>],
+) -> Result<Option<Denial>, Fail> {
+    let tx = transaction(alloc, version, inputs, outputs)?;
+    let denial = denial_of(alloc, &tx);
+    drop(tx);
+    denial
+}
+
+fn first_denial(
+    alloc: Global,
+    inputs: &[Input<'_>],
+    outputs: &[Output<'_>],
+) -> Result<Option<Denial>, Fail> {
+    first_denial_of(alloc, 2, inputs, outputs)
+}
+
+#[test]
+fn denials_in_print(rt: HostRuntime) -> Result<(), Fail> {
+    let names = [
+        (Denial::Decode, 1, "tx-decode"),
+        (Denial::Coinbase, 11, "coinbase"),
+        (Denial::Dust, 17, "dust"),
+        (Denial::MissingOrSpent, 25, "bad-txns-inputs-missingorspent"),
+        (Denial::MinRelayFee, 35, "min relay fee not met"),
+        (Denial::LowerFee, 41, "insufficient fee"),
+        (Denial::MempoolFull, 46, "mempool full"),
+    ];
+    for (denial, rule, token) in names {
+        assert_eq!(rt; denial.rule(), rule);
+        assert_eq!(rt; denial.token(), token);
+        let printed = format!(in rt.alloc(); "{denial}")?;
+        assert_eq!(rt; printed.as_str(), token);
+    }
+    Ok(())
+}
+
+#[test]
+fn dust_of_each_template(rt: HostRuntime) -> Result<(), Fail> {
+    let thresholds: [(&[&[u8]], u64); 7] = [
+        (&[&[0x76, 0xa9, 20], &[0x22; 20], &[0x88, 0xac]], 546),
+        (&[&[0xa9, 20], &[0x22; 20], &[0x87]], 540),
+        (&[&[0x00, 20], &[0x22; 20]], 294),
+        (&[&[0x00, 32], &[0x22; 32]], 330),
+        (&[&[0x51, 32], &[0x22; 32]], 330),
+        (&[&[0x6a], &[20], &[0x22; 20]], 0),
+        (&[&[0x22; 10_001]], 0),
+    ];
+    for (parts, threshold) in thresholds {
+        let output = paying(rt.alloc(), &(0, parts))?;
+        let found = dust_threshold(&output);
+        drop(output);
+        assert_eq!(rt; found, threshold);
+    }
+    Ok(())
+}
+
+/// A payment to a witness key hash.
+const TO_KEY: &[&[u8]] = &[&[0x00, 20], &[0x22; 20]];
+
+#[test]
+fn inputs_of_a_transaction(rt: HostRuntime) -> Result<(), Fail> {
+    let cases: [(&[Input<'_>], Option<Denial>); 10] = [
+        (
+            &[(0x11, &[]), (0x12, &[]), (0x11, &[])],
+            Some(Denial::InputsDuplicate),
+        ),
+        (&[(0x11, &[]), (0x12, &[]), (0x13, &[])], None),
+        (&[(0, &[0x51])], Some(Denial::CoinbaseLength)),
+        (&[(0, &[0x51; 101])], Some(Denial::CoinbaseLength)),
+        (&[(0, &[0x51; 2])], Some(Denial::Coinbase)),
+        (&[(0, &[0x51; 100])], Some(Denial::Coinbase)),
+        (&[(0, &[0x51]), (0x11, &[])], Some(Denial::PrevoutNull)),
+        (&[(0x11, &[0x51; 1651])], Some(Denial::ScriptSigSize)),
+        (&[(0x11, &[0x51; 1650])], None),
+        (
+            &[(0x11, &[0x61]), (0x12, &[0x51; 1651])],
+            Some(Denial::ScriptSigNotPushOnly),
+        ),
+    ];
+    for (inputs, wanted) in cases {
+        assert_eq!(rt;
+            first_denial(rt.alloc(), inputs, &[(90_000, TO_KEY)])?,
+            wanted
+        );
+    }
+    assert_eq!(rt; first_denial(rt.alloc(), &[], &[])?, Some(Denial::VinEmpty));
+    Ok(())
+}
+
+#[test]
+fn standard_outputs(rt: HostRuntime) -> Result<(), Fail> {
+    let cases: [(&[Output<'_>], Option<Denial>); 9] = [
+        (&[(1000, &[&[0x51]])], Some(Denial::ScriptPubKey)),
+        (&[(1, TO_KEY), (1000, &[&[0x51]])], Some(Denial::Dust)),
+        (
+            &[(1000, &[&[0x51]]), (1, TO_KEY)],
+            Some(Denial::ScriptPubKey),
+        ),
+        (&[(293, TO_KEY)], Some(Denial::Dust)),
+        (&[(294, TO_KEY)], None),
+        (
+            &[(0, &[&[0x6a]]), (0, &[&[0x6a, 0x51]])],
+            Some(Denial::MultiOpReturn),
+        ),
+        (&[(0, &[&[0x6a, 0x4c, 80], &[1; 80]])], None),
+        (
+            &[(0, &[&[0x6a, 0x4c, 81], &[1; 81]])],
+            Some(Denial::ScriptPubKey),
+        ),
+        (
+            &[(1000, &[&[0x52, 2, 0xaa, 0xbb]])],
+            Some(Denial::TxSizeSmall),
+        ),
+    ];
+    for (outputs, wanted) in cases {
+        assert_eq!(rt; first_denial(rt.alloc(), &[(0x11, &[])], outputs)?, wanted);
+    }
+    Ok(())
+}
+
+// An output to one signature of three keys, and of four.
+#[test]
+fn signatures_of_many_keys(rt: HostRuntime) -> Result<(), Fail> {
+    let key: &[u8] = &[2; 33];
+    let three: [&[u8]; 8] = [&[0x51], &[33], key, &[33], key, &[33], key, &[0x53, 0xae]];
+    let four: [&[u8]; 10] = [
+        &[0x51],
+        &[33],
+        key,
+        &[33],
+        key,
+        &[33],
+        key,
+        &[33],
+        key,
+        &[0x54, 0xae],
+    ];
+    let spent: [Input<'_>; 1] = [(0x11, &[])];
+    assert_eq!(rt; first_denial(rt.alloc(), &spent, &[(1000, &three)])?, None);
+    assert_eq!(rt;
+        first_denial(rt.alloc(), &spent, &[(1000, &four)])?,
+        Some(Denial::ScriptPubKey)
+    );
+    Ok(())
+}
+
+#[test]
+fn fees_and_rates(rt: HostRuntime) {
+    assert_eq!(rt; fee_at(3000, 98), 294);
+    assert_eq!(rt; fee_at(1, 1), 1);
+    assert_eq!(rt; fee_at(0, 5), 0);
+    assert_eq!(rt; fee_at(5, 0), 0);
+    assert_eq!(rt;
+        fee_at(u64::MAX, u64::MAX),
+        340_282_366_920_938_463_426_481_119_284_349_108
+    );
+    assert_eq!(rt; rate_of(1000, 110), 9090);
+    assert_eq!(rt; rate_of(u64::MAX, 1), 18_446_744_073_709_551_615_000);
+}
+
+#[test]
+fn values_of_outputs(rt: HostRuntime) -> Result<(), Fail> {
+    let all: i64 = 2_100_000_000_000_000;
+    let cases: [(&[Output<'_>], Option<Denial>); 7] = [
+        (&[], Some(Denial::VoutEmpty)),
+        (&[(-1, TO_KEY)], Some(Denial::VoutNegative)),
+        (&[(all + 1, TO_KEY)], Some(Denial::VoutTooLarge)),
+        (&[(all, TO_KEY), (1, TO_KEY)], Some(Denial::TotalTooLarge)),
+        (
+            &[(all, TO_KEY), (1, TO_KEY), (-1, TO_KEY)],
+            Some(Denial::TotalTooLarge),
+        ),
+        (&[(all - 294, TO_KEY), (294, TO_KEY)], None),
+        (&[(all, TO_KEY)], None),
+    ];
+    for (outputs, wanted) in cases {
+        assert_eq!(rt; first_denial(rt.alloc(), &[(0x11, &[])], outputs)?, wanted);
+    }
+    Ok(())
+}
+
+#[test]
+fn versions(rt: HostRuntime) -> Result<(), Fail> {
+    for (version, wanted) in [
+        (1, None),
+        (2, None),
+        (3, Some(Denial::Version)),
+        (0, Some(Denial::Version)),
+        (-1, Some(Denial::Version)),
+    ] {
+        let denial = first_denial_of(rt.alloc(), version, &[(0x11, &[])], &[(99_890, TO_KEY)])?;
+        assert_eq!(rt; denial, wanted);
+    }
+    Ok(())
+}
+
+/// One input and one output with a script of `length` bytes: 64 bytes and the script.
+fn of_script_length(alloc: Global, length: usize) -> Result<Option<Denial>, Fail> {
+    let script = vec![in alloc; 0x22; length]?;
+    first_denial(alloc, &[(0x11, &[])], &[(1000, &[script.as_slice()])])
+}
+
+#[test]
+fn sizes_at_their_limits(rt: HostRuntime) -> Result<(), Fail> {
+    for (length, wanted) in [
+        (100_000 - 64, Denial::ScriptPubKey),
+        (100_000 - 63, Denial::TxSize),
+        (1_000_000 - 64, Denial::TxSize),
+        (1_000_000 - 63, Denial::Oversize),
+    ] {
+        assert_eq!(rt; of_script_length(rt.alloc(), length)?, Some(wanted));
+    }
+    Ok(())
+}

@@ -1,0 +1,373 @@
+use gate_bytes::{Copied, Kept, is_same};
+use gate_tx::*;
+use std::alloc::Global;
+use std::test::Fail;
+
+/// A transaction from public documents, and what other programs say of it.
+#[derive(Clone, Copy)]
+struct Vector {
+    text: &'static str,
+    txid: &'static str,
+    wtxid: &'static str,
+    stripped_size: usize,
+    full_size: usize,
+    weight: usize,
+}
+
+/// The coinbase of the genesis block.
+const GENESIS: Vector = Vector {
+    text: "01000000010000000000000000000000000000000000000000000000000000000000000000ffffffff4d04ffff001d0104455468652054696d65732030332f4a616e2f32303039204368616e63656c6c6f72206f6e206272696e6b206f66207365636f6e64206261696c6f757420666f722062616e6b73ffffffff0100f2052a01000000434104678afdb0fe5548271967f1a67130b7105cd6a828e03909a67962e0ea1f61deb649f6bc3f4cef38c4f35504e51ec112de5c384df7ba0b8d578a4c702b6bf11d5fac00000000",
+    txid: "4a5e1e4baab89f3a32518a88c31bc87f618f76673e2cc77ab2127b7afdeda33b",
+    wtxid: "4a5e1e4baab89f3a32518a88c31bc87f618f76673e2cc77ab2127b7afdeda33b",
+    stripped_size: 204,
+    full_size: 204,
+    weight: 816,
+};
+
+/// The coinbase of block 1.
+const BLOCK_ONE: Vector = Vector {
+    text: "01000000010000000000000000000000000000000000000000000000000000000000000000ffffffff0704ffff001d0104ffffffff0100f2052a0100000043410496b538e853519c726a2c91e61ec11600ae1390813a627c66fb8be7947be63c52da7589379515d4e0a604f8141781e62294721166bf621e73a82cbf2342c858eeac00000000",
+    txid: "0e3e2357e806b6cdb1f70b54c3a3a17b6714ee1f0e68bebb44a74b1efd512098",
+    wtxid: "0e3e2357e806b6cdb1f70b54c3a3a17b6714ee1f0e68bebb44a74b1efd512098",
+    stripped_size: 134,
+    full_size: 134,
+    weight: 536,
+};
+
+/// The first payment, in block 170.
+const FIRST_PAYMENT: Vector = Vector {
+    text: "0100000001c997a5e56e104102fa209c6a852dd90660a20b2d9c352423edce25857fcd3704000000004847304402204e45e16932b8af514961a1d3a1a25fdf3f4f7732e9d624c6c61548ab5fb8cd410220181522ec8eca07de4860a4acdd12909d831cc56cbbac4622082221a8768d1d0901ffffffff0200ca9a3b00000000434104ae1a62fe09c5f51b13905f07f06b99a2f7159b2225f374cd378d71302fa28414e7aab37397f554a7df5f142c21c1b7303b8a0626f1baded5c72a704f7e6cd84cac00286bee0000000043410411db93e1dcdb8a016b49840f8c53bc1eb68a382e97b1482ecad7b148a6909a5cb2e0eaddfb84ccf9744464f82e160bfa9b8b64f9d4c03f999b8643f656b412a3ac00000000",
+    txid: "f4184fc596403b9d638783cf57adfe4c75c605f6356fbc91338530e9831e9e16",
+    wtxid: "f4184fc596403b9d638783cf57adfe4c75c605f6356fbc91338530e9831e9e16",
+    stripped_size: 275,
+    full_size: 275,
+    weight: 1100,
+};
+
+/// BIP 143, native P2WPKH: a bare input and a witness input.
+const NATIVE_P2WPKH: Vector = Vector {
+    text: "01000000000102fff7f7881a8099afa6940d42d1e7f6362bec38171ea3edf433541db4e4ad969f00000000494830450221008b9d1dc26ba6a9cb62127b02742fa9d754cd3bebf337f7a55d114c8e5cdd30be022040529b194ba3f9281a99f2b1c0a19c0489bc22ede944ccf4ecbab4cc618ef3ed01eeffffffef51e1b804cc89d182d279655c3aa89e815b1b309fe287d9b2b55d57b90ec68a0100000000ffffffff02202cb206000000001976a9148280b37df378db99f66f85c95a783a76ac7a6d5988ac9093510d000000001976a9143bde42dbee7e4dbe6a21b2d50ce2f0167faa815988ac000247304402203609e17b84f6a7d30c80bfa610b5b4542f32a8a0d5447a12fb1366d7f01cc44a0220573a954c4518331561406f90300e8f3358f51928d43c212a8caed02de67eebee0121025476c2e83188368da1ff3e292e7acafcdb3566bb0ad253f62fc70f07aeee635711000000",
+    txid: "e8151a2af31c368a35053ddd4bdb285a8595c769a3ad83e0fa02314a602d4609",
+    wtxid: "c36c38370907df2324d9ce9d149d191192f338b37665a82e78e76a12c909b762",
+    stripped_size: 233,
+    full_size: 343,
+    weight: 1042,
+};
+
+/// BIP 143, P2SH-P2WPKH.
+const NESTED_P2WPKH: Vector = Vector {
+    text: "01000000000101db6b1b20aa0fd7b23880be2ecbd4a98130974cf4748fb66092ac4d3ceb1a5477010000001716001479091972186c449eb1ded22b78e40d009bdf0089feffffff02b8b4eb0b000000001976a914a457b684d7f0d539a46a45bbc043f35b59d0d96388ac0008af2f000000001976a914fd270b1ee6abcaea97fea7ad0402e8bd8ad6d77c88ac02473044022047ac8e878352d3ebbde1c94ce3a10d057c24175747116f8288e5d794d12d482f0220217f36a485cae903c713331d877c1f64677e3622ad4010726870540656fe9dcb012103ad1d8e89212f0b92c74d23bb710c00662ad1470198ac48c43f7d6f93a2a2687392040000",
+    txid: "ef48d9d0f595052e0f8cdcf825f7a5e50b6a388a81f206f3f4846e5ecd7a0c23",
+    wtxid: "680f483b2bf6c5dcbf111e69e885ba248a41a5e92070cfb0afec3cfc49a9fabb",
+    stripped_size: 142,
+    full_size: 251,
+    weight: 677,
+};
+
+/// One input with a witness of 72 and 33 bytes, and one output.
+const ONE_TO_ONE: Vector = Vector {
+    text: "0200000000010111111111111111111111111111111111111111111111111111111111111111110000000000fdffffff013286010000000000160014222222222222222222222222222222222222222202483030303030303030303030303030303030303030303030303030303030303030303030303030303030303030303030303030303030303030303030303030303030303030303030302102020202020202020202020202020202020202020202020202020202020202020200000000",
+    txid: "5ab0eb89aa597c4c79ebb7cd83e361997309eb27e186bc95d794fe37e6453fc2",
+    wtxid: "b9dbe717407780b8e07cc6a0baecde192da24339633211d74920ca0964bb090f",
+    stripped_size: 82,
+    full_size: 192,
+    weight: 438,
+};
+
+fn bytes_of(alloc: Global, text: &str) -> Result<Vec<u8>, Fail> {
+    Ok(hex::decode(alloc, text)?)
+}
+
+/// Whether the ids are those that others print.
+fn has_ids(alloc: Global, transaction: &Transaction, vector: &Vector) -> Result<bool, Fail> {
+    let (txid, wtxid) = (transaction.txid(alloc)?, transaction.wtxid(alloc)?);
+    Ok(
+        Txid::read(vector.txid) == Some(txid)
+            && Wtxid::read(vector.wtxid) == Some(wtxid)
+            && prints_ids(alloc, txid, wtxid, vector)?,
+    )
+}
+
+/// Whether the ids are printed as others print them.
+fn prints_ids(alloc: Global, txid: Txid, wtxid: Wtxid, vector: &Vector) -> Result<bool, Fail> {
+    Ok(
+        format!(in alloc; "{txid}")?.as_str() == vector.txid
+            && format!(in alloc; "{wtxid}")?.as_str() == vector.wtxid,
+    )
+}
+
+fn has_sizes(transaction: &Transaction, vector: &Vector) -> bool {
+    transaction.weight() == vector.weight
+        && transaction.stripped_size() == vector.stripped_size
+        && transaction.full_size() == vector.full_size
+        && transaction.has_witness() == (vector.full_size != vector.stripped_size)
+}
+
+/// Whether a transaction is written as it was read.
+fn is_written_back(alloc: Global, transaction: &Transaction, bytes: &[u8]) -> Result<bool, Fail> {
+    Ok(transaction.write_tx(alloc)?.as_slice() == bytes)
+}
+
+fn strips(alloc: Global, transaction: &Transaction, size: usize) -> Result<bool, Fail> {
+    Ok(transaction.write_stripped(alloc)?.len() == size)
+}
+
+fn holds(alloc: Global, vector: &Vector) -> Result<bool, Fail> {
+    let bytes = bytes_of(alloc, vector.text)?;
+    holds_of(alloc, &bytes, vector)
+}
+
+fn holds_of(alloc: Global, bytes: &[u8], vector: &Vector) -> Result<bool, Fail> {
+    let read = read_tx(alloc, bytes)?;
+    Ok(
+        has_sizes(&read, vector)
+            && has_ids(alloc, &read, vector)?
+            && is_written_back(alloc, &read, bytes)?
+            && strips(alloc, &read, vector.stripped_size)?,
+    )
+}
+
+#[test]
+fn public_transactions_have_their_ids(rt: HostRuntime) -> Result<(), Fail> {
+    let vectors = [
+        &GENESIS,
+        &BLOCK_ONE,
+        &FIRST_PAYMENT,
+        &NATIVE_P2WPKH,
+        &NESTED_P2WPKH,
+        &ONE_TO_ONE,
+    ];
+    for vector in vectors {
+        assert!(rt; holds(rt.alloc(), vector)?, "{}", vector.txid);
+    }
+    Ok(())
+}
+
+fn has_fault(alloc: Global, bytes: &[u8], fault: TxFault) -> bool {
+    matches!(read_tx(alloc, bytes), Err(found) if found == fault)
+}
+
+#[test]
+fn first_fault_from_the_left(rt: HostRuntime) -> Result<(), Fail> {
+    let witness =
+        "02000000000101111111111111111111111111111111111111111111111111111111111111111100000000\
+                   00fdffffff013286010000000000160014222222222222222222222222222222222222222200";
+    let cases = [
+        ("", TxFault::Short),
+        ("02000000", TxFault::Short),
+        ("01000000fe00000002", TxFault::Short),
+        ("01000000fdfc00", TxFault::NotCanonical),
+        ("01000000fe01000002", TxFault::TooLarge),
+        ("010000000002", TxFault::BadFlag),
+        ("010000000001", TxFault::Short),
+        ("01000000000100000000", TxFault::EmptyWitness),
+        ("0100000000000000000000", TxFault::Trailing),
+        ("010000000000000000", TxFault::Short),
+        (witness, TxFault::EmptyWitness),
+    ];
+    for (text, fault) in cases {
+        let bytes = bytes_of(rt.alloc(), text)?;
+        assert!(rt; has_fault(rt.alloc(), &bytes, fault), "{text}");
+    }
+    faults_are_told();
+    Ok(())
+}
+
+#[test]
+fn each_cut_of_a_transaction_is_short(rt: HostRuntime) -> Result<(), Fail> {
+    let bytes = bytes_of(rt.alloc(), ONE_TO_ONE.text)?;
+    for n in 0..bytes.len() {
+        assert!(rt;
+            has_fault(rt.alloc(), &bytes[..n], TxFault::Short),
+            "of {n} bytes"
+        );
+    }
+    Ok(())
+}
+
+#[test]
+fn a_byte_behind_a_transaction_is_refused(rt: HostRuntime) -> Result<(), Fail> {
+    let mut bytes = bytes_of(rt.alloc(), ONE_TO_ONE.text)?;
+    bytes.push(0)?;
+    assert!(rt; has_fault(rt.alloc(), &bytes, TxFault::Trailing));
+    Ok(())
+}
+
+#[test]
+fn too_long_a_text_is_refused(rt: HostRuntime) -> Result<(), Fail> {
+    let long = vec![in rt.alloc(); 0u8; MAX_SIZE + 1]?;
+    assert!(rt; has_fault(rt.alloc(), &long, TxFault::TooLarge));
+    Ok(())
+}
+
+#[test]
+fn a_transaction_may_have_no_inputs_and_outputs(rt: HostRuntime) -> Result<(), Fail> {
+    let none = read_tx(rt.alloc(), &[1, 0, 0, 0, 0, 0, 7, 0, 0, 0])?;
+    assert!(rt; none.inputs().is_empty() && none.outputs().is_empty());
+    assert!(rt; none.locktime() == 7 && none.weight() == 40);
+    Ok(())
+}
+
+fn repeated(alloc: Global, byte: u8, n: usize) -> Result<Kept<u8>, Fail> {
+    Ok(Kept::from_vec(vec![in alloc; byte; n]?))
+}
+
+fn one_input(alloc: Global) -> Result<Vec<TxIn>, Fail> {
+    let mut items = Vec::new(alloc);
+    items.push(repeated(alloc, 0x30, 72)?)?;
+    items.push(repeated(alloc, 0x02, 33)?)?;
+    let mut inputs = Vec::new(alloc);
+    inputs.push(TxIn {
+        prevout: OutPoint {
+            txid: Txid::new([0x11; 32]),
+            index: 0,
+        },
+        script: repeated(alloc, 0, 0)?,
+        sequence: 0xffff_fffd,
+        witness: Kept::from_vec(items),
+    })?;
+    Ok(inputs)
+}
+
+fn one_output(alloc: Global, script: Kept<u8>) -> Result<Vec<TxOut>, Fail> {
+    let mut outputs = Vec::new(alloc);
+    outputs.push(TxOut {
+        value: 99_890,
+        script,
+    })?;
+    Ok(outputs)
+}
+
+/// The transaction of `ONE_TO_ONE`, from its parts.
+fn made(alloc: Global) -> Result<Option<Transaction>, Fail> {
+    let script = bytes_of(alloc, "00142222222222222222222222222222222222222222")?;
+    let outputs = one_output(alloc, Kept::from_vec(script))?;
+    Ok(Transaction::new(2, one_input(alloc)?, outputs, 0).ok())
+}
+
+fn read_one_to_one(alloc: Global) -> Result<Transaction, Fail> {
+    Ok(read_tx(alloc, &bytes_of(alloc, ONE_TO_ONE.text)?)?)
+}
+
+fn has_copy(alloc: Global, transaction: &Transaction) -> Result<bool, Fail> {
+    Ok(is_same(transaction, &transaction.copy(alloc)?))
+}
+
+#[test]
+fn transactions_are_made_from_their_parts(rt: HostRuntime) -> Result<(), Fail> {
+    let Some(transaction) = made(rt.alloc())? else {
+        return Ok(assert!(rt; false));
+    };
+    assert!(rt; transaction == read_one_to_one(rt.alloc())?);
+    assert!(rt; has_copy(rt.alloc(), &transaction)?);
+    assert!(rt; transaction.version() == 2 && transaction.outputs().len() == 1);
+    transaction.is();
+    texts_stand_apart();
+    texts_are_read_back();
+    Ok(())
+}
+
+/// Whether parts that no transaction has are handed back, where the one output has such a script.
+fn are_handed_back(alloc: Global, inputs: Vec<TxIn>, script: Kept<u8>) -> Result<bool, Fail> {
+    let count = inputs.len();
+    let outputs = one_output(alloc, script)?;
+    match Transaction::new(1, inputs, outputs, 0) {
+        Ok(_) => Ok(false),
+        Err(shape) => Ok(shape.inputs.len() == count && shape.outputs.len() == 1),
+    }
+}
+
+fn hands_back_outputs_alone(alloc: Global) -> Result<bool, Fail> {
+    let script = repeated(alloc, 0x51, 1)?;
+    are_handed_back(alloc, Vec::new(alloc), script)
+}
+
+fn hands_back_what_is_too_long(alloc: Global) -> Result<bool, Fail> {
+    let inputs = one_input(alloc)?;
+    are_handed_back(alloc, inputs, repeated(alloc, 0x51, MAX_SIZE)?)
+}
+
+fn may_lack_outputs(alloc: Global) -> Result<bool, Fail> {
+    let inputs = one_input(alloc)?;
+    Ok(Transaction::new(1, inputs, Vec::new(alloc), 0).is_ok())
+}
+
+#[test]
+fn parts_of_no_transaction_are_handed_back(rt: HostRuntime) -> Result<(), Fail> {
+    assert!(rt; hands_back_outputs_alone(rt.alloc())?);
+    assert!(rt; hands_back_what_is_too_long(rt.alloc())?);
+    assert!(rt; may_lack_outputs(rt.alloc())?);
+    Ok(())
+}
+
+#[test]
+fn an_input_tells_its_witness(rt: HostRuntime) -> Result<(), Fail> {
+    let inputs = one_input(rt.alloc())?;
+    assert!(rt;
+        inputs
+            .iter()
+            .all(|input| input.has_witness() && !input.prevout.is_null())
+    );
+    Ok(())
+}
+
+#[test]
+fn ids_are_read_in_either_case(rt: HostRuntime) {
+    let lower = Txid::read(GENESIS.txid);
+    let upper = Txid::read("4A5E1E4BAAB89F3A32518A88C31BC87F618F76673E2CC77AB2127B7AFDEDA33B");
+    assert!(rt; lower.is_some() && lower == upper);
+    assert!(rt; matches!(lower, Some(id) if id.as_bytes().first() == Some(&0x3b)));
+    assert!(rt; Txid::read("4a5e").is_none());
+    assert!(rt;
+        Txid::read("4a5e1e4baab89f3a32518a88c31bc87f618f76673e2cc77ab2127b7afdeda33g").is_none()
+    );
+    assert!(rt; Wtxid::new([7; 32]) == Wtxid::new([7; 32]));
+    assert!(rt; matches!(Wtxid::new([7; 32]).as_bytes(), [7, ..]));
+    ids_are_read_back();
+}
+
+fn is_refused_as_coin(alloc: Global, byte: u8, n: usize) -> Result<bool, Fail> {
+    Ok(is_unspendable(repeated(alloc, byte, n)?.as_slice()))
+}
+
+#[test]
+fn scripts_that_nobody_can_spend(rt: HostRuntime) -> Result<(), Fail> {
+    let cases = [
+        (0x6a, 1, true),
+        (0x51, 10_001, true),
+        (0x51, 10_000, false),
+        (0x51, 0, false),
+    ];
+    for (byte, n, wanted) in cases {
+        assert!(rt;
+            is_refused_as_coin(rt.alloc(), byte, n)? == wanted,
+            "{byte} {n}"
+        );
+    }
+    Ok(())
+}
+
+#[test]
+fn a_null_outpoint_has_the_last_index(rt: HostRuntime) -> Result<(), Fail> {
+    let mut null = OutPoint {
+        txid: Txid::new([0; 32]),
+        index: 0xffff_ffff,
+    };
+    assert!(rt; null.is_null());
+    null.index = 0;
+    assert!(rt; !null.is_null());
+    assert!(rt; null.copy(rt.alloc())? == null);
+    Ok(())
+}
+
+#[test]
+fn a_coin_has_an_equal_copy(rt: HostRuntime) -> Result<(), Fail> {
+    let coin = Coin {
+        value: 5_000_000_000,
+        script: repeated(rt.alloc(), 0x51, 1)?,
+        height: 1,
+        coinbase: true,
+    };
+    assert!(rt; is_same(&coin, &coin.copy(rt.alloc())?));
+    Ok(())
+}
