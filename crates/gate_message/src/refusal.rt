@@ -1,10 +1,10 @@
 //! Why an event is refused, and what follows for the session.
-ghost use Rattle.std.specs.Prelude.{◌≡◌, Some};
+ghost use Rattle.std.specs.Prelude.{◌≡◌, ◌++◌, OnOk, codes, string_bytes};
 ghost use Rattle.gate_message.specs.Refusals.{closing, rule_text, refusal_token, then_of, then_text};
 
+use gate_bytes::Memory;
 use gate_net::Permissions;
 use gate_standard::Denial;
-use std::fmt;
 
 /// What a refusal does to the peer's session.
 #[derive(Clone, Copy, Debug, PartialEq, Eq)]
@@ -29,18 +29,19 @@ impl Then {
         }
     }
 
-    pub fn as_str(&self) -> &'static str
-        ensures { result.now ≡ then_text self.now }
+    /// As it stands in the line of a denial, between two spaces.
+    pub(crate) fn between_spaces(&self) -> &'static str
+        ensures { result.now ≡ codes " " ++ (then_text self.now ++ codes " ") }
     {
         match self {
-            Then::Keep => "keep",
-            Then::Close => "close",
-            Then::Relay => "relay",
+            Then::Keep => " keep ",
+            Then::Close => " close ",
+            Then::Relay => " relay ",
         }
     }
 }
 
-/// A rule that an event fails: one on its peer, or one of admission. Displayed as the rule's number, `P1` or `A17`.
+/// A rule that an event fails: one on its peer, or one of admission.
 #[derive(Clone, Copy, Debug, PartialEq, Eq)]
 pub enum Refusal {
     /// P1: the peer never entered.
@@ -87,6 +88,27 @@ impl Refusal {
         }
     }
 
+    /// Appends the first two words of the line of this denial, as in `denied P1` or `denied A17`. Most are one text, since
+    /// each piece of a line costs a look at the room that is left.
+    pub(crate) fn push_denied(&self, text: &mut String) -> Result<(), Memory>
+        ensures { OnOk result (string_bytes text.new ≡ string_bytes text.old ++ (codes "denied " ++ rule_text self.now)) }
+    {
+        let words = match self {
+            Refusal::PeerUnknown => "denied P1",
+            Refusal::PeerClosed => "denied P2",
+            Refusal::PeerKnown => "denied P3",
+            Refusal::BlocksOnly => "denied P4",
+            Refusal::AlreadyInMempool => "denied P5",
+            Refusal::MempoolNoBloom => "denied P6",
+            Refusal::MempoolUploadTarget => "denied P7",
+            Refusal::HeadersDuringDownload => "denied P8",
+            Refusal::UnknownBlock => "denied P9",
+            Refusal::HistoricalUploadTarget => "denied P10",
+            Refusal::Admission(denial) => return Ok(write!(text, "denied A{}", denial.rule())?),
+        };
+        Ok(text.push_str(words)?)
+    }
+
     /// What follows for the session of a peer with these flags.
     pub fn then(&self, flags: &Permissions) -> Then
         ensures { result ≡ then_of flags.now self.now }
@@ -102,26 +124,6 @@ impl Refusal {
                 _ => Then::Keep,
             },
             _ => Then::Keep,
-        }
-    }
-}
-
-impl fmt::Display for Refusal {
-    ghost output = { λ refusal. Some (rule_text refusal) };
-
-    fn fmt<W: fmt::Write>(&self, f: &mut fmt::Formatter<W>) -> fmt::Result {
-        match self {
-            Refusal::PeerUnknown => write!(f, "P1"),
-            Refusal::PeerClosed => write!(f, "P2"),
-            Refusal::PeerKnown => write!(f, "P3"),
-            Refusal::BlocksOnly => write!(f, "P4"),
-            Refusal::AlreadyInMempool => write!(f, "P5"),
-            Refusal::MempoolNoBloom => write!(f, "P6"),
-            Refusal::MempoolUploadTarget => write!(f, "P7"),
-            Refusal::HeadersDuringDownload => write!(f, "P8"),
-            Refusal::UnknownBlock => write!(f, "P9"),
-            Refusal::HistoricalUploadTarget => write!(f, "P10"),
-            Refusal::Admission(denial) => write!(f, "A{}", denial.rule()),
         }
     }
 }
