@@ -1,5 +1,5 @@
 -- What is answered to a line.
-use Rattle.std.proofs.Common.{◌≡◌, ℕ, Bool, false, List, [], ◌∷◌, ◌++◌, Option, Result, Ok, Err, OnErr, MatchBool, subst, sym, inl, inr, refl}
+use Rattle.std.proofs.Common.{◌≡◌, ℕ, Bool, false, true, List, [], ◌∷◌, ◌++◌, Option, Some, Result, Ok, Err, OnErr, MatchBool, subst, sym, inl, inr, refl}
 use Rattle.gate_core.specs.World.{World}
 use Rattle.gate_core.specs.Good.{StepGives}
 use Rattle.gate_message.specs.Texts.{reply_text}
@@ -7,7 +7,7 @@ use Rattle.gate_message.specs.declared.reply.Reply.{Reply}
 use Rattle.gate_lines.specs.Lines.{is_skipped}
 use Rattle.gate_events.specs.EventLines.{line_event}
 use Rattle.gate_prog.specs.Lanes.{fault_memory, EventAnswered, LineAnswered}
-use Rattle.gate_prog.specs.Turns.{EventReplied, EventLost}
+use Rattle.gate_prog.specs.Turns.{EventReplied, EventLost, AnswerMade, AnswerLost}
 use Rattle.gate_message.specs.declared.event.Event.{Event}
 
 -- a fact that holds on either outcome
@@ -36,3 +36,12 @@ line_answered old new line reply event full is answered =
 pub text_replied : (old new : World) (text : List ℕ) (event : Event) (answer : Reply) → text ≡ reply_text answer ++ 10 ∷ [] → StepGives old event answer new
     → EventReplied old event text new
 text_replied old new text event answer is gives = (reply_text answer, is, inl (answer, refl, gives))
+
+-- what is told of an event is told of its line
+pub answer_made : (old new : World) (line text : List ℕ) (event : Event) → is_skipped line ≡ false → line_event line ≡ Some event → EventReplied old event text new
+    → AnswerMade old line true text new
+answer_made old new line text event full is told = (told.0, told.1, line_answered old new line told.0 (Some event) full is told.2)
+
+pub answer_lost : (old new : World) (line : List ℕ) (event : Event) → is_skipped line ≡ false → line_event line ≡ Some event → EventLost old event new
+    → AnswerLost old line new
+answer_lost old new line event full is lost = inr (lost.0, line_answered old new line lost.0 (Some event) full is lost.1)

@@ -49,13 +49,10 @@ fn answer_event<S: BuildHasher + Copy + Drop>(
     ensures ok { OnOk result (EventReplied state.old event.now (string_bytes reply.new) state.new) }
     ensures err { OnErr result (EventLost state.old event.now state.new) }
 {
-    let step = state.step(alloc, event);
-    let told = match &step {
-        Ok(answer) => set_answer(alloc, answer, reply),
+    match state.step(alloc, event) {
+        Ok(answer) => set_answer(alloc, &answer, reply),
         Err(_) => set_text(reply, "fault memory\n"),
-    };
-    drop(step);
-    told
+    }
 }
 
 /// Answers a line within the limits, and tells whether it has a reply line: that line, with its newline, then stands in
@@ -72,12 +69,10 @@ fn answer<S: BuildHasher + Copy + Drop>(
     if asks_nothing(line) {
         return Ok(false);
     }
-    let event = event_on(alloc, line)?;
-    let replied = match &event {
-        Some(event) => answer_event(alloc, state, event, reply),
+    let replied = match event_on(alloc, line)? {
+        Some(event) => answer_event(alloc, state, &event, reply),
         None => set_text(reply, "refused L1 bad-line\n"),
     };
-    drop(event);
     replied?;
     Ok(true)
 }
