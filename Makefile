@@ -1,19 +1,32 @@
-# make gate    proves and builds the program crate by crate, and says where it lies; make gate CPU=x86-64-v3 compiles it for that level of processors and later ones alone
-# make demo    prints its replies to examples/first-path.txt: by the proved program where it is built, else compiled without the proofs, in about a minute
-# make check   quick: proves what changed since the last check, crate by crate
-# make test    everything from nothing: proofs, must-fail edits, tests, programs; then the rows and the program's own tests on the built program
-# make try     the rows and the program's own tests alone, on the built program
-# make bench   what the program costs; make bench LONG=1 runs the longest stream too
-#
 # rows/      worked rows: input, output and status of one run each
 # tests/     the program's own tests: what no contract can see, and random streams next to a plain model
+# mutants/   wrong bodies that the prover has to refuse, beside those in crates/*/must-fail
 # bench/     the streams and figures of make bench
 # examples/  what the examples in the help read, and a replacement
 # tools/     what stands behind these words
-.PHONY: gate demo check test try bench build
+.PHONY: help gate demo check test mutants try bench build
 
 PROGRAM := crates/gate/out/gate
 CPU :=
+CRATES :=
+
+define HELP
+make gate      proves and builds the program, several crates at once, and says where it lies
+               make gate CPU=x86-64-v3 compiles it for processors with AVX2 and BMI2
+make demo      prints its replies to examples/first-path.txt; without a built program it
+               compiles one without the proofs, in about a minute
+make check     quick: what has to agree in the repository, then proves what changed
+make test      everything from nothing: proofs, must-fail edits, tests, the program; then the
+               rows and the program's own tests on it
+make mutants   tries the wrong bodies of mutants/, which takes as long as make test
+               make mutants CRATES="gate_net gate_rpc" tries those of these crates
+make try       the rows and the program's own tests alone, on the built program
+make bench     what the program costs; make bench LONG=1 runs the longest streams too
+endef
+export HELP
+
+help:
+	@echo "$$HELP"
 
 gate: build
 	@echo "$(PROGRAM)"
@@ -23,12 +36,17 @@ demo:
 	@tools/demo $(PROGRAM)
 
 check:
-	@tools/need rt
+	@tools/need rt python3
+	@tools/consistent
 	@rt all check
 
 test:
 	@tools/need rt python3
 	@tools/test $(PROGRAM)
+
+mutants:
+	@tools/need rt python3
+	@tools/mutants $(CRATES)
 
 try: build
 	@rows/run $(PROGRAM)

@@ -1,0 +1,56 @@
+"""The repository's crates as crates.txt has them: which stand on which, and in which order they are proved."""
+
+import os
+
+ROOT = os.path.dirname(os.path.dirname(os.path.abspath(__file__)))
+
+
+def uses():
+    """Each crate of the repository, in the order of crates.txt, with the crates of the repository that it uses."""
+    found = {}
+    with open(os.path.join(ROOT, "crates.txt"), encoding="utf-8") as file:
+        for line in file:
+            names, colon, used = line.partition("#")[0].partition(":")
+            if colon:
+                found[names.split()[0]] = used.split()
+    return {crate: [lower for lower in used if lower in found] for crate, used in found.items()}
+
+
+def below(crate, used):
+    """The crate and all that it stands on, each behind what it uses."""
+    order = []
+
+    def visit(name):
+        if name not in order:
+            for lower in used[name]:
+                visit(lower)
+            order.append(name)
+
+    visit(crate)
+    return order
+
+
+def below_all(used):
+    """All crates, each behind what it uses."""
+    order = []
+    for crate in used:
+        order += [it for it in below(crate, used) if it not in order]
+    return order
+
+
+def chain_above(crates, used):
+    """For each of these crates the length of the longest chain of them that stands on it, itself included."""
+    above = dict.fromkeys(crates, 1)
+    for crate in reversed(crates):
+        for lower in used[crate]:
+            above[lower] = max(above[lower], above[crate] + 1)
+    return above
+
+
+def folder(crate):
+    return os.path.join(ROOT, "crates", crate)
+
+
+def is_product(crate):
+    """Whether the crate is part of the product, or a tool of its tests and figures."""
+    return not crate.endswith("_tests") and crate not in ("gate_rows", "gate_bench", "gate_testing")
