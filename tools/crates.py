@@ -38,15 +38,6 @@ def below_all(used):
     return order
 
 
-def chain_above(crates, used):
-    """For each of these crates the length of the longest chain of them that stands on it, itself included."""
-    above = dict.fromkeys(crates, 1)
-    for crate in reversed(crates):
-        for lower in used[crate]:
-            above[lower] = max(above[lower], above[crate] + 1)
-    return above
-
-
 def folder(crate):
     return os.path.join(ROOT, "crates", crate)
 
