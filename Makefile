@@ -3,12 +3,15 @@
 # mutants/   wrong bodies that the prover has to refuse, beside those in crates/*/must-fail
 # bench/     the streams and figures of make bench
 # examples/  what the examples in the help read, and a replacement
-# tools/     what stands behind these words
-.PHONY: help gate demo check test mutants try bench build
+# tools/     what stands behind these words, and opening and compare, which ask a node
+.PHONY: help gate demo check test mutants try bench install uninstall build
 
 PROGRAM := crates/gate/out/gate
 CPU :=
 CRATES :=
+PREFIX := /usr/local
+INSTALLED = $(DESTDIR)$(PREFIX)/bin/gate
+SHARED = $(DESTDIR)$(PREFIX)/share/gate
 
 define HELP
 make gate      proves and builds the program, several crates at once, and says where it lies
@@ -21,7 +24,10 @@ make test      everything from nothing: proofs, must-fail edits, tests, the prog
 make mutants   tries the wrong bodies of mutants/, which takes as long as make test
                make mutants CRATES="gate_net gate_rpc" tries those of these crates
 make try       the rows and the program's own tests alone, on the built program
-make bench     what the program costs; make bench LONG=1 runs the longest streams too
+make bench     what the program costs, in instructions and time; make bench LONG=1 with larger pools too
+               bench/run --beside OTHER PROGRAM compares two programs
+make install   puts the program that make gate built, and the examples, below PREFIX (/usr/local);
+               DESTDIR stands before it; make uninstall takes them away
 endef
 export HELP
 
@@ -53,7 +59,16 @@ try: build
 	@tests/run $(PROGRAM)
 
 bench: build
+	@tools/need valgrind
 	@bench/run $(if $(LONG),--long) $(PROGRAM)
+
+install:
+	@test -x $(PROGRAM) || { echo "there is no program yet: make gate proves and builds it" >&2; exit 1; }
+	install -D -m 755 $(PROGRAM) "$(INSTALLED)"
+	install -D -m 644 -t "$(SHARED)/examples" examples/*
+
+uninstall:
+	rm -rf "$(INSTALLED)" "$(SHARED)"
 
 build:
 	@tools/need rt python3

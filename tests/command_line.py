@@ -2,6 +2,7 @@
 
 import os
 import subprocess
+import tempfile
 
 from bitcoin import Input, Output, Transaction, WITNESS_KEY_HASH, padded, payment, printed
 from gate import ROOT, lines, same, true
@@ -190,3 +191,22 @@ def test_check_reads_no_further_than_it_says(gate):
         os.close(folder)
     same("standard output", done.stdout, GENESIS_CHECK.encode())
     same("standard error", done.stderr, b"")
+
+
+def files_below(folder):
+    return sorted(os.path.relpath(os.path.join(at, name), folder) for at, _, names in os.walk(folder) for name in names)
+
+
+def test_installing(gate):
+    """`make install` puts the program and the examples below PREFIX, and `make uninstall` takes these away and nothing else."""
+    with tempfile.TemporaryDirectory() as folder:
+        made = ["make", "--silent", "PROGRAM=" + gate.program, "DESTDIR=" + folder, "PREFIX=/opt"]
+        other = os.path.join(folder, "opt", "bin", "other")
+        subprocess.run(made + ["install"], cwd=ROOT, check=True, stdout=subprocess.DEVNULL)
+        examples = ["opt/share/gate/examples/" + name for name in sorted(os.listdir(os.path.join(ROOT, "examples")))]
+        same("what is installed", files_below(folder), ["opt/bin/gate"] + examples)
+        done = subprocess.run([os.path.join(folder, "opt/bin/gate"), "--version"], capture_output=True, check=False)
+        same("the installed program", (done.stdout, done.returncode), (b"gate 0.1.0\n", 0))
+        open(other, "w").close()
+        subprocess.run(made + ["uninstall"], cwd=ROOT, check=True, stdout=subprocess.DEVNULL)
+        same("what is left", files_below(folder), ["opt/bin/other"])

@@ -43,5 +43,5 @@ def folder(crate):
 
 
 def is_product(crate):
-    """Whether the crate is part of the product, or a tool of its tests and figures."""
-    return not crate.endswith("_tests") and crate not in ("gate_rows", "gate_bench", "gate_testing")
+    """Whether the crate is part of the product, or one of its tests."""
+    return not crate.endswith("_tests") and crate not in ("gate_rows", "gate_testing")

@@ -36,7 +36,8 @@ use Rattle.gate_admit.specs.Coins.{view_coin, coins_of}
 use Rattle.gate_admit.specs.Granting.{IsGrantable, Conserves, PaysItsSize}
 use Rattle.gate_admit.specs.Limits.{limit_rules}
 use Rattle.gate_admit.specs.Reports.{reported, report_rules, sigop_cost, vsize_of}
-use Rattle.gate_admit.specs.Rules.{alone_rules, final_rules, pool_rules, coin_rules, lock_rules, is_immature, rules_of_coin, coin_value_rules, balance_rules, fee_rules, payment_rules, admission_rules, grant_of, denied_or, decision_of, coins_value, outputs_value, min_relay_rate}
+use Rattle.gate_admit.specs.Rules.{final_rules, pool_rules, coin_rules, lock_rules, is_immature, rules_of_coin, coin_value_rules, balance_rules, fee_rules, payment_rules, admission_rules, grant_of, denied_or, decision_of, coins_value, outputs_value, min_relay_rate}
+use Rattle.gate_submission.specs.Alone.{alone_rules}
 use Rattle.gate_admit.specs.Standing.{Standing}
 use Rattle.gate_rbf.proofs.Conflicting.{is_some-find}
 use Rattle.gate_admit.proofs.Lists.{none_pass, AllPairs-nil}

@@ -11,7 +11,8 @@ use Rattle.gate_admit.specs.Coins.{coins_of}
 use Rattle.gate_admit.specs.Reports.{reported, report_rules, sigop_cost, vsize_of, verdict_rules}
 use Rattle.gate_rbf.specs.Replacing.{replacement_rules}
 use Rattle.gate_admit.specs.Limits.{limit_rules}
-use Rattle.gate_admit.specs.Rules.{alone_rules, final_rules, pool_rules, coin_rules, lock_rules, coin_value_rules, balance_rules, payment_rules, admission_rules, coins_value, outputs_value}
+use Rattle.gate_admit.specs.Rules.{final_rules, pool_rules, coin_rules, lock_rules, coin_value_rules, balance_rules, payment_rules, admission_rules, coins_value, outputs_value}
+use Rattle.gate_submission.specs.Alone.{alone_rules}
 use Rattle.gate_admit.specs.Standing.{Standing}
 
 -- no rule fails, group by group

@@ -28,7 +28,8 @@ use Rattle.gate_admit.specs.Good.{AreApart, IsSettled, IsUnconnected, begins_wit
 use Rattle.gate_chain.specs.Times.{tip_of}
 use Rattle.gate_pool.specs.Pool.{Admitted, has_txid, entry_by_txid, spends_of}
 use Rattle.gate_admit.specs.Coins.{view_coin}
-use Rattle.gate_admit.specs.Rules.{admission_rules, alone_rules}
+use Rattle.gate_admit.specs.Rules.{admission_rules}
+use Rattle.gate_submission.specs.Alone.{alone_rules}
 use Rattle.gate_admit.specs.Standing.{Standing}
 use Rattle.gate_rbf.proofs.Conflicting.{is_some-find}
 use Rattle.gate_admit.proofs.Granted.{rules_grant}

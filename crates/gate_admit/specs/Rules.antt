@@ -10,7 +10,7 @@ use Rattle.gate_tx.specs.Ids.{txid_of, wtxid_of}
 use Rattle.gate_standard.specs.declared.Denial.{Denial}
 use Rattle.gate_standard.specs.declared.Denial.TheVariants.{Decode, NonFinal, AlreadyInMempool, SameNonWitnessData, MempoolConflict, AlreadyKnown, MissingOrSpent, NonBip68Final, PrematureSpend, InputValues, InBelowOut, FeeOutOfRange, MempoolMinFee, MinRelayFee}
 use Rattle.gate_standard.specs.Amounts.{required_fee}
-use Rattle.gate_standard.specs.Rules.{transaction_rules, standard_rules}
+use Rattle.gate_submission.specs.Alone.{alone_rules, first_denial}
 use Rattle.gate_chain.specs.History.{History}
 use Rattle.gate_chain.specs.Coins.{coin_of, opened_with_of}
 use Rattle.gate_chain.specs.Times.{tip_of}
@@ -26,11 +26,6 @@ use Rattle.gate_admit.specs.Standing.{Standing}
 use Rattle.gate_admit.specs.Coins.{misses_coin, coins_of}
 use Rattle.gate_admit.specs.Limits.{limit_rules}
 use Rattle.gate_admit.specs.Reports.{reported, sigop_cost, vsize_of, report_rules, verdict_rules}
-
--- ---- A2 to A19: the transaction alone
-
-unfoldable pub alone_rules : Tx → List (Rule Denial)
-alone_rules tx = transaction_rules tx ++ standard_rules tx
 
 -- ---- A20: the locktime
 
@@ -152,11 +147,6 @@ grant_of over tx =
       vsize = vsize_of (sigop_cost (reported tx.inputs coins) tx.outputs) tx;
       replaced = length (replaced_of over.entries tx);
     }
-
--- the denial by A1, that there is no transaction, or by the rules on a transaction alone
-abbrev pub first_denial : Option Tx → Option Denial
-first_denial None = Some Decode
-first_denial (Some tx) = first_failing (alone_rules tx)
 
 abbrev pub denied_or : Option Denial → Grant → Result Grant Denial
 denied_or (Some denial) grant = Err denial

@@ -16,9 +16,9 @@ mod law;
 mod limits;
 mod locking;
 mod paying;
-mod prepared;
 mod readmission;
 mod reporting;
+mod standing;
 mod submission;
 mod verdicts;
 mod verifying;
@@ -27,15 +27,16 @@ pub use attempt::Attempt;
 pub use coins::{LentCoin, view_coin};
 pub use gate_chain::{Chain, OpenFault, OpeningCoin};
 pub use gate_inputs::{InputReport, Piece, report};
-pub use gate_pool::{Entry, Pool, PoolView};
+pub use gate_pool::{Entry, Pool};
+pub use gate_submission::Prepared;
 pub use gate_trim::Floor;
 pub use grant::Grant;
-pub use judging::{decide, judge};
+pub use judging::judge;
 pub use law::{
     decisions_follow_the_order, floors_never_fall, grants_are_sound, grants_stand, pools_stay_good,
     replacements_pay,
 };
-pub use prepared::Prepared;
 pub use readmission::readmit;
+pub use standing::Conditions;
 pub use submission::{Coming, commit_submission, plan_submission, submit};
 pub use verdicts::{Verdict, VerdictRow, Verdicts};

@@ -1,5 +1,5 @@
 //! Families: A36, and A37.
-ghost use Rattle.std.specs.Prelude.{◌≡◌, ◌<◌, ◌≤◌, ◌^◌, Bool, true, None, IfOk, filter, Contains};
+ghost use Rattle.std.specs.Prelude.{◌≡◌, ◌<◌, ◌≤◌, ◌^◌, Bool, true, None, IfOk, IfSome, filter, length, Contains};
 ghost use Rattle.std.specs.List.{list_all};
 ghost use Rattle.gate_bytes.specs.Order.{first_failing};
 ghost use Rattle.gate_tx.specs.Ids.{txid_of};
@@ -11,11 +11,12 @@ ghost use Rattle.gate_admit.specs.declared.attempt.Attempt.TheVariants.{First, A
 use crate::again::fits_again;
 use crate::attempt::Attempt;
 use gate_bytes::{Counted, Memory};
-use gate_pool::{PoolView, add_up, ancestors, descendants};
-use gate_rbf::{only_conflict, spends_conflict};
+use gate_pool::{Pool, add_up, ancestors, descendants};
+use gate_rbf::DirectConflicts;
 use gate_standard::Denial;
-use gate_tx::{Identified, Transaction, Txid};
+use gate_tx::{Identified, Txid};
 use std::alloc::Global;
+use std::hash::BuildHasher;
 
 /// How many ancestors and descendants there may be, each with the transaction itself, and how many virtual bytes they have.
 #[derive(Clone, Copy)]
@@ -38,20 +39,19 @@ const USUAL: FamilyLimits = FamilyLimits {
 const CARVE_OUT_VSIZE: u64 = 10_000;
 
 /// The limits of the first try: more descendants where the transaction replaces exactly one entry directly.
-fn first_limits<V: PoolView>(
+fn first_limits<S: BuildHasher + Copy + Drop>(
     alloc: Global,
-    pool: &V,
-    tx: &Transaction,
+    direct: &DirectConflicts<'_, S>,
 ) -> Result<FamilyLimits, Memory>
-    ensures limits { IfOk result (λ limits. limits ≡ grown (V.entries pool.now) (conflicts_of (V.entries pool.now) tx.now) usual_limits) }
+    ensures limits { IfOk result (λ limits. limits ≡ grown direct.now.entries (conflicts_of direct.now.entries direct.now.tx) usual_limits) }
     ensures small { IfOk result (λ limits. limits.descendants_size < 2 ^ 101) }
 {
-    let Some(conflict) = only_conflict(pool, tx) else {
+    let Some(conflict) = direct.only() else {
         return Ok(USUAL);
     };
-    let Some(family) = descendants(alloc, pool, &[conflict], usize::MAX)? else {
-        return Err(Memory);
-    };
+    let pool = direct.pool();
+    let found = descendants(alloc, pool, &[conflict], pool.count())?;
+    let family = found.unwrap();
     Ok(FamilyLimits {
         descendants: USUAL.descendants + 1,
         descendants_size: USUAL.descendants_size + add_up(pool, &family).size,
@@ -60,8 +60,13 @@ fn first_limits<V: PoolView>(
 }
 
 /// Whether a transaction of this size can join some entries.
-fn has_room<V: PoolView>(pool: &V, family: &[Txid], vsize: u64, limits: FamilyLimits) -> bool
-    ensures { (test : Admitted → Bool) → AreIdsOf family.now (filter test (V.entries pool.now)) → result ≡ has_room limits vsize (filter test (V.entries pool.now)) }
+fn has_room<S: BuildHasher + Copy + Drop>(
+    pool: &Pool<S>,
+    family: &[Txid],
+    vsize: u64,
+    limits: FamilyLimits,
+) -> bool
+    ensures { (test : Admitted → Bool) → AreIdsOf family.now (filter test pool.now.entries) → result ≡ has_room limits vsize (filter test pool.now.entries) }
 {
     let sums = add_up(pool, family);
     let size = sums.size + u128::from(vsize);
@@ -69,14 +74,14 @@ fn has_room<V: PoolView>(pool: &V, family: &[Txid], vsize: u64, limits: FamilyLi
 }
 
 /// Whether it can join the descendants of the entry with this id.
-fn has_room_below<V: PoolView>(
+fn has_room_below<S: BuildHasher + Copy + Drop>(
     alloc: Global,
-    pool: &V,
+    pool: &Pool<S>,
     txid: &Txid,
     vsize: u64,
     limits: FamilyLimits,
 ) -> Result<bool, Memory>
-    ensures { (a : Admitted) → Contains (V.entries pool.now) a → txid_of a.tx ≡ txid.now → IfOk result (λ fits. fits ≡ has_room_below limits (V.entries pool.now) vsize a) }
+    ensures { (a : Admitted) → Contains pool.now.entries a → txid_of a.tx ≡ txid.now → IfOk result (λ fits. fits ≡ has_room_below limits pool.now.entries vsize a) }
 {
     let Some(family) = descendants(alloc, pool, &[*txid], limits.descendants)? else {
         return Ok(false);
@@ -85,14 +90,14 @@ fn has_room_below<V: PoolView>(
 }
 
 /// The same for each of some entries.
-fn each_has_room<V: PoolView>(
+fn each_has_room<S: BuildHasher + Copy + Drop>(
     alloc: Global,
-    pool: &V,
+    pool: &Pool<S>,
     above: &[Txid],
     vsize: u64,
     limits: FamilyLimits,
 ) -> Result<bool, Memory>
-    ensures { (test : Admitted → Bool) → AreIdsOf above.now (filter test (V.entries pool.now)) → IfOk result (λ fits. fits ≡ list_all (has_room_below limits (V.entries pool.now) vsize) (filter test (V.entries pool.now))) }
+    ensures { (test : Admitted → Bool) → AreIdsOf above.now (filter test pool.now.entries) → IfOk result (λ fits. fits ≡ list_all (has_room_below limits pool.now.entries vsize) (filter test pool.now.entries)) }
 {
     for txid in above {
         if !has_room_below(alloc, pool, txid, vsize, limits)? {
@@ -103,14 +108,14 @@ fn each_has_room<V: PoolView>(
 }
 
 /// Whether the transaction could join all that are below some entries together, and so the descendants of each.
-fn all_have_room<V: PoolView>(
+fn all_have_room<S: BuildHasher + Copy + Drop>(
     alloc: Global,
-    pool: &V,
+    pool: &Pool<S>,
     above: &[Txid],
     vsize: u64,
     limits: FamilyLimits,
 ) -> Result<bool, Memory>
-    ensures { (test : Admitted → Bool) → AreIdsOf above.now (filter test (V.entries pool.now)) → IfOk result (λ fits. fits ≡ true → list_all (has_room_below limits (V.entries pool.now) vsize) (filter test (V.entries pool.now)) ≡ true) }
+    ensures { (test : Admitted → Bool) → AreIdsOf above.now (filter test pool.now.entries) → IfOk result (λ fits. fits ≡ true → list_all (has_room_below limits pool.now.entries vsize) (filter test pool.now.entries) ≡ true) }
 {
     let Some(all) = descendants(alloc, pool, above, limits.descendants)? else {
         return Ok(false);
@@ -119,14 +124,14 @@ fn all_have_room<V: PoolView>(
 }
 
 /// Whether a transaction of this size, with these ancestors, is within the limits.
-fn is_within<V: PoolView>(
+fn is_within<S: BuildHasher + Copy + Drop>(
     alloc: Global,
-    pool: &V,
+    pool: &Pool<S>,
     above: &[Txid],
     vsize: u64,
     limits: FamilyLimits,
 ) -> Result<bool, Memory>
-    ensures { (test : Admitted → Bool) → AreIdsOf above.now (filter test (V.entries pool.now)) → IfOk result (λ fits. fits ≡ is_within limits (V.entries pool.now) (filter test (V.entries pool.now)) vsize) }
+    ensures { (test : Admitted → Bool) → AreIdsOf above.now (filter test pool.now.entries) → IfOk result (λ fits. fits ≡ is_within limits pool.now.entries (filter test pool.now.entries) vsize) }
 {
     let sums = add_up(pool, above);
     if sums.count >= limits.ancestors {
@@ -142,17 +147,17 @@ fn is_within<V: PoolView>(
 }
 
 /// Whether one of the two tries succeeds.
-fn fits_families<V: PoolView>(
+fn fits_families<S: BuildHasher + Copy + Drop>(
     alloc: Global,
-    pool: &V,
-    tx: &Transaction,
+    direct: &DirectConflicts<'_, S>,
     above: &[Txid],
     vsize: u64,
 ) -> Result<bool, Memory>
-    requires { AreIdsOf above.now (ancestors_above (V.entries pool.now) tx.now.inputs) }
-    ensures { IfOk result (λ fits. fits ≡ fits_families (V.entries pool.now) tx.now vsize) }
+    requires { AreIdsOf above.now (ancestors_above direct.now.entries direct.now.tx.inputs) }
+    ensures { IfOk result (λ fits. fits ≡ fits_families direct.now.entries direct.now.tx vsize) }
 {
-    let limits = first_limits(alloc, pool, tx)?;
+    let pool = direct.pool();
+    let limits = first_limits(alloc, direct)?;
     if is_within(alloc, pool, above, vsize, limits)? {
         return Ok(true);
     }
@@ -168,26 +173,39 @@ fn fits_families<V: PoolView>(
     is_within(alloc, pool, above, vsize, carved_out)
 }
 
+/// The ids of the transaction's ancestors in the pool. None where there are more than `most`.
+fn ancestors_of<S: BuildHasher + Copy + Drop>(
+    alloc: Global,
+    direct: &DirectConflicts<'_, S>,
+    most: usize,
+) -> Result<Option<Vec<Txid>>, Memory>
+    ensures found { IfOk result (λ found. IfSome found (λ ids. AreIdsOf ids.items (ancestors_above direct.now.entries direct.now.tx.inputs))) }
+    ensures many { IfOk result (λ found. found ≡ None → most < length (ancestors_above direct.now.entries direct.now.tx.inputs)) }
+{
+    let inputs = direct.transaction().inputs();
+    let found = ancestors(alloc, direct.pool(), inputs, most)?;
+    Ok(found)
+}
+
 /// The first of A36 and A37 that fails at a first attempt.
 #[tactic(auto, unfolding(crate::specs::Limits::limit_rules))]
-fn check_first<V: PoolView>(
+fn check_first<S: BuildHasher + Copy + Drop>(
     alloc: Global,
-    pool: &V,
-    tx: &Transaction,
+    direct: &DirectConflicts<'_, S>,
     vsize: u64,
 ) -> Result<Option<Denial>, Memory>
-    ensures { IfOk result (λ found. found ≡ first_failing (limit_rules First (V.entries pool.now) tx.now vsize)) }
+    ensures { IfOk result (λ found. found ≡ first_failing (limit_rules First direct.now.entries direct.now.tx vsize)) }
 {
-    let Some(above) = ancestors(alloc, pool, tx.inputs(), USUAL.ancestors)? else {
+    let Some(above) = ancestors_of(alloc, direct, USUAL.ancestors)? else {
         return Ok(Some(Denial::TooLongChain));
     };
     if above.is_empty() {
         return Ok(None);
     }
-    if !fits_families(alloc, pool, tx, &above, vsize)? {
+    if !fits_families(alloc, direct, &above, vsize)? {
         return Ok(Some(Denial::TooLongChain));
     }
-    if spends_conflict(pool, tx, &above) {
+    if direct.has_one_of(&above) {
         return Ok(Some(Denial::SpendsConflicting));
     }
     Ok(None)
@@ -195,45 +213,46 @@ fn check_first<V: PoolView>(
 
 /// The same where it is tried again.
 #[tactic(auto, unfolding(crate::specs::Limits::limit_rules))]
-fn check_again<V: PoolView>(
+fn check_again<S: BuildHasher + Copy + Drop>(
     alloc: Global,
-    pool: &V,
+    direct: &DirectConflicts<'_, S>,
     identified: &Counted<Identified>,
     vsize: u64,
 ) -> Result<Option<Denial>, Memory>
-    requires new { entry_by_txid (V.entries pool.now) (txid_of identified.now) ≡ None }
+    requires new { entry_by_txid direct.now.entries (txid_of identified.now) ≡ None }
+    requires same { direct.now.tx ≡ identified.now }
     requires least { 1 ≤ vsize }
     requires most { vsize ≤ largest_vsize }
-    ensures { IfOk result (λ found. found ≡ first_failing (limit_rules Again (V.entries pool.now) identified.now vsize)) }
+    ensures { IfOk result (λ found. found ≡ first_failing (limit_rules Again direct.now.entries direct.now.tx vsize)) }
 {
+    let pool = direct.pool();
     if !fits_again(alloc, pool, identified, vsize)? {
         return Ok(Some(Denial::TooLongChain));
     }
-    let tx = identified.get().transaction();
-    let Some(above) = ancestors(alloc, pool, tx.inputs(), usize::MAX)? else {
-        return Err(Memory);
-    };
-    if spends_conflict(pool, tx, &above) {
+    let found = ancestors_of(alloc, direct, pool.count())?;
+    let above = found.unwrap();
+    if direct.has_one_of(&above) {
         return Ok(Some(Denial::SpendsConflicting));
     }
     Ok(None)
 }
 
 /// The first of A36 and A37 that fails at an attempt. No entry has the transaction's id.
-pub(crate) fn check_families<V: PoolView>(
+pub(crate) fn check_families<S: BuildHasher + Copy + Drop>(
     alloc: Global,
     attempt: Attempt,
-    pool: &V,
+    direct: &DirectConflicts<'_, S>,
     identified: &Counted<Identified>,
     vsize: u64,
 ) -> Result<Option<Denial>, Memory>
-    requires new { entry_by_txid (V.entries pool.now) (txid_of identified.now) ≡ None }
+    requires new { entry_by_txid direct.now.entries (txid_of identified.now) ≡ None }
+    requires same { direct.now.tx ≡ identified.now }
     requires least { 1 ≤ vsize }
     requires most { vsize ≤ largest_vsize }
-    ensures { IfOk result (λ found. found ≡ first_failing (limit_rules attempt (V.entries pool.now) identified.now vsize)) }
+    ensures { IfOk result (λ found. found ≡ first_failing (limit_rules attempt direct.now.entries direct.now.tx vsize)) }
 {
     match attempt {
-        Attempt::First => check_first(alloc, pool, identified.get().transaction(), vsize),
-        Attempt::Again => check_again(alloc, pool, identified, vsize),
+        Attempt::First => check_first(alloc, direct, vsize),
+        Attempt::Again => check_again(alloc, direct, identified, vsize),
     }
 }

@@ -8,12 +8,13 @@ ghost use Rattle.gate_admit.specs.declared.attempt.Attempt.TheVariants.{Again};
 use crate::attempt::Attempt;
 use crate::grant::Grant;
 use crate::judging::decide;
-use crate::prepared::Prepared;
+use crate::standing::Standing;
 use crate::verdicts::Verdicts;
 use gate_bytes::{Copied, Memory};
 use gate_chain::Chain;
 use gate_pool::{Entry, Pool};
 use gate_standard::Denial;
+use gate_submission::Prepared;
 use gate_trim::Floor;
 use std::alloc::Global;
 use std::hash::BuildHasher;
@@ -33,21 +34,20 @@ pub fn readmit<S: BuildHasher + Copy + Drop>(
     ensures entries { IfOk result (λ decision. pool.new.entries ≡ readmitted pool.old.entries prepared.now now decision) }
     ensures err { OnErr result (pool.new.entries ≡ pool.old.entries) }
 {
-    let floor = Floor::new(0);
-    let decision = decide(
-        alloc,
-        Attempt::Again,
-        chain,
-        pool,
-        &floor,
-        prepared,
-        verdicts,
-    )?;
-    let Some(identified) = prepared.identified() else {
+    let Some(candidate) = prepared.candidate() else {
         return Ok(Err(Denial::Decode));
     };
+    let floor = Floor::new(0);
+    let over = Standing {
+        chain,
+        pool,
+        floor: &floor,
+        verdicts,
+    };
+    let decision = decide(alloc, Attempt::Again, &over, &candidate)?;
     if let Ok(grant) = decision {
-        let entry = Entry::new(identified.copy(alloc)?, grant.fee, grant.vsize, now);
+        let identified = candidate.identified().copy(alloc)?;
+        let entry = Entry::new(identified, grant.fee, grant.vsize, now);
         pool.reserve(entry.transaction().inputs().len())?;
         pool.replace(entry);
     }

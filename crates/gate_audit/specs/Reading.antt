@@ -44,15 +44,15 @@ AreAll input lines = IfSome input (λ bytes. lines_of bytes ≡ lines)
 
 -- the next line was read, or none is left
 abbrev pub LineTaken : Option (List ℕ) → Option (List ℕ) → JournalLines → JournalLines → Bool → Type 0
-LineTaken input rest old new true = Leads input rest (new.line.items ∷ []) × (counted new.line.items ≤ line_limit)
-    × (new.number ≡ old.number + 1) × TellsRest new.has_ended input rest
+LineTaken input rest old new true = Leads input rest (new.lines.line ∷ []) × (counted new.lines.line ≤ line_limit)
+    × (new.lines.count ≡ old.lines.count + 1) × TellsRest new.has_ended input rest
 LineTaken input rest old new false = TellsEnd old.has_ended input → AreAll input []
 
 -- what was read up to the next line that asks, or to the end
 abbrev pub AskingTaken : Option (List ℕ) → Option (List ℕ) → JournalLines → JournalLines → Bool → Type 0
-AskingTaken input rest old new true = (lines : List (List ℕ)) × AreTaken old.number lines (new.line.items ∷ [])
-    × Leads input rest lines × (new.number ≡ old.number + length lines) × TellsRest new.has_ended input rest
-AskingTaken input rest old new false = (lines : List (List ℕ)) × AreTaken old.number lines [] × (TellsEnd old.has_ended input → AreAll input lines)
+AskingTaken input rest old new true = (lines : List (List ℕ)) × AreTaken old.lines.count lines (new.lines.line ∷ [])
+    × Leads input rest lines × (new.lines.count ≡ old.lines.count + length lines) × TellsRest new.has_ended input rest
+AskingTaken input rest old new false = (lines : List (List ℕ)) × AreTaken old.lines.count lines [] × (TellsEnd old.has_ended input → AreAll input lines)
 
 -- a line is past a limit before one that asks
 abbrev pub AskingIsPast : Option (List ℕ) → ℕ → Type 0
@@ -78,19 +78,19 @@ IsWrongIn w input lines asked = IfSome input (λ bytes. (more : List (List ℕ))
 
 -- the line of this reply follows, or another line, or none
 abbrev pub ReplyTaken : Option (List ℕ) → Option (List ℕ) → JournalLines → JournalLines → List ℕ → Bool → Type 0
-ReplyTaken input rest old new reply true = (lines : List (List ℕ)) × AreTaken old.number lines ((codes "< " ++ reply) ∷ [])
-    × Leads input rest lines × (new.number ≡ old.number + length lines) × TellsRest new.has_ended input rest
-ReplyTaken input rest old new reply false = (lines : List (List ℕ)) × (asked : List (List ℕ)) × AreTaken old.number lines asked
+ReplyTaken input rest old new reply true = (lines : List (List ℕ)) × AreTaken old.lines.count lines ((codes "< " ++ reply) ∷ [])
+    × Leads input rest lines × (new.lines.count ≡ old.lines.count + length lines) × TellsRest new.has_ended input rest
+ReplyTaken input rest old new reply false = (lines : List (List ℕ)) × (asked : List (List ℕ)) × AreTaken old.lines.count lines asked
     × (TellsEnd old.has_ended input → LacksReply input lines asked reply)
 
 -- what the lines of one entry came to
 abbrev pub EntryTaken : Option (List ℕ) → Option (List ℕ) → JournalLines → JournalLines → World → World → Taken → Type 0
 EntryTaken input rest old new w w' taken.Legal = (lines : List (List ℕ)) × (first : List ℕ) × (event : Event)
-    × Spells first event × AreTaken old.number lines (first ∷ reply_line (step_of w event).0 ∷ [])
-    × Leads input rest lines × (new.number ≡ old.number + length lines) × TellsRest new.has_ended input rest × (w' ≡ (step_of w event).1)
-EntryTaken input rest old new w w' taken.Wrong = (lines : List (List ℕ)) × (asked : List (List ℕ)) × AreTaken old.number lines asked
+    × Spells first event × AreTaken old.lines.count lines (first ∷ reply_line (step_of w event).0 ∷ [])
+    × Leads input rest lines × (new.lines.count ≡ old.lines.count + length lines) × TellsRest new.has_ended input rest × (w' ≡ (step_of w event).1)
+EntryTaken input rest old new w w' taken.Wrong = (lines : List (List ℕ)) × (asked : List (List ℕ)) × AreTaken old.lines.count lines asked
     × (TellsEnd old.has_ended input → IsWrongIn w input lines asked)
-EntryTaken input rest old new w w' taken.End = (lines : List (List ℕ)) × AreTaken old.number lines [] × (TellsEnd old.has_ended input → AreAll input lines)
+EntryTaken input rest old new w w' taken.End = (lines : List (List ℕ)) × AreTaken old.lines.count lines [] × (TellsEnd old.has_ended input → AreAll input lines)
 
 abbrev pub EntryIsPast : Option (List ℕ) → ℕ → Type 0
 EntryIsPast input number = (lines : List (List ℕ)) × (asked : List (List ℕ)) × AreTaken number lines asked × ((count : ℕ) → count < entry_limit → IsBegun count asked) × NextIsPast input number lines

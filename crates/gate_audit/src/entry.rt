@@ -11,7 +11,7 @@ use gate_bytes::Memory;
 use gate_core::State;
 use gate_events::event_on;
 use gate_lines::{LaneFault, Source};
-use gate_message::{Event, Reply};
+use gate_message::Event;
 use std::alloc::Global;
 use std::hash::BuildHasher;
 
@@ -43,20 +43,6 @@ fn says(line: &[u8], reply: &str) -> bool
     }
 }
 
-/// The state's reply to an event.
-fn replied<S: BuildHasher + Copy + Drop>(
-    alloc: Global,
-    state: &mut State<S>,
-    event: &Event,
-) -> Result<Reply, Memory>
-    ensures { IfOk result (λ reply. (reply, state.new) ≡ step_of state.old event.now) }
-{
-    match state.step(alloc, event) {
-        Ok(reply) => Ok(reply),
-        Err(_) => Err(Memory),
-    }
-}
-
 /// The text of the state's reply to an event.
 fn reply_text<S: BuildHasher + Copy + Drop>(
     alloc: Global,
@@ -65,7 +51,7 @@ fn reply_text<S: BuildHasher + Copy + Drop>(
 ) -> Result<String, Memory>
     ensures { IfOk result (λ text. (string_bytes text ≡ reply_text (step_of state.old event.now).0) × (state.new ≡ (step_of state.old event.now).1)) }
 {
-    let reply = replied(alloc, state, event)?;
+    let reply = state.apply(alloc, event)?;
     let text = reply.text(alloc);
     drop(reply);
     text
@@ -97,7 +83,7 @@ fn reply_follows<R: Source>(
     reply: &str,
 ) -> Result<bool, LaneFault>
     ensures read { IfOk result (λ follows. ReplyTaken (R.remaining reader.old) (R.remaining reader.new) lines.old lines.new reply.now follows) }
-    ensures past { R.steady ≡ true → IsErrOf result LaneFault.Read → AskingIsPast (R.remaining reader.old) lines.old.number }
+    ensures past { R.steady ≡ true → IsErrOf result LaneFault.Read → AskingIsPast (R.remaining reader.old) lines.old.lines.count }
     ensures kind { IfErr result (λ fault. fault ≢ LaneFault.Write) }
 {
     if !lines.next_asking(reader)? {
@@ -114,7 +100,7 @@ pub(crate) fn take_entry<S: BuildHasher + Copy + Drop, R: Source>(
     lines: &mut JournalLines,
 ) -> Result<Taken, LaneFault>
     ensures taken { IfOk result (λ taken. EntryTaken (R.remaining reader.old) (R.remaining reader.new) lines.old lines.new state.old state.new taken) }
-    ensures past { R.steady ≡ true → IsErrOf result LaneFault.Read → EntryIsPast (R.remaining reader.old) lines.old.number }
+    ensures past { R.steady ≡ true → IsErrOf result LaneFault.Read → EntryIsPast (R.remaining reader.old) lines.old.lines.count }
     ensures kind { IfErr result (λ fault. fault ≢ LaneFault.Write) }
 {
     if !lines.next_asking(reader)? {

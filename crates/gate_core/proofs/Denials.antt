@@ -11,7 +11,8 @@ use Rattle.gate_admit.specs.declared.Grant.{Grant}
 use Rattle.gate_admit.specs.Rules.{decision_of}
 use Rattle.gate_admit.specs.Submission.{admitted, entry_of, holds, submitted_by, submit_of}
 use Rattle.gate_chain.specs.declared.ChainDenial.{ChainDenial}
-use Rattle.gate_reorg.specs.Events.{Happened, present, event_rules, event_of}
+use Rattle.gate_reorg.specs.Events.{Happened, event_rules, event_of}
+use Rattle.gate_submission.specs.Blocks.{present}
 use Rattle.gate_message.specs.declared.event.Event.{Event}
 use Rattle.gate_message.specs.declared.event.Event.TheVariants.{Enter, Leave, Tx as Submit, Mempool, GetBlock, Headers, Rpc, SetFloor, Set as Turn, Chain as Extend}
 use Rattle.gate_message.specs.declared.refusal.Refusal.{Refusal}

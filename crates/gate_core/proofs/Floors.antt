@@ -16,7 +16,8 @@ use Rattle.gate_admit.specs.Submission.{admitted, entry_of, submitted_by, submit
 use Rattle.gate_admit.proofs.Submissions.{AreYoung, granted_young, submission_floor}
 use Rattle.gate_chain.specs.declared.Block.{Block}
 use Rattle.gate_chain.specs.declared.ChainDenial.{ChainDenial}
-use Rattle.gate_reorg.specs.Events.{present, event_rules, event_of}
+use Rattle.gate_reorg.specs.Events.{event_rules, event_of}
+use Rattle.gate_submission.specs.Blocks.{present}
 use Rattle.gate_reorg.proofs.Origins.{floors_never_fall}
 use Rattle.gate_reorg.proofs.Spending.{events_keep_the_budget}
 use Rattle.gate_message.specs.declared.caller.Caller.TheVariants.{Operator}

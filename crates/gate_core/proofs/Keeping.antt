@@ -27,8 +27,9 @@ use Rattle.gate_admit.specs.Standing.{Standing}
 use Rattle.gate_admit.specs.Submission.{admitted, entry_of, submitted_by, submit_of}
 use Rattle.gate_admit.proofs.Entering.{StaysUnconnected, stays_if_apart, stays_if_unconnected}
 use Rattle.gate_admit.proofs.Submissions.{empty_good, entry_within, submission_good}
-use Rattle.gate_reorg.specs.Events.{Happened, present, event_rules, event_of}
-use Rattle.gate_reorg.specs.Reorganisation.{transactions_of as block_transactions}
+use Rattle.gate_reorg.specs.Events.{Happened, event_rules, event_of}
+use Rattle.gate_submission.specs.Blocks.{present}
+use Rattle.gate_submission.specs.Blocks.{transactions_of as block_transactions}
 use Rattle.gate_reorg.proofs.Keeping.{events_keep_pools_good}
 use Rattle.gate_reorg.proofs.Origins.{events_bring_nothing_else}
 use Rattle.gate_message.specs.declared.event.Event.{Event}

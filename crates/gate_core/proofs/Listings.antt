@@ -1,5 +1,5 @@
 -- What the listings of a run are.
-use Rattle.std.proofs.Common.{◌≡◌, ℕ, zero, suc, List, [], ◌∷◌, Option, Some, None, Result, Ok, Err}
+use Rattle.std.proofs.Common.{◌≡◌, ℕ, zero, suc, Bool, true, false, if◌then◌else◌, List, [], ◌∷◌, Option, Some, None, Result, Ok, Err, sym, subst}
 use Rattle.gate_bytes.specs.Order.{first_failing}
 use Rattle.gate_tx.specs.Tx.{Tx}
 use Rattle.gate_standard.specs.declared.Denial.{Denial}
@@ -7,13 +7,22 @@ use Rattle.gate_admit.specs.declared.Grant.{Grant}
 use Rattle.gate_pool.specs.Pool.{listing_of}
 use Rattle.gate_admit.specs.Submission.{submit_of}
 use Rattle.gate_chain.specs.declared.ChainDenial.{ChainDenial}
-use Rattle.gate_reorg.specs.Events.{Happened, present, event_rules, event_of}
+use Rattle.gate_reorg.specs.Events.{Happened, event_rules, event_of}
+use Rattle.gate_submission.specs.Blocks.{present}
 use Rattle.gate_message.specs.declared.event.Event.{Event}
 use Rattle.gate_message.specs.declared.event.Event.TheVariants.{Enter, Leave, Tx as Submit, Mempool, GetBlock, Headers, Rpc, SetFloor, Set as Turn, Chain as Extend}
 use Rattle.gate_message.specs.declared.refusal.Refusal.{Refusal}
 use Rattle.gate_message.specs.declared.reply.Reply.{Reply}
 use Rattle.gate_message.specs.declared.reply.Reply.TheVariants.{Listing, Rpc as Answered}
+use Rattle.gate_message.specs.UserCalls.{UserCall}
+use Rattle.gate_rpc.specs.declared.fault.CallError.{CallError}
+use Rattle.gate_rpc.specs.declared.id.Id.{Id}
+use Rattle.gate_rpc.specs.declared.request.Command.{Command}
+use Rattle.gate_rpc.specs.declared.request.Command.TheVariants.{GetRawMempool}
+use Rattle.gate_rpc.specs.declared.request.Request.{Request}
+use Rattle.gate_rpc.specs.declared.result.RpcResult.TheVariants.{Txids}
 use Rattle.gate_rpc.specs.declared.reply.RpcReply.{RpcReply}
+use Rattle.gate_rpc.specs.declared.reply.RpcReply.TheVariants.{NotAllowed, Answer}
 use Rattle.gate_rpc.specs.Calls.{request_of}
 use Rattle.gate_core.proofs.Calls.{call_gives}
 use Rattle.gate_core.specs.World.{World, standing_of}
@@ -21,7 +30,8 @@ use Rattle.gate_core.specs.Access.{entering_rules, session_rules, submission_rul
 use Rattle.gate_core.specs.PeerSteps.{decided, answered, entered, left, submitted, listed, block_given, headers_given}
 use Rattle.gate_core.specs.ChainSteps.{chained_as}
 use Rattle.gate_core.specs.Steps.{step_of}
-use Rattle.gate_core.specs.Runs.{ListsThePool}
+use Rattle.gate_core.specs.RpcSteps.{is_barred, commanded, called_by, rpc_step}
+use Rattle.gate_core.specs.Runs.{ListsThePool, AnswersThePool}
 
 decided_lists : (w : World) (peer : ℕ) (transaction : Option Tx) (decision : Result Grant Denial) (txids : List (List ℕ)) → (decided w peer transaction decision).0 ≡ Listing txids → ⊥
 decided_lists w peer None decision txids h = cc
@@ -68,3 +78,33 @@ pub lists_the_pool : (events : List Event) (w : World) → ListsThePool w events
 lists_the_pool [] w k txids h = cc
 lists_the_pool (event ∷ events) w zero txids h = step_lists w event txids (some_is _ _ h)
 lists_the_pool (event ∷ events) w (suc k) txids h = lists_the_pool events (step_of w event).1 k txids h
+
+-- ---- answers to users
+
+-- the answer to `getrawmempool`
+abbrev Lists : World → Id → List (List ℕ) → Reply × World → Type 0
+Lists w id txids given = given.0 ≡ Answered (Answer id (Txids txids)) → txids ≡ listing_of w.pool
+
+command_lists : (w : World) (now : ℕ) (own id : Id) (command : Command) (txids : List (List ℕ)) → command ≡ GetRawMempool → Lists w id txids (commanded w now own command)
+command_lists w now own id command txids is = subst (λ (c : Command). Lists w id txids (commanded w now own c)) (sym is) (λ h. cc)
+
+request_lists : (w : World) (call : UserCall) (request : Request) (id : Id) (txids : List (List ℕ)) (b : Bool) → request.command ≡ GetRawMempool
+    → Lists w id txids (if b then (Answered NotAllowed, w) else called_by w call.time (Ok request))
+request_lists w call request id txids true is = λ h. cc
+request_lists w call request id txids false is = command_lists w call.time request.id id request.command txids is
+
+step_answers : (w : World) (call : UserCall) (request : Request) (id : Id) (txids : List (List ℕ)) → request_of call.json ≡ Ok request → request.command ≡ GetRawMempool
+    → Lists w id txids (step_of w (Rpc call))
+unfolding step_of
+step_answers w call request id txids read is =
+    subst (λ (r : Result Request CallError). Lists w id txids (rpc_step w call.user call.time r)) (sym read)
+    (request_lists w call request id txids (is_barred w call.user (Ok request)) is)
+
+event_is : (event other : Event) → Some event ≡ Some other → event ≡ other
+event_is event other h = cc
+
+pub answers_the_pool : (events : List Event) (w : World) → AnswersThePool w events
+answers_the_pool [] w k call request id txids at read is h = cc
+answers_the_pool (event ∷ events) w zero call request id txids at read is h =
+    subst (λ (e : Event). Lists w id txids (step_of w e)) (sym (event_is event (Rpc call) at)) (step_answers w call request id txids read is) (some_is _ _ h)
+answers_the_pool (event ∷ events) w (suc k) call request id txids at read is h = answers_the_pool events (step_of w event).1 k call request id txids at read is h

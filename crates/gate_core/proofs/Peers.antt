@@ -6,86 +6,82 @@ use Rattle.indexmap.specs.IndexMap.{insert_entry}
 use Rattle.gate_bytes.specs.Order.{first_failing}
 use Rattle.gate_message.specs.declared.refusal.Refusal.{Refusal}
 use Rattle.gate_message.specs.declared.refusal.Refusal.TheVariants.{PeerUnknown, PeerClosed}
-use Rattle.gate_core.specs.declared.session.Seat.{Seat}
+use Rattle.gate_core.specs.declared.session.Session.{Session as Status}
 use Rattle.gate_net.specs.Permissions.{Permissions, no_permissions}
 use Rattle.gate_core.specs.Access.{is_known, session_rules}
-use Rattle.gate_core.specs.Sessions.{Session, session, session_of, flags_in, closed}
+use Rattle.gate_core.specs.Sessions.{Session, session, session_of, status_of, flags_in, closed}
 
-abbrev pub shown : ℕ × Seat → Session
+abbrev pub shown : ℕ × Status → Session
 shown p = session p.0 p.1.is_open p.1.flags
 
--- what the map has for a session
-abbrev pub seat_of : Session → Seat
-seat_of s = record { is_open = s.is_open; flags = s.flags }
-
-pub session_of-shown : (es : List (ℕ × Seat)) (peer : ℕ) → option_map seat_of (session_of (map shown es) peer) ≡ lookup (nat_eq peer) es
+pub session_of-shown : (es : List (ℕ × Status)) (peer : ℕ) → option_map status_of (session_of (map shown es) peer) ≡ lookup (nat_eq peer) es
 session_of-shown [] peer = refl
 session_of-shown (e ∷ es) peer =
-    elim (nat_eq peer e.0) as (λ b. option_map seat_of (if b then Some (shown e) else session_of (map shown es) peer) ≡ (if b then Some e.1 else lookup (nat_eq peer) es)) [
+    elim (nat_eq peer e.0) as (λ b. option_map status_of (if b then Some (shown e) else session_of (map shown es) peer) ≡ (if b then Some e.1 else lookup (nat_eq peer) es)) [
       | true ↦ refl
       | false ↦ session_of-shown es peer
     ]
 
-mapped : (o : Option Session) → is_some (option_map seat_of o) ≡ is_some o
+mapped : (o : Option Session) → is_some (option_map status_of o) ≡ is_some o
 mapped None = refl
 mapped (Some s) = refl
 
-pub is_known-shown : (es : List (ℕ × Seat)) (peer : ℕ) → is_some (lookup (nat_eq peer) es) ≡ is_known (map shown es) peer
+pub is_known-shown : (es : List (ℕ × Status)) (peer : ℕ) → is_some (lookup (nat_eq peer) es) ≡ is_known (map shown es) peer
 is_known-shown es peer = sym (ap is_some (session_of-shown es peer)) ∙ mapped (session_of (map shown es) peer)
 
 -- the refusal where a peer's session is open, closed or none
-abbrev pub refusal_by : Option Seat → Option Refusal
+abbrev pub refusal_by : Option Status → Option Refusal
 refusal_by None = Some PeerUnknown
-refusal_by (Some seat) = if not seat.is_open then Some PeerClosed else None
+refusal_by (Some status) = if not status.is_open then Some PeerClosed else None
 
-by_session : (o : Option Session) → refusal_by (option_map seat_of o) ≡ (if not (is_some o) then Some PeerUnknown else if option_map_or (λ (s : Session). not s.is_open) o false then Some PeerClosed else None)
+by_session : (o : Option Session) → refusal_by (option_map status_of o) ≡ (if not (is_some o) then Some PeerUnknown else if option_map_or (λ (s : Session). not s.is_open) o false then Some PeerClosed else None)
 by_session None = refl
 by_session (Some s) = refl
 
-pub rules-shown : (es : List (ℕ × Seat)) (peer : ℕ) (found : Option Seat) → found ≡ lookup (nat_eq peer) es → refusal_by found ≡ first_failing (session_rules (map shown es) peer)
+pub rules-shown : (es : List (ℕ × Status)) (peer : ℕ) (found : Option Status) → found ≡ lookup (nat_eq peer) es → refusal_by found ≡ first_failing (session_rules (map shown es) peer)
 rules-shown es peer found is = ap refusal_by (is ∙ sym (session_of-shown es peer)) ∙ by_session (session_of (map shown es) peer)
 
 -- the flags where a peer has a session, or none
-abbrev pub flags_by : Option Seat → Permissions
+abbrev pub flags_by : Option Status → Permissions
 flags_by None = no_permissions
-flags_by (Some seat) = seat.flags
+flags_by (Some status) = status.flags
 
-flags_by_session : (o : Option Session) → flags_by (option_map seat_of o) ≡ option_map_or (λ (s : Session). s.flags) o no_permissions
+flags_by_session : (o : Option Session) → flags_by (option_map status_of o) ≡ option_map_or (λ (s : Session). s.flags) o no_permissions
 flags_by_session None = refl
 flags_by_session (Some s) = refl
 
-pub flags-shown : (es : List (ℕ × Seat)) (peer : ℕ) (found : Option Seat) → found ≡ lookup (nat_eq peer) es → flags_by found ≡ flags_in (map shown es) peer
+pub flags-shown : (es : List (ℕ × Status)) (peer : ℕ) (found : Option Status) → found ≡ lookup (nat_eq peer) es → flags_by found ≡ flags_in (map shown es) peer
 flags-shown es peer found is = ap flags_by (is ∙ sym (session_of-shown es peer)) ∙ flags_by_session (session_of (map shown es) peer)
 
 -- a peer without a session comes last
-pub entered-shown : (es : List (ℕ × Seat)) (peer : ℕ) (seat : Seat) → session_of (map shown es) peer ≡ None → map shown (insert_entry nat_eq es peer seat) ≡ map shown es ++ shown (peer, seat) ∷ []
-entered-shown [] peer seat none = refl
-entered-shown (e ∷ es) peer seat none = by (nat_eq peer e.0) (entered-shown es peer seat) none
+pub entered-shown : (es : List (ℕ × Status)) (peer : ℕ) (status : Status) → session_of (map shown es) peer ≡ None → map shown (insert_entry nat_eq es peer status) ≡ map shown es ++ shown (peer, status) ∷ []
+entered-shown [] peer status none = refl
+entered-shown (e ∷ es) peer status none = by (nat_eq peer e.0) (entered-shown es peer status) none
   where
-    by : (b : Bool) → (session_of (map shown es) peer ≡ None → map shown (insert_entry nat_eq es peer seat) ≡ map shown es ++ shown (peer, seat) ∷ [])
+    by : (b : Bool) → (session_of (map shown es) peer ≡ None → map shown (insert_entry nat_eq es peer status) ≡ map shown es ++ shown (peer, status) ∷ [])
         → (if b then Some (shown e) else session_of (map shown es) peer) ≡ None
-        → map shown (if b then (e.0, seat) ∷ es else e ∷ insert_entry nat_eq es peer seat) ≡ shown e ∷ map shown es ++ shown (peer, seat) ∷ []
+        → map shown (if b then (e.0, status) ∷ es else e ∷ insert_entry nat_eq es peer status) ≡ shown e ∷ map shown es ++ shown (peer, status) ∷ []
     by true rest h = cc
     by false rest h = ap (λ l. shown e ∷ l) (rest h)
 
-some_is : (x y : Seat) → Some x ≡ Some y → x ≡ y
+some_is : (x y : Status) → Some x ≡ Some y → x ≡ y
 some_is x y h = cc
 
--- a peer's session with its seat closed
-pub closed-shown : (es : List (ℕ × Seat)) (peer : ℕ) (seat : Seat) → lookup (nat_eq peer) es ≡ Some seat
-    → map shown (set_value (nat_eq peer) es (record seat { is_open = false })) ≡ closed (map shown es) peer
-closed-shown [] peer seat found = cc
-closed-shown (e ∷ es) peer seat found = by (nat_eq peer e.0) (closed-shown es peer seat) found
+-- a peer's session with its status closed
+pub closed-shown : (es : List (ℕ × Status)) (peer : ℕ) (status : Status) → lookup (nat_eq peer) es ≡ Some status
+    → map shown (set_value (nat_eq peer) es (record status { is_open = false })) ≡ closed (map shown es) peer
+closed-shown [] peer status found = cc
+closed-shown (e ∷ es) peer status found = by (nat_eq peer e.0) (closed-shown es peer status) found
   where
-    by : (b : Bool) → (lookup (nat_eq peer) es ≡ Some seat → map shown (set_value (nat_eq peer) es (record seat { is_open = false })) ≡ closed (map shown es) peer)
-        → (if b then Some e.1 else lookup (nat_eq peer) es) ≡ Some seat
-        → map shown (if b then (e.0, record seat { is_open = false }) ∷ es else e ∷ set_value (nat_eq peer) es (record seat { is_open = false }))
+    by : (b : Bool) → (lookup (nat_eq peer) es ≡ Some status → map shown (set_value (nat_eq peer) es (record status { is_open = false })) ≡ closed (map shown es) peer)
+        → (if b then Some e.1 else lookup (nat_eq peer) es) ≡ Some status
+        → map shown (if b then (e.0, record status { is_open = false }) ∷ es else e ∷ set_value (nat_eq peer) es (record status { is_open = false }))
         ≡ (if b then session e.0 false e.1.flags ∷ map shown es else shown e ∷ closed (map shown es) peer)
-    by true rest h = ap (λ (s : Seat). session e.0 false s.flags ∷ map shown es) (sym (some_is e.1 seat h))
+    by true rest h = ap (λ (s : Status). session e.0 false s.flags ∷ map shown es) (sym (some_is e.1 status h))
     by false rest h = ap (λ l. shown e ∷ l) (rest h)
 
 -- a peer without a session has none to close
-pub closed-absent : (es : List (ℕ × Seat)) (peer : ℕ) → lookup (nat_eq peer) es ≡ None → closed (map shown es) peer ≡ map shown es
+pub closed-absent : (es : List (ℕ × Status)) (peer : ℕ) → lookup (nat_eq peer) es ≡ None → closed (map shown es) peer ≡ map shown es
 closed-absent [] peer none = refl
 closed-absent (e ∷ es) peer none = by (nat_eq peer e.0) (closed-absent es peer) none
   where

@@ -3,6 +3,7 @@ use Rattle.std.proofs.Common.{◌≡◌, List, [], ◌∷◌, ◌++◌, Contains
 use Rattle.std.specs.List.{All, flat_map}
 use Rattle.std.proofs.lemmas.List.Elements.{All-head, All-tail, Contains-append_left, Contains-append_right, Contains-append_cases}
 use Rattle.gate_tx.specs.Tx.{Tx}
+use Rattle.gate_reorg.proofs.Knowing.{Contains-flat_map, Contains-from_flat_map}
 use Rattle.gate_message.specs.declared.event.Event.{Event}
 use Rattle.gate_message.specs.declared.reply.Reply.{Reply}
 use Rattle.gate_core.specs.World.{World}
@@ -29,6 +30,22 @@ pub apart_rest : (w : World) (event : Event) (events : List Event) → IsRunApar
 apart_rest w event events apart =
     apart_part (transactions_in (step_of w event).1 ++ flat_map transactions_of events) (transactions_in w ++ (transactions_of event ++ flat_map transactions_of events))
     (λ tx. in_rest (transactions_in w) (transactions_of event) (flat_map transactions_of events) (transactions_in (step_of w event).1) tx (step_from w event tx)) apart
+
+-- a run is apart where one is that has its events, whatever others it has
+brought : (part whole : List Event) → ((event : Event) → Contains part event → Contains whole event) → (tx : Tx)
+    → Contains (flat_map transactions_of part) tx → Contains (flat_map transactions_of whole) tx
+brought part whole among tx h =
+    let from = Contains-from_flat_map transactions_of part tx h in
+    Contains-flat_map transactions_of whole from.item tx (among from.item from.among) from.within
+
+pub apart_among : (w : World) (part whole : List Event) → ((event : Event) → Contains part event → Contains whole event) → IsRunApart w whole → IsRunApart w part
+apart_among w part whole among apart =
+    apart_part (transactions_in w ++ flat_map transactions_of part) (transactions_in w ++ flat_map transactions_of whole)
+    (λ tx h.
+    ⊎_elim (λ k. Contains-append_left (transactions_in w) (flat_map transactions_of whole) tx k)
+    (λ k. Contains-append_right (transactions_in w) (flat_map transactions_of whole) tx (brought part whole among tx k))
+    (Contains-append_cases (transactions_in w) (flat_map transactions_of part) tx h))
+    apart
 
 -- where the transactions of a run are told apart by their ids
 pub run_good : (events : List Event) (w : World) → All IsSpelled events → IsRunApart w events → IsGoodWorld w → IsGoodWorld (run_of w events).1

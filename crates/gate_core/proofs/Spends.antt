@@ -17,7 +17,8 @@ use Rattle.gate_admit.specs.Rules.{decision_of}
 use Rattle.gate_admit.specs.Standing.{Standing}
 use Rattle.gate_admit.specs.Submission.{admitted, entry_of, submitted_by, submit_of}
 use Rattle.gate_admit.proofs.Granted.{decided_live}
-use Rattle.gate_reorg.specs.Events.{present, event_rules, event_of}
+use Rattle.gate_reorg.specs.Events.{event_rules, event_of}
+use Rattle.gate_submission.specs.Blocks.{present}
 use Rattle.gate_reorg.proofs.Spending.{SpendOnce, below_once, entered_once, events_spend_once, part_once}
 use Rattle.gate_message.specs.declared.event.Event.{Event}
 use Rattle.gate_message.specs.declared.event.Event.TheVariants.{Enter, Leave, Tx as Submit, Mempool, GetBlock, Headers, Rpc, SetFloor, Set as Turn, Chain as Extend}

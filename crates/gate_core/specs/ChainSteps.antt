@@ -3,7 +3,8 @@ use Rattle.std.specs.Prelude.{ℕ, List, Option, Some, None}
 use Rattle.gate_bytes.specs.Order.{first_failing}
 use Rattle.gate_chain.specs.declared.Block.{Block}
 use Rattle.gate_chain.specs.declared.ChainDenial.{ChainDenial}
-use Rattle.gate_reorg.specs.Events.{Happened, present, event_rules, event_of}
+use Rattle.gate_reorg.specs.Events.{Happened, event_rules, event_of}
+use Rattle.gate_submission.specs.Blocks.{present}
 use Rattle.gate_message.specs.declared.reply.Reply.{Reply}
 use Rattle.gate_message.specs.declared.reply.Reply.TheVariants.{Moved, Refused}
 use Rattle.gate_core.specs.World.{World, standing_of}

@@ -1,5 +1,5 @@
 -- Runs: the step over a list of events, and what holds after every one of them.
-use Rattle.std.specs.Prelude.{◌≡◌, ◌≢◌, ◌≤◌, ℕ, List, [], ◌∷◌, ◌++◌, take, slice_get, Option, Some, IsSome}
+use Rattle.std.specs.Prelude.{◌≡◌, ◌≢◌, ◌≤◌, ℕ, List, [], ◌∷◌, ◌++◌, take, slice_get, Option, Some, IsSome, Ok}
 use Rattle.std.specs.List.{All, flat_map, AllPairs}
 use Rattle.gate_tx.specs.declared.OutPoint.{OutPoint}
 use Rattle.gate_tx.specs.Ids.{txid_of}
@@ -17,7 +17,10 @@ use Rattle.gate_message.specs.declared.reply.Reply.{Reply}
 use Rattle.gate_message.specs.declared.reply.Reply.TheVariants.{Admitted, Listing, Rpc as Answered}
 use Rattle.gate_rpc.specs.declared.id.Id.{Id}
 use Rattle.gate_rpc.specs.declared.reply.RpcReply.TheVariants.{Answer}
-use Rattle.gate_rpc.specs.declared.result.RpcResult.TheVariants.{Sent}
+use Rattle.gate_rpc.specs.declared.request.Command.TheVariants.{GetRawMempool}
+use Rattle.gate_rpc.specs.declared.request.Request.{Request}
+use Rattle.gate_rpc.specs.declared.result.RpcResult.TheVariants.{Sent, Txids}
+use Rattle.gate_rpc.specs.Calls.{request_of}
 use Rattle.gate_message.specs.UserCalls.{UserCall}
 use Rattle.gate_core.specs.World.{World, opened_world}
 use Rattle.gate_core.specs.Steps.{step_of}
@@ -49,6 +52,10 @@ StepsGiveTheRun =
     (w : World) (events : List Event) (replies : List Reply) (end : World) → IsGoodWorld w → IsRunApart w events → LeadsTo w events replies end
     → ((replies, end) ≡ run_of w events) × IsGoodWorld end
 
+-- from a good state a run that is apart ends in a good state
+abbrev pub RunsEndGood : Type 0
+RunsEndGood = (w : World) (events : List Event) → IsGoodWorld w → All IsSpelled events → IsRunApart w events → IsGoodWorld (run_of w events).1
+
 -- no outpoint is spent by two entries, nor twice by one
 abbrev pub SpendsOnce : List Entry → Type 0
 SpendsOnce pool = AllPairs (λ (p : OutPoint) (q : OutPoint). p ≢ q) (spent_by pool)
@@ -58,9 +65,17 @@ abbrev pub ListsThePool : World → List Event → Type 0
 ListsThePool w events =
     (k : ℕ) (txids : List (List ℕ)) → slice_get (run_of w events).0 k ≡ Some (Listing txids) → txids ≡ listing_of (run_of w (take k events)).1.pool
 
+-- so has each answer with txids to a user's `getrawmempool`
+abbrev pub AnswersThePool : World → List Event → Type 0
+AnswersThePool w events =
+    (k : ℕ) (call : UserCall) (request : Request) (id : Id) (txids : List (List ℕ))
+    → slice_get events k ≡ Some (Calls call) → request_of call.json ≡ Ok request → request.command ≡ GetRawMempool
+    → slice_get (run_of w events).0 k ≡ Some (Answered (Answer id (Txids txids))) → txids ≡ listing_of (run_of w (take k events)).1.pool
+
 -- so it is after any events, from any opening
 abbrev pub RunsKeepThePoolSound : Type 0
-RunsKeepThePoolSound = (o : Start) (events : List Event) → SpendsOnce (run_of (opened_world o) events).1.pool × ListsThePool (opened_world o) events
+RunsKeepThePoolSound = (o : Start) (events : List Event)
+    → SpendsOnce (run_of (opened_world o) events).1.pool × ListsThePool (opened_world o) events × AnswersThePool (opened_world o) events
 
 -- each outpoint that an entry spends has a coin, and the ancestors and descendants of each entry are within the limits
 pub record KeepsFamilies (w : World) : Type 0 where

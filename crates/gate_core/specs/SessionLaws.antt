@@ -1,5 +1,5 @@
 -- What holds of sessions over runs, in plain words.
-use Rattle.std.specs.Prelude.{◌≡◌, ◌≢◌, ℕ, false, List, slice_get, Some}
+use Rattle.std.specs.Prelude.{◌≡◌, ◌≢◌, ℕ, false, List, slice_get, Option, Some, None}
 use Rattle.std.specs.List.{All}
 use Rattle.gate_standard.specs.declared.Denial.TheVariants.{MempoolFull}
 use Rattle.gate_message.specs.declared.caller.Caller.TheVariants.{Peer}
@@ -18,25 +18,26 @@ use Rattle.gate_core.specs.Sessions.{Session, session_of}
 use Rattle.gate_core.specs.World.{World}
 use Rattle.gate_core.specs.Runs.{run_of}
 
--- the reply to an event of a peer whose session is closed; a user's, the operator's or the chain's is no such event
-abbrev pub closed_reply : Event → Reply
-closed_reply (Enter peer address) = Denied PeerKnown Keep
-closed_reply (Leave peer) = Denied PeerClosed Keep
-closed_reply (Submit peer now transaction) = Denied PeerClosed Keep
-closed_reply (Mempool peer) = Denied PeerClosed Keep
-closed_reply (GetBlock peer height) = Denied PeerClosed Keep
-closed_reply (Headers peer height) = Denied PeerClosed Keep
-closed_reply (Rpc call) = Set
-closed_reply (SetFloor rate) = Set
-closed_reply (Turn switch on) = Set
-closed_reply (Extend disconnect now blocks) = Set
+-- the reply to an event of a peer whose session is closed; none to the events of users, the operator and the chain, which
+-- have no session
+abbrev pub closed_reply : Event → Option Reply
+closed_reply (Enter peer address) = Some (Denied PeerKnown Keep)
+closed_reply (Leave peer) = Some (Denied PeerClosed Keep)
+closed_reply (Submit peer now transaction) = Some (Denied PeerClosed Keep)
+closed_reply (Mempool peer) = Some (Denied PeerClosed Keep)
+closed_reply (GetBlock peer height) = Some (Denied PeerClosed Keep)
+closed_reply (Headers peer height) = Some (Denied PeerClosed Keep)
+closed_reply (Rpc call) = None
+closed_reply (SetFloor rate) = None
+closed_reply (Turn switch on) = None
+closed_reply (Extend disconnect now blocks) = None
 
 -- after any events a closed session is as it was, and each event of its peer among them is answered so
 abbrev pub ClosedStaysClosed : Type 0
 ClosedStaysClosed =
     (w : World) (events : List Event) (peer : ℕ) (s : Session) → session_of w.sessions peer ≡ Some s → s.is_open ≡ false
     → (session_of (run_of w events).1.sessions peer ≡ Some s)
-    × ((k : ℕ) (event : Event) → slice_get events k ≡ Some event → caller_of event ≡ Peer peer → slice_get (run_of w events).0 k ≡ Some (closed_reply event))
+    × ((k : ℕ) (event : Event) → slice_get events k ≡ Some event → caller_of event ≡ Peer peer → slice_get (run_of w events).0 k ≡ closed_reply event)
 
 -- events of other callers leave a peer's session, or that it has none
 abbrev pub PeersAreSeparate : Type 0

@@ -10,7 +10,7 @@ ghost use Rattle.gate_core.specs.Planning.{Fits, Plans, world_of};
 
 use crate::parts::Parts;
 use crate::planning::{Change, Plan};
-use gate_admit::{Prepared, plan_submission};
+use gate_admit::{Conditions, Prepared, plan_submission};
 use gate_bytes::{Boxed, Copied, Kept, Memory};
 use gate_message::{Call, Reply};
 use gate_query::{ancestors_listed, descendants_listed, entry_info, pool_info, test_submission};
@@ -154,16 +154,14 @@ impl<S: BuildHasher + Copy + Drop> Parts<S> {
             return telling(alloc, id, Err(RpcError::Denied(Denial::Decode)));
         };
         let id = id.copy(alloc)?;
-        let decision = plan_submission(
-            alloc,
-            &self.chain,
-            &mut self.pool,
-            &self.floor,
-            transaction,
-            self.verdicts.get(),
-            now,
-            self.budget,
-        )?;
+        let under = Conditions {
+            chain: &self.chain,
+            floor: &self.floor,
+            verdicts: self.verdicts.get(),
+            second: now,
+            budget: self.budget,
+        };
+        let decision = plan_submission(alloc, &under, &mut self.pool, transaction)?;
         match decision {
             Ok(coming) => {
                 let result = RpcResult::Sent(txid);

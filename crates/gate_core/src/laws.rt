@@ -1,7 +1,7 @@
 //! Laws above the definitions.
 ghost use Rattle.gate_core.specs.Access.{AccessFollowsTheOrder};
 ghost use Rattle.gate_core.specs.AccessLaws.{ClosedSessionsChangeNothing, FlagsGuard, ListsBar, NobanIsKept, OnlySendersChange, QuestionsChangeNothing};
-ghost use Rattle.gate_core.specs.Runs.{AdmissionsLeaveNothingStale, CallsLeaveNothingStale, OnlyOperatorsLowerTheFloor, RunsKeepFamilies, RunsKeepTheBudget, RunsKeepThePoolSound, StepsGiveTheRun};
+ghost use Rattle.gate_core.specs.Runs.{AdmissionsLeaveNothingStale, CallsLeaveNothingStale, OnlyOperatorsLowerTheFloor, RunsEndGood, RunsKeepFamilies, RunsKeepTheBudget, RunsKeepThePoolSound, StepsGiveTheRun};
 ghost use Rattle.gate_core.specs.SessionLaws.{ClosedStaysClosed, DenialsLeaveThePool, PeersAreSeparate};
 
 /// The refusal of an event names a rule on its caller that fails, with none failing before it in the written order, and an
@@ -43,6 +43,12 @@ pub fn steps_give_the_run()
     ensures { StepsGiveTheRun }
 {}
 
+/// From a good state, a run whose transactions are told apart by their ids ends in a good state, whatever was answered.
+/// That the transactions of an event have a text is told by `Event::tells_spelled`.
+pub fn runs_end_good()
+    ensures { RunsEndGood }
+{}
+
 /// A session that is closed is the same after any events, and each event of its peer among them is answered by P2,
 /// entering by P3.
 pub fn closed_stays_closed()
@@ -59,14 +65,14 @@ pub fn denials_leave_the_pool()
     ensures { DenialsLeaveThePool }
 {}
 
-/// After any events, from any opening, no outpoint is spent by two entries of the pool, and every
-/// listing among the replies has exactly the txids of the pool at that point, in order of admission.
+/// After any events, from any opening, no outpoint is spent by two entries of the pool. Every listing among the replies,
+/// a peer's or the answer to `getrawmempool`, has exactly the txids of the pool at that point, in order of admission.
 pub fn runs_keep_the_pool_sound()
     ensures { RunsKeepThePoolSound }
 {}
 
-/// After any events whose transactions are told apart by their ids, from any opening: each input of each entry has a coin, and each entry has at most 25 ancestors of
-/// 101,000 virtual bytes and 26 descendants of 111,000, itself among each.
+/// After any events whose transactions are told apart by their ids, from any opening: each input of each entry has a coin,
+/// and each entry has at most 25 ancestors of 101,000 virtual bytes and 26 descendants of 111,000, itself among each.
 pub fn runs_keep_families()
     ensures { RunsKeepFamilies }
 {}

@@ -69,7 +69,7 @@ impl<S: BuildHasher + Copy + Drop> Parts<S> {
                     on: *on,
                 },
             }),
-            Event::Chain { .. } => Err(Memory),
+            Event::Chain { .. } => unreachable!(),
         }
     }
 

@@ -11,7 +11,7 @@ ghost use Rattle.gate_core.specs.Planning.{Fits, Plans, world_of};
 
 use crate::parts::Parts;
 use crate::planning::{Change, Plan};
-use gate_admit::{Prepared, plan_submission};
+use gate_admit::{Conditions, Prepared, plan_submission};
 use gate_bytes::{Boxed, Memory};
 use gate_message::{Refusal, Reply, Then};
 use gate_net::{Address, Permissions};
@@ -158,16 +158,14 @@ impl<S: BuildHasher + Copy + Drop> Parts<S> {
         let Some(txid) = transaction.txid() else {
             return Ok(self.refusing(peer, Refusal::Admission(Denial::Decode)));
         };
-        let decision = plan_submission(
-            alloc,
-            &self.chain,
-            &mut self.pool,
-            &self.floor,
-            transaction,
-            self.verdicts.get(),
-            now,
-            self.budget,
-        )?;
+        let under = Conditions {
+            chain: &self.chain,
+            floor: &self.floor,
+            verdicts: self.verdicts.get(),
+            second: now,
+            budget: self.budget,
+        };
+        let decision = plan_submission(alloc, &under, &mut self.pool, transaction)?;
         match decision {
             Ok(coming) => Ok(Plan {
                 reply: Reply::Admitted {

@@ -1,5 +1,6 @@
 //! The state, and the one step that changes it.
 ghost use Rattle.std.specs.Prelude.{◌≡◌, ◌≢◌, [], IfOk, OnErr};
+ghost use Rattle.std.specs.Option.{option_map};
 ghost use Rattle.gate_message.specs.Callers.{caller_of};
 ghost use Rattle.gate_message.specs.Replies.{chain_reply};
 ghost use Rattle.gate_core.specs.ChainSteps.{chained};
@@ -11,17 +12,20 @@ ghost use Rattle.gate_core.specs.Planning.{world_of};
 ghost use Rattle.gate_message.specs.Recording.{AreCopies};
 ghost use Rattle.gate_core.specs.Steps.{step_of};
 ghost use Rattle.gate_core.specs.Good.{IsGoodWorld, StepGives};
+ghost use Rattle.gate_core.specs.Sessions.{session_of, status_of};
 
 use crate::opening::Opening;
 use crate::parts::Parts;
 use crate::planning::Plan;
-use crate::session::Sessions;
+use crate::session::{Session, Sessions};
 use crate::switches::Switches;
-use gate_admit::{Chain, Floor, OpenFault, OpeningCoin, Pool};
+use gate_admit::{Chain, Floor, OpenFault, OpeningCoin, Pool, Verdicts};
 use gate_bytes::{Counted, Kept, Memory};
 use gate_chain::{Block, ChainDenial};
 use gate_message::{Event, Replies, Reply};
+use gate_net::Whitelist;
 use gate_reorg::Moved;
+use gate_rpc::RpcWhitelist;
 use std::alloc::Global;
 use std::hash::BuildHasher;
 use std::marker::Model;
@@ -166,9 +170,9 @@ impl<S: BuildHasher + Copy + Drop> State<S> {
         self.parts.change_chain(alloc, disconnect, now, blocks)
     }
 
-    /// The step, whatever the state and the event.
+    /// One step, which nothing but memory can keep from being made: the reply to an event, and the state after it.
     #[tactic(auto, unfolding(crate::specs::Steps::step_of))]
-    fn apply(&mut self, alloc: Global, event: &Event) -> Result<Reply, Memory>
+    pub fn apply(&mut self, alloc: Global, event: &Event) -> Result<Reply, Memory>
         ensures ok { IfOk result (λ reply. (reply, self.new) ≡ step_of self.old event.now) }
         ensures err { OnErr result (self.new ≡ self.old) }
     {
@@ -205,7 +209,7 @@ impl<S: BuildHasher + Copy + Drop> State<S> {
         }
     }
 
-    /// One step: the reply to an event, and the state after it. After `Memory` the state is what it was.
+    /// The same step, and that it keeps a good state good. After `Memory` the state is what it was.
     pub fn step(&mut self, alloc: Global, event: &Event) -> Result<Reply, StepFault>
         ensures ok { IfOk result (λ reply. StepGives self.old event.now reply self.new) }
         ensures err { OnErr result (self.new ≡ self.old) }
@@ -217,15 +221,78 @@ impl<S: BuildHasher + Copy + Drop> State<S> {
     }
 
     /// The same step, with two copies of its reply. All memory is taken before anything changes.
-    pub fn step_recorded(&mut self, alloc: Global, event: &Event) -> Result<Replies, StepFault>
+    pub fn step_recorded(&mut self, alloc: Global, event: &Event) -> Result<Replies, Memory>
         ensures ok { IfOk result (λ r. StepGives self.old event.now r.reply self.new) }
         ensures exact { IfOk result (λ r. (r.reply, self.new) ≡ step_of self.old event.now) }
-        ensures copies { IfOk result (λ r. (r.receipt ≡ r.reply) × (r.entry ≡ r.reply)) }
+        ensures copies { IfOk result AreCopies }
         ensures err { OnErr result (self.new ≡ self.old) }
     {
         event.tells_spelled();
         let replies = self.record(alloc, event)?;
         Ok(replies)
+    }
+
+    pub fn chain(&self) -> &Chain<S>
+        ensures { result.now ≡ self.now.chain }
+    {
+        &self.parts.chain
+    }
+
+    pub fn pool(&self) -> &Pool<S>
+        ensures { result.now.entries ≡ self.now.pool }
+    {
+        &self.parts.pool
+    }
+
+    pub fn floor(&self) -> &Floor
+        ensures { result.now ≡ self.now.floor }
+    {
+        &self.parts.floor
+    }
+
+    /// The session of a peer that ever entered, open or closed.
+    pub fn session(&self, peer: u64) -> Option<Session>
+        ensures { result ≡ option_map status_of (session_of self.now.sessions peer) }
+    {
+        self.parts.sessions.find(peer)
+    }
+
+    /// The most virtual bytes that the pool may hold.
+    pub fn budget(&self) -> u64
+        ensures { result ≡ self.now.budget }
+    {
+        self.parts.budget
+    }
+
+    pub fn verdicts(&self) -> &Verdicts<S>
+        ensures { result.now ≡ self.now.verdicts }
+    {
+        self.parts.verdicts.get()
+    }
+
+    pub fn whitelist(&self) -> &Whitelist
+        ensures { result.now ≡ self.now.whitelist }
+    {
+        &self.parts.whitelist
+    }
+
+    pub fn rpcwhitelist(&self) -> &RpcWhitelist
+        ensures { result.now ≡ self.now.rpcwhitelist }
+    {
+        &self.parts.rpcwhitelist
+    }
+
+    /// Whether the node takes blocks only.
+    pub fn blocksonly(&self) -> bool
+        ensures { result ≡ self.now.blocksonly }
+    {
+        self.parts.blocksonly
+    }
+
+    pub fn switches(&self) -> &Switches
+        ensures { result.now ≡ self.now.switches }
+    {
+        &self.parts.switches
     }
 
     /// The same state once more: only verdicts and transactions, which never change, are shared.

@@ -4,12 +4,12 @@ ghost use Rattle.gate_events.specs.EventLines.{line_event, event_of, numbered_of
 
 use crate::chain_line::blocks_in;
 use crate::hexadecimal::decode;
-use gate_admit::Prepared;
 use gate_bytes::{Counted, Kept, Memory};
 use gate_chain::Block;
 use gate_lines::{is_one_word, next_word, read_number, read_small_number};
 use gate_message::{Call, Event, Switch};
 use gate_net::Address;
+use gate_submission::Prepared;
 use std::alloc::Global;
 
 /// The event that the bytes of a line spell, without its newline; bytes that are not UTF-8 spell none.

@@ -3,9 +3,9 @@ ghost use Rattle.std.specs.Prelude.{◌≡◌, IfOk, string_bytes};
 ghost use Rattle.gate_events.specs.EventTexts.{call_text, on_word, switch_text, switch_word, text_of, transaction_word, tx_text};
 
 use crate::chain_printing::chain_text;
-use gate_admit::Prepared;
 use gate_bytes::Memory;
 use gate_message::{Call, Event, Switch};
+use gate_submission::Prepared;
 use std::alloc::Global;
 
 /// The line that spells the event, without its newline: hex in lower case, `-` for what spelled no transaction or no block,

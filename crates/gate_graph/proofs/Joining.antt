@@ -17,7 +17,7 @@ use Rattle.gate_graph.proofs.Steps.{same_bool, step_node}
 use Rattle.gate_graph.proofs.Apart.{same_id, has-node, are_apart-filter}
 use Rattle.gate_graph.proofs.Filters.{filter_same_on, filter_all, filter-map}
 use Rattle.gate_graph.proofs.Between.{reaches-with_above, IsGraph-with_above, unnamed, unknown_leads}
-use Rattle.gate_graph.proofs.Adding.{Fits, faultless}
+use Rattle.gate_graph.proofs.Faultless.{Fits, faultless}
 use Rattle.gate_graph.proofs.Root.{not_same, without_id_none, reaches-without_root, IsGraph-without_root, rootless}
 
 abbrev Id : Type 0

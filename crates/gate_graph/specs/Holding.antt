@@ -1,112 +1,106 @@
--- What a map of held nodes stands for: the nodes, each with the ids of its children.
-use Rattle.std.specs.Prelude.{◌≡◌, ◌<◌, ℕ, suc, Bool, true, false, not, List, [], ◌∷◌, ◌++◌, map, filter, cond, All}
-use Rattle.std.specs.List.{list_any}
+-- What the slots hold.
+use Rattle.std.specs.Prelude.{◌≡◌, ◌<◌, ◌++◌, ℕ, Bool, true, not, List, [], Contains, Option, length, cond, map, filter, find}
+use Rattle.std.specs.List.{filter_map}
+use Rattle.std.specs.Global.{Vec}
+use Rattle.std.specs.Option.{option_map, unwrap_or}
+use Rattle.gate_graph.specs.Families.{among}
 use Rattle.std.specs.Str.{bytes_eq}
-use Rattle.std.specs.Vec.{vec_capacity, vec_len}
-use Rattle.gate_graph.specs.declared.held.Held.{Held}
-use Rattle.gate_graph.specs.declared.held.Way.{Way}
-use Rattle.gate_graph.specs.declared.held.Way.TheVariants.{Up, Down}
 use Rattle.gate_graph.specs.Family.{Node, steps_of, reaches}
-use Rattle.gate_graph.specs.Families.{among, children_of, without_parent, IsGraph}
+use Rattle.gate_graph.specs.declared.held.Held.{Held}
+use Rattle.gate_graph.specs.declared.held.Totals.{Totals}
+use Rattle.gate_graph.specs.Slots.{entries_of, at, Indexes}
 
--- a node, and the ids of its children
-pub record Linked : Type 0 where
-  pub node : Node
-  pub children : List (List ℕ)
+module _ {T : Type 0} where
+  abbrev pub has_id : Held T → List ℕ → Bool
+  has_id h id = bytes_eq h.id id
 
-abbrev pub Entry : Type 0
-Entry = List ℕ × Held
+  abbrev pub node_of : Held T → Node
+  node_of h = record { id = h.id; size = h.size; fee = h.fee; parents = h.parents.items }
 
-abbrev pub linked_of : Entry → Linked
-linked_of e = record { node = record { id = e.0; size = e.1.size; fee = e.1.fee; parents = e.1.parents.items }; children = e.1.children.items }
+  abbrev pub nodes_of : List (Held T) → List Node
+  nodes_of hs = map node_of hs
 
-abbrev pub linked_in : List Entry → List Linked
-linked_in es = map linked_of es
+  -- nodes, each with what it carries
+  abbrev pub loaded : List (Held T) → List (Node × T)
+  loaded hs = map (λ h. (node_of h, h.load)) hs
 
-abbrev pub nodes_of : List Linked → List Node
-nodes_of ls = map (λ l. l.node) ls
+  -- a node with other totals
+  abbrev pub with_totals : Totals → Held T → Held T
+  with_totals totals h = record h { totals = totals }
 
-abbrev pub nodes_in : List Entry → List Node
-nodes_in es = nodes_of (linked_in es)
+  -- a node with other parents
+  abbrev pub with_parents : Vec (List ℕ) → Held T → Held T
+  with_parents parents h = record h { parents = parents }
 
--- nodes, each with the ids of those that name it as a parent
-abbrev pub with_children : List Node → List Linked
-with_children g = map (λ n. record { node = n; children = children_of g n.id }) g
+  -- a change of the node with an id alone
+  abbrev pub at_id : List ℕ → (Held T → Held T) → Held T → Held T
+  at_id id f h = cond (bytes_eq h.id id) (f h) h
 
--- the nodes are a graph, and the children are those of its steps
-pub record IsHeld (ls : List Linked) : Type 0 where
-  pub graph : IsGraph (nodes_of ls)
-  pub children : ls ≡ with_children (nodes_of ls)
+-- the id that stands at a place, and those that stand at some
+abbrev pub id_at : List (Option (List ℕ)) → ℕ → List ℕ
+id_at spots place = unwrap_or (at spots place) []
 
--- the ids that a node lists one way: its parents or its children
-abbrev pub listed : Way → Linked → List (List ℕ)
-listed Up l = l.node.parents
-listed Down l = l.children
+abbrev pub ids_at : List (Option (List ℕ)) → List ℕ → List (List ℕ)
+ids_at spots places = map (id_at spots) places
 
--- a node that lists these one way
-abbrev pub listing : Way → List (List ℕ) → Linked → Linked
-listing Up ids l = record { node = record { id = l.node.id; size = l.node.size; fee = l.node.fee; parents = ids }; children = l.children }
-listing Down ids l = record { node = l.node; children = ids }
+-- which id stands in each slot
+abbrev pub spots_of : {T : Type 0} → List (Option (Held T)) → List (Option (List ℕ))
+spots_of slots = map (option_map (λ h. h.id)) slots
 
--- a node that lists one more at the end, if it is among these
-abbrev pub with_next : Way → List (List ℕ) → List ℕ → Linked → Linked
-with_next way ids next l = listing way (listed way l ++ cond (among ids l.node.id) (next ∷ []) []) l
+-- each id has the place of its node, and `n` nodes stand there
+pub record IsPlaced {T : Type 0} (slots : List (Option (Held T))) (n : ℕ) (look : List ℕ → Option ℕ) : Type 0 where
+  pub places : Indexes has_id slots look
+  pub count : n ≡ length (entries_of slots)
 
--- a change of the node with an id alone
-abbrev pub at_id : List ℕ → (Linked → Linked) → Linked → Linked
-at_id id f l = cond (bytes_eq id l.node.id) (f l) l
+module _ {T : Type 0} where
+  -- the nodes that are left without some
+  abbrev pub left_of : List (List ℕ) → List (Held T) → List (Held T)
+  left_of ids hs = filter (λ h. not (among ids h.id)) hs
 
--- a node, without the children that pass a test
-abbrev pub without_gone : (List ℕ → Bool) → Linked → Linked
-without_gone gone l = record { node = l.node; children = filter (λ c. not (gone c)) l.children }
+  -- what the node of an id carries
+  abbrev pub load_of : List (Held T) → List ℕ → Option T
+  load_of hs id = option_map (λ h. h.load) (find (λ h. has_id h id) hs)
 
--- ids that end with this one
-abbrev pub ends_with : List (List ℕ) → List ℕ → Bool
-ends_with [] id = false
-ends_with (x ∷ []) id = bytes_eq x id
-ends_with (x ∷ y ∷ ids) id = ends_with (y ∷ ids) id
+  -- what the nodes of some ids carry, in the order of the ids
+  abbrev pub loads_of : List (List ℕ) → List (Held T) → List T
+  loads_of ids hs = filter_map (load_of hs) ids
 
--- a node that lists this one at the end
-abbrev pub put_last : Way → List ℕ → Linked → Linked
-put_last way next l = listing way (cond (ends_with (listed way l) next) (listed way l) (listed way l ++ next ∷ [])) l
+  -- the nodes alone
+  abbrev pub nodes_in : List (Node × T) → List Node
+  nodes_in g = map (λ p. p.0) g
 
--- a node that lists an id no more among its parents
-abbrev pub orphaned : List ℕ → Linked → Linked
-orphaned id l = record { node = without_parent id l.node; children = l.children }
+  -- what is below an id, with what it carries, gone
+  abbrev pub without_below : List (Node × T) → List ℕ → List (Node × T)
+  without_below g id = filter (λ p. not (reaches (steps_of (nodes_in g)) id p.0.id)) g
 
--- such a node, if its id is among these
-abbrev pub orphaned_of : List (List ℕ) → List ℕ → Linked → Linked
-orphaned_of children id l = cond (among children l.node.id) (orphaned id l) l
+  -- one node gone
+  abbrev pub without_one : List (Node × T) → List ℕ → List (Node × T)
+  without_one g id = filter (λ p. not (bytes_eq p.0.id id)) g
 
--- there is room for one more id this way
-abbrev pub IsRoomy : Way → Held → Type 0
-IsRoomy Up held = vec_len held.parents < vec_capacity held.parents
-IsRoomy Down held = vec_len held.children < vec_capacity held.children
+-- what is held, which id stands at each place, and how many more there is room for
+pub record Stored (T : Type 0) : Type 0 where
+  pub held : List (Held T)
+  pub spots : List (Option (List ℕ))
+  pub room : ℕ
 
--- there is such room at each node whose id passes
-abbrev pub HasRoom : Way → (List ℕ → Bool) → List Entry → Type 0
-HasRoom way test es = All (λ e. test e.0 ≡ true → IsRoomy way e.1) es
+-- a node has a place in the index and among the slots
+pub record HasSpot (room spare len capacity : ℕ) : Type 0 where
+  pub place : 0 < room → 0 < spare
+  pub slot : 0 < room → len < capacity
 
--- the other way
-abbrev pub back : Way → Way
-back Up = Down
-back Down = Up
+-- a graph: its nodes in the order of adding, each with what it carries, and the room that was taken beforehand: a node that
+-- names fewer than `room` is put without memory
+pub record Carried (T : Type 0) : Type 0 where
+  pub nodes : List (Node × T)
+  pub room : ℕ
 
--- the ids to which a step leads from a node: its parents or its children
-abbrev pub next_of : Way → Held → List (List ℕ)
-next_of Up held = held.parents.items
-next_of Down held = held.children.items
+-- what a node carries
+abbrev pub load_in : {T : Type 0} → List (Node × T) → List ℕ → Option T
+load_in g id = option_map (λ p. p.1) (find (λ p. bytes_eq p.0.id id) g)
 
--- a chain leads this way from an id to another
-abbrev pub is_led : Way → List Node → List ℕ → List ℕ → Bool
-is_led Up g from to = reaches (steps_of g) to from
-is_led Down g from to = reaches (steps_of g) from to
-
--- a chain leads this way to an id from one of these
-abbrev pub are_led : Way → List Node → List (List ℕ) → List ℕ → Bool
-are_led way g ids to = list_any (λ id. is_led way g id to) ids
-
--- the places, from o on, of the ids that pass a test
-abbrev pub places_from : ℕ → (List ℕ → Bool) → List (List ℕ) → List ℕ
-places_from o test [] = []
-places_from o test (id ∷ ids) = cond (test id) (o ∷ places_from (suc o) test ids) (places_from (suc o) test ids)
+-- beyond what was there before, what the nodes below an id carry, and nothing else
+pub record AreGone {T : Type 0} (g : List (Node × T)) (id : List ℕ) (before after : List T) : Type 0 where
+  pub more : List T
+  pub is : after ≡ before ++ more
+  pub all : (p : Node × T) → Contains g p → reaches (steps_of (nodes_in g)) id p.0.id ≡ true → Contains more p.1
+  pub only : (load : T) → Contains more load → (p : Node × T) × Contains g p × (reaches (steps_of (nodes_in g)) id p.0.id ≡ true) × (p.1 ≡ load)

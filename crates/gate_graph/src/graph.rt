@@ -1,36 +1,60 @@
-ghost use Rattle.std.specs.Prelude.{◌≡◌, ◌++◌, ◌∷◌, [], true, not, filter, length, OnOk, OnErr, IfOk};
+ghost use Rattle.std.specs.Prelude.{◌≡◌, ◌++◌, ◌∷◌, [], true, not, filter, length, is_some, OnOk, OnErr, IfOk, IfSome};
 ghost use Rattle.std.specs.List.{list_all, list_any};
 ghost use Rattle.gate_graph.specs.Family.{Node, steps_of, reaches};
 ghost use Rattle.gate_graph.specs.Families.{has, ids_of, without_id, ancestors_of, descendants_of, without_family, with_above, without_root, is_root};
-ghost use Rattle.gate_graph.specs.Holding.{is_led};
 ghost use Rattle.gate_graph.specs.Faults.{fault_of_leaf, fault_of_above, IsRefusedFor};
+ghost use Rattle.gate_graph.specs.Walking.{is_led};
+ghost use Rattle.gate_graph.specs.Weighing.{totals_of};
 
-use crate::changes::{copy_nodes, drop_nodes, drop_root, link, reserve_each};
 use crate::fault::GraphFault;
-use crate::held::{Held, Id, Way};
-use crate::walk::{in_order, meets, walk};
+use crate::find::meets;
+use crate::held::Totals;
+use crate::id::{Id, NodeId};
+use crate::nodes::Nodes;
+use crate::walk::Way;
 use gate_bytes::{Copied, Memory};
-use indexmap::IndexMap;
 use std::alloc::Global;
 use std::hash::BuildHasher;
 use std::marker::Model;
 
-/// Nodes, each below its parents, in the order of adding.
+/// What a node of a graph carries: nothing.
+#[derive(Clone, Copy)]
+struct Bare;
+
+impl Copied for Bare {
+    fn copy(&self, _alloc: Global) -> Result<Bare, Memory> {
+        Ok(*self)
+    }
+}
+
+/// The same ids, as nodes have them.
+fn node_ids(alloc: Global, ids: &[Id]) -> Result<Vec<NodeId>, Memory>
+    ensures { IfOk result (λ nodes. nodes.items ≡ ids.now) }
+{
+    let mut nodes = Vec::with_capacity(alloc, ids.len())?;
+    for id in ids {
+        nodes.push(NodeId::new(*id))?;
+    }
+    Ok(nodes)
+}
+
+/// Nodes, each below its parents, in the order of adding. Each keeps the totals of its families.
 #[derive(Drop)]
 pub struct Graph<S: BuildHasher + Copy + Drop> {
-    nodes: IndexMap<Id, Held, S>,
+    nodes: Nodes<Bare, S>,
 }
 
 impl<S: BuildHasher + Copy + Drop> Model for Graph<S> {
     ghost use Rattle.std.specs.Prelude.{List};
-    ghost use Rattle.gate_graph.specs.Family.{Node, steps_of, reaches};
-    ghost use Rattle.gate_graph.specs.Holding.{linked_in, nodes_in, IsHeld};
+    ghost use Rattle.gate_graph.specs.Family.{Node};
+    ghost use Rattle.gate_graph.specs.Families.{IsGraph};
+    ghost use Rattle.gate_graph.specs.Holding.{nodes_in};
 
     ghost Value = { List Node };
 
-    ghost view = { λ g. nodes_in g.nodes.entries };
+    ghost view = { λ g. nodes_in g.nodes.nodes };
 
-    ghost invariant = { λ g. IsHeld (linked_in g.nodes.entries) };
+    ghost invariant = { λ g. IsGraph (nodes_in g.nodes.nodes) };
 }
 
 impl<S: BuildHasher + Copy + Drop> Graph<S> {
@@ -39,20 +63,20 @@ impl<S: BuildHasher + Copy + Drop> Graph<S> {
         ensures { result ≡ [] }
     {
         Graph {
-            nodes: IndexMap::with_hasher(alloc, hasher),
+            nodes: Nodes::new(alloc, hasher),
         }
     }
 
     pub fn count(&self) -> usize
         ensures { result ≡ length self.now }
     {
-        self.nodes.len()
+        self.nodes.count()
     }
 
     pub fn contains(&self, id: &Id) -> bool
         ensures { result ≡ has self.now id.now }
     {
-        self.nodes.contains_key(id)
+        self.nodes.contains(&NodeId::new(*id))
     }
 
     fn contains_all(&self, ids: &[Id]) -> bool
@@ -68,8 +92,7 @@ impl<S: BuildHasher + Copy + Drop> Graph<S> {
         if children.is_empty() {
             return Ok(false);
         }
-        let alloc = *self.nodes.allocator();
-        let above = walk(alloc, &self.nodes, parents, Way::Up)?;
+        let above = self.nodes.find(self.nodes.alloc(), parents, Way::Up)?;
         Ok(meets(&above, children))
     }
 
@@ -127,29 +150,33 @@ impl<S: BuildHasher + Copy + Drop> Graph<S> {
         if let Some(fault) = self.above_fault(&id, parents, children)? {
             return Err(fault);
         }
-        let alloc = *self.nodes.allocator();
-        let held = Held {
-            size,
-            fee,
-            parents: Vec::from_slice(alloc, parents)?,
-            children: in_order(alloc, &self.nodes, children)?,
-        };
-        reserve_each(&mut self.nodes, parents, Way::Down)?;
-        reserve_each(&mut self.nodes, children, Way::Up)?;
-        self.nodes.insert(id, held)?;
-        link(&mut self.nodes, parents, Way::Down, &id);
-        link(&mut self.nodes, children, Way::Up, &id);
-        Ok(())
+        let node = NodeId::new(id);
+        let above = node_ids(self.nodes.alloc(), parents)?;
+        match self.nodes.make_ready(&node, above.len(), children) {
+            Ok(()) => {
+                self.nodes.put(node, above, size, fee, Bare);
+                Ok(())
+            }
+            Err(Memory) => {
+                self.nodes.unname(&node);
+                Err(GraphFault::Memory)
+            }
+        }
+    }
+
+    /// What the families of a node come to, each with the node itself: stored, and lent without memory.
+    pub fn totals(&self, id: &Id) -> Option<&Totals>
+        ensures found { is_some result ≡ has self.now id.now }
+        ensures totals { IfSome result (λ totals. totals.now ≡ totals_of self.now id.now) }
+    {
+        self.nodes.totals(&NodeId::new(*id))
     }
 
     /// Whether the id is that of a node without parents.
     pub fn is_root(&self, id: &Id) -> bool
         ensures { result ≡ is_root self.now id.now }
     {
-        match self.nodes.get(id) {
-            Some(held) => held.next(Way::Up).is_empty(),
-            None => false,
-        }
+        self.nodes.is_root(&NodeId::new(*id))
     }
 
     /// Takes out a node without parents, and it alone: its children lose it as a parent. It takes no memory. The others
@@ -158,15 +185,17 @@ impl<S: BuildHasher + Copy + Drop> Graph<S> {
         requires { is_root self.old id.now ≡ true }
         ensures { self.new ≡ without_root self.old id.now }
     {
-        drop_root(&mut self.nodes, id);
+        let node = NodeId::new(*id);
+        let _ = self.nodes.take_one(&node);
+        self.nodes.unname(&node);
     }
 
     /// The ids that a chain leads to one way, without the node's own.
     fn others(&self, alloc: Global, id: &Id, way: Way) -> Result<Vec<Id>, Memory>
         ensures { IfOk result (λ ids. ids.items ≡ without_id id.now (ids_of (filter (λ n. is_led way self.now id.now n.id) self.now))) }
     {
-        let found = walk(alloc, &self.nodes, &[*id], way)?;
-        let mut ids = in_order(alloc, &self.nodes, found.as_slice())?;
+        let found = self.nodes.find(alloc, &[*id], way)?;
+        let mut ids = self.nodes.in_order(alloc, found.as_slice())?;
         ids.retain(|other| *other != *id);
         Ok(ids)
     }
@@ -192,17 +221,18 @@ impl<S: BuildHasher + Copy + Drop> Graph<S> {
         ensures ok { OnOk result (self.new ≡ without_family self.old id.now) }
         ensures err { OnErr result (self.new ≡ self.old) }
     {
-        let alloc = *self.nodes.allocator();
-        let gone = walk(alloc, &self.nodes, &[*id], Way::Down)?;
-        let ids = in_order(alloc, &self.nodes, gone.as_slice())?;
-        drop_nodes(&mut self.nodes, &gone);
+        let alloc = self.nodes.alloc();
+        let found = self.nodes.find(alloc, &[*id], Way::Down)?;
+        let ids = self.nodes.in_order(alloc, found.as_slice())?;
+        let mut gone = Vec::with_capacity(alloc, self.nodes.count())?;
+        self.nodes.take_family(&NodeId::new(*id), &mut gone);
         Ok(ids)
     }
 }
 
 impl<S: BuildHasher + Copy + Drop> Copied for Graph<S> {
     fn copy(&self, alloc: Global) -> Result<Graph<S>, Memory> {
-        let nodes = copy_nodes(alloc, &self.nodes)?;
+        let nodes = self.nodes.copy(alloc)?;
         Ok(Graph { nodes })
     }
 }

@@ -1,103 +1,252 @@
-//! Walks from a node, to all that a chain of steps leads to.
-ghost use Rattle.std.specs.Prelude.{◌≡◌, ℕ, List, true, not, filter, slice_get, OnOk, IfOk, length};
-ghost use Rattle.std.specs.Str.{bytes_eq};
-ghost use Rattle.std.specs.List.{filter_map, list_any};
-ghost use Rattle.indexmap.specs.IndexMap.{keys};
-ghost use Rattle.indexmap.specs.IndexSet.{insert_all};
-ghost use Rattle.gate_graph.specs.Families.{among, are_apart, ids_of};
-ghost use Rattle.gate_graph.specs.Holding.{IsHeld, are_led, linked_in, nodes_in, places_from};
+//! Walks from a node, to all nodes that a chain of steps leads to, in room that was taken beforehand. They find places of
+//! slots; each slot has a mark, which is set where a walk has been, and none is set between walks.
+ghost use Rattle.std.specs.Prelude.{◌≡◌, ◌≤◌, ◌<◌, ◌+◌, ◌||◌, ◌&&◌, ◌∷◌, [], ℕ, List, true, false, is_some, length, get_or, Contains};
+ghost use Rattle.std.specs.Vec.{vec_capacity};
+ghost use Rattle.gate_graph.specs.Families.{has, are_apart};
+ghost use Rattle.gate_graph.specs.Slots.{at};
+ghost use Rattle.gate_graph.specs.Holding.{id_at, ids_at, nodes_of};
+ghost use Rattle.gate_graph.specs.Linking.{IsLinked, listing};
+ghost use Rattle.gate_graph.specs.Walking.{AreClear, AreFound, AreStanding, AreLed, Begins, IsSearch, Next, IsNode, IsOneOf};
+ghost use Rattle.gate_graph.specs.declared.walk.Way.TheVariants.{Down as DownWay};
 
-use crate::held::{Held, Id, Way};
-use gate_bytes::Memory;
-use indexmap::{IndexMap, IndexSet};
-use std::alloc::Global;
-use std::collections::BTreeSet;
+use crate::id::NodeId;
+use crate::links::Links;
+use crate::slots::Slots;
 use std::hash::BuildHasher;
 
-/// Adds the ids that were not found yet.
-fn add_found<S: BuildHasher>(found: &mut IndexSet<Id, S>, ids: &[Id]) -> Result<(), Memory>
-    ensures { OnOk result (found.new.keys ≡ insert_all bytes_eq found.old.keys ids.now) }
+/// Which way a walk goes: to parents or to children.
+#[derive(Clone, Copy)]
+pub(crate) enum Way {
+    Up,
+    Down,
+}
+
+/// A place, and which way a walk goes on from it.
+#[derive(Clone, Copy)]
+pub(crate) struct Heading {
+    pub(crate) place: usize,
+    pub(crate) way: Way,
+}
+
+/// What walks write into. It is kept between them, so that no walk takes memory.
+#[derive(Drop)]
+pub(crate) struct Scratch {
+    /// A mark for each slot, set where a walk has been; none is set between walks.
+    pub(crate) marks: Vec<bool>,
+    /// Room for the places of a family.
+    pub(crate) found: Vec<usize>,
+    /// Room for the places of what is above a node.
+    pub(crate) above: Vec<usize>,
+}
+
+/// Adds the place of an id, unless it is no node's or was found before.
+fn add<T: Drop, S: BuildHasher + Drop>(
+    slots: &Slots<T, S>,
+    marks: &mut Vec<bool>,
+    found: &mut Vec<usize>,
+    id: &NodeId,
+)
+    requires room { length slots.now.held ≤ vec_capacity found.old }
+    requires search { IsSearch (nodes_of slots.now.held) slots.now.spots marks.old.items found.old.items }
+    ensures search { IsSearch (nodes_of slots.now.held) slots.now.spots marks.new.items found.new.items }
+    ensures found { AreFound (IsNode (nodes_of slots.now.held) id.now) (ids_at slots.now.spots found.old.items) (ids_at slots.now.spots found.new.items) }
+    ensures capacity { vec_capacity found.new ≡ vec_capacity found.old }
+    ensures marks { vec_capacity marks.new ≡ vec_capacity marks.old }
+{
+    match slots.place(id) {
+        Some(place) => {
+            if !marks[place] {
+                marks[place] = true;
+                found.push_reserved(place);
+            }
+        }
+        None => {}
+    }
+}
+
+/// The same for each of these ids.
+fn add_each<T: Drop, S: BuildHasher + Drop>(
+    slots: &Slots<T, S>,
+    marks: &mut Vec<bool>,
+    found: &mut Vec<usize>,
+    ids: &[NodeId],
+)
+    requires room { length slots.now.held ≤ vec_capacity found.old }
+    requires search { IsSearch (nodes_of slots.now.held) slots.now.spots marks.old.items found.old.items }
+    ensures search { IsSearch (nodes_of slots.now.held) slots.now.spots marks.new.items found.new.items }
+    ensures found { AreFound (IsOneOf (nodes_of slots.now.held) ids.now) (ids_at slots.now.spots found.old.items) (ids_at slots.now.spots found.new.items) }
+    ensures capacity { vec_capacity found.new ≡ vec_capacity found.old }
+    ensures marks { vec_capacity marks.new ≡ vec_capacity marks.old }
 {
     for id in ids {
-        found.insert(*id)?;
+        add(slots, marks, found, id);
     }
-    Ok(())
 }
 
-/// All that a chain leads to this way from one of these ids, each once and the ids first, whether they are nodes or not.
-pub(crate) fn walk<S: BuildHasher + Copy + Drop>(
-    alloc: Global,
-    nodes: &IndexMap<Id, Held, S>,
-    ids: &[Id],
+/// The same for what an id lists.
+fn add_listed<T: Drop, S: BuildHasher + Drop>(
+    slots: &Slots<T, S>,
+    links: &Links<S>,
+    marks: &mut Vec<bool>,
+    found: &mut Vec<usize>,
+    id: &NodeId,
+)
+    requires room { length slots.now.held ≤ vec_capacity found.old }
+    requires search { IsSearch (nodes_of slots.now.held) slots.now.spots marks.old.items found.old.items }
+    ensures search { IsSearch (nodes_of slots.now.held) slots.now.spots marks.new.items found.new.items }
+    ensures found { AreFound (IsOneOf (nodes_of slots.now.held) (listing links.now id.now)) (ids_at slots.now.spots found.old.items) (ids_at slots.now.spots found.new.items) }
+    ensures capacity { vec_capacity found.new ≡ vec_capacity found.old }
+    ensures marks { vec_capacity marks.new ≡ vec_capacity marks.old }
+{
+    for number in 0..links.count(id) {
+        let child = links.at(id, number);
+        add(slots, marks, found, child);
+    }
+}
+
+/// The same for the nodes one step from what stands at a place.
+fn open<T: Drop, S: BuildHasher + Drop>(
+    slots: &Slots<T, S>,
+    links: &Links<S>,
+    marks: &mut Vec<bool>,
+    found: &mut Vec<usize>,
+    heading: Heading,
+)
+    requires room { length slots.now.held ≤ vec_capacity found.old }
+    requires search { IsSearch (nodes_of slots.now.held) slots.now.spots marks.old.items found.old.items }
+    requires apart { are_apart (nodes_of slots.now.held) ≡ true }
+    requires linked { IsLinked (nodes_of slots.now.held) links.now }
+    requires stands { is_some (at slots.now.spots heading.place) ≡ true }
+    ensures search { IsSearch (nodes_of slots.now.held) slots.now.spots marks.new.items found.new.items }
+    ensures found { AreFound (Next heading.way (nodes_of slots.now.held) (id_at slots.now.spots heading.place)) (ids_at slots.now.spots found.old.items) (ids_at slots.now.spots found.new.items) }
+    ensures capacity { vec_capacity found.new ≡ vec_capacity found.old }
+    ensures marks { vec_capacity marks.new ≡ vec_capacity marks.old }
+{
+    let held = slots.at(heading.place);
+    match heading.way {
+        Way::Up => add_each(slots, marks, found, held.parents.as_slice()),
+        Way::Down => add_listed(slots, links, marks, found, &held.id),
+    }
+}
+
+/// Clears the marks at these places.
+fn unmark(marks: &mut Vec<bool>, found: &[usize])
+    requires { (p : ℕ) → Contains found.now p → p < length marks.old.items }
+    ensures len { length marks.new.items ≡ length marks.old.items }
+    ensures clear { ((p : ℕ) → get_or marks.old.items p false ≡ true → Contains found.now p) → (p : ℕ) → get_or marks.new.items p false ≡ false }
+    ensures capacity { vec_capacity marks.new ≡ vec_capacity marks.old }
+{
+    for place in found {
+        marks[*place] = false;
+    }
+}
+
+/// Goes on with a walk that has begun, to its end.
+fn follow<T: Drop, S: BuildHasher + Drop>(
+    slots: &Slots<T, S>,
+    links: &Links<S>,
+    marks: &mut Vec<bool>,
+    found: &mut Vec<usize>,
     way: Way,
-) -> Result<IndexSet<Id, S>, Memory>
-    requires { IsHeld (linked_in nodes.now.entries) }
-    ensures { IfOk result (λ found. (other : List ℕ) → among found.keys other ≡ are_led way (nodes_in nodes.now.entries) ids.now other) }
+)
+    requires room { length slots.now.held ≤ vec_capacity found.old }
+    requires search { IsSearch (nodes_of slots.now.held) slots.now.spots marks.old.items found.old.items }
+    requires apart { are_apart (nodes_of slots.now.held) ≡ true }
+    requires linked { IsLinked (nodes_of slots.now.held) links.now }
+    ensures led { (x : List ℕ) → Begins way (nodes_of slots.now.held) x (ids_at slots.now.spots found.old.items) → AreLed way (nodes_of slots.now.held) slots.now.spots x found.new.items }
+    ensures standing { AreStanding slots.now.spots found.new.items }
+    ensures clear { AreClear (length slots.now.spots) marks.new.items }
+    ensures capacity { vec_capacity found.new ≡ vec_capacity found.old }
+    ensures marks { vec_capacity marks.new ≡ vec_capacity marks.old }
 {
-    let mut found = IndexSet::with_hasher(alloc, *nodes.hasher());
-    add_found(&mut found, ids)?;
-    let mut place = 0;
-    while place < found.len() {
-        let at = found.as_slice()[place];
-        if let Some(held) = nodes.get(&at) {
-            add_found(&mut found, held.next(way))?;
-        }
-        place += 1;
+    let mut number = 0;
+    while number < found.len() {
+        let place = found[number];
+        open(slots, links, marks, found, Heading { place, way });
+        number += 1;
     }
-    Ok(found)
+    unmark(marks, found.as_slice());
 }
 
-/// Whether one of these ids was found.
-pub(crate) fn meets<S: BuildHasher>(found: &IndexSet<Id, S>, ids: &[Id]) -> bool
-    ensures { result ≡ list_any (λ id. among found.now.keys id) ids.now }
+/// The place of a node, and the places of all nodes to which a chain leads this way from it, each once.
+pub(crate) fn walk<T: Drop, S: BuildHasher + Drop>(
+    slots: &Slots<T, S>,
+    links: &Links<S>,
+    marks: &mut Vec<bool>,
+    found: &mut Vec<usize>,
+    heading: Heading,
+)
+    requires room { length slots.now.held ≤ vec_capacity found.old }
+    requires apart { are_apart (nodes_of slots.now.held) ≡ true }
+    requires linked { IsLinked (nodes_of slots.now.held) links.now }
+    requires stands { is_some (at slots.now.spots heading.place) ≡ true }
+    requires clear { AreClear (length slots.now.spots) marks.old.items }
+    ensures led { AreLed heading.way (nodes_of slots.now.held) slots.now.spots (id_at slots.now.spots heading.place) found.new.items }
+    ensures standing { AreStanding slots.now.spots found.new.items }
+    ensures clear { AreClear (length slots.now.spots) marks.new.items }
+    ensures capacity { vec_capacity found.new ≡ vec_capacity found.old }
+    ensures marks { vec_capacity marks.new ≡ vec_capacity marks.old }
 {
-    ids.iter().any(|id| found.contains(id))
+    let _held = slots.at(heading.place);
+    found.clear();
+    found.push_reserved(heading.place);
+    marks[heading.place] = true;
+    follow(slots, links, marks, found, heading.way);
 }
 
-/// The places of the nodes that were found.
-fn places<S: BuildHasher>(
-    alloc: Global,
-    nodes: &IndexMap<Id, Held, S>,
-    found: &[Id],
-) -> Result<BTreeSet<usize>, Memory>
-    requires { are_apart (nodes_in nodes.now.entries) ≡ true }
-    ensures { IfOk result (λ places. places.keys ≡ places_from 0 (among found.now) (keys nodes.now)) }
+/// The places of all nodes below an id that no node has, each once.
+fn walk_named<T: Drop, S: BuildHasher + Drop>(
+    slots: &Slots<T, S>,
+    links: &Links<S>,
+    marks: &mut Vec<bool>,
+    found: &mut Vec<usize>,
+    id: &NodeId,
+)
+    requires room { length slots.now.held ≤ vec_capacity found.old }
+    requires apart { are_apart (nodes_of slots.now.held) ≡ true }
+    requires linked { IsLinked (nodes_of slots.now.held) links.now }
+    requires clear { AreClear (length slots.now.spots) marks.old.items }
+    requires none { has (nodes_of slots.now.held) id.now ≡ false }
+    ensures led { AreLed DownWay (nodes_of slots.now.held) slots.now.spots id.now found.new.items }
+    ensures standing { AreStanding slots.now.spots found.new.items }
+    ensures clear { AreClear (length slots.now.spots) marks.new.items }
+    ensures capacity { vec_capacity found.new ≡ vec_capacity found.old }
+    ensures marks { vec_capacity marks.new ≡ vec_capacity marks.old }
 {
-    let mut places = BTreeSet::new(alloc);
-    for id in found {
-        if let Some(place) = nodes.get_index_of(id) {
-            places.insert(place)?;
-        }
+    found.clear();
+    add_listed(slots, links, marks, found, id);
+    follow(slots, links, marks, found, Way::Down);
+}
+
+/// The places of all nodes below an id, its own among them if a node has it, each once.
+pub(crate) fn walk_below<T: Drop, S: BuildHasher + Drop>(
+    slots: &Slots<T, S>,
+    links: &Links<S>,
+    marks: &mut Vec<bool>,
+    found: &mut Vec<usize>,
+    id: &NodeId,
+)
+    requires room { length slots.now.held ≤ vec_capacity found.old }
+    requires apart { are_apart (nodes_of slots.now.held) ≡ true }
+    requires linked { IsLinked (nodes_of slots.now.held) links.now }
+    requires clear { AreClear (length slots.now.spots) marks.old.items }
+    ensures led { AreLed DownWay (nodes_of slots.now.held) slots.now.spots id.now found.new.items }
+    ensures standing { AreStanding slots.now.spots found.new.items }
+    ensures clear { AreClear (length slots.now.spots) marks.new.items }
+    ensures capacity { vec_capacity found.new ≡ vec_capacity found.old }
+    ensures marks { vec_capacity marks.new ≡ vec_capacity marks.old }
+{
+    match slots.place(id) {
+        Some(place) => walk(
+            slots,
+            links,
+            marks,
+            found,
+            Heading {
+                place,
+                way: Way::Down,
+            },
+        ),
+        None => walk_named(slots, links, marks, found, id),
     }
-    Ok(places)
-}
-
-/// The ids at these places.
-fn ids_at<S: BuildHasher>(
-    alloc: Global,
-    nodes: &IndexMap<Id, Held, S>,
-    places: &BTreeSet<usize>,
-) -> Result<Vec<Id>, Memory>
-    ensures { IfOk result (λ ids. ids.items ≡ filter_map (slice_get (keys nodes.now)) places.now.keys) }
-{
-    let mut ids = Vec::with_capacity(alloc, places.len())?;
-    for place in places.iter() {
-        if let Some((id, _held)) = nodes.get_index(*place) {
-            ids.push(*id)?;
-        }
-    }
-    Ok(ids)
-}
-
-/// The ids of the nodes that were found, each once, in the order of adding.
-pub(crate) fn in_order<S: BuildHasher>(
-    alloc: Global,
-    nodes: &IndexMap<Id, Held, S>,
-    found: &[Id],
-) -> Result<Vec<Id>, Memory>
-    requires { are_apart (nodes_in nodes.now.entries) ≡ true }
-    ensures { IfOk result (λ ids. ids.items ≡ ids_of (filter (λ n. among found.now n.id) (nodes_in nodes.now.entries))) }
-{
-    let places = places(alloc, nodes, found)?;
-    ids_at(alloc, nodes, &places)
 }

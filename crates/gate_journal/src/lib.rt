@@ -8,8 +8,10 @@ mod entry;
 mod journal;
 mod law;
 mod replay;
+mod spelling;
 
 pub use entry::Entry;
 pub use journal::{Journal, MAX_ENTRIES};
 pub use law::{legal_journals_begin_legal, legal_journals_go_on};
 pub use replay::replay_check;
+pub use spelling::tells_spelled;

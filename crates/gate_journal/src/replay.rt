@@ -7,23 +7,9 @@ use crate::entry::Entry;
 use crate::journal::Journal;
 use gate_bytes::Memory;
 use gate_core::State;
-use gate_message::{Event, Reply, is_same_reply};
+use gate_message::is_same_reply;
 use std::alloc::Global;
 use std::hash::BuildHasher;
-
-/// The step, of which nothing but memory can be lacking.
-fn stepped<S: BuildHasher + Copy + Drop>(
-    alloc: Global,
-    state: &mut State<S>,
-    event: &Event,
-) -> Result<Reply, Memory>
-    ensures { IfOk result (λ reply. (reply, state.new) ≡ step_of state.old event.now) }
-{
-    match state.step(alloc, event) {
-        Ok(reply) => Ok(reply),
-        Err(_) => Err(Memory),
-    }
-}
 
 /// Makes the event of an entry: whether the reply is the one that was recorded.
 fn replays<S: BuildHasher + Copy + Drop>(
@@ -33,7 +19,7 @@ fn replays<S: BuildHasher + Copy + Drop>(
 ) -> Result<bool, Memory>
     ensures { IfOk result (λ same. MatchBool same ((entry.now.reply, state.new) ≡ step_of state.old entry.now.event) (entry.now.reply ≢ (step_of state.old entry.now.event).0)) }
 {
-    let reply = stepped(alloc, state, &entry.event)?;
+    let reply = state.apply(alloc, &entry.event)?;
     let same = is_same_reply(&entry.reply, &reply);
     drop(reply);
     Ok(same)

@@ -4,6 +4,8 @@
 #[cfg(test)]
 mod events;
 #[cfg(test)]
+mod finishing;
+#[cfg(test)]
 mod passes;
 #[cfg(test)]
 mod running;

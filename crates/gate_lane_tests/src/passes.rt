@@ -16,7 +16,7 @@ use std::marker::Brand;
 use std::sync::Wait;
 use std::test::*;
 
-type Hasher = BuildHasherDefault<FoldHasher>;
+pub(crate) type Hasher = BuildHasherDefault<FoldHasher>;
 
 /// An output to a key's hash.
 const SCRIPT: [u8; 22] = [
@@ -80,7 +80,7 @@ fn opening(alloc: Global, hasher: Hasher) -> Result<Opening<Hasher>, Memory> {
     })
 }
 
-fn opened(alloc: Global) -> Result<State<Hasher>, Fail> {
+pub(crate) fn opened(alloc: Global) -> Result<State<Hasher>, Fail> {
     let hasher = BuildHasherDefault::new();
     let opening = opening(alloc, hasher)?;
     Ok(State::open(alloc, hasher, opening)?)
@@ -101,7 +101,7 @@ fn opened_twice(alloc: Global) -> Result<(State<Hasher>, State<Hasher>), Fail>
 }
 
 /// The pass of a caller that makes one event.
-fn called<N: Base, R: Wait>(
+pub(crate) fn called<N: Base, R: Wait>(
     rt: &R,
     alloc: Global,
     gate: &Gate<N, Hasher>,

@@ -1,12 +1,13 @@
 //! The lines that the gate reads, their words and numbers, and the texts that it writes.
 //!
-//! The main clauses are those of [`next_line`] and of [`Sink::write_text`]: which bytes a reader lost for a line, and which
-//! a writer was given, whatever the outcome. A reader in memory never fails, and a writer in memory fails for want of
-//! memory alone.
+//! The main clauses are those of [`Lines::next`] and of [`Sink::write_text`]: which bytes a reader lost for a line, and which
+//! a writer was given, whatever the outcome. [`Lines`] counts the lines of a reader and bounds them. A reader in memory never
+//! fails, and a writer in memory fails for want of memory alone.
 #![tactic(auto)]
 
 mod fault;
 mod line;
+mod lines;
 mod number;
 mod part;
 mod sink;
@@ -15,7 +16,8 @@ mod waiting;
 mod word;
 
 pub use fault::LaneFault;
-pub use line::{Found, MAX_LINE, MAX_LINES, asks_nothing, has_ended, next_line, next_line_within};
+pub use line::{Found, MAX_LINE, MAX_LINES, asks_nothing, has_ended, next_line};
+pub use lines::{Lines, Next};
 pub use number::{MAX_NUMBER, numbers_are_decimal, read_number, read_small_number};
 pub use part::Part;
 pub use sink::{Sink, end_line};

@@ -2,7 +2,7 @@
 use Rattle.std.specs.Prelude.{Option, Some, None, Result, Ok, Err}
 use Rattle.gate_chain.specs.declared.ChainDenial.{ChainDenial}
 use Rattle.gate_standard.specs.declared.Denial.{Denial}
-use Rattle.gate_reorg.specs.declared.moved.Moved.{Moved as Move}
+use Rattle.gate_submission.specs.declared.moved.Moved.{Moved as Move}
 use Rattle.gate_rpc.specs.declared.error.RpcError.TheVariants as errors
 use Rattle.gate_rpc.specs.declared.reply.RpcReply.TheVariants.{NotAllowed, Answer, Failure}
 use Rattle.gate_message.specs.declared.refusal.Refusal.TheVariants.{Admission}

@@ -3,8 +3,8 @@ use Rattle.std.specs.Prelude.{List, [], Contains, Option, None, Result, Ok, Err,
 use Rattle.std.specs.Option.{option_to_list}
 use Rattle.gate_tx.specs.Text.{IsTx}
 use Rattle.gate_tx.specs.Tx.{Tx}
-use Rattle.gate_reorg.specs.Events.{present}
-use Rattle.gate_reorg.specs.Reorganisation.{transactions_of as block_transactions}
+use Rattle.gate_submission.specs.Blocks.{present}
+use Rattle.gate_submission.specs.Blocks.{transactions_of as block_transactions}
 use Rattle.gate_rpc.specs.declared.request.Command.{Command}
 use Rattle.gate_rpc.specs.declared.request.Command.TheVariants.{SendRawTransaction, TestMempoolAccept, GetRawMempool, GetMempoolEntry, GetMempoolAncestors, GetMempoolDescendants, GetMempoolInfo}
 use Rattle.gate_rpc.specs.declared.request.Request.{Request}

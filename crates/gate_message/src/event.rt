@@ -4,11 +4,10 @@ ghost use Rattle.std.specs.Prelude.{◌≡◌, ◌↔◌, IsTrue, IfOk};
 use crate::call::Call;
 use crate::caller::Caller;
 use crate::switch::Switch;
-use gate_admit::Prepared;
 use gate_bytes::{Copied, Counted, Kept, Memory, Text};
 use gate_chain::Block;
 use gate_net::Address;
-use gate_reorg::tells_spelled;
+use gate_submission::{Prepared, tells_spelled};
 use std::alloc::Global;
 
 /// One request to the gate. A peer is named by a number that its first `Enter` takes for good.

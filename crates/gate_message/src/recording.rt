@@ -6,8 +6,8 @@ ghost use Rattle.gate_message.specs.Recording.{AreCopies};
 use crate::reply::Reply;
 use gate_bytes::{Copied, Memory};
 use gate_chain::ChainDenial;
-use gate_reorg::Moved;
 use gate_standard::Denial;
+use gate_submission::Moved;
 use std::alloc::Global;
 
 /// The reply to one event, and two copies of it.

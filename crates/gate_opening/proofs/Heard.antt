@@ -1,24 +1,20 @@
 -- An opening after some whole lines, and how it ends from there.
-use Rattle.std.proofs.Common.{◌≡◌, ℕ, ◌+◌, ◌<◌, ◌≤◌, Bool, true, false, ◌||◌, List, [], ◌∷◌, ◌++◌, Option, OnSome, Some, None, Ok, Err, refl, sym, ap, subst, ◌∙◌, append_assoc, append-nil}
+use Rattle.std.proofs.Common.{◌≡◌, ℕ, ◌+◌, ◌<◌, Bool, true, false, ◌||◌, List, [], ◌∷◌, ◌++◌, Option, Some, None, Ok, Err, refl, sym, ap, subst, ◌∙◌, append_assoc, append-nil}
 use Rattle.std.specs.List.{list_any}
 use Rattle.std.proofs.lemmas.List.Folds.{list_any-append}
-use Rattle.std.specs.Io.KnownBytes.{Consumes, IsAtEnd}
+use Rattle.std.specs.Io.KnownBytes.{Consumes}
 use Rattle.std.proofs.KnownBytes.{Consumes-nil, Consumes-trans}
 use Rattle.gate_opening.specs.declared.opening_fault.OpeningFault.{OpeningFault}
 use Rattle.gate_opening.specs.declared.opening_fault.OpeningFault.TheVariants.{Line, Read, Memory}
-use Rattle.gate_opening.specs.declared.opening_fault.OpeningToken.TheVariants.{BadLine}
 use Rattle.gate_opening.specs.declared.opening.Step.TheVariants.{Went, Ended}
 use Rattle.gate_lines.specs.Lines.{EachLacksNewline, count_limit, lines_of, unlines}
-use Rattle.gate_lines.specs.Reading.{PieceRead, EndTold}
-use Rattle.gate_lines.specs.declared.fault.LaneFault.{LaneFault}
-use Rattle.gate_lines.specs.declared.fault.LaneFault.TheVariants as lane
-use Rattle.gate_opening.specs.OpeningFaults.{unread_by}
+use Rattle.gate_lines.specs.Counting.{Counts, LastLine}
+use Rattle.gate_lines.specs.Reading.{PieceRead}
 use Rattle.gate_opening.specs.Said.{Said, nothing_said, all_said, is_end}
 use Rattle.gate_opening.specs.Openings.{OpeningGathered, OpeningUnread, StepTaken, opening_part}
-use Rattle.gate_lines.proofs.LineLists.{lines_of-unlines, lines_of-some, unlines-append, EachLacksNewline-push}
+use Rattle.gate_lines.proofs.LineLists.{lines_of-unlines, unlines-append, EachLacksNewline-push}
 use Rattle.gate_opening.proofs.OpeningParts.{opening_part-past}
-use Rattle.gate_opening.proofs.Saying.{all_said-went, all_said-full}
-use Rattle.gate_opening.proofs.Steps.{step_nothing}
+use Rattle.gate_opening.proofs.Saying.{all_said-went}
 
 pub record Heard (number : ℕ) (r r' : Option (List ℕ)) (said : Said) : Type 0 where
   pub lines : List (List ℕ)
@@ -31,23 +27,29 @@ pub record Heard (number : ℕ) (r r' : Option (List ℕ)) (said : Said) : Type 
 start : (r : Option (List ℕ)) → Heard 0 r r nothing_said
 start r = record { lines = []; read = Consumes-nil r; clean = tt; unended = refl; goes = λ more. refl }
 
-pub Heard-start : (r : Option (List ℕ)) (said : Said) → said ≡ nothing_said → Heard 0 r r said
-Heard-start r said is = subst (λ (s : Said). Heard 0 r r s) (sym is) (start r)
+pub Heard-start : (number : ℕ) (r : Option (List ℕ)) (said : Said) → number ≡ 0 → said ≡ nothing_said → Heard number r r said
+Heard-start number r said none is =
+    subst (λ (n : ℕ). Heard n r r said) (sym none) (subst (λ (s : Said). Heard 0 r r s) (sym is) (start r))
 
 both : (a b : Bool) → a ≡ false → b ≡ false → (a || (b || false)) ≡ false
 both true b p q = cc
 both false true p q = cc
 both false false p q = refl
 
-pub Heard-went : (number : ℕ) (r r' r'' : Option (List ℕ)) (said new : Said) → number < count_limit
+went_on : (number : ℕ) (r r' r'' : Option (List ℕ)) (said new : Said) → number < count_limit
     → Heard number r r' said → StepTaken number r' r'' said new (Ok Went) → Heard (number + 1) r r'' new
-Heard-went number r r' r'' said new few so (line, read, clean, short, open', says) = record {
+went_on number r r' r'' said new few so (line, read, clean, short, open', says) = record {
   lines = so.lines ++ line ∷ [];
   read = subst (Consumes r r'') (sym (unlines-append so.lines (line ∷ []))) (Consumes-trans r r' r'' _ _ so.read read);
   clean = EachLacksNewline-push so.lines line so.clean clean;
   unended = list_any-append is_end so.lines (line ∷ []) ∙ both (list_any is_end so.lines) (is_end line) so.unended open';
   goes = λ more. ap (all_said 0 nothing_said) (append_assoc so.lines (line ∷ []) more) ∙ so.goes (line ∷ more) ∙ all_said-went number said new line more few short open' says;
 }
+
+pub Heard-went : (r r' r'' : Option (List ℕ)) (said new : Said) (old now : LastLine) → Counts old now
+    → Heard old.count r r' said → StepTaken old.count r' r'' said new (Ok Went) → Heard now.count r r'' new
+Heard-went r r' r'' said new old now (few, next) so h =
+    subst (λ (n : ℕ). Heard n r r'' new) (sym next) (went_on old.count r r' r'' said new few so h)
 
 -- what a text says whose first lines these are
 all_from : (number : ℕ) (r r' : Option (List ℕ)) (said : Said) (so : Heard number r r' said) (xs ys : List ℕ)
@@ -79,24 +81,3 @@ Heard-fault (Line n token) number (Some xs) None r'' said new so h = absurd so.r
 Heard-fault (Line n token) number (Some xs) (Some ys) r'' said new so h = all_from number (Some xs) (Some ys) said so xs ys so.read ∙ h
 Heard-fault Read number r r' r'' said new so h = Heard-unread number r r' r'' said so h
 Heard-fault Memory number r r' r'' said new so h = tt
-
--- ---- after the last line that an opening may have
-
-pub Heard-end : (number : ℕ) (r r' r'' : Option (List ℕ)) (said : Said) → Heard number r r' said → Consumes r' r'' [] → OnSome r' (IsAtEnd r'') → OpeningGathered r r'' said (Ok tt)
-Heard-end number r r' r'' said so read end = Heard-ended number r r' r'' said said so (step_nothing number r' r'' said read end)
-
-pub Heard-full : (number : ℕ) (r r' r'' : Option (List ℕ)) (said : Said) (byte line : ℕ) → count_limit ≤ number → line ≡ number + 1
-    → Heard number r r' said → Consumes r' r'' (byte ∷ []) → OpeningGathered r r'' said (Err (Line line BadLine))
-Heard-full number None r' r'' said byte line full is so read = tt
-Heard-full number (Some xs) None r'' said byte line full is so read = absurd so.read
-Heard-full number (Some xs) (Some ys) None said byte line full is so read = absurd read
-Heard-full number (Some xs) (Some ys) (Some zs) said byte line full is so read =
-    let f = lines_of-some byte zs in
-    all_from number (Some xs) (Some ys) said so xs ys so.read
-    ∙ ap (λ t. all_said number said (lines_of t)) read ∙ ap (all_said number said) f.2
-    ∙ all_said-full number said f.0 f.1 full ∙ ap (λ n. Err (Line n BadLine)) (sym is)
-
-pub Heard-untold : (fault : LaneFault) (number : ℕ) (r r' r'' : Option (List ℕ)) (said : Said) → Heard number r r' said → EndTold r' r'' (Err fault) → OpeningGathered r r'' said (Err (unread_by fault))
-Heard-untold lane.Read number r r' r'' said so h = Heard-unread number r r' r'' said so ([], h, tt)
-Heard-untold lane.Write number r r' r'' said so h = absurd h
-Heard-untold lane.Memory number r r' r'' said so h = tt

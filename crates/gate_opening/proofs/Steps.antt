@@ -1,9 +1,12 @@
 -- One step of an opening, from what was read and what was said.
-use Rattle.std.proofs.Common.{◌≡◌, ◌≢◌, ℕ, ◌+◌, ◌<◌, ◌≤◌, true, false, List, [], ◌∷◌, ◌++◌, length, Option, OnSome, Some, None, IfSome, Ok, Err, refl, sym, ap, ◌∙◌, append_assoc, append-nil}
+use Rattle.std.proofs.Common.{◌≡◌, ◌≢◌, ℕ, ◌+◌, ◌<◌, ◌≤◌, true, false, List, [], ◌∷◌, ◌++◌, length, Option, OnSome, Some, None, IfSome, Ok, Err, refl, sym, ap, ◌∙◌, append_assoc, append-nil, arith, ◌⊎◌, inl, inr, subst}
 use Rattle.std.specs.Io.KnownBytes.{Consumes, IsAtEnd}
 use Rattle.gate_lines.specs.declared.fault.LaneFault.{LaneFault}
 use Rattle.gate_lines.specs.declared.fault.LaneFault.TheVariants as lane
-use Rattle.gate_lines.specs.Reading.{LineRead, EndTold}
+use Rattle.gate_lines.specs.Counting.{LastLine, NextTaken}
+use Rattle.gate_lines.specs.declared.lines.Next.{Next}
+use Rattle.gate_lines.specs.declared.lines.Next.TheVariants.{TooLong, TooMany}
+use Rattle.gate_lines.specs.Reading.{EndTold}
 use Rattle.gate_opening.specs.OpeningFaults.{unread_by}
 use Rattle.gate_opening.specs.declared.opening_fault.OpeningFault.{OpeningFault}
 use Rattle.gate_opening.specs.declared.opening_fault.OpeningFault.TheVariants.{Line, Read, Memory}
@@ -12,10 +15,10 @@ use Rattle.gate_opening.specs.declared.opening.Step.TheVariants.{Ended}
 use Rattle.gate_lines.specs.Lines.{FirstLines, LacksNewline, line_limit, count_limit, lines_of}
 use Rattle.gate_opening.specs.Said.{Said, Takes, all_said, with_text, is_end}
 use Rattle.gate_opening.specs.Openings.{StepTaken, opening_part}
-use Rattle.gate_lines.proofs.LineLists.{lines_of-whole}
-use Rattle.gate_lines.proofs.FirstLines.{LongLine}
+use Rattle.gate_lines.proofs.LineLists.{lines_of-whole, lines_of-some}
+use Rattle.gate_lines.proofs.FirstLines.{LongLine, LongLine-read}
 use Rattle.gate_opening.proofs.OpeningParts.{opening_part-end, opening_part-only}
-use Rattle.gate_opening.proofs.Saying.{all_said-ended, all_said-went, all_said-fault, all_said-long}
+use Rattle.gate_opening.proofs.Saying.{all_said-ended, all_said-went, all_said-fault, all_said-full, all_said-long}
 
 -- a whole line `---`
 pub step_end : (number : ℕ) (r r' : Option (List ℕ)) (said : Said) (line : List ℕ) → number < count_limit
@@ -67,23 +70,42 @@ step_nothing number (Some xs) (Some ys) said read end =
       read ∙ ap (λ l. l ++ ys) (sym (ap opening_part text)),
     )
 
-pub step_long : (number : ℕ) (r r' : Option (List ℕ)) (said : Said) → number < count_limit → LongLine r → StepTaken number r r' said said (Err (Line (number + 1) BadLine))
+step_long : (number : ℕ) (r r' : Option (List ℕ)) (said : Said) → number < count_limit → LongLine r → StepTaken number r r' said said (Err (Line (number + 1) BadLine))
 step_long number None r' said few l = tt
 step_long number (Some xs) r' said few l =
     ap (all_said number said) l.first.1 ∙ all_said-long number said l.line l.first.0 few l.long
 
+-- a line past the last that an opening may have
+step_full : (number : ℕ) (r r' : Option (List ℕ)) (said : Said) → number ≡ count_limit → EndTold r r' (Ok false)
+    → StepTaken number r r' said said (Err (Line (number + 1) BadLine))
+step_full number None r' said full told = tt
+step_full number (Some xs) None said full told = absurd told.1
+step_full number (Some xs) (Some ys) said full (byte, read) =
+    let f = lines_of-some byte ys in
+    ap (λ t. all_said number said (lines_of t)) read ∙ ap (all_said number said) f.2
+    ∙ all_said-full number said f.0 f.1 (omega (arith, full))
+
+-- a line past a limit
+pub step_past : (next : Next) (r r' : Option (List ℕ)) (said : Said) (old new : LastLine) (count : ℕ) → (next ≡ TooLong) ⊎ (next ≡ TooMany)
+    → NextTaken line_limit r r' old new (Ok next) → count ≡ new.count → StepTaken old.count r r' said said (Err (Line (count + 1) BadLine))
+step_past next r r' said old new count (inl is) taken same =
+    let t = subst (λ (n : Next). NextTaken line_limit r r' old new (Ok n)) is taken in
+    subst (λ (n : ℕ). StepTaken old.count r r' said said (Err (Line (n + 1) BadLine))) (sym (same ∙ t.2))
+    (step_long old.count r r' said t.1 (LongLine-read r r' t.0.0 t.0.1 t.0.2 t.0.3))
+step_past next r r' said old new count (inr is) taken same =
+    let t = subst (λ (n : Next). NextTaken line_limit r r' old new (Ok n)) is taken in
+    subst (λ (n : ℕ). StepTaken old.count r r' said said (Err (Line (n + 1) BadLine))) (sym (same ∙ t.2))
+    (step_full old.count r r' said t.1 t.0)
+
 -- the line was not read
-pub step_unread : (fault : LaneFault) (number : ℕ) (r r' : Option (List ℕ)) (said : Said) (line : List ℕ) → LineRead r r' line (Err fault) → StepTaken number r r' said said (Err (unread_by fault))
-step_unread lane.Read number r r' said line (read, clean) = (line, read, clean)
-step_unread lane.Write number r r' said line h = absurd h
-step_unread lane.Memory number r r' said line h = tt
+pub step_unread : (fault : LaneFault) (number : ℕ) (r r' : Option (List ℕ)) (said : Said) (old new : LastLine) → NextTaken line_limit r r' old new (Err fault)
+    → StepTaken number r r' said said (Err (unread_by fault))
+step_unread lane.Read number r r' said old new h = h
+step_unread lane.Write number r r' said old new h = absurd h
+step_unread lane.Memory number r r' said old new h = tt
 
-pub line_not_unread : (fault : LaneFault) (r r' : Option (List ℕ)) (line : List ℕ) → LineRead r r' line (Err fault) → fault ≢ lane.Read → unread_by fault ≢ Read
-line_not_unread lane.Read r r' line h other = absurd (other refl)
-line_not_unread lane.Write r r' line h other = absurd h
-line_not_unread lane.Memory r r' line h other = λ e. cc
-
-pub end_not_unread : (fault : LaneFault) (r r' : Option (List ℕ)) → EndTold r r' (Err fault) → fault ≢ lane.Read → unread_by fault ≢ Read
-end_not_unread lane.Read r r' h other = absurd (other refl)
-end_not_unread lane.Write r r' h other = absurd h
-end_not_unread lane.Memory r r' h other = λ e. cc
+pub not_unread : (fault : LaneFault) (r r' : Option (List ℕ)) (old new : LastLine) → NextTaken line_limit r r' old new (Err fault)
+    → fault ≢ lane.Read → unread_by fault ≢ Read
+not_unread lane.Read r r' old new h other = absurd (other refl)
+not_unread lane.Write r r' old new h other = absurd h
+not_unread lane.Memory r r' old new h other = λ e. cc

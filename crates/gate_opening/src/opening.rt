@@ -2,12 +2,13 @@
 ghost use Rattle.std.specs.Prelude.{◌≡◌, ◌≢◌, ◌<◌, ℕ, true, IfOk, IfErr, OnOk, Ok, Err, IfSome, IsErrOf};
 ghost use Rattle.gate_core.specs.Good.{IsGoodWorld};
 ghost use Rattle.gate_opening.specs.Said.{is_end, nothing_said, spelled};
+ghost use Rattle.gate_lines.specs.Counting.{Counts};
 ghost use Rattle.gate_opening.specs.Openings.{StepTaken, OpeningGathered, OpeningUnread, LeavesRest};
 
 use crate::draft::Draft;
 use crate::opening_fault::{OpeningFault, OpeningToken};
 use gate_core::State;
-use gate_lines::{Found, MAX_LINES, Source, has_ended, next_line};
+use gate_lines::{Lines, Next, Source};
 use std::alloc::Global;
 use std::hash::BuildHasher;
 
@@ -24,34 +25,36 @@ fn ends_opening(line: &[u8]) -> bool
     line == b"---".as_slice()
 }
 
-/// Reads the next line of an opening, where `number` lines were before it, and adds what it says.
+/// Reads the next line of an opening, and adds what it says.
 fn take_step<S: BuildHasher + Copy + Drop, R: Source>(
     alloc: Global,
     reader: &mut R,
-    line: &mut Vec<u8>,
-    number: u64,
+    lines: &mut Lines,
     draft: &mut Draft<S>,
 ) -> Result<Step, OpeningFault>
-    requires { number < 1000000 }
-    ensures taken { StepTaken number (R.remaining reader.old) (R.remaining reader.new) draft.old draft.new result }
+    ensures taken { StepTaken lines.old.count (R.remaining reader.old) (R.remaining reader.new) draft.old draft.new result }
+    ensures counted { IfOk result (λ step. step ≡ Step.Went → Counts lines.old lines.new) }
     ensures steady { R.steady ≡ true → IfErr result (λ fault. fault ≢ OpeningFault.Read) }
 {
-    match next_line(reader, line)? {
-        Found::Whole => {
-            if ends_opening(line.as_slice()) {
+    match lines.next(reader)? {
+        Next::Whole => {
+            if ends_opening(lines.line()) {
                 return Ok(Step::Ended);
             }
-            draft.take(alloc, number + 1, line.as_slice())?;
+            draft.take(alloc, lines.count(), lines.line())?;
             Ok(Step::Went)
         }
-        Found::Rest => {
-            if !ends_opening(line.as_slice()) {
-                draft.take(alloc, number + 1, line.as_slice())?;
+        Next::Rest => {
+            if !ends_opening(lines.line()) {
+                draft.take(alloc, lines.count(), lines.line())?;
             }
             Ok(Step::Ended)
         }
-        Found::End => Ok(Step::Ended),
-        Found::TooLong => Err(OpeningFault::Line(number + 1, OpeningToken::BadLine)),
+        Next::End => Ok(Step::Ended),
+        Next::TooLong | Next::TooMany => Err(OpeningFault::Line(
+            lines.count() + 1,
+            OpeningToken::BadLine,
+        )),
     }
 }
 
@@ -65,17 +68,13 @@ fn gather<S: BuildHasher + Copy + Drop, R: Source>(
     ensures gathered { OpeningGathered (R.remaining reader.old) (R.remaining reader.new) draft.new result }
     ensures steady { R.steady ≡ true → IfErr result (λ fault. fault ≢ OpeningFault.Read) }
 {
-    let mut line = Vec::new(alloc);
-    for number in 0..MAX_LINES {
-        match take_step(alloc, reader, &mut line, number, draft)? {
+    let mut lines = Lines::new(alloc);
+    loop {
+        match take_step(alloc, reader, &mut lines, draft)? {
             Step::Went => {}
             Step::Ended => return Ok(()),
         }
     }
-    if has_ended(reader, &mut line)? {
-        return Ok(());
-    }
-    Err(OpeningFault::Line(MAX_LINES + 1, OpeningToken::BadLine))
 }
 
 /// Reads an opening and opens its state, with an empty pool. What stands behind its line `---` is left unread. The

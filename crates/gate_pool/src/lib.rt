@@ -22,4 +22,4 @@ pub use closures::{Sums, add_up, ancestors, ancestors_with, descendants};
 pub use entry::{Entry, LARGEST_VSIZE};
 pub use pool::{MOST_ENTRIES, Pool};
 pub use scores::Score;
-pub use view::{FamilyView, PoolView};
+pub use view::FamilyView;

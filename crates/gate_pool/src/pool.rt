@@ -13,7 +13,7 @@ use crate::entry::Entry;
 use crate::family::{children_up_to, take_conflicts, take_named, take_out};
 use crate::scores::Score;
 use crate::slots::Slots;
-use crate::view::{FamilyView, PoolView};
+use crate::view::FamilyView;
 use crate::weighing::least_score;
 use gate_bytes::{Kept, Memory};
 use gate_tx::{OutPoint, TxIn, Txid, Wtxid};
@@ -283,20 +283,6 @@ impl<S: BuildHasher + Copy + Drop> FamilyView for Pool<S> {
     }
 
     fn tells_apart(&self) {
-        self.slots.tells_distinct();
-    }
-}
-
-impl<S: BuildHasher + Copy + Drop> PoolView for Pool<S> {
-    fn by_wtxid(&self, wtxid: &Wtxid) -> Option<&Entry> {
-        self.slots.by_wtxid(wtxid)
-    }
-
-    fn spender(&self, point: &OutPoint) -> Option<&Entry> {
-        self.slots.spender(point)
-    }
-
-    fn tells_distinct(&self) {
         self.slots.tells_distinct();
     }
 }

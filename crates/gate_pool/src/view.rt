@@ -1,6 +1,6 @@
 use crate::entry::Entry;
 use gate_bytes::Memory;
-use gate_tx::{OutPoint, Txid, Wtxid};
+use gate_tx::Txid;
 use std::alloc::Global;
 
 /// Entries whose families can be walked: those of a pool, or of a pool with a transaction beside them.
@@ -24,23 +24,4 @@ pub trait FamilyView {
     /// That no two entries share an id: it does nothing.
     fn tells_apart(&self)
         ensures { AllPairs (λ (a : Admitted) (b : Admitted). txid_of a.tx ≢ txid_of b.tx) (entries self.now) };
-}
-
-/// Entries that can be searched: a pool as it stands, or a draft of one.
-pub trait PoolView: FamilyView {
-    ghost use Rattle.std.specs.Prelude.{◌≡◌};
-    ghost use Rattle.std.specs.Option.{option_copied};
-    ghost use Rattle.gate_pool.specs.Pool.{entry_by_wtxid, spender_of};
-    ghost use Rattle.gate_pool.specs.Distinct.{AreDistinct};
-
-    fn by_wtxid(&self, wtxid: &Wtxid) -> Option<&Entry>
-        ensures { option_copied result ≡ entry_by_wtxid (Self.entries self.now) wtxid.now };
-
-    /// The entry that spends an output.
-    fn spender(&self, point: &OutPoint) -> Option<&Entry>
-        ensures { option_copied result ≡ spender_of (Self.entries self.now) point.now };
-
-    /// That no two entries share an id or spend one outpoint: it does nothing.
-    fn tells_distinct(&self)
-        ensures { AreDistinct (Self.entries self.now) };
 }

@@ -2,7 +2,7 @@
 use crate::graph::{Hashing, empty, goes_out, is_above, is_below, named};
 use crate::plain_graph::{Plain, Row};
 use gate_bytes::Memory;
-use gate_graph::{Graph, GraphFault, Id};
+use gate_graph::{Graph, GraphFault, Id, Sums};
 use std::alloc::Global;
 use std::process::Abort;
 use std::test::Fail;
@@ -53,6 +53,33 @@ impl Draw {
     }
 }
 
+/// The size of a node, by its id.
+fn size_of(id: &Id) -> u64 {
+    u64::from(id[0]).wrapping_add(100)
+}
+
+/// Its fee.
+fn fee_of(id: &Id) -> u64 {
+    u64::from(id[0]).wrapping_mul(10)
+}
+
+/// What a node and others come to.
+fn summed(id: &Id, others: &[Id]) -> Sums {
+    let mut sums = Sums {
+        count: 1,
+        size: u128::from(size_of(id)),
+        fees: u128::from(fee_of(id)),
+    };
+    for other in others {
+        sums = Sums {
+            count: sums.count.wrapping_add(1),
+            size: sums.size.wrapping_add(u128::from(size_of(other))),
+            fees: sums.fees.wrapping_add(u128::from(fee_of(other))),
+        };
+    }
+    sums
+}
+
 /// A graph, the list that it is compared with, and what the edits came to.
 #[derive(Drop)]
 struct Pair {
@@ -96,9 +123,10 @@ impl Pair {
     ) -> Result<bool, GraphFault> {
         let fault = self.plain.fault(alloc, &id, parents, children)?;
         let added = if children.is_empty() {
-            self.graph.add_leaf(id, parents, 100, 10)
+            self.graph.add_leaf(id, parents, size_of(&id), fee_of(&id))
         } else {
-            self.graph.add_above(id, parents, children, 100, 10)
+            self.graph
+                .add_above(id, parents, children, size_of(&id), fee_of(&id))
         };
         self.note(fault, children);
         match added {
@@ -164,15 +192,23 @@ impl Pair {
     fn agree_below(&self, alloc: Global, id: Id) -> Result<bool, Memory> {
         let below = self.plain.descendants(alloc, &id)?;
         let agree = is_below(alloc, &self.graph, id, below.as_slice());
+        let same = match self.graph.totals(&id) {
+            Some(totals) => totals.below == summed(&id, below.as_slice()),
+            None => !self.plain.contains(&id),
+        };
         drop(below);
-        agree
+        Ok(agree? && same)
     }
 
     fn agree_above(&self, alloc: Global, id: Id) -> Result<bool, Memory> {
         let above = self.plain.ancestors(alloc, &id)?;
         let agree = is_above(alloc, &self.graph, id, above.as_slice());
+        let same = match self.graph.totals(&id) {
+            Some(totals) => totals.above == summed(&id, above.as_slice()),
+            None => !self.plain.contains(&id),
+        };
         drop(above);
-        agree
+        Ok(agree? && same)
     }
 
     /// Whether graph and list find the same of one id.

@@ -1,6 +1,6 @@
 //! A plain list in which everything is found by search, as the indexes are to find it.
 use gate_bytes::Memory;
-use gate_pool::{Pool, PoolView, Sums, add_up, ancestors, descendants};
+use gate_pool::{FamilyView, Pool, Sums, add_up, ancestors, descendants};
 use gate_tx::{OutPoint, TxIn, Txid, Wtxid};
 use std::alloc::Global;
 use std::hash::BuildHasher;
@@ -129,7 +129,7 @@ impl Plain {
     }
 
     /// Whether a view finds of one transaction what a search of the list finds.
-    pub fn agrees<V: PoolView>(&self, view: &V, asked: &Row) -> bool {
+    pub fn agrees<S: BuildHasher + Copy + Drop>(&self, view: &Pool<S>, asked: &Row) -> bool {
         let by_txid = self.rows.iter().find(|row| row.txid == asked.txid);
         let by_wtxid = self.rows.iter().find(|row| row.wtxid == asked.wtxid);
         if view.entry(&asked.txid).map(|entry| entry.wtxid()) != by_txid.map(|row| row.wtxid)
@@ -266,10 +266,10 @@ impl Plain {
     }
 
     /// Whether a view finds the children of one transaction that a search of the list finds.
-    pub fn agrees_on_children<V: PoolView>(
+    pub fn agrees_on_children<S: BuildHasher + Copy + Drop>(
         &self,
         alloc: Global,
-        view: &V,
+        view: &Pool<S>,
         asked: &Row,
     ) -> Result<bool, Memory> {
         let children = view.children(alloc, &asked.txid)?;
@@ -283,10 +283,10 @@ impl Plain {
     }
 
     /// Whether a walk finds above the inputs what passes over the list find.
-    pub fn agrees_above<V: PoolView>(
+    pub fn agrees_above<S: BuildHasher + Copy + Drop>(
         &self,
         alloc: Global,
-        view: &V,
+        view: &Pool<S>,
         inputs: &[TxIn],
     ) -> Result<bool, Memory> {
         let wanted = self.above(alloc, inputs)?;
@@ -300,10 +300,10 @@ impl Plain {
     }
 
     /// The same below the roots, and whether that comes to the same sums.
-    pub fn agrees_below<V: PoolView>(
+    pub fn agrees_below<S: BuildHasher + Copy + Drop>(
         &self,
         alloc: Global,
-        view: &V,
+        view: &Pool<S>,
         roots: &[Txid],
     ) -> Result<bool, Memory> {
         let wanted = self.below(alloc, roots)?;

@@ -1,6 +1,6 @@
 use crate::paying::{input, paying};
 use gate_bytes::Counted;
-use gate_pool::{Entry, Pool, PoolView};
+use gate_pool::{Entry, Pool};
 use gate_rbf::*;
 use gate_standard::Denial;
 use gate_tx::{Identified, OutPoint, Transaction, Txid};
@@ -103,23 +103,28 @@ impl Case {
         }
     }
 
-    fn is_said_of<V: PoolView>(
+    fn is_said_of<S: BuildHasher + Copy + Drop>(
         &self,
         alloc: Global,
-        pool: &V,
+        pool: &Pool<S>,
         tx: &Transaction,
     ) -> Result<bool, Fail> {
         let judged = judge_replacement(alloc, pool, tx, self.fee, self.vsize.max(1))?;
-        let direct = conflicts(alloc, pool, tx)?.len();
+        let ids = conflicts(alloc, pool, tx)?.len();
+        let direct = DirectConflicts::find(alloc, pool, tx)?;
         Ok(
             judged == self.judged
-                && direct == self.direct
-                && only_conflict(pool, tx) == self.only
-                && has_firm_conflict(pool, tx) == self.firm,
+                && ids == self.direct
+                && direct.only() == self.only
+                && direct.has_firm() == self.firm,
         )
     }
 
-    fn holds<V: PoolView>(&self, alloc: Global, pool: &V) -> Result<bool, Fail> {
+    fn holds<S: BuildHasher + Copy + Drop>(
+        &self,
+        alloc: Global,
+        pool: &Pool<S>,
+    ) -> Result<bool, Fail> {
         let identified = spending(alloc, self.first, self.second, 0xffff_fffd)?;
         let holds = self.is_said_of(alloc, pool, identified.transaction());
         drop(identified);
@@ -128,9 +133,9 @@ impl Case {
 }
 
 /// The place of the first of these that does not hold.
-fn first_wrong<V: PoolView>(
+fn first_wrong<S: BuildHasher + Copy + Drop>(
     alloc: Global,
-    pool: &V,
+    pool: &Pool<S>,
     cases: &[Case],
 ) -> Result<Option<usize>, Fail> {
     for (place, case) in cases.iter().enumerate() {

@@ -20,7 +20,8 @@ use Rattle.gate_journal.specs.Legal.{entry, events_of, replies_of}
 use Rattle.gate_journal.specs.Legal.{IsLegal as IsLegalJournal}
 use Rattle.gate_journal.specs.declared.Entry.{Entry}
 use Rattle.gate_lanes.specs.Ends.{Left, LaneRan, LanesRan}
-use Rattle.gate_lanes.specs.LaneCalls.{Answer, HasCalls, calls_made, lane_events, with_event}
+use Rattle.gate_lane.specs.LaneEvents.{lane_events, with_event}
+use Rattle.gate_lanes.specs.LaneCalls.{Answer, HasCalls, calls_made}
 use Rattle.gate_lanes.specs.Lanes.{LaneDone}
 use Rattle.gate_lanes.specs.Parts.{lanes_of}
 use Rattle.gate_lanes.proofs.LedCalls.{lanes_are_calls}
@@ -177,7 +178,7 @@ audited w lanes ends printed before after tells ended wrote = concluded tells.co
         let text : printed ≡ (lanes_text 1 tells.texts ++ (settled_line settled.count ++ 10 ∷ [])) ++ unlines (journal_lines entries) =
         tells.told ∙ ap (λ (l : List (List ℕ)). lanes_text 1 tells.texts ++ unlines l) lines ∙ told_head tells.texts settled in
         (lanes_text 1 tells.texts ++ (settled_line settled.count ++ 10 ∷ []), entries, wrote ∙ ap (λ (l : List ℕ). before ++ l) text, journal_legal w entries settles.0 spelled few)
-    concluded (inr (why, none, lines, status)) = absurd (omega arith)
+    concluded (inr (none, lines, status)) = absurd (omega arith)
 
 pub lanes_are_audited : LanesAreAudited
 lanes_are_audited text rest before after w is parted done =

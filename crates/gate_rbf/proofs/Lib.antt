@@ -3,6 +3,7 @@ pub mod Alone
 pub mod Choosing
 pub mod Conflicting
 pub mod Counted
+pub mod Rivals
 pub mod Putting
 pub mod Rules
 pub mod Spenders

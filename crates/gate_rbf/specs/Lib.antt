@@ -1,3 +1,4 @@
+pub mod Direct
 pub mod Gathering
 pub mod Paying
 pub mod Replacing

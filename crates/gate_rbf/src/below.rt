@@ -5,13 +5,18 @@ ghost use Rattle.gate_pool.specs.Family.{is_among, all_below, AreIdsOf};
 
 use crate::gathered::put;
 use gate_bytes::Memory;
-use gate_pool::{PoolView, descendants};
+use gate_pool::{Pool, descendants};
 use gate_tx::Txid;
 use std::alloc::Global;
+use std::hash::BuildHasher;
 
 /// Those of the ids that entries have, each once.
-fn admitted<V: PoolView>(alloc: Global, pool: &V, ids: &[Txid]) -> Result<Vec<Txid>, Memory>
-    ensures { IfOk result (λ found. AreIdsOf found.items (filter (is_among ids.now) (V.entries pool.now))) }
+fn admitted<S: BuildHasher + Copy + Drop>(
+    alloc: Global,
+    pool: &Pool<S>,
+    ids: &[Txid],
+) -> Result<Vec<Txid>, Memory>
+    ensures { IfOk result (λ found. AreIdsOf found.items (filter (is_among ids.now) pool.now.entries)) }
 {
     pool.tells_distinct();
     let mut found = Vec::new(alloc);
@@ -25,23 +30,25 @@ fn admitted<V: PoolView>(alloc: Global, pool: &V, ids: &[Txid]) -> Result<Vec<Tx
 }
 
 /// The ids of entries, given by theirs, with those of all that are below them.
-pub(crate) fn with_descendants<V: PoolView>(
+pub(crate) fn with_descendants<S: BuildHasher + Copy + Drop>(
     alloc: Global,
-    pool: &V,
+    pool: &Pool<S>,
     roots: &[Txid],
 ) -> Result<Vec<Txid>, Memory>
-    ensures { (test : Admitted → Bool) → AreIdsOf roots.now (filter test (V.entries pool.now)) → IfOk result (λ ids. AreIdsOf ids.items (all_below test (V.entries pool.now))) }
+    requires { (test : Admitted → Bool) × AreIdsOf roots.now (filter test pool.now.entries) }
+    ensures { (test : Admitted → Bool) → AreIdsOf roots.now (filter test pool.now.entries) → IfOk result (λ ids. AreIdsOf ids.items (all_below test pool.now.entries)) }
 {
-    match descendants(alloc, pool, roots, usize::MAX)? {
-        Some(ids) => Ok(ids),
-        // no list is longer than that
-        None => Err(Memory),
-    }
+    let found = descendants(alloc, pool, roots, pool.count())?;
+    Ok(found.unwrap())
 }
 
 /// The ids of what goes with the entries of these ids: themselves, and all that are below them.
-pub fn replaced<V: PoolView>(alloc: Global, pool: &V, ids: &[Txid]) -> Result<Vec<Txid>, Memory>
-    ensures { IfOk result (λ found. AreIdsOf found.items (all_below (is_among ids.now) (V.entries pool.now))) }
+pub fn replaced<S: BuildHasher + Copy + Drop>(
+    alloc: Global,
+    pool: &Pool<S>,
+    ids: &[Txid],
+) -> Result<Vec<Txid>, Memory>
+    ensures { IfOk result (λ found. AreIdsOf found.items (all_below (is_among ids.now) pool.now.entries)) }
 {
     let roots = admitted(alloc, pool, ids)?;
     with_descendants(alloc, pool, roots.as_slice())

@@ -4,18 +4,23 @@ ghost use Rattle.gate_pool.specs.Pool.{Admitted};
 ghost use Rattle.gate_pool.specs.Family.{conflicts_of, AreIdsOf};
 ghost use Rattle.gate_rbf.specs.Replacing.{descendant_count};
 
-use crate::conflict::conflicts_within;
+use crate::direct::DirectConflicts;
 use gate_bytes::Memory;
-use gate_pool::{PoolView, descendants};
-use gate_tx::{Transaction, Txid};
+use gate_pool::{Pool, descendants};
+use gate_tx::Txid;
 use std::alloc::Global;
+use std::hash::BuildHasher;
 
 /// No more descendants go with the entries that a transaction conflicts with.
 const MOST_DESCENDANTS: usize = 100;
 
 /// Whether entries, given by their ids, have few enough descendants together, themselves among them.
-fn has_few_descendants<V: PoolView>(alloc: Global, pool: &V, ids: &[Txid]) -> Result<bool, Memory>
-    ensures { (test : Admitted → Bool) → AreIdsOf ids.now (filter test (V.entries pool.now)) → IfOk result (λ few. few ≡ not (nat_lt 100 (descendant_count (V.entries pool.now) (filter test (V.entries pool.now))))) }
+fn has_few_descendants<S: BuildHasher + Copy + Drop>(
+    alloc: Global,
+    pool: &Pool<S>,
+    ids: &[Txid],
+) -> Result<bool, Memory>
+    ensures { (test : Admitted → Bool) → AreIdsOf ids.now (filter test pool.now.entries) → IfOk result (λ few. few ≡ not (nat_lt 100 (descendant_count pool.now.entries (filter test pool.now.entries)))) }
 {
     pool.tells_distinct();
     let mut left = MOST_DESCENDANTS;
@@ -28,21 +33,26 @@ fn has_few_descendants<V: PoolView>(alloc: Global, pool: &V, ids: &[Txid]) -> Re
     Ok(true)
 }
 
-/// The ids of the entries that the transaction conflicts with. None where they have too many descendants.
-pub(crate) fn few_conflicts<V: PoolView>(
-    alloc: Global,
-    pool: &V,
-    tx: &Transaction,
-) -> Result<Option<Vec<Txid>>, Memory>
-    ensures ids { IfOk result (λ few. IfSome few (λ ids. AreIdsOf ids.items (conflicts_of (V.entries pool.now) tx.now))) }
-    ensures few { IfOk result (λ few. IfSome few (λ ids. descendant_count (V.entries pool.now) (conflicts_of (V.entries pool.now) tx.now) ≤ 100)) }
-    ensures many { IfOk result (λ few. few ≡ None → 100 < descendant_count (V.entries pool.now) (conflicts_of (V.entries pool.now) tx.now)) }
-{
-    let Some(direct) = conflicts_within(alloc, pool, tx, MOST_DESCENDANTS)? else {
-        return Ok(None);
-    };
-    if !has_few_descendants(alloc, pool, direct.as_slice())? {
-        return Ok(None);
+impl<'a, S: BuildHasher + Copy + Drop> DirectConflicts<'a, S> {
+    /// Whether the conflicts, which have these ids, have few enough descendants.
+    fn has_few_descendants(&self, alloc: Global, ids: &[Txid]) -> Result<bool, Memory>
+        ensures { AreIdsOf ids.now (conflicts_of self.now.entries self.now.tx) → IfOk result (λ few. few ≡ not (nat_lt 100 (descendant_count self.now.entries (conflicts_of self.now.entries self.now.tx)))) }
+    {
+        has_few_descendants(alloc, self.pool(), ids)
     }
-    Ok(Some(direct))
+
+    /// The ids of the conflicts, each once. None where they have too many descendants.
+    pub(crate) fn few_ids(&self, alloc: Global) -> Result<Option<Vec<Txid>>, Memory>
+        ensures ids { IfOk result (λ few. IfSome few (λ ids. AreIdsOf ids.items (conflicts_of self.now.entries self.now.tx))) }
+        ensures few { IfOk result (λ few. IfSome few (λ ids. descendant_count self.now.entries (conflicts_of self.now.entries self.now.tx) ≤ 100)) }
+        ensures many { IfOk result (λ few. few ≡ None → 100 < descendant_count self.now.entries (conflicts_of self.now.entries self.now.tx)) }
+    {
+        let Some(ids) = self.ids_within(alloc, MOST_DESCENDANTS)? else {
+            return Ok(None);
+        };
+        if !self.has_few_descendants(alloc, ids.as_slice())? {
+            return Ok(None);
+        }
+        Ok(Some(ids))
+    }
 }

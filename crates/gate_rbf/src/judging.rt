@@ -1,50 +1,80 @@
 ghost use Rattle.std.specs.Prelude.{◌≡◌, ◌<◌, Some, None, IfOk, IfErr, OnOk, length};
+ghost use Rattle.std.specs.List.{list_any};
 ghost use Rattle.gate_bytes.specs.Order.{first_failing};
-ghost use Rattle.gate_pool.specs.Family.{replaced_of};
-ghost use Rattle.gate_rbf.specs.Replacing.{replacement_rules};
+ghost use Rattle.gate_pool.specs.Family.{conflicts_of, replaced_of, sums_of, AreIdsOf};
+ghost use Rattle.gate_rbf.specs.Replacing.{adds_parent, replacement_rules};
 
 use crate::amounts::check_amounts;
 use crate::below::with_descendants;
-use crate::conflict::has_conflict;
-use crate::counts::few_conflicts;
+use crate::direct::DirectConflicts;
 use crate::parents::adds_parents;
-use crate::rates::pays_no_more;
 use gate_bytes::Memory;
-use gate_pool::{PoolView, add_up};
+use gate_pool::{Pool, Sums, add_up};
 use gate_standard::Denial;
-use gate_tx::Transaction;
+use gate_tx::{Transaction, Txid};
 use std::alloc::Global;
+use std::hash::BuildHasher;
+
+impl<'a, S: BuildHasher + Copy + Drop> DirectConflicts<'a, S> {
+    /// Whether the transaction spends from an entry from which none of the conflicts does, which have these ids.
+    fn adds_parents(&self, alloc: Global, ids: &[Txid]) -> Result<bool, Memory>
+        ensures { AreIdsOf ids.now (conflicts_of self.now.entries self.now.tx) → IfOk result (λ adds. adds ≡ list_any (adds_parent self.now.entries (conflicts_of self.now.entries self.now.tx)) self.now.tx.inputs) }
+    {
+        adds_parents(alloc, self.pool(), ids, self.transaction())
+    }
+
+    /// What the conflicts, which have these ids, and all that are below them come to.
+    fn replaced_sums(&self, alloc: Global, ids: &[Txid]) -> Result<Sums, Memory>
+        requires { AreIdsOf ids.now (conflicts_of self.now.entries self.now.tx) }
+        ensures { IfOk result (λ sums. sums ≡ sums_of (replaced_of self.now.entries self.now.tx)) }
+    {
+        let pool = self.pool();
+        let gone = with_descendants(alloc, pool, ids)?;
+        Ok(add_up(pool, gone.as_slice()))
+    }
+
+    /// How many entries the transaction replaces with this fee, in satoshi, and this size, in virtual bytes, or the first of
+    /// A38 to A42 that fails. One without a conflict replaces none.
+    pub fn judge(&self, alloc: Global, fee: u64, vsize: u64) -> Result<Result<u64, Denial>, Memory>
+        requires { 0 < vsize }
+        ensures ok { IfOk result (λ found. OnOk found (first_failing (replacement_rules self.now.entries self.now.tx fee vsize) ≡ None)) }
+        ensures count { IfOk result (λ found. IfOk found (λ n. n ≡ length (replaced_of self.now.entries self.now.tx))) }
+        ensures err { IfOk result (λ found. IfErr found (λ denial. first_failing (replacement_rules self.now.entries self.now.tx fee vsize) ≡ Some denial)) }
+    {
+        if !self.has_any() {
+            return Ok(Ok(0));
+        }
+        if self.pays_no_more(fee, vsize) {
+            return Ok(Err(Denial::LowerFeeRate));
+        }
+        let Some(ids) = self.few_ids(alloc)? else {
+            return Ok(Err(Denial::TooManyReplacements));
+        };
+        if self.adds_parents(alloc, ids.as_slice())? {
+            return Ok(Err(Denial::AddsUnconfirmed));
+        }
+        let sums = self.replaced_sums(alloc, ids.as_slice())?;
+        match check_amounts(fee, vsize, sums.fees) {
+            Ok(()) => Ok(Ok(sums.count as u64)),
+            Err(denial) => Ok(Err(denial)),
+        }
+    }
+}
 
 /// How many entries a transaction of this fee, in satoshi, and this size, in virtual bytes, replaces, or the first of A38 to
 /// A42 that fails. One without a conflict replaces none.
-pub fn judge_replacement<V: PoolView>(
+pub fn judge_replacement<S: BuildHasher + Copy + Drop>(
     alloc: Global,
-    pool: &V,
+    pool: &Pool<S>,
     tx: &Transaction,
     fee: u64,
     vsize: u64,
 ) -> Result<Result<u64, Denial>, Memory>
     requires { 0 < vsize }
-    ensures ok { IfOk result (λ found. OnOk found (first_failing (replacement_rules (V.entries pool.now) tx.now fee vsize) ≡ None)) }
-    ensures count { IfOk result (λ found. IfOk found (λ n. n ≡ length (replaced_of (V.entries pool.now) tx.now))) }
-    ensures err { IfOk result (λ found. IfErr found (λ denial. first_failing (replacement_rules (V.entries pool.now) tx.now fee vsize) ≡ Some denial)) }
+    ensures ok { IfOk result (λ found. OnOk found (first_failing (replacement_rules pool.now.entries tx.now fee vsize) ≡ None)) }
+    ensures count { IfOk result (λ found. IfOk found (λ n. n ≡ length (replaced_of pool.now.entries tx.now))) }
+    ensures err { IfOk result (λ found. IfErr found (λ denial. first_failing (replacement_rules pool.now.entries tx.now fee vsize) ≡ Some denial)) }
 {
-    if !has_conflict(pool, tx) {
-        return Ok(Ok(0));
-    }
-    if pays_no_more(pool, tx, fee, vsize) {
-        return Ok(Err(Denial::LowerFeeRate));
-    }
-    let Some(direct) = few_conflicts(alloc, pool, tx)? else {
-        return Ok(Err(Denial::TooManyReplacements));
-    };
-    if adds_parents(alloc, pool, direct.as_slice(), tx)? {
-        return Ok(Err(Denial::AddsUnconfirmed));
-    }
-    let ids = with_descendants(alloc, pool, direct.as_slice())?;
-    let sums = add_up(pool, ids.as_slice());
-    match check_amounts(fee, vsize, sums.fees) {
-        Ok(()) => Ok(Ok(sums.count as u64)),
-        Err(denial) => Ok(Err(denial)),
-    }
+    let direct = DirectConflicts::find(alloc, pool, tx)?;
+    direct.judge(alloc, fee, vsize)
 }

@@ -10,9 +10,10 @@ ghost use Rattle.gate_rbf.specs.Gathering.{is_parent};
 
 use crate::gathered::put;
 use gate_bytes::Memory;
-use gate_pool::PoolView;
+use gate_pool::Pool;
 use gate_tx::{Transaction, TxIn, Txid};
 use std::alloc::Global;
+use std::hash::BuildHasher;
 
 /// Whether an input spends an output of the transaction with this id.
 fn spends_from(inputs: &[TxIn], parent: &Txid) -> bool
@@ -22,8 +23,8 @@ fn spends_from(inputs: &[TxIn], parent: &Txid) -> bool
 }
 
 /// Whether the entry with the first id spends an output of the transaction with the second.
-fn is_child<V: PoolView>(pool: &V, id: &Txid, parent: &Txid) -> bool
-    ensures { result ≡ list_any (λ (e : Admitted). has_txid e id.now && names e parent.now) (V.entries pool.now) }
+fn is_child<S: BuildHasher + Copy + Drop>(pool: &Pool<S>, id: &Txid, parent: &Txid) -> bool
+    ensures { result ≡ list_any (λ (e : Admitted). has_txid e id.now && names e parent.now) pool.now.entries }
 {
     pool.tells_distinct();
     match pool.entry(id) {
@@ -33,15 +34,23 @@ fn is_child<V: PoolView>(pool: &V, id: &Txid, parent: &Txid) -> bool
 }
 
 /// Whether one of the entries with these ids spends an output of the transaction.
-fn has_child_among<V: PoolView>(pool: &V, ids: &[Txid], parent: &Txid) -> bool
-    ensures { result ≡ list_any (λ (e : Admitted). is_among ids.now e && names e parent.now) (V.entries pool.now) }
+fn has_child_among<S: BuildHasher + Copy + Drop>(
+    pool: &Pool<S>,
+    ids: &[Txid],
+    parent: &Txid,
+) -> bool
+    ensures { result ≡ list_any (λ (e : Admitted). is_among ids.now e && names e parent.now) pool.now.entries }
 {
     ids.iter().any(|id| is_child(pool, id, parent))
 }
 
 /// The ids of the entries from which the transaction spends.
-fn parents_of<V: PoolView>(alloc: Global, pool: &V, tx: &Transaction) -> Result<Vec<Txid>, Memory>
-    ensures { IfOk result (λ ids. AreIdsOf ids.items (filter (is_parent tx.now.inputs) (V.entries pool.now))) }
+fn parents_of<S: BuildHasher + Copy + Drop>(
+    alloc: Global,
+    pool: &Pool<S>,
+    tx: &Transaction,
+) -> Result<Vec<Txid>, Memory>
+    ensures { IfOk result (λ ids. AreIdsOf ids.items (filter (is_parent tx.now.inputs) pool.now.entries)) }
 {
     pool.tells_distinct();
     let mut ids = Vec::new(alloc);
@@ -56,13 +65,13 @@ fn parents_of<V: PoolView>(alloc: Global, pool: &V, tx: &Transaction) -> Result<
 
 /// Whether an input spends from an entry from which none of the entries with these ids does. Each such entry is asked about
 /// once, however many inputs spend from it.
-pub(crate) fn adds_parents<V: PoolView>(
+pub(crate) fn adds_parents<S: BuildHasher + Copy + Drop>(
     alloc: Global,
-    pool: &V,
+    pool: &Pool<S>,
     direct: &[Txid],
     tx: &Transaction,
 ) -> Result<bool, Memory>
-    ensures { (test : Admitted → Bool) → AreIdsOf direct.now (filter test (V.entries pool.now)) → IfOk result (λ adds. adds ≡ list_any (adds_parent (V.entries pool.now) (filter test (V.entries pool.now))) tx.now.inputs) }
+    ensures { (test : Admitted → Bool) → AreIdsOf direct.now (filter test pool.now.entries) → IfOk result (λ adds. adds ≡ list_any (adds_parent pool.now.entries (filter test pool.now.entries)) tx.now.inputs) }
 {
     pool.tells_distinct();
     let parents = parents_of(alloc, pool, tx)?;

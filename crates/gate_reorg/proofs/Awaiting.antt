@@ -23,7 +23,7 @@ use Rattle.gate_admit.specs.Coins.{view_coin}
 use Rattle.gate_admit.specs.Good.{AreApart, IsSettled, IsSound, connected_transactions}
 use Rattle.gate_admit.proofs.Filtering.{All-flat_map}
 use Rattle.gate_admit.proofs.Removing.{spent_at}
-use Rattle.gate_reorg.specs.Reorganisation.{transactions_of}
+use Rattle.gate_submission.specs.Blocks.{transactions_of}
 use Rattle.gate_reorg.proofs.Knowing.{Contains-first_blocks, Contains-last_blocks, blocks_cases, known_cases, known_opened, known_connected}
 use Rattle.gate_reorg.proofs.Leaving.{AreOrderly, Leaves}
 use Rattle.gate_reorg.proofs.Making.{makes, makes_by, makes_same, MadeBy, is_spent, PoolMakes, coin_is_made, made_is_coin, unspent_by, unspent_if_unknown, view_cases, view_chain, view_pool}

@@ -29,10 +29,12 @@ use Rattle.gate_trim.proofs.Trimmings.{trim_keeps, trim_within}
 use Rattle.gate_admit.specs.Good.{AreApart, IsGood, IsSettled, IsSound, Limits, connected_transactions}
 use Rattle.gate_admit.specs.Standing.{Standing}
 use Rattle.gate_admit.proofs.Removing.{below_sound, family_sound}
-use Rattle.gate_reorg.specs.declared.moved.Moved.{Moved}
-use Rattle.gate_reorg.specs.Events.{Happened, present, event_rules, event_of}
+use Rattle.gate_submission.specs.declared.moved.Moved.{Moved}
+use Rattle.gate_reorg.specs.Events.{Happened, event_rules, event_of}
+use Rattle.gate_submission.specs.Blocks.{present}
 use Rattle.gate_reorg.specs.Goodness.{IsReadyFor, StaysGood, EventsKeepPoolsGood, EntriesAreUnconfirmed, BlocksComeBack, limits_for, met_by}
-use Rattle.gate_reorg.specs.Reorganisation.{transactions_of, all_confirmed, has_id, unconfirmed, all_tried_again, is_premature, without_premature, returned, pool_after}
+use Rattle.gate_reorg.specs.Reorganisation.{all_confirmed, has_id, unconfirmed, all_tried_again, is_premature, without_premature, returned, pool_after}
+use Rattle.gate_submission.specs.Blocks.{transactions_of}
 use Rattle.gate_reorg.proofs.Awaiting.{AreTold, IsSoundBut, LeavesPending, sound_at_last, switched_sound, told_apart}
 use Rattle.gate_reorg.proofs.Knowing.{blocks_cases, Contains-first_blocks, Contains-last_blocks}
 use Rattle.gate_reorg.proofs.Leaving.{all_confirmed_leaves}

@@ -15,7 +15,7 @@ use Rattle.gate_chain.specs.declared.OpeningCoin.{OpeningCoin}
 use Rattle.gate_chain.specs.Coins.{has_txid, has_transaction, is_known_txid}
 use Rattle.gate_chain.specs.History.{History}
 use Rattle.gate_admit.specs.Good.{connected_transactions}
-use Rattle.gate_reorg.specs.Reorganisation.{transactions_of}
+use Rattle.gate_submission.specs.Blocks.{transactions_of}
 
 -- ---- members of lists of lists
 

@@ -7,7 +7,6 @@ pub mod Trying
 pub mod Keeping
 pub mod Ripening
 pub mod Origins
-pub mod Telling
 pub mod Spending
 pub mod Counting
 pub mod Listed

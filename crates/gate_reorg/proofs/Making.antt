@@ -28,7 +28,7 @@ use Rattle.gate_admit.specs.Coins.{pool_coin, view_coin}
 use Rattle.gate_admit.specs.Good.{IsSettled, connected_transactions}
 use Rattle.gate_admit.proofs.Removing.{DifferByTxid}
 use Rattle.gate_admit.proofs.Unconnected.{founded}
-use Rattle.gate_reorg.specs.Reorganisation.{transactions_of}
+use Rattle.gate_submission.specs.Blocks.{transactions_of}
 use Rattle.gate_reorg.proofs.Knowing.{Contains-from_flat_map, Contains-flat_map}
 
 -- ---- what a transaction makes

@@ -27,7 +27,8 @@ use Rattle.gate_admit.specs.Verdicts.{VerdictTable}
 use Rattle.gate_admit.proofs.Staying.{stays_within}
 use Rattle.gate_reorg.specs.Events.{event_of}
 use Rattle.gate_reorg.specs.Goodness.{BlocksOnlyTake, EventsBringNothingElse, FloorsNeverFall, met_by}
-use Rattle.gate_reorg.specs.Reorganisation.{transactions_of, all_confirmed, has_id, unconfirmed, tried, tried_again, all_tried_again, is_premature, without_premature, returned, pool_after}
+use Rattle.gate_reorg.specs.Reorganisation.{all_confirmed, has_id, unconfirmed, tried, tried_again, all_tried_again, is_premature, without_premature, returned, pool_after}
+use Rattle.gate_submission.specs.Blocks.{transactions_of}
 use Rattle.gate_reorg.proofs.Knowing.{blocks_cases, Contains-first_blocks, Contains-last_blocks}
 use Rattle.gate_reorg.proofs.Leaving.{all_confirmed_leaves}
 

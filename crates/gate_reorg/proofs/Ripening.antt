@@ -31,7 +31,8 @@ use Rattle.gate_admit.proofs.Filtering.{find-filter_same}
 use Rattle.gate_admit.proofs.Staying.{is_below, below_some_closed, stays_apart}
 use Rattle.gate_reorg.specs.Events.{event_of}
 use Rattle.gate_reorg.specs.Goodness.{IsRipe, ReturnsLeaveTheRipe}
-use Rattle.gate_reorg.specs.Reorganisation.{transactions_of, all_confirmed, unconfirmed, all_tried_again, height_of, input_heights, is_young_coin, spends_young_coin, is_premature, without_premature, returned, pool_after}
+use Rattle.gate_reorg.specs.Reorganisation.{all_confirmed, unconfirmed, all_tried_again, height_of, input_heights, is_young_coin, spends_young_coin, is_premature, without_premature, returned, pool_after}
+use Rattle.gate_submission.specs.Blocks.{transactions_of}
 
 -- ---- the same coins
 

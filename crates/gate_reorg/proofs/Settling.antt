@@ -21,7 +21,7 @@ use Rattle.gate_chain.specs.History.{History}
 use Rattle.gate_block.specs.Switching.{with_blocks, grown_by, left_of, without_last, switched, blocks_rules, switch_rules}
 use Rattle.gate_admit.specs.Good.{IsSettled, begins_with_coinbase, chain_up_to}
 use Rattle.gate_admit.proofs.Coining.{known_if_coin}
-use Rattle.gate_reorg.specs.Reorganisation.{transactions_of}
+use Rattle.gate_submission.specs.Blocks.{transactions_of}
 use Rattle.gate_reorg.proofs.Knowing.{Contains-first_blocks, Contains-last_blocks, blocks_cases, known_more, unknown_less}
 
 -- ---- the rules of a block's transactions

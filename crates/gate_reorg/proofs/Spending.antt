@@ -24,7 +24,8 @@ use Rattle.gate_admit.proofs.Granted.{Differ, decided_live}
 use Rattle.gate_admit.proofs.Lists.{AllPairs-append}
 use Rattle.gate_reorg.specs.Events.{event_of}
 use Rattle.gate_reorg.specs.Goodness.{EventsKeepTheBudget, EventsSpendOnce}
-use Rattle.gate_reorg.specs.Reorganisation.{transactions_of, without_txid, confirmed, all_confirmed, unconfirmed, tried, tried_again, all_tried_again, is_premature, without_premature, returned, pool_after}
+use Rattle.gate_reorg.specs.Reorganisation.{without_txid, confirmed, all_confirmed, unconfirmed, tried, tried_again, all_tried_again, is_premature, without_premature, returned, pool_after}
+use Rattle.gate_submission.specs.Blocks.{transactions_of}
 use Rattle.gate_reorg.proofs.Leaving.{all_confirmed_leaves}
 use Rattle.gate_reorg.proofs.Trying.{spent_by-push}
 

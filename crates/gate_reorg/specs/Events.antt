@@ -1,7 +1,6 @@
 -- One chain event: when it is refused, and what chain, pool and floor are after it.
 use Rattle.std.specs.Prelude.{ℕ, is_none, filter, length, List, ◌∷◌, Option}
-use Rattle.std.specs.List.{list_any, flat_map}
-use Rattle.std.specs.Option.{option_to_list}
+use Rattle.std.specs.List.{list_any}
 use Rattle.gate_bytes.specs.Order.{Rule}
 use Rattle.gate_tx.specs.Ids.{txid_of}
 use Rattle.gate_chain.specs.declared.Block.{Block}
@@ -13,12 +12,9 @@ use Rattle.gate_block.specs.Switching.{last_blocks, switched, switch_rules}
 use Rattle.gate_pool.specs.Pool.{Admitted, entry_by_txid}
 use Rattle.gate_trim.specs.Trimming.{Trimmed}
 use Rattle.gate_admit.specs.Standing.{Standing}
-use Rattle.gate_reorg.specs.declared.moved.Moved.{Moved}
-use Rattle.gate_reorg.specs.Reorganisation.{transactions_of, pool_after}
-
--- the blocks that could be read
-abbrev pub present : List (Option Block) → List Block
-present blocks = flat_map option_to_list blocks
+use Rattle.gate_submission.specs.declared.moved.Moved.{Moved}
+use Rattle.gate_reorg.specs.Reorganisation.{pool_after}
+use Rattle.gate_submission.specs.Blocks.{present, transactions_of}
 
 -- what is asked of an event: that each block could be read, and then what is asked of the switch
 unfoldable pub event_rules : History → ℕ → List (Option Block) → List (Rule ChainDenial)

@@ -16,7 +16,8 @@ use Rattle.gate_block.specs.Switching.{last_blocks, switched, switch_rules}
 use Rattle.gate_pool.specs.Pool.{Admitted, spent_by, size_of}
 use Rattle.gate_admit.specs.Good.{AreApart, IsGood, IsSettled, Limits, connected_transactions}
 use Rattle.gate_admit.specs.Standing.{Standing}
-use Rattle.gate_reorg.specs.Reorganisation.{transactions_of, input_heights, spends_young_coin}
+use Rattle.gate_reorg.specs.Reorganisation.{input_heights, spends_young_coin}
+use Rattle.gate_submission.specs.Blocks.{transactions_of}
 use Rattle.gate_reorg.specs.Events.{event_of}
 
 -- the transactions that an event meets: those of the connected blocks, of the entries, and of the new blocks

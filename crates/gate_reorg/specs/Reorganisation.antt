@@ -1,13 +1,12 @@
 -- What a change of the chain does to a pool.
 use Rattle.std.specs.Prelude.{ℕ, ◌+◌, ◌==◌, Bool, false, not, ◌||◌, filter, map, List, [], ◌∷◌, Option, Some, None, Result, Ok, Err, if◌then◌else◌}
-use Rattle.std.specs.List.{list_any, flat_map}
+use Rattle.std.specs.List.{list_any}
 use Rattle.std.specs.Str.{bytes_eq}
 use Rattle.gate_tx.specs.declared.Coin.{Coin}
 use Rattle.gate_tx.specs.declared.TxIn.{TxIn}
 use Rattle.gate_tx.specs.Ids.{txid_of}
 use Rattle.gate_tx.specs.Tx.{Tx}
 use Rattle.gate_standard.specs.declared.Denial.{Denial}
-use Rattle.gate_chain.specs.declared.Block.{Block}
 use Rattle.gate_chain.specs.History.{History}
 use Rattle.gate_chain.specs.Times.{tip_of}
 use Rattle.gate_locks.specs.Finality.{is_final_at}
@@ -23,10 +22,7 @@ use Rattle.gate_admit.specs.Rules.{decision_of, is_immature}
 use Rattle.gate_admit.specs.Standing.{standing}
 use Rattle.gate_admit.specs.Submission.{admitted}
 use Rattle.gate_admit.specs.Verdicts.{VerdictTable}
-
--- the transactions of blocks, in their order
-abbrev pub transactions_of : List Block → List Tx
-transactions_of blocks = flat_map (λ (b : Block). b.transactions) blocks
+use Rattle.gate_submission.specs.Blocks.{transactions_of}
 
 -- ---- Transactions of blocks that are connected
 

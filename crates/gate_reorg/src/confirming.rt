@@ -3,8 +3,9 @@ ghost use Rattle.std.specs.Prelude.{◌≡◌, ◌++◌, List, ℕ, IfOk, OnOk};
 ghost use Rattle.std.specs.Str.{bytes_eq};
 ghost use Rattle.indexmap.specs.IndexSet.{contains};
 ghost use Rattle.gate_tx.specs.Ids.{txid_of};
-ghost use Rattle.gate_reorg.specs.Reorganisation.{transactions_of, confirmed, all_confirmed, has_id};
-ghost use Rattle.gate_reorg.specs.Events.{present};
+ghost use Rattle.gate_reorg.specs.Reorganisation.{confirmed, all_confirmed, has_id};
+ghost use Rattle.gate_submission.specs.Blocks.{transactions_of};
+ghost use Rattle.gate_submission.specs.Blocks.{present};
 
 use gate_bytes::Memory;
 use gate_chain::Block;

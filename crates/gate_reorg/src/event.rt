@@ -7,19 +7,25 @@ ghost use Rattle.gate_chain.specs.declared.ChainDenial.TheVariants.{BlockDecode 
 ghost use Rattle.gate_chain.specs.Times.{tip_of};
 ghost use Rattle.gate_block.specs.Switching.{switched, last_blocks, switch_rules};
 ghost use Rattle.gate_admit.specs.Standing.{standing};
-ghost use Rattle.gate_reorg.specs.Reorganisation.{transactions_of, all_confirmed, returned};
+ghost use Rattle.gate_reorg.specs.Reorganisation.{all_confirmed, returned};
+ghost use Rattle.gate_reorg.specs.Changing.{HoldsTheSame, stands};
+ghost use Rattle.gate_reorg.specs.Following.{left_by};
+ghost use Rattle.gate_submission.specs.Blocks.{transactions_of};
 ghost use Rattle.gate_reorg.specs.Goodness.{IsReadyFor, StaysGood, limits_for};
-ghost use Rattle.gate_reorg.specs.Events.{present, event_rules, event_of, count_beyond};
+ghost use Rattle.gate_reorg.specs.Events.{event_rules, event_of, count_beyond};
+ghost use Rattle.gate_submission.specs.Blocks.{present};
 
 use crate::confirming::{Landing, confirm_all, ids_of, landings};
-use crate::moved::{Moved, count_beyond};
+use crate::moved::count_beyond;
 use crate::returning::return_all;
 use crate::staleness::take_premature;
+use crate::terms::{Changing, Switched, Terms};
 use gate_admit::{Floor, Verdicts};
 use gate_block::switch;
 use gate_bytes::{Copied, Memory};
 use gate_chain::{Block, Chain, ChainDenial, ChainFault};
 use gate_pool::Pool;
+use gate_submission::Moved;
 use gate_trim::{expire, trim};
 use std::alloc::Global;
 use std::hash::BuildHasher;
@@ -40,130 +46,66 @@ fn copies(alloc: Global, blocks: &[Option<Block>]) -> Result<Vec<Block>, ChainFa
     Ok(copies)
 }
 
-/// What a reorganisation leaves, before it takes its place.
+/// The pool and the floor that a reorganisation leaves, before they take their place.
 #[derive(Drop)]
 struct Draft<S: BuildHasher + Copy + Drop> {
     pool: Pool<S>,
     floor: Floor,
-    removed: usize,
-    entered: usize,
 }
 
 impl<S: BuildHasher + Copy + Drop> Draft<S> {
-    /// Takes its place as pool and floor, under a tip of this height.
-    fn land(self, pool: &mut Pool<S>, floor: &mut Floor, tip: u32) -> Moved
+    /// Follows a chain that was changed: what the new blocks confirm and contradict goes, the others' transactions come back,
+    /// and then goes what the next block cannot have, what is too old and what pays too little.
+    #[tactic(auto, unfolding(crate::specs::Reorganisation::returned))]
+    fn follow(
+        &mut self,
+        alloc: Global,
+        under: &Terms<'_, S>,
+        change: &Switched<'_, '_, '_>,
+    ) -> Result<(), Memory>
+        ensures { OnOk result (left_by under.now change.now self.old.pool.entries self.old.floor ≡ record { entries = self.new.pool.entries; floor = self.new.floor }) }
+    {
+        let new = ids_of(alloc, self.pool.hasher(), change.landings)?;
+        confirm_all(&mut self.pool, change.landings);
+        let returned = return_all(alloc, under, &mut self.pool, &new, change.gone);
+        drop(new);
+        returned?;
+        take_premature(alloc, under.chain, &mut self.pool)?;
+        expire(&mut self.pool, under.second);
+        trim(&mut self.pool, &mut self.floor, under.budget);
+        Ok(())
+    }
+
+    /// Takes its place as pool and floor.
+    fn land(self, pool: &mut Pool<S>, floor: &mut Floor)
         ensures pool { pool.new ≡ self.pool }
         ensures floor { floor.new ≡ self.floor }
-        ensures moved { result ≡ record { tip = tip; removed = self.removed; entered = self.entered } }
     {
         let Draft {
             pool: followed,
             floor: raised,
-            removed,
-            entered,
         } = self;
         *pool = followed;
         *floor = raised;
-        Moved {
-            tip,
-            removed,
-            entered,
-        }
     }
 }
 
-/// Makes a draft of the pool follow a chain that was changed, and gives the floor: what the new blocks confirm and contradict
-/// goes, the others' transactions come back, and then goes what the next block cannot have, what is too old and what pays too
-/// little.
-#[tactic(auto, unfolding(crate::specs::Reorganisation::returned))]
-fn follow<S: BuildHasher + Copy + Drop>(
-    alloc: Global,
-    chain: &Chain<S>,
-    draft: &mut Pool<S>,
-    floor: &Floor,
-    verdicts: &Verdicts<S>,
-    landings: &[Landing<'_>],
-    gone: &[Block],
-    now: u64,
-    budget: u64,
-) -> Result<Floor, Memory>
-    ensures { IfOk result (λ raised. returned chain.now verdicts.now now budget draft.old.entries floor.now landings.now (transactions_of gone.now) ≡ record { entries = draft.new.entries; floor = raised }) }
-{
-    let new = ids_of(alloc, draft.hasher(), landings)?;
-    confirm_all(draft, landings);
-    let returned = return_all(alloc, chain, draft, verdicts, now, &new, gone);
-    drop(new);
-    returned?;
-    take_premature(alloc, chain, draft)?;
-    expire(draft, now);
-    let mut raised = Floor::new(floor.rate());
-    trim(draft, &mut raised, budget);
-    Ok(raised)
-}
-
-/// The floor that a draft of the pool leads to, and how many entries went and came.
-#[derive(Drop)]
-struct Followed {
-    floor: Floor,
-    removed: usize,
-    entered: usize,
-}
-
-fn follow_and_count<S: BuildHasher + Copy + Drop>(
-    alloc: Global,
-    chain: &Chain<S>,
-    pool: &Pool<S>,
-    draft: &mut Pool<S>,
-    floor: &Floor,
-    verdicts: &Verdicts<S>,
-    landings: &[Landing<'_>],
-    gone: &[Block],
-    now: u64,
-    budget: u64,
-) -> Result<Followed, Memory>
-    ensures pool { IfOk result (λ followed. returned chain.now verdicts.now now budget draft.old.entries floor.now landings.now (transactions_of gone.now) ≡ record { entries = draft.new.entries; floor = followed.floor }) }
-    ensures removed { IfOk result (λ followed. followed.removed ≡ count_beyond pool.now.entries draft.new.entries) }
-    ensures entered { IfOk result (λ followed. followed.entered ≡ count_beyond draft.new.entries pool.now.entries) }
-{
-    let floor = follow(
-        alloc, chain, draft, floor, verdicts, landings, gone, now, budget,
-    )?;
-    let removed = count_beyond(alloc, pool, draft)?;
-    let entered = count_beyond(alloc, draft, pool)?;
-    Ok(Followed {
-        floor,
-        removed,
-        entered,
-    })
-}
-
-/// The pool over a chain that was changed: a copy of it, from which new blocks took out what they confirm and contradict,
-/// and into which the others' transactions came back.
+/// A pool and its floor over a chain that was changed: a copy of them that followed it.
 fn redraft<S: BuildHasher + Copy + Drop>(
     alloc: Global,
-    chain: &Chain<S>,
+    under: &Terms<'_, S>,
+    change: &Switched<'_, '_, '_>,
     pool: &Pool<S>,
     floor: &Floor,
-    verdicts: &Verdicts<S>,
-    landings: &[Landing<'_>],
-    gone: &[Block],
-    now: u64,
-    budget: u64,
 ) -> Result<Draft<S>, Memory>
-    ensures pool { IfOk result (λ draft. returned chain.now verdicts.now now budget pool.now.entries floor.now landings.now (transactions_of gone.now) ≡ record { entries = draft.pool.entries; floor = draft.floor }) }
-    ensures removed { IfOk result (λ draft. draft.removed ≡ count_beyond pool.now.entries draft.pool.entries) }
-    ensures entered { IfOk result (λ draft. draft.entered ≡ count_beyond draft.pool.entries pool.now.entries) }
+    ensures { IfOk result (λ draft. left_by under.now change.now pool.now.entries floor.now ≡ record { entries = draft.pool.entries; floor = draft.floor }) }
 {
-    let mut draft = pool.copy(alloc)?;
-    match follow_and_count(
-        alloc, chain, pool, &mut draft, floor, verdicts, landings, gone, now, budget,
-    ) {
-        Ok(followed) => Ok(Draft {
-            pool: draft,
-            floor: followed.floor,
-            removed: followed.removed,
-            entered: followed.entered,
-        }),
+    let mut draft = Draft {
+        pool: pool.copy(alloc)?,
+        floor: Floor::new(floor.rate()),
+    };
+    match draft.follow(alloc, under, change) {
+        Ok(()) => Ok(draft),
         Err(Memory) => {
             drop(draft);
             Err(Memory)
@@ -171,106 +113,137 @@ fn redraft<S: BuildHasher + Copy + Drop>(
     }
 }
 
-/// Connects blocks on top: what they confirm or contradict leaves the pool, and nothing else is done to it.
-fn extend<S: BuildHasher + Copy + Drop>(
+/// What a change from one pool to another came to, under a tip of this height.
+fn moved<S: BuildHasher + Copy + Drop>(
     alloc: Global,
-    chain: &mut Chain<S>,
-    pool: &mut Pool<S>,
-    blocks: Vec<Block>,
-    landings: &[Landing<'_>],
-) -> Result<Moved, ChainFault>
-    ensures chain { OnOk result (chain.new ≡ switched chain.old 0 blocks.items) }
-    ensures entries { OnOk result (pool.new.entries ≡ all_confirmed pool.old.entries landings.now) }
-    ensures moved { IfOk result (λ moved. moved ≡ record { tip = tip_of chain.new; removed = count_beyond pool.old.entries pool.new.entries; entered = count_beyond pool.new.entries pool.old.entries }) }
-    ensures chain_kept { OnErr result (chain.new ≡ chain.old) }
-    ensures pool_kept { OnErr result (pool.new.entries ≡ pool.old.entries) }
-    ensures passes { OnOk result (first_failing (switch_rules chain.old 0 blocks.items) ≡ None) }
-    ensures denied { IfErr result (λ fault. Tells fault (first_failing (switch_rules chain.old 0 blocks.items))) }
+    tip: u32,
+    before: &Pool<S>,
+    after: &Pool<S>,
+) -> Result<Moved, Memory>
+    ensures { IfOk result (λ moved. moved ≡ record { tip = tip; removed = count_beyond before.now.entries after.now.entries; entered = count_beyond after.now.entries before.now.entries }) }
 {
-    let _way = switch(alloc, chain, 0, blocks)?;
-    pool.tells_distinct();
-    let before = pool.count();
-    confirm_all(pool, landings);
     Ok(Moved {
-        tip: chain.tip(),
-        removed: before - pool.count(),
-        entered: 0,
+        tip,
+        removed: count_beyond(alloc, before, after)?,
+        entered: count_beyond(alloc, after, before)?,
     })
 }
 
-/// Puts blocks in the place of the last ones: the pool follows on a draft that then takes its place.
-fn reorganise<S: BuildHasher + Copy + Drop>(
+/// The draft of a pool over a chain that was changed, and what the change came to.
+fn follow_up<S: BuildHasher + Copy + Drop>(
     alloc: Global,
-    chain: &mut Chain<S>,
-    pool: &mut Pool<S>,
-    floor: &mut Floor,
-    verdicts: &Verdicts<S>,
-    depth: u64,
-    blocks: Vec<Block>,
-    landings: &[Landing<'_>],
-    now: u64,
-    budget: u64,
-) -> Result<Moved, ChainFault>
-    ensures chain { OnOk result (chain.new ≡ switched chain.old depth blocks.items) }
-    ensures pool { OnOk result (returned chain.new verdicts.now now budget pool.old.entries floor.old landings.now (transactions_of (last_blocks chain.old depth)) ≡ record { entries = pool.new.entries; floor = floor.new }) }
-    ensures moved { IfOk result (λ moved. moved ≡ record { tip = tip_of chain.new; removed = count_beyond pool.old.entries pool.new.entries; entered = count_beyond pool.new.entries pool.old.entries }) }
-    ensures chain_kept { OnErr result (chain.new ≡ chain.old) }
-    ensures pool_kept { OnErr result (pool.new.entries ≡ pool.old.entries) }
-    ensures floor_kept { OnErr result (floor.new ≡ floor.old) }
-    ensures passes { OnOk result (first_failing (switch_rules chain.old depth blocks.items) ≡ None) }
-    ensures denied { IfErr result (λ fault. Tells fault (first_failing (switch_rules chain.old depth blocks.items))) }
+    under: &Terms<'_, S>,
+    change: &Switched<'_, '_, '_>,
+    pool: &Pool<S>,
+    floor: &Floor,
+) -> Result<(Draft<S>, Moved), Memory>
+    ensures draft { IfOk result (λ found. left_by under.now change.now pool.now.entries floor.now ≡ record { entries = found.0.pool.entries; floor = found.0.floor }) }
+    ensures moved { IfOk result (λ found. found.1 ≡ record { tip = tip_of under.now.chain.now; removed = count_beyond pool.now.entries found.0.pool.entries; entered = count_beyond found.0.pool.entries pool.now.entries }) }
 {
-    let way = switch(alloc, chain, depth, blocks)?;
-    match redraft(
-        alloc,
-        chain,
-        pool,
-        floor,
-        verdicts,
-        landings,
-        way.gone(),
-        now,
-        budget,
-    ) {
-        Ok(draft) => {
-            drop(way);
-            Ok(draft.land(pool, floor, chain.tip()))
-        }
+    let draft = redraft(alloc, under, change, pool, floor)?;
+    match moved(alloc, under.chain.tip(), pool, &draft.pool) {
+        Ok(moved) => Ok((draft, moved)),
         Err(Memory) => {
-            way.back(chain);
-            Err(ChainFault::Memory)
+            drop(draft);
+            Err(Memory)
         }
     }
 }
 
-/// The event, exactly.
-#[tactic(auto, unfolding(crate::specs::Events::event_of, crate::specs::Events::event_rules, crate::specs::Reorganisation::pool_after))]
-fn make_event<S: BuildHasher + Copy + Drop>(
-    alloc: Global,
-    chain: &mut Chain<S>,
-    pool: &mut Pool<S>,
-    floor: &mut Floor,
-    verdicts: &Verdicts<S>,
-    disconnect: u64,
-    blocks: &[Option<Block>],
-    now: u64,
-    budget: u64,
-) -> Result<Moved, ChainFault>
-    ensures ok { IfOk result (λ moved. event_of (standing chain.old pool.old.entries floor.old verdicts.now) disconnect (present blocks.now) now budget ≡ record { chain = chain.new; entries = pool.new.entries; floor = floor.new; moved = moved }) }
-    ensures chain_kept { OnErr result (chain.new ≡ chain.old) }
-    ensures pool_kept { OnErr result (pool.new.entries ≡ pool.old.entries) }
-    ensures floor_kept { OnErr result (floor.new ≡ floor.old) }
-    ensures passes { OnOk result (first_failing (event_rules chain.old disconnect blocks.now) ≡ None) }
-    ensures denied { IfErr result (λ fault. Tells fault (first_failing (event_rules chain.old disconnect blocks.now))) }
-{
-    let copies = copies(alloc, blocks)?;
-    let landings = landings(alloc, blocks)?;
-    if disconnect == 0 {
-        extend(alloc, chain, pool, copies, &landings)
-    } else {
-        reorganise(
-            alloc, chain, pool, floor, verdicts, disconnect, copies, &landings, now, budget,
-        )
+impl<'a, S: BuildHasher + Copy + Drop> Changing<'a, S> {
+    /// Connects blocks on top: what they confirm or contradict leaves the pool, and nothing else is done to it.
+    fn extend(
+        &mut self,
+        alloc: Global,
+        blocks: Vec<Block>,
+        landings: &[Landing<'_>],
+    ) -> Result<Moved, ChainFault>
+        ensures same { HoldsTheSame self.old self.new }
+        ensures chain { OnOk result (self.new.chain.now ≡ switched self.old.chain.now 0 blocks.items) }
+        ensures entries { OnOk result (self.new.pool.now.entries ≡ all_confirmed self.old.pool.now.entries landings.now) }
+        ensures floor { self.new.floor.now ≡ self.old.floor.now }
+        ensures moved { IfOk result (λ moved. moved ≡ record { tip = tip_of self.new.chain.now; removed = count_beyond self.old.pool.now.entries self.new.pool.now.entries; entered = count_beyond self.new.pool.now.entries self.old.pool.now.entries }) }
+        ensures chain_kept { OnErr result (self.new.chain.now ≡ self.old.chain.now) }
+        ensures pool_kept { OnErr result (self.new.pool.now.entries ≡ self.old.pool.now.entries) }
+        ensures passes { OnOk result (first_failing (switch_rules self.old.chain.now 0 blocks.items) ≡ None) }
+        ensures denied { IfErr result (λ fault. Tells fault (first_failing (switch_rules self.old.chain.now 0 blocks.items))) }
+    {
+        let _way = switch(alloc, self.chain, 0, blocks)?;
+        self.pool.tells_distinct();
+        let before = self.pool.count();
+        confirm_all(self.pool, landings);
+        Ok(Moved {
+            tip: self.chain.tip(),
+            removed: before - self.pool.count(),
+            entered: 0,
+        })
+    }
+
+    /// Puts blocks in the place of the last ones: the pool follows on a draft that then takes its place.
+    fn reorganise(
+        &mut self,
+        alloc: Global,
+        depth: u64,
+        blocks: Vec<Block>,
+        landings: &[Landing<'_>],
+    ) -> Result<Moved, ChainFault>
+        ensures same { HoldsTheSame self.old self.new }
+        ensures chain { OnOk result (self.new.chain.now ≡ switched self.old.chain.now depth blocks.items) }
+        ensures pool { OnOk result (returned self.new.chain.now self.old.verdicts.now self.old.second self.old.budget self.old.pool.now.entries self.old.floor.now landings.now (transactions_of (last_blocks self.old.chain.now depth)) ≡ record { entries = self.new.pool.now.entries; floor = self.new.floor.now }) }
+        ensures moved { IfOk result (λ moved. moved ≡ record { tip = tip_of self.new.chain.now; removed = count_beyond self.old.pool.now.entries self.new.pool.now.entries; entered = count_beyond self.new.pool.now.entries self.old.pool.now.entries }) }
+        ensures chain_kept { OnErr result (self.new.chain.now ≡ self.old.chain.now) }
+        ensures pool_kept { OnErr result (self.new.pool.now.entries ≡ self.old.pool.now.entries) }
+        ensures floor_kept { OnErr result (self.new.floor.now ≡ self.old.floor.now) }
+        ensures passes { OnOk result (first_failing (switch_rules self.old.chain.now depth blocks.items) ≡ None) }
+        ensures denied { IfErr result (λ fault. Tells fault (first_failing (switch_rules self.old.chain.now depth blocks.items))) }
+    {
+        let way = switch(alloc, self.chain, depth, blocks)?;
+        let under = Terms {
+            chain: self.chain,
+            verdicts: self.verdicts,
+            second: self.second,
+            budget: self.budget,
+        };
+        let change = Switched {
+            landings,
+            gone: way.gone(),
+        };
+        match follow_up(alloc, &under, &change, self.pool, self.floor) {
+            Ok((draft, moved)) => {
+                drop(way);
+                draft.land(self.pool, self.floor);
+                Ok(moved)
+            }
+            Err(Memory) => {
+                way.back(self.chain);
+                Err(ChainFault::Memory)
+            }
+        }
+    }
+
+    /// The event, exactly.
+    #[tactic(auto, unfolding(crate::specs::Events::event_of, crate::specs::Events::event_rules, crate::specs::Reorganisation::pool_after))]
+    fn make_event(
+        &mut self,
+        alloc: Global,
+        disconnect: u64,
+        blocks: &[Option<Block>],
+    ) -> Result<Moved, ChainFault>
+        ensures same { HoldsTheSame self.old self.new }
+        ensures ok { IfOk result (λ moved. event_of (stands self.old) disconnect (present blocks.now) self.old.second self.old.budget ≡ record { chain = self.new.chain.now; entries = self.new.pool.now.entries; floor = self.new.floor.now; moved = moved }) }
+        ensures chain_kept { OnErr result (self.new.chain.now ≡ self.old.chain.now) }
+        ensures pool_kept { OnErr result (self.new.pool.now.entries ≡ self.old.pool.now.entries) }
+        ensures floor_kept { OnErr result (self.new.floor.now ≡ self.old.floor.now) }
+        ensures passes { OnOk result (first_failing (event_rules self.old.chain.now disconnect blocks.now) ≡ None) }
+        ensures denied { IfErr result (λ fault. Tells fault (first_failing (event_rules self.old.chain.now disconnect blocks.now))) }
+    {
+        let copies = copies(alloc, blocks)?;
+        let landings = landings(alloc, blocks)?;
+        if disconnect == 0 {
+            self.extend(alloc, copies, &landings)
+        } else {
+            self.reorganise(alloc, disconnect, copies, &landings)
+        }
     }
 }
 
@@ -301,7 +274,13 @@ pub fn chain_event<S: BuildHasher + Copy + Drop>(
     // Where the transactions are told apart by their ids, the pool stays good.
     ensures good { IsReadyFor (limits_for budget) chain.old pool.old.entries (present blocks.now) → StaysGood (limits_for budget) chain.new pool.new.entries }
 {
-    make_event(
-        alloc, chain, pool, floor, verdicts, disconnect, blocks, now, budget,
-    )
+    let mut changing = Changing {
+        chain,
+        pool,
+        floor,
+        verdicts,
+        second: now,
+        budget,
+    };
+    changing.make_event(alloc, disconnect, blocks)
 }

@@ -1,4 +1,4 @@
-//! What a chain event came to.
+//! How two pools differ.
 ghost use Rattle.std.specs.Prelude.{◌≡◌, IfOk};
 ghost use Rattle.gate_reorg.specs.Events.{count_beyond};
 
@@ -6,17 +6,6 @@ use gate_bytes::Memory;
 use gate_pool::Pool;
 use std::alloc::Global;
 use std::hash::BuildHasher;
-
-/// What a chain event came to.
-#[derive(Clone, Copy, Debug, PartialEq, Eq)]
-pub struct Moved {
-    /// The height of the tip after it.
-    pub tip: u32,
-    /// How many txids of entries before it no entry after it has.
-    pub removed: usize,
-    /// How many txids of entries after it no entry before it had.
-    pub entered: usize,
-}
 
 /// How many entries of one pool have a txid that no entry of another has.
 pub(crate) fn count_beyond<S: BuildHasher + Copy + Drop>(

@@ -3,11 +3,14 @@ ghost use Rattle.std.specs.Prelude.{◌≡◌, List, ℕ, OnOk};
 ghost use Rattle.std.specs.Str.{bytes_eq};
 ghost use Rattle.indexmap.specs.IndexSet.{contains};
 ghost use Rattle.gate_tx.specs.Tx.{Tx};
-ghost use Rattle.gate_reorg.specs.Reorganisation.{transactions_of, has_id, unconfirmed, tried_again, all_tried_again};
+ghost use Rattle.gate_reorg.specs.Following.{returns_of};
+ghost use Rattle.gate_reorg.specs.Reorganisation.{has_id, unconfirmed, tried_again};
+ghost use Rattle.gate_submission.specs.Blocks.{transactions_of};
 
-use gate_admit::{Prepared, Verdicts, readmit};
+use crate::terms::Terms;
+use gate_admit::{Prepared, readmit};
 use gate_bytes::{Copied, Counted, Memory};
-use gate_chain::{Block, Chain};
+use gate_chain::Block;
 use gate_pool::Pool;
 use gate_tx::{Identified, Transaction, Txid};
 use indexmap::IndexSet;
@@ -19,18 +22,23 @@ use std::hash::BuildHasher;
 #[tactic(auto, unfolding(crate::specs::Reorganisation::tried_again))]
 fn try_again<S: BuildHasher + Copy + Drop>(
     alloc: Global,
-    chain: &Chain<S>,
+    under: &Terms<'_, S>,
     pool: &mut Pool<S>,
-    verdicts: &Verdicts<S>,
-    now: u64,
     transaction: &Transaction,
 ) -> Result<(), Memory>
-    ensures { OnOk result (pool.new.entries ≡ tried_again chain.now verdicts.now now pool.old.entries transaction.now) }
+    ensures { OnOk result (pool.new.entries ≡ tried_again under.now.chain.now under.now.verdicts.now under.now.second pool.old.entries transaction.now) }
 {
     let identified = Identified::new(alloc, transaction.copy(alloc)?)?;
     let txid = identified.txid();
     let prepared = Prepared::of(alloc, Counted::new(alloc, identified)?)?;
-    match readmit(alloc, chain, pool, &prepared, verdicts, now)? {
+    match readmit(
+        alloc,
+        under.chain,
+        pool,
+        &prepared,
+        under.verdicts,
+        under.second,
+    )? {
         Ok(_grant) => {}
         Err(_denial) => pool.take_children(&txid),
     }
@@ -40,18 +48,16 @@ fn try_again<S: BuildHasher + Copy + Drop>(
 /// The same for the transactions of a block, one after another, without those of the ids.
 fn return_block<S: BuildHasher + Copy + Drop>(
     alloc: Global,
-    chain: &Chain<S>,
+    under: &Terms<'_, S>,
     pool: &mut Pool<S>,
-    verdicts: &Verdicts<S>,
-    now: u64,
     new: &IndexSet<Txid, S>,
     transactions: &[Transaction],
 ) -> Result<(), Memory>
-    ensures { (landed : List Tx) → ((id : List ℕ) → contains bytes_eq new.now id ≡ has_id landed id) → OnOk result (pool.new.entries ≡ all_tried_again chain.now verdicts.now now pool.old.entries (unconfirmed landed transactions.now)) }
+    ensures { (landed : List Tx) → ((id : List ℕ) → contains bytes_eq new.now id ≡ has_id landed id) → OnOk result (pool.new.entries ≡ returns_of under.now pool.old.entries (unconfirmed landed transactions.now)) }
 {
     for transaction in transactions {
         if !new.contains(&transaction.txid(alloc)?) {
-            try_again(alloc, chain, pool, verdicts, now, transaction)?;
+            try_again(alloc, under, pool, transaction)?;
         }
     }
     Ok(())
@@ -60,25 +66,15 @@ fn return_block<S: BuildHasher + Copy + Drop>(
 /// The same for blocks, the lowest first.
 pub(crate) fn return_all<S: BuildHasher + Copy + Drop>(
     alloc: Global,
-    chain: &Chain<S>,
+    under: &Terms<'_, S>,
     pool: &mut Pool<S>,
-    verdicts: &Verdicts<S>,
-    now: u64,
     new: &IndexSet<Txid, S>,
     gone: &[Block],
 ) -> Result<(), Memory>
-    ensures { (landed : List Tx) → ((id : List ℕ) → contains bytes_eq new.now id ≡ has_id landed id) → OnOk result (pool.new.entries ≡ all_tried_again chain.now verdicts.now now pool.old.entries (unconfirmed landed (transactions_of gone.now))) }
+    ensures { (landed : List Tx) → ((id : List ℕ) → contains bytes_eq new.now id ≡ has_id landed id) → OnOk result (pool.new.entries ≡ returns_of under.now pool.old.entries (unconfirmed landed (transactions_of gone.now))) }
 {
     for block in gone {
-        return_block(
-            alloc,
-            chain,
-            pool,
-            verdicts,
-            now,
-            new,
-            block.transactions.as_slice(),
-        )?;
+        return_block(alloc, under, pool, new, block.transactions.as_slice())?;
     }
     Ok(())
 }

@@ -8,8 +8,8 @@ ghost use Rattle.gate_rpc.specs.Calls.{params_of, only, is_none, is_false_alone,
 
 use crate::method::Method;
 use crate::request::Command;
-use gate_admit::Prepared;
 use gate_bytes::Memory;
+use gate_submission::Prepared;
 use gate_tx::Txid;
 use hex::FromHexError;
 use serde_json::Value;

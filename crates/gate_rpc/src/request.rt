@@ -4,8 +4,8 @@ ghost use Rattle.gate_rpc.specs.Calls.{method_of};
 
 use crate::id::Id;
 use crate::method::Method;
-use gate_admit::Prepared;
 use gate_bytes::{Copied, Memory};
+use gate_submission::Prepared;
 use gate_tx::Txid;
 use std::alloc::Global;
 

@@ -1,17 +1,13 @@
 -- The value under the lock, one entry more.
-use Rattle.std.proofs.Common.{◌≡◌, ◌<◌, List, [], ◌∷◌, ◌++◌, Contains, ⊎_elim, length, refl, sym, ap, ◌∙◌, subst, arith, length-append}
-use Rattle.std.specs.List.{flat_map}
-use Rattle.std.proofs.lemmas.List.Elements.{Contains-append_left, Contains-append_right, Contains-append_cases}
-use Rattle.gate_tx.specs.Tx.{Tx}
+use Rattle.std.proofs.Common.{◌≡◌, ◌<◌, List, [], ◌∷◌, ◌++◌, length, refl, sym, ap, ◌∙◌, subst, arith, length-append}
+use Rattle.std.proofs.lemmas.List.Elements.{Contains-append_left}
 use Rattle.gate_message.specs.declared.event.Event.{Event}
 use Rattle.gate_message.specs.declared.reply.Reply.{Reply}
 use Rattle.gate_core.specs.World.{World}
 use Rattle.gate_core.specs.Steps.{step_of}
-use Rattle.gate_message.specs.Spelled.{transactions_of}
-use Rattle.gate_core.specs.Good.{IsGoodWorld, IsApartFrom, StepGives, transactions_in}
+use Rattle.gate_core.specs.Good.{IsGoodWorld, IsApartFrom, StepGives}
 use Rattle.gate_core.specs.Runs.{run_of, IsRunApart}
-use Rattle.gate_core.proofs.Keeping.{apart_part}
-use Rattle.gate_core.proofs.Running.{apart_first, apart_rest}
+use Rattle.gate_core.proofs.Running.{apart_among, apart_first, apart_rest}
 use Rattle.gate_journal.specs.declared.entry.Entry.{Entry}
 use Rattle.gate_journal.specs.Legal.{events_of, state_after}
 use Rattle.gate_journal.proofs.Replaying.{legal-push, state_after-push}
@@ -19,22 +15,9 @@ use Rattle.gate_shared.specs.Held.{Held, held, IsHeld}
 
 -- ---- runs that are apart
 
-in_longer : (events : List Event) (event : Event) (tx : Tx) → Contains (flat_map transactions_of events) tx → Contains (flat_map transactions_of (events ++ event ∷ [])) tx
-in_longer [] event tx h = let lt = h.1 in absurd (omega arith)
-in_longer (e ∷ events) event tx h =
-    ⊎_elim (λ k. Contains-append_left (transactions_of e) (flat_map transactions_of (events ++ event ∷ [])) tx k)
-    (λ k. Contains-append_right (transactions_of e) (flat_map transactions_of (events ++ event ∷ [])) tx (in_longer events event tx k))
-    (Contains-append_cases (transactions_of e) (flat_map transactions_of events) tx h)
-
 -- so is the run before its last event
 pub apart_before : (w : World) (events : List Event) (event : Event) → IsRunApart w (events ++ event ∷ []) → IsRunApart w events
-apart_before w events event apart =
-    apart_part (transactions_in w ++ flat_map transactions_of events) (transactions_in w ++ flat_map transactions_of (events ++ event ∷ []))
-    (λ tx h.
-    ⊎_elim (λ k. Contains-append_left (transactions_in w) (flat_map transactions_of (events ++ event ∷ [])) tx k)
-    (λ k. Contains-append_right (transactions_in w) (flat_map transactions_of (events ++ event ∷ [])) tx (in_longer events event tx k))
-    (Contains-append_cases (transactions_in w) (flat_map transactions_of events) tx h))
-    apart
+apart_before w events event apart = apart_among w events (events ++ event ∷ []) (λ e h. Contains-append_left events (event ∷ []) e h) apart
 
 -- and its last event, from the state before it
 pub apart_last : (w : World) (events : List Event) (event : Event) → IsRunApart w (events ++ event ∷ []) → IsApartFrom (run_of w events).1 event

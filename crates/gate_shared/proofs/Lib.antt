@@ -1,4 +1,5 @@
 pub mod Claims
+mod EndingGood
 pub mod Growing
 pub mod Owners
 pub mod Passes

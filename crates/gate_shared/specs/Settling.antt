@@ -81,6 +81,10 @@ WhyUnsettled journal passes Memory = Unit {0}
 abbrev pub SettlesAll : World → List PassView → Settled → Type 0
 SettlesAll base passes s = IsLegal base s.journal.entries × IsSettled s.journal.entries passes s
 
--- there was a legal journal that the passes don't settle with
+-- there was a legal journal that the passes don't settle with, or memory was wanting
 abbrev pub WhyNone : World → List PassView → Unsettled → Type 0
 WhyNone base passes why = (s : Held) × IsHeld base s × WhyUnsettled s.journal passes why
+
+-- there was a legal journal without an entry of its own for each call, or with more entries than calls
+abbrev pub DontSettle : World → List PassView → Type 0
+DontSettle base passes = (why : Unsettled) × (why ≢ Memory) × WhyNone base passes why

@@ -1,22 +1,48 @@
 //! The end of a gate.
 ghost use Rattle.std.specs.Prelude.{◌≡◌, IfOk, IfErr};
 ghost use Rattle.gate_journal.specs.Legal.{state_after};
-ghost use Rattle.gate_shared.specs.Settling.{SettlesAll, WhyNone};
+ghost use Rattle.gate_shared.specs.Ends.{EndsGood};
+ghost use Rattle.gate_shared.specs.Held.{IsHeld};
+ghost use Rattle.gate_shared.specs.Settling.{SettlesAll, IsSettled, WhyUnsettled};
 
 use crate::base::Base;
 use crate::gate::Gate;
 use crate::pass::Pass;
 use crate::settle::{SettleFault, Settled};
+use crate::shared::Shared;
 use gate_core::State;
 use std::alloc::Global;
 use std::hash::BuildHasher;
-use std::sync::Mutex;
 
-/// Why a gate was not finished, with the gate, as it was, and the passes.
+/// Why a gate was not finished, with what lay under its lock, as it was, and the passes. `Gate::of` makes a gate of it
+/// again, which goes on.
 #[derive(Drop)]
 pub struct FinishFault<N: Base, S: BuildHasher + Copy + Drop> {
-    pub gate: Gate<N, S>,
+    pub shared: Shared<N, S>,
     pub fault: SettleFault<N>,
+}
+
+impl<N: Base, S: BuildHasher + Copy + Drop> Shared<N, S> {
+    /// Settles the passes with the journal, and takes the state out. A fault hands everything back.
+    pub fn finish(
+        self,
+        alloc: Global,
+        passes: Vec<Pass<N>>,
+    ) -> Result<(Settled, State<S>), FinishFault<N, S>>
+        ensures held { IsHeld N.base self }
+        ensures ok { IfOk result (λ r. IsSettled self.journal passes.items r.0 × (r.1 ≡ self.state)) }
+        ensures good { IfOk result (λ r. EndsGood N.base passes.items r.1) }
+        ensures shared { IfErr result (λ e. e.shared ≡ self) }
+        ensures fault { IfErr result (λ e. WhyUnsettled e.shared.journal passes.items e.fault.why × (e.fault.passes ≡ passes)) }
+    {
+        match self.settle(alloc, passes) {
+            Ok(settled) => Ok((settled, self.into_state())),
+            Err(fault) => Err(FinishFault {
+                shared: self,
+                fault,
+            }),
+        }
+    }
 }
 
 /// Settles the passes, and takes the state out of the gate: it is the one that the settled journal leads to.
@@ -26,17 +52,9 @@ pub fn finish<N: Base, S: BuildHasher + Copy + Drop>(
     passes: Vec<Pass<N>>,
 ) -> Result<(Settled, State<S>), FinishFault<N, S>>
     ensures ok { IfOk result (λ r. SettlesAll N.base passes.items r.0 × (r.1 ≡ state_after N.base r.0.journal.entries)) }
-    ensures err { IfErr result (λ e. WhyNone N.base passes.items e.fault.why × (e.fault.passes ≡ passes)) }
+    ensures good { IfOk result (λ r. EndsGood N.base passes.items r.1) }
+    ensures held { IfErr result (λ e. IsHeld N.base e.shared) }
+    ensures err { IfErr result (λ e. WhyUnsettled e.shared.journal passes.items e.fault.why × (e.fault.passes ≡ passes)) }
 {
-    let Gate { shared } = gate;
-    let shared = shared.into_inner();
-    match shared.settle(alloc, passes) {
-        Ok(settled) => Ok((settled, shared.into_state())),
-        Err(fault) => Err(FinishFault {
-            gate: Gate {
-                shared: Mutex::new(shared),
-            },
-            fault,
-        }),
-    }
+    gate.into_shared().finish(alloc, passes)
 }

@@ -4,7 +4,9 @@ ghost use Rattle.gate_message.specs.Callers.{caller_of};
 ghost use Rattle.gate_shared.specs.declared.receipt.Made.{Made as TheMade};
 ghost use Rattle.gate_shared.specs.declared.receipt.Receipt.{Receipt as TheReceipt};
 ghost use Rattle.gate_shared.specs.Calls.{last_call};
-ghost use Rattle.gate_shared.specs.Held.{Called, Enrolled, Grows, IsRecorded};
+ghost use Rattle.gate_journal.specs.Legal.{state_after};
+ghost use Rattle.gate_shared.specs.Ends.{EndsGood};
+ghost use Rattle.gate_shared.specs.Held.{Called, Enrolled, Grows, IsHeld, IsRecorded};
 ghost use Rattle.gate_shared.specs.Settling.{SettlesAll, WhyNone};
 
 use crate::base::Base;
@@ -20,19 +22,37 @@ use std::hash::BuildHasher;
 use std::sync::{Mutex, Wait};
 
 /// One state under one lock. Each call is one step of it and one entry of its journal.
+///
+/// No clause names the value that lies under the lock. What is made of it one call at a time is said by the calls of
+/// `Shared`, exactly; a call here says that there was such a value.
 #[derive(Drop)]
 pub struct Gate<N: Base, S: BuildHasher + Copy + Drop> {
-    pub(crate) shared: Mutex<Shared<N, S>>,
+    shared: Mutex<Shared<N, S>>,
 }
 
 impl<N: Base, S: BuildHasher + Copy + Drop> Gate<N, S> {
-    /// A gate on the state of its name.
+    /// A gate on the state of its name, as `Shared::new` has it.
     pub fn open(alloc: Global, state: State<S>) -> Gate<N, S>
         requires { state ≡ N.base }
     {
+        Gate::of(Shared::new(alloc, state))
+    }
+
+    /// A gate that goes on with this state and journal.
+    pub fn of(shared: Shared<N, S>) -> Gate<N, S> {
         Gate {
-            shared: Mutex::new(Shared::new(alloc, state)),
+            shared: Mutex::new(shared),
         }
+    }
+
+    /// What lay under the lock.
+    pub fn into_shared(self) -> Shared<N, S>
+        ensures { IsHeld N.base result }
+    {
+        let Gate { shared } = self;
+        let shared = shared.into_inner();
+        shared.tells_held();
+        shared
     }
 
     /// A pass of a caller, with no calls and the next number.
@@ -63,8 +83,8 @@ impl<N: Base, S: BuildHasher + Copy + Drop> Gate<N, S> {
         self.shared.lock(rt).apply(alloc, pass, event)
     }
 
-    /// Settles passes: the entries of the journal are exactly their calls, each once and at its receipt's number. A fault
-    /// hands the passes back.
+    /// Settles passes, as `Shared::settle` does with the journal at that moment: its entries are exactly their calls, each
+    /// once and at its receipt's number. A fault hands the passes back.
     pub fn settle<R: Wait>(
         &self,
         rt: &R,
@@ -72,6 +92,7 @@ impl<N: Base, S: BuildHasher + Copy + Drop> Gate<N, S> {
         passes: Vec<Pass<N>>,
     ) -> Result<Settled, SettleFault<N>>
         ensures ok { IfOk result (SettlesAll N.base passes.items) }
+        ensures good { IfOk result (λ s. EndsGood N.base passes.items (state_after N.base s.journal.entries)) }
         ensures err { IfErr result (λ fault. WhyNone N.base passes.items fault.why × (fault.passes ≡ passes)) }
     {
         self.shared.lock(rt).settle(alloc, passes)

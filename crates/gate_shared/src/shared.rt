@@ -1,8 +1,6 @@
 //! What lies under the lock, and its one change.
-ghost use Rattle.std.specs.Prelude.{◌≡◌, ◌+◌, ◌<◌, [], ◌∷◌, ◌++◌, length, IfOk, IfErr, OnErr, MatchResult};
+ghost use Rattle.std.specs.Prelude.{◌≡◌, ◌+◌, ◌<◌, [], ◌∷◌, ◌++◌, length, IfOk, IfErr, OnOk, OnErr, MatchResult};
 ghost use Rattle.std.specs.Vec.{vec_len, vec_capacity};
-ghost use Rattle.gate_core.specs.Good.{StepGives};
-ghost use Rattle.gate_core.specs.Steps.{step_of};
 ghost use Rattle.gate_journal.specs.Legal.{entry};
 ghost use Rattle.gate_shared.specs.Calls.{made, receipt};
 
@@ -11,7 +9,7 @@ use crate::pass::{Pass, stands};
 use crate::receipt::{Made, Receipt};
 use crate::settle::{SettleFault, Settled, settle};
 use gate_bytes::{Copied, Memory};
-use gate_core::{State, StepFault};
+use gate_core::State;
 use gate_journal::{Entry, Journal};
 use gate_message::{Caller, Event, Replies};
 use std::alloc::Global;
@@ -55,23 +53,6 @@ impl<N: Base, S: BuildHasher + Copy + Drop> Model for Shared<N, S> {
     ghost view = { λ s. held s.state s.journal.entries s.passes };
 
     ghost invariant = { λ s. IsHeld N.base (held s.state s.journal.entries s.passes) };
-}
-
-/// The step with copies of its reply, of which nothing but memory can be lacking.
-fn step<S: BuildHasher + Copy + Drop>(
-    alloc: Global,
-    state: &mut State<S>,
-    event: &Event,
-) -> Result<Replies, Memory>
-    ensures exact { IfOk result (λ r. (r.reply, state.new) ≡ step_of state.old event.now) }
-    ensures good { IfOk result (λ r. StepGives state.old event.now r.reply state.new) }
-    ensures copies { IfOk result (λ r. (r.receipt ≡ r.reply) × (r.entry ≡ r.reply)) }
-    ensures err { OnErr result (state.new ≡ state.old) }
-{
-    match state.step_recorded(alloc, event) {
-        Ok(replies) => Ok(replies),
-        Err(StepFault::Memory) => Err(Memory),
-    }
 }
 
 /// An event for each who keeps it.
@@ -136,6 +117,7 @@ fn note(
 impl<N: Base, S: BuildHasher + Copy + Drop> Shared<N, S> {
     ghost use Rattle.gate_shared.specs.Held.{held, IsHeld, Enters, Enrolls, FirstFault, NoFault, Applies};
     ghost use Rattle.gate_shared.specs.Calls.{EachBelow};
+    ghost use Rattle.gate_shared.specs.Ends.{EndsGood};
     ghost use Rattle.gate_shared.specs.Settling.{IsSettled, WhyUnsettled};
 
     /// The state of the name, with an empty journal.
@@ -193,7 +175,7 @@ impl<N: Base, S: BuildHasher + Copy + Drop> Shared<N, S> {
         self.journal.reserve()?;
         pass.calls.reserve(1)?;
         let events = Events::of(alloc, event)?;
-        match step(alloc, &mut self.state, event) {
+        match self.state.step_recorded(alloc, event) {
             Ok(replies) => Ok(note(
                 &mut self.journal,
                 &mut pass.calls,
@@ -253,12 +235,32 @@ impl<N: Base, S: BuildHasher + Copy + Drop> Shared<N, S> {
     pub fn settle(&self, alloc: Global, passes: Vec<Pass<N>>) -> Result<Settled, SettleFault<N>>
         ensures is { IsHeld N.base self.now }
         ensures ok { IfOk result (IsSettled self.now.journal passes.items) }
+        ensures good { OnOk result (EndsGood N.base passes.items self.now.state) }
         ensures err { IfErr result (λ fault. WhyUnsettled self.now.journal passes.items fault.why × (fault.passes ≡ passes)) }
     {
         match settle(alloc, &self.journal, passes.as_slice()) {
             Ok(settled) => Ok(settled),
             Err(why) => Err(SettleFault { why, passes }),
         }
+    }
+
+    pub fn state(&self) -> &State<S>
+        ensures { result.now ≡ self.now.state }
+    {
+        &self.state
+    }
+
+    pub fn journal(&self) -> &Journal
+        ensures { result.now.entries ≡ self.now.journal }
+    {
+        &self.journal
+    }
+
+    /// How many passes were given out; the greatest number of 64 bits stays.
+    pub fn passes(&self) -> u64
+        ensures { result ≡ self.now.passes }
+    {
+        self.passes
     }
 
     pub fn into_state(self) -> State<S>

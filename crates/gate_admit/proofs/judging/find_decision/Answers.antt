@@ -1,21 +1,20 @@
 use Rattle.std.proofs.Common.{◌≡◌, None, sym, ap, ◌∙◌, arith}
-use Rattle.std.specs.Option.{option_copied}
 use Rattle.gate_bytes.specs.Order.{first_failing}
 use Rattle.gate_tx.specs.Ids.{txid_of}
 use Rattle.gate_pool.specs.Pool.{entry_by_txid}
 use Rattle.gate_admit.specs.Reports.{vsize_of}
-use Rattle.gate_admit.specs.Rules.{alone_rules, first_denial}
+use Rattle.gate_submission.specs.Alone.{alone_rules}
 use Rattle.gate_admit.proofs.Granted.{unpooled_id, fits_in}
 use Rattle.gate_admit.proofs.judging.find_decision.Goals as goal
 
 pub check_families-requires-clause-new : goal.check_families-requires-clause-new
 check_families-requires-clause-new g c =
-    let entries = g.V.FamilyView.entries c.args.pool.now in
-    ap (λ t. entry_by_txid entries (txid_of t)) (sym c.get-tx.ensures) ∙ unpooled_id entries c.get-tx.result.now (sym c.in_default-check_pool.ensures)
+    let entries = c.args.over.now.pool.now.entries in
+    ap (λ es. entry_by_txid es (txid_of c.identified-identified.result.now)) (rw c.in-Ok.is at c.in_ok-direct.ensures.entries)
+    ∙ ap (λ t. entry_by_txid entries (txid_of t)) (sym c.get-tx.ensures) ∙ unpooled_id entries c.get-tx.result.now (rw c.in-Ok.is at c.in_ok-direct.ensures.ok)
 
 pub check_families-requires-clause-most : goal.check_families-requires-clause-most
 check_families-requires-clause-most g c =
-    let tx = c.in-Some.shared.now in
-    let some = sym c.identified.ensures ∙ ap option_copied c.in-Some.is in
-    let alone : first_failing (alone_rules tx) ≡ None = sym (c.in_default-denial.ensures ∙ ap first_denial some) in
-    omega (arith, c.vsize_of-vsize.ensures.value, ap (vsize_of c.in-Ok-check_reports.cost) c.get-tx.ensures, fits_in tx c.in-Ok-check_reports.cost c.in-Ok-check_reports.ensures.small alone)
+    let tx = c.args.candidate.now in
+    let alone : first_failing (alone_rules tx) ≡ None = sym c.in_default.ensures in
+    omega (arith, c.vsize_of-vsize.ensures.value, ap (vsize_of c.in-Ok-check_reports.cost) (c.get-tx.ensures ∙ c.identified-identified.ensures), fits_in tx c.in-Ok-check_reports.cost c.in-Ok-check_reports.ensures.small alone)

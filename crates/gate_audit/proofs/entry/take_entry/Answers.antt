@@ -12,14 +12,14 @@ pub returns-in_default-clause-taken : goal.returns-in_default-clause-taken
 returns-in_default-clause-taken g c =
     let read = rw c.if-not-branch.false at c.in_ok-next_asking.ensures.read in
     let none = rw (c.in_default.is, c.as_slice.ensures) at c.in_ok-reply.ensures in
-    entry_unspelled _ (g.R.Read.remaining c.next_asking.new.reader) _ c.next_asking.new.self.number _ c.next_asking.new.self.has_ended c.args.state.now c.reply_to.new.state c.next_asking.new.self.line.items read none
+    entry_unspelled _ (g.R.Read.remaining c.next_asking.new.reader) _ c.next_asking.new.self.lines.count _ c.next_asking.new.self.has_ended c.args.state.now c.reply_to.new.state c.next_asking.new.self.lines.line read none
 
 pub returns-in_err-reply_follows-clause-past : goal.returns-in_err-reply_follows-clause-past
 returns-in_err-reply_follows-clause-past g c = λ steady err.
     let same = handed_on _ c.in_err-reply_follows.field-0.0 _ (err_from_is_err_and c.from_residual-in_err-reply_follows.result c.from_residual-in_err-reply_follows.ensures.1) err in
     let read = rw c.if-not-branch.false at c.in_ok-next_asking.ensures.read in
     let some = rw (c.in-Some.is, c.as_slice.ensures) at c.in_ok-reply.ensures in
-    past_second _ (g.R.Read.remaining c.next_asking.new.reader) _ c.next_asking.new.self.number c.next_asking.new.self.has_ended c.args.state.now c.reply_to.new.state c.next_asking.new.self.line.items (string_bytes c.in-Some.reply) read some
+    past_second _ (g.R.Read.remaining c.next_asking.new.reader) _ c.next_asking.new.self.lines.count c.next_asking.new.self.has_ended c.args.state.now c.reply_to.new.state c.next_asking.new.self.lines.line (string_bytes c.in-Some.reply) read some
     (c.in_err-reply_follows.ensures.past steady (ap (λ e. Err e) same))
 
 pub returns-then-branch-clause-taken : goal.returns-then-branch-clause-taken
@@ -27,11 +27,11 @@ returns-then-branch-clause-taken g c =
     let read = rw c.if-not-branch.false at c.in_ok-next_asking.ensures.read in
     let some = rw (c.in-Some.is, c.as_slice.ensures) at c.in_ok-reply.ensures in
     let follows = rw (c.if-branch.true, c.as_str.ensures.value) at c.in_ok-reply_follows.ensures.read in
-    entry_legal _ (g.R.Read.remaining c.next_asking.new.reader) _ _ c.next_asking.new.self.number _ c.next_asking.new.self.has_ended _ c.args.state.now c.reply_to.new.state c.next_asking.new.self.line.items (string_bytes c.in-Some.reply) read some follows
+    entry_legal _ (g.R.Read.remaining c.next_asking.new.reader) _ _ c.next_asking.new.self.lines.count _ c.next_asking.new.self.has_ended _ c.args.state.now c.reply_to.new.state c.next_asking.new.self.lines.line (string_bytes c.in-Some.reply) read some follows
 
 pub returns-clause-taken : goal.returns-clause-taken
 returns-clause-taken g c =
     let read = rw c.if-not-branch.false at c.in_ok-next_asking.ensures.read in
     let some = rw (c.in-Some.is, c.as_slice.ensures) at c.in_ok-reply.ensures in
     let follows = rw (c.if-branch.false, c.as_str.ensures.value) at c.in_ok-reply_follows.ensures.read in
-    entry_unreplied _ (g.R.Read.remaining c.next_asking.new.reader) _ c.next_asking.new.self.number _ c.next_asking.new.self.has_ended c.args.state.now c.reply_to.new.state c.next_asking.new.self.line.items (string_bytes c.in-Some.reply) read some follows
+    entry_unreplied _ (g.R.Read.remaining c.next_asking.new.reader) _ c.next_asking.new.self.lines.count _ c.next_asking.new.self.has_ended c.args.state.now c.reply_to.new.state c.next_asking.new.self.lines.line (string_bytes c.in-Some.reply) read some follows

@@ -1,4 +1,3 @@
-use Rattle.std.proofs.Common.{◌+◌}
 use Rattle.gate_journal.proofs.Replaying.{found_some, replay_on, replay_stops, stopped_illegal}
 use Rattle.gate_journal.proofs.replay.first_illegal.Goals as goal
 

@@ -8,12 +8,12 @@ use Rattle.gate_rbf.proofs.below.admitted.Goals.{in-Some+in_ok-put-in-Some, in-N
 
 pub loop-id-init : goal.loop-id-init
 loop-id-init g c =
-    let entries = g.V.FamilyView.entries c.args.pool.now in
+    let entries = c.args.pool.now.entries in
     subst (λ (l : List (List ℕ)). AreIdsOf l (filter (is_among []) entries)) (sym c.new-found.ensures.items) (AreIdsOf-none (is_among []) entries (λ e m. refl))
 
 pub loop-id-preserved : goal.loop-id-preserved
 loop-id-preserved g c =
-    let entries = g.V.FamilyView.entries c.args.pool.now in
+    let entries = c.args.pool.now.entries in
     let ids = c.args.ids.now in
     let k = c.loop-id.id-index in
     elim c.match-entry.branch [

@@ -8,7 +8,7 @@ use Rattle.gate_rbf.proofs.counts.has_few_descendants.Goals as goal
 
 pub returns-in_default : goal.returns-in_default
 returns-in_default g c = λ test are.
-    let entries = g.V.FamilyView.entries c.args.pool.now in
+    let entries = c.args.pool.now.entries in
     let distinct = c.tells_distinct.ensures in
     let ids = c.args.ids.now in
     let k = c.loop-id.id-index in
@@ -23,7 +23,7 @@ overflow_sub-left g c = omega (arith, c.len-left.ensures, rw c.in-Some.is at c.i
 
 pub loop-id-preserved : goal.loop-id-preserved
 loop-id-preserved g c = λ test are.
-    let entries = g.V.FamilyView.entries c.args.pool.now in
+    let entries = c.args.pool.now.entries in
     let distinct = c.tells_distinct.ensures in
     let ids = c.args.ids.now in
     let k = c.loop-id.id-index in
@@ -35,7 +35,7 @@ loop-id-preserved g c = λ test are.
 
 pub returns : goal.returns
 returns g c = λ test are.
-    let entries = g.V.FamilyView.entries c.args.pool.now in
+    let entries = c.args.pool.now.entries in
     let ids = c.args.ids.now in
     let k = c.loop-id.id-index in
     let whole = ap (counted entries) (take_all k ids (omega (arith, c.loop-id-test.false))) in

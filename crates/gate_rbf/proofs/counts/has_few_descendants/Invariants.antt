@@ -6,4 +6,4 @@ use Rattle.gate_rbf.proofs.Counted.{counted}
 use Rattle.gate_rbf.proofs.counts.has_few_descendants.Given as goal
 
 abbrev pub invariant-loop-id : goal.invariant-loop-id
-invariant-loop-id g l = (test : Admitted → Bool) → AreIdsOf l.ids (filter test (g.V.FamilyView.entries l.pool)) → l.left + counted (g.V.FamilyView.entries l.pool) (take l.id-index l.ids) ≡ 100
+invariant-loop-id g l = (test : Admitted → Bool) → AreIdsOf l.ids (filter test l.pool.entries) → l.left + counted l.pool.entries (take l.id-index l.ids) ≡ 100

@@ -9,7 +9,7 @@ use Rattle.gate_rbf.proofs.parents.adds_parents.Goals as goal
 
 pub returns : goal.returns
 returns g c = λ test are.
-    let entries = g.V.FamilyView.entries c.args.pool.now in
+    let entries = c.args.pool.now.entries in
     let given = c.args.direct.now in
     let ids = c.in_ok-parents.parents.items in
     any_from_yields_List (λ (id : List ℕ). not (list_any (λ (e : Admitted). is_among given e && names e id) entries)) _ _ c.any.result c.any.ensures.ran (YieldsList-from_slice ids cc) (λ x b q k. search (rules, tests))

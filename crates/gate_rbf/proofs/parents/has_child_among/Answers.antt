@@ -9,7 +9,7 @@ use Rattle.gate_rbf.proofs.parents.has_child_among.Goals as goal
 
 pub returns : goal.returns
 returns g c =
-    let entries = g.V.FamilyView.entries c.args.pool.now in
+    let entries = c.args.pool.now.entries in
     let parent = c.args.parent.now in
     any_from_yields_List (λ (id : List ℕ). list_any (λ (e : Admitted). has_txid e id && names e parent) entries) _ _ c.any.result c.any.ensures.ran (YieldsList-from_slice c.args.ids.now cc) (λ x b q k. search (rules, tests))
     ∙ any_exchange_and (λ (id : List ℕ) (e : Admitted). has_txid e id) (λ (e : Admitted). names e parent) c.args.ids.now entries

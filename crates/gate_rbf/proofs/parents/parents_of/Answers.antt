@@ -10,12 +10,12 @@ use Rattle.gate_rbf.proofs.parents.parents_of.Goals.{in-Some+in_ok-put-in-Some, 
 
 pub loop-input-init : goal.loop-input-init
 loop-input-init g c =
-    let entries = g.V.FamilyView.entries c.args.pool.now in
+    let entries = c.args.pool.now.entries in
     subst (λ (l : List (List ℕ)). AreIdsOf l (filter (is_parent []) entries)) (sym c.new-ids.ensures.items) (AreIdsOf-none (is_parent []) entries (λ e m. refl))
 
 pub loop-input-preserved : goal.loop-input-preserved
 loop-input-preserved g c =
-    let entries = g.V.FamilyView.entries c.args.pool.now in
+    let entries = c.args.pool.now.entries in
     let items = c.inputs-input-items.result.now in
     let k = c.loop-input.input-index in
     elim c.match-entry.branch [
@@ -30,6 +30,6 @@ loop-input-preserved g c =
 
 pub returns : goal.returns
 returns g c =
-    let entries = g.V.FamilyView.entries c.args.pool.now in
+    let entries = c.args.pool.now.entries in
     subst (λ (l : List TxIn). AreIdsOf c.loop-input.ids.items (filter (is_parent l) entries))
     (take_all c.loop-input.input-index c.inputs-input-items.result.now (omega (arith, c.loop-input-test.false)) ∙ c.inputs-input-items.ensures) c.loop-input.invariant

@@ -5,4 +5,4 @@ use Rattle.gate_rbf.specs.Gathering.{is_parent}
 use Rattle.gate_rbf.proofs.parents.parents_of.Given as goal
 
 abbrev pub invariant-loop-input : goal.invariant-loop-input
-invariant-loop-input g l = AreIdsOf l.ids.items (filter (is_parent (take l.input-index l.input-items)) (g.V.FamilyView.entries l.pool))
+invariant-loop-input g l = AreIdsOf l.ids.items (filter (is_parent (take l.input-index l.input-items)) l.pool.entries)

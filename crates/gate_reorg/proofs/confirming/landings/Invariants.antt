@@ -1,6 +1,6 @@
 use Rattle.std.proofs.Common.{◌≡◌, ◌++◌, drop}
-use Rattle.gate_reorg.specs.Reorganisation.{transactions_of}
-use Rattle.gate_reorg.specs.Events.{present}
+use Rattle.gate_submission.specs.Blocks.{transactions_of}
+use Rattle.gate_submission.specs.Blocks.{present}
 use Rattle.gate_reorg.proofs.confirming.landings.Given as goal
 
 abbrev pub invariant-loop-block : goal.invariant-loop-block

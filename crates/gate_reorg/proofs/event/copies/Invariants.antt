@@ -1,7 +1,7 @@
 use Rattle.std.proofs.Common.{◌≡◌, ◌++◌, drop}
 use Rattle.std.specs.Prelude.{is_none}
 use Rattle.std.specs.List.{list_any}
-use Rattle.gate_reorg.specs.Events.{present}
+use Rattle.gate_submission.specs.Blocks.{present}
 use Rattle.gate_reorg.proofs.event.copies.Given as goal
 
 abbrev pub invariant-loop-block : goal.invariant-loop-block

@@ -5,9 +5,9 @@ use Rattle.gate_audit.proofs.lines.JournalLines.next_asking.Goals as goal
 pub returns-then-not-asks_nothing-clause-read : goal.returns-then-not-asks_nothing-clause-read
 returns-then-not-asks_nothing-clause-read g c =
     let read = rw c.if-branch.true at c.in_ok-read_line.ensures.read in
-    asking_found _ (g.R.Read.remaining c.loop.reader) _ _ c.loop.self.number _ _ c.loop.self.has_ended _ _ c.loop.invariant read c.read_line.new.self.few (sym (rw c.as_slice.ensures.value at c.asks_nothing.ensures) ∙ c.if-not-asks_nothing.true)
+    asking_found _ (g.R.Read.remaining c.loop-self.reader) _ _ c.loop-self.self.lines.count _ _ c.loop-self.self.has_ended _ _ c.loop-self.invariant read c.read_line.new.self.few (sym (rw c.as_slice.ensures at c.asks_nothing.ensures) ∙ c.if-not-asks_nothing.true)
 
-pub loop-preserved : goal.loop-preserved
-loop-preserved g c =
+pub loop-self-preserved : goal.loop-self-preserved
+loop-self-preserved g c =
     let read = rw c.if-branch.true at c.in_ok-read_line.ensures.read in
-    asking_skip _ (g.R.Read.remaining c.loop.reader) _ _ c.loop.self.number _ _ c.loop.self.has_ended _ _ c.loop.invariant read (sym (rw c.as_slice.ensures.value at c.asks_nothing.ensures) ∙ c.if-not-asks_nothing.false)
+    asking_skip _ (g.R.Read.remaining c.loop-self.reader) _ _ c.loop-self.self.lines.count _ _ c.loop-self.self.has_ended _ _ c.loop-self.invariant read (sym (rw c.as_slice.ensures at c.asks_nothing.ensures) ∙ c.if-not-asks_nothing.false)

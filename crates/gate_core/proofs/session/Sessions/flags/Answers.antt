@@ -4,7 +4,7 @@ use Rattle.gate_core.proofs.Peers.{flags-shown}
 use Rattle.gate_core.proofs.session.Sessions.flags.Goals as goal
 
 pub returns-in-Some : goal.returns-in-Some
-returns-in-Some c = rw (← c.self.view_is) (flags-shown c.self.inside.peers.entries c.args.peer (Some c.in-Some.seat.now) (sym (ap option_copied c.in-Some.is) ∙ c.get.ensures.value))
+returns-in-Some c = rw (← c.self.view_is) (flags-shown c.self.inside.peers.entries c.args.peer (Some c.in-Some.session.now) (sym (ap option_copied c.in-Some.is) ∙ c.get.ensures.value))
 
 pub returns-in-None : goal.returns-in-None
 returns-in-None c = c.none.ensures ∙ rw (← c.self.view_is) (flags-shown c.self.inside.peers.entries c.args.peer None (sym (ap option_copied c.in-None.is) ∙ c.get.ensures.value))

@@ -1,123 +1,126 @@
-use Rattle.std.proofs.Common.{◌≡◌, sym, ◌∙◌, ap, None}
-use Rattle.std.specs.Str.{bytes_eq}
-use Rattle.indexmap.proofs.CallerLemmas.{insert_entry-new}
-use Rattle.gate_graph.specs.declared.held.Held.{Held}
-use Rattle.gate_graph.specs.declared.held.Way.TheVariants.{Down}
-use Rattle.gate_graph.specs.Families.{among, with_above}
+use Rattle.std.proofs.Common.{◌≡◌, ◌∙◌, ◌++◌, ◌∷◌, [], false, ap, sym, subst, None}
+use Rattle.gate_graph.specs.Family.{Node}
+use Rattle.gate_graph.specs.Families.{has, with_above, IsGraph}
 use Rattle.gate_graph.specs.Faults.{fault_of_above}
 use Rattle.gate_graph.specs.Holding.{nodes_in}
-use Rattle.gate_graph.proofs.Adding.{stages, absent_still}
+use Rattle.gate_graph.proofs.Between.{IsGraph-with_above}
+use Rattle.gate_graph.proofs.Faultless.{faultless}
+use Rattle.gate_graph.proofs.Loading.{nodes_pushed, unnamed_new}
+use Rattle.gate_graph.proofs.Relisting.{same_has, unnamed_same}
 use Rattle.gate_graph.proofs.graph.Graph.add_above.Goals as goal
 
-pub link-requires-clause-apart : goal.link-requires-clause-apart
-link-requires-clause-apart g c =
-    let es = c.self.inside.nodes.entries in
-    let es1 = c.reserve_each-2.new.nodes.entries in
+pub make_ready-requires-clause-none : goal.make_ready-requires-clause-none
+make_ready-requires-clause-none g c =
+    let old = c.self.inside.nodes.nodes in
+    let ns = nodes_in old in
     let x = c.args.id in
     let ps = c.args.parents.now in
     let cs = c.args.children.now in
-    let held : Held = record { size = c.args.size; fee = c.args.fee; parents = c.in_ok-from_slice.field-0; children = c.in_ok-in_order.field-0 } in
-    let fault : fault_of_above (nodes_in es) x ps cs ≡ None = ap (λ s. fault_of_above s x ps cs) c.self.view_is ∙ sym c.in_ok-fault.ensures ∙ c.in_default.is in
-    let same = c.reserve_each-2.ensures.same ∙ c.reserve_each.ensures.same in
-    let inserted = c.in_ok-insert.ensures.entries ∙ insert_entry-new bytes_eq c.reserve_each-2.new.nodes x held (absent_still es es1 x ps cs fault same) in
-    let done = stages es es1 c.insert.new.self.entries x held ps cs c.self.invariant fault c.in_ok-from_slice.ensures.items c.in_ok-in_order.ensures same inserted in
-    done.apart
+    let node = c.new-node.result in
+    let fault : fault_of_above ns x ps cs ≡ None = ap (λ s. fault_of_above s x ps cs) c.self.view_is ∙ sym c.in_ok-fault.ensures ∙ c.in_default.is in
+    let fits = faultless ns x ps cs fault in
+    let none : has ns node ≡ false = ap (has ns) c.new-node.ensures ∙ fits.new in
+    none
 
-pub link-requires-clause-new : goal.link-requires-clause-new
-link-requires-clause-new g c =
-    let es = c.self.inside.nodes.entries in
-    let es1 = c.reserve_each-2.new.nodes.entries in
+pub make_ready-requires-clause-unnamed : goal.make_ready-requires-clause-unnamed
+make_ready-requires-clause-unnamed g c m k =
+    let old = c.self.inside.nodes.nodes in
+    let ns = nodes_in old in
     let x = c.args.id in
     let ps = c.args.parents.now in
     let cs = c.args.children.now in
-    let held : Held = record { size = c.args.size; fee = c.args.fee; parents = c.in_ok-from_slice.field-0; children = c.in_ok-in_order.field-0 } in
-    let fault : fault_of_above (nodes_in es) x ps cs ≡ None = ap (λ s. fault_of_above s x ps cs) c.self.view_is ∙ sym c.in_ok-fault.ensures ∙ c.in_default.is in
-    let same = c.reserve_each-2.ensures.same ∙ c.reserve_each.ensures.same in
-    let inserted = c.in_ok-insert.ensures.entries ∙ insert_entry-new bytes_eq c.reserve_each-2.new.nodes x held (absent_still es es1 x ps cs fault same) in
-    let done = stages es es1 c.insert.new.self.entries x held ps cs c.self.invariant fault c.in_ok-from_slice.ensures.items c.in_ok-in_order.ensures same inserted in
-    done.new
+    let node = c.new-node.result in
+    let fault : fault_of_above ns x ps cs ≡ None = ap (λ s. fault_of_above s x ps cs) c.self.view_is ∙ sym c.in_ok-fault.ensures ∙ c.in_default.is in
+    let fits = faultless ns x ps cs fault in
+    let none : has ns node ≡ false = ap (has ns) c.new-node.ensures ∙ fits.new in
+    unnamed_new ns node c.self.invariant none m k
 
-pub link-requires-clause-room : goal.link-requires-clause-room
-link-requires-clause-room g c =
-    let es = c.self.inside.nodes.entries in
-    let es1 = c.reserve_each-2.new.nodes.entries in
+pub put-requires-clause-new : goal.put-requires-clause-new
+put-requires-clause-new g c =
+    let old = c.self.inside.nodes.nodes in
+    let ns = nodes_in old in
     let x = c.args.id in
     let ps = c.args.parents.now in
     let cs = c.args.children.now in
-    let held : Held = record { size = c.args.size; fee = c.args.fee; parents = c.in_ok-from_slice.field-0; children = c.in_ok-in_order.field-0 } in
-    let fault : fault_of_above (nodes_in es) x ps cs ≡ None = ap (λ s. fault_of_above s x ps cs) c.self.view_is ∙ sym c.in_ok-fault.ensures ∙ c.in_default.is in
-    let same = c.reserve_each-2.ensures.same ∙ c.reserve_each.ensures.same in
-    let inserted = c.in_ok-insert.ensures.entries ∙ insert_entry-new bytes_eq c.reserve_each-2.new.nodes x held (absent_still es es1 x ps cs fault same) in
-    let done = stages es es1 c.insert.new.self.entries x held ps cs c.self.invariant fault c.in_ok-from_slice.ensures.items c.in_ok-in_order.ensures same inserted in
-    done.room_down (c.reserve_each-2.ensures.kept Down (among ps) c.in_ok-reserve_each.ensures.room)
+    let node = c.new-node.result in
+    let fault : fault_of_above ns x ps cs ≡ None = ap (λ s. fault_of_above s x ps cs) c.self.view_is ∙ sym c.in_ok-fault.ensures ∙ c.in_default.is in
+    let fits = faultless ns x ps cs fault in
+    let none : has ns node ≡ false = ap (has ns) c.new-node.ensures ∙ fits.new in
+    same_has node ns (nodes_in c.make_ready.new.self.nodes) c.make_ready.ensures.back node ∙ none
 
-pub link-requires-2-clause-apart : goal.link-requires-2-clause-apart
-link-requires-2-clause-apart g c =
-    let es = c.self.inside.nodes.entries in
-    let es1 = c.reserve_each-2.new.nodes.entries in
+pub invariant_of-self : goal.invariant_of-self
+invariant_of-self g c =
+    let old = c.self.inside.nodes.nodes in
+    let ns = nodes_in old in
     let x = c.args.id in
     let ps = c.args.parents.now in
     let cs = c.args.children.now in
-    let held : Held = record { size = c.args.size; fee = c.args.fee; parents = c.in_ok-from_slice.field-0; children = c.in_ok-in_order.field-0 } in
-    let fault : fault_of_above (nodes_in es) x ps cs ≡ None = ap (λ s. fault_of_above s x ps cs) c.self.view_is ∙ sym c.in_ok-fault.ensures ∙ c.in_default.is in
-    let same = c.reserve_each-2.ensures.same ∙ c.reserve_each.ensures.same in
-    let inserted = c.in_ok-insert.ensures.entries ∙ insert_entry-new bytes_eq c.reserve_each-2.new.nodes x held (absent_still es es1 x ps cs fault same) in
-    let done = stages es es1 c.insert.new.self.entries x held ps cs c.self.invariant fault c.in_ok-from_slice.ensures.items c.in_ok-in_order.ensures same inserted in
-    done.put_apart c.link.new.nodes.entries c.link.ensures.linked
+    let node = c.new-node.result in
+    let fault : fault_of_above ns x ps cs ≡ None = ap (λ s. fault_of_above s x ps cs) c.self.view_is ∙ sym c.in_ok-fault.ensures ∙ c.in_default.is in
+    let fits = faultless ns x ps cs fault in
+    let none : has ns node ≡ false = ap (has ns) c.new-node.ensures ∙ fits.new in
+    let ready = c.make_ready.new.self.nodes in
+    let n : Node = record { id = node; size = c.args.size; fee = c.args.fee; parents = c.in_ok-above.above.items } in
+    let m : Node = record { id = x; size = c.args.size; fee = c.args.fee; parents = ps } in
+    let same : n ≡ m = λ i. record { id = c.new-node.ensures i; size = c.args.size; fee = c.args.fee; parents = c.in_ok-above.ensures i } in
+    let is : nodes_in c.put.new.self.nodes ≡ with_above ns m cs = ap nodes_in c.put.ensures ∙ nodes_pushed ready n _ ∙ ap (λ l. l ++ n ∷ []) c.in-Ok.ensures.ok ∙ ap (λ k. with_above ns k cs) same in
+    subst IsGraph (sym is) (IsGraph-with_above ns m cs c.self.invariant fits.new fits.parents fits.children fits.apart)
 
-pub link-requires-2-clause-new : goal.link-requires-2-clause-new
-link-requires-2-clause-new g c =
-    let es = c.self.inside.nodes.entries in
-    let es1 = c.reserve_each-2.new.nodes.entries in
+pub returns-in-Ok-clause-ok : goal.returns-in-Ok-clause-ok
+returns-in-Ok-clause-ok g c =
+    let old = c.self.inside.nodes.nodes in
+    let ns = nodes_in old in
     let x = c.args.id in
     let ps = c.args.parents.now in
     let cs = c.args.children.now in
-    let held : Held = record { size = c.args.size; fee = c.args.fee; parents = c.in_ok-from_slice.field-0; children = c.in_ok-in_order.field-0 } in
-    let fault : fault_of_above (nodes_in es) x ps cs ≡ None = ap (λ s. fault_of_above s x ps cs) c.self.view_is ∙ sym c.in_ok-fault.ensures ∙ c.in_default.is in
-    let same = c.reserve_each-2.ensures.same ∙ c.reserve_each.ensures.same in
-    let inserted = c.in_ok-insert.ensures.entries ∙ insert_entry-new bytes_eq c.reserve_each-2.new.nodes x held (absent_still es es1 x ps cs fault same) in
-    let done = stages es es1 c.insert.new.self.entries x held ps cs c.self.invariant fault c.in_ok-from_slice.ensures.items c.in_ok-in_order.ensures same inserted in
-    done.put_new c.link.new.nodes.entries c.link.ensures.linked
+    let node = c.new-node.result in
+    let fault : fault_of_above ns x ps cs ≡ None = ap (λ s. fault_of_above s x ps cs) c.self.view_is ∙ sym c.in_ok-fault.ensures ∙ c.in_default.is in
+    let fits = faultless ns x ps cs fault in
+    let none : has ns node ≡ false = ap (has ns) c.new-node.ensures ∙ fits.new in
+    let ready = c.make_ready.new.self.nodes in
+    let n : Node = record { id = node; size = c.args.size; fee = c.args.fee; parents = c.in_ok-above.above.items } in
+    let m : Node = record { id = x; size = c.args.size; fee = c.args.fee; parents = ps } in
+    let same : n ≡ m = λ i. record { id = c.new-node.ensures i; size = c.args.size; fee = c.args.fee; parents = c.in_ok-above.ensures i } in
+    let is : nodes_in c.put.new.self.nodes ≡ with_above ns m cs = ap nodes_in c.put.ensures ∙ nodes_pushed ready n _ ∙ ap (λ l. l ++ n ∷ []) c.in-Ok.ensures.ok ∙ ap (λ k. with_above ns k cs) same in
+    is ∙ ap (λ s. with_above s m cs) c.self.view_is
 
-pub link-requires-2-clause-room : goal.link-requires-2-clause-room
-link-requires-2-clause-room g c =
-    let es = c.self.inside.nodes.entries in
-    let es1 = c.reserve_each-2.new.nodes.entries in
+pub unname-requires : goal.unname-requires
+unname-requires g c =
+    let old = c.self.inside.nodes.nodes in
+    let ns = nodes_in old in
     let x = c.args.id in
     let ps = c.args.parents.now in
     let cs = c.args.children.now in
-    let held : Held = record { size = c.args.size; fee = c.args.fee; parents = c.in_ok-from_slice.field-0; children = c.in_ok-in_order.field-0 } in
-    let fault : fault_of_above (nodes_in es) x ps cs ≡ None = ap (λ s. fault_of_above s x ps cs) c.self.view_is ∙ sym c.in_ok-fault.ensures ∙ c.in_default.is in
-    let same = c.reserve_each-2.ensures.same ∙ c.reserve_each.ensures.same in
-    let inserted = c.in_ok-insert.ensures.entries ∙ insert_entry-new bytes_eq c.reserve_each-2.new.nodes x held (absent_still es es1 x ps cs fault same) in
-    let done = stages es es1 c.insert.new.self.entries x held ps cs c.self.invariant fault c.in_ok-from_slice.ensures.items c.in_ok-in_order.ensures same inserted in
-    c.link.ensures.kept (among cs) (done.room_up c.in_ok-reserve_each-2.ensures.room)
+    let node = c.new-node.result in
+    let fault : fault_of_above ns x ps cs ≡ None = ap (λ s. fault_of_above s x ps cs) c.self.view_is ∙ sym c.in_ok-fault.ensures ∙ c.in_default.is in
+    let fits = faultless ns x ps cs fault in
+    let none : has ns node ≡ false = ap (has ns) c.new-node.ensures ∙ fits.new in
+    same_has node ns (nodes_in c.make_ready.new.self.nodes) c.make_ready.ensures.back node ∙ none
 
-pub invariant_of-self-2 : goal.invariant_of-self-2
-invariant_of-self-2 g c =
-    let es = c.self.inside.nodes.entries in
-    let es1 = c.reserve_each-2.new.nodes.entries in
+pub invariant_of-self-in-Err-1 : goal.invariant_of-self-in-Err-1
+invariant_of-self-in-Err-1 g c =
+    let old = c.self.inside.nodes.nodes in
+    let ns = nodes_in old in
     let x = c.args.id in
     let ps = c.args.parents.now in
     let cs = c.args.children.now in
-    let held : Held = record { size = c.args.size; fee = c.args.fee; parents = c.in_ok-from_slice.field-0; children = c.in_ok-in_order.field-0 } in
-    let fault : fault_of_above (nodes_in es) x ps cs ≡ None = ap (λ s. fault_of_above s x ps cs) c.self.view_is ∙ sym c.in_ok-fault.ensures ∙ c.in_default.is in
-    let same = c.reserve_each-2.ensures.same ∙ c.reserve_each.ensures.same in
-    let inserted = c.in_ok-insert.ensures.entries ∙ insert_entry-new bytes_eq c.reserve_each-2.new.nodes x held (absent_still es es1 x ps cs fault same) in
-    let done = stages es es1 c.insert.new.self.entries x held ps cs c.self.invariant fault c.in_ok-from_slice.ensures.items c.in_ok-in_order.ensures same inserted in
-    done.held_after c.link.new.nodes.entries c.link.ensures.linked c.link-2.new.nodes.entries c.link-2.ensures.linked
+    let node = c.new-node.result in
+    let fault : fault_of_above ns x ps cs ≡ None = ap (λ s. fault_of_above s x ps cs) c.self.view_is ∙ sym c.in_ok-fault.ensures ∙ c.in_default.is in
+    let fits = faultless ns x ps cs fault in
+    let none : has ns node ≡ false = ap (has ns) c.new-node.ensures ∙ fits.new in
+    let restored : nodes_in c.unname.new.self.nodes ≡ ns = c.unname.ensures ∙ c.make_ready.ensures.back ∙ unnamed_same node ns (unnamed_new ns node c.self.invariant none) in
+    subst IsGraph (sym restored) c.self.invariant
 
-pub returns-clause-ok : goal.returns-clause-ok
-returns-clause-ok g c =
-    let es = c.self.inside.nodes.entries in
-    let es1 = c.reserve_each-2.new.nodes.entries in
+pub returns-in-Err-clause-err : goal.returns-in-Err-clause-err
+returns-in-Err-clause-err g c =
+    let old = c.self.inside.nodes.nodes in
+    let ns = nodes_in old in
     let x = c.args.id in
     let ps = c.args.parents.now in
     let cs = c.args.children.now in
-    let held : Held = record { size = c.args.size; fee = c.args.fee; parents = c.in_ok-from_slice.field-0; children = c.in_ok-in_order.field-0 } in
-    let fault : fault_of_above (nodes_in es) x ps cs ≡ None = ap (λ s. fault_of_above s x ps cs) c.self.view_is ∙ sym c.in_ok-fault.ensures ∙ c.in_default.is in
-    let same = c.reserve_each-2.ensures.same ∙ c.reserve_each.ensures.same in
-    let inserted = c.in_ok-insert.ensures.entries ∙ insert_entry-new bytes_eq c.reserve_each-2.new.nodes x held (absent_still es es1 x ps cs fault same) in
-    let done = stages es es1 c.insert.new.self.entries x held ps cs c.self.invariant fault c.in_ok-from_slice.ensures.items c.in_ok-in_order.ensures same inserted in
-    done.nodes_after c.link.new.nodes.entries c.link.ensures.linked c.link-2.new.nodes.entries c.link-2.ensures.linked
-    ∙ ap (λ s. with_above s (record { id = x; size = c.args.size; fee = c.args.fee; parents = ps }) cs) c.self.view_is
+    let node = c.new-node.result in
+    let fault : fault_of_above ns x ps cs ≡ None = ap (λ s. fault_of_above s x ps cs) c.self.view_is ∙ sym c.in_ok-fault.ensures ∙ c.in_default.is in
+    let fits = faultless ns x ps cs fault in
+    let none : has ns node ≡ false = ap (has ns) c.new-node.ensures ∙ fits.new in
+    let restored : nodes_in c.unname.new.self.nodes ≡ ns = c.unname.ensures ∙ c.make_ready.ensures.back ∙ unnamed_same node ns (unnamed_new ns node c.self.invariant none) in
+    restored ∙ c.self.view_is

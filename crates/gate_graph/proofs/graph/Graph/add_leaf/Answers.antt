@@ -1,6 +1,6 @@
 use Rattle.std.proofs.Common.{◌∙◌}
 use Rattle.std.proofs.lemmas.Result.{on_ok_weaker}
-use Rattle.gate_graph.proofs.Adding.{above_none}
+use Rattle.gate_graph.proofs.Faultless.{above_none}
 use Rattle.gate_graph.proofs.graph.Graph.add_leaf.Goals as goal
 
 pub returns-clause-ok : goal.returns-clause-ok

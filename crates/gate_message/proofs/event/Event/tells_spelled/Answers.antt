@@ -3,8 +3,8 @@ use Rattle.std.specs.Prelude.{Contains}
 use Rattle.gate_tx.specs.Text.{IsTx}
 use Rattle.gate_tx.specs.Tx.{Tx}
 use Rattle.gate_chain.specs.declared.Block.{Block}
-use Rattle.gate_reorg.specs.Events.{present}
-use Rattle.gate_reorg.specs.Reorganisation.{transactions_of}
+use Rattle.gate_submission.specs.Blocks.{present}
+use Rattle.gate_submission.specs.Blocks.{transactions_of}
 use Rattle.gate_message.specs.Spelled.{IsSpelled}
 use Rattle.gate_message.proofs.event.Event.tells_spelled.Goals as goal
 

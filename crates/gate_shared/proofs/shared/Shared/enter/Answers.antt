@@ -8,8 +8,8 @@ use Rattle.gate_shared.proofs.shared.Shared.enter.Goals as goal
 
 pub invariant_of-self-in-Ok : goal.invariant_of-self-in-Ok
 invariant_of-self-in-Ok g c =
-    held_next g.N.Base.base (held c.self.inside.state c.self.inside.journal.entries c.self.inside.passes) (entry c.pass.inside.number c.args.event.now c.in-Ok.replies.reply) c.step.new.state c.note.new.journal.entries c.self.invariant
-    (omega (arith, c.requires.2, ap (λ (s : Held). length s.journal) c.self.view_is)) c.in-Ok.ensures.exact c.in-Ok.ensures.good
+    held_next g.N.Base.base (held c.self.inside.state c.self.inside.journal.entries c.self.inside.passes) (entry c.pass.inside.number c.args.event.now c.in-Ok.replies.reply) c.step_recorded.new.self c.note.new.journal.entries c.self.invariant
+    (omega (arith, c.requires.2, ap (λ (s : Held). length s.journal) c.self.view_is)) c.in-Ok.ensures.exact c.in-Ok.ensures.ok
     (search rules)
 
 pub invariant_of-pass-in-Ok : goal.invariant_of-pass-in-Ok

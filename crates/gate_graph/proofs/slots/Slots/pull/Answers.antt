@@ -1,0 +1,43 @@
+use Rattle.std.proofs.Common.{◌≡◌, not, None, Some, ap, sym, ◌∙◌, ◌+◌, if◌then◌else◌, arith, is_some}
+use Rattle.std.specs.Prelude.{find, filter, slice_set}
+use Rattle.std.specs.Option.{option_map}
+use Rattle.indexmap.specs.IndexMap.{index_map_len}
+use Rattle.gate_graph.specs.declared.held.Held.{Held}
+use Rattle.gate_graph.specs.Slots.{at}
+use Rattle.gate_graph.specs.Holding.{has_id, id_at, spots_of, Stored}
+use Rattle.gate_graph.proofs.Placing.{held_taken, IsPlaced-taken, place_look, found_at, place_whole, spot_is, spots_of-set, slot_filled}
+use Rattle.gate_graph.proofs.slots.Slots.pull.Goals as goal
+
+pub empty-held-requires : goal.empty-held-requires
+empty-held-requires g c = slot_filled c.self.inside.slots.items c.args.place (ap (λ (s : Stored g.row.T.Denot). is_some (at s.spots c.args.place)) c.self.view_is ∙ c.requires)
+
+pub invariant_of-self : goal.invariant_of-self
+invariant_of-self g c =
+    let p = c.args.place in
+    let x = c.empty-held.result.id in
+    let here : at (spots_of c.self.inside.slots.items) p ≡ Some x = spot_is c.self.inside.slots.items p ∙ ap (option_map (λ (h : Held g.row.T.Denot). h.id)) c.empty-held.ensures.taken in
+    let look = place_whole c.self.invariant.0 x p here in
+    let len = sym (ap (λ o. index_map_len c.swap_remove.new.self + (if is_some o then 1 else 0)) (c.swap_remove.ensures.value ∙ look)) ∙ c.swap_remove.ensures.len in (
+      IsPlaced-taken c.self.invariant.0 x p c.empty-held.new.slots.items _ _ look c.empty-held.ensures.emptied (λ k. c.swap_remove.ensures.updates.0 k) len,
+      record {
+        place = λ l. omega (arith, c.self.invariant.1.place l, c.swap_remove.ensures.room.0);
+        slot = λ l. omega (arith, c.self.invariant.1.slot l, c.empty-held.ensures.len, c.empty-held.ensures.capacity);
+      },
+    )
+
+pub returns-clause-taken : goal.returns-clause-taken
+returns-clause-taken g c =
+    let p = c.args.place in
+    let stands = ap (λ (s : Stored g.row.T.Denot). is_some (at s.spots p)) c.self.view_is ∙ c.requires in
+    ap (λ (s : Stored g.row.T.Denot). find (λ h. has_id h (id_at s.spots p)) s.held) (sym c.self.view_is) ∙ found_at c.self.invariant.0 p stands ∙ c.empty-held.ensures.taken
+
+pub returns-clause-left : goal.returns-clause-left
+returns-clause-left g c =
+    let p = c.args.place in
+    let stands = ap (λ (s : Stored g.row.T.Denot). is_some (at s.spots p)) c.self.view_is ∙ c.requires in
+    held_taken c.self.invariant.0 (id_at (spots_of c.self.inside.slots.items) p) p c.empty-held.new.slots.items (place_look c.self.invariant.0 p stands) c.empty-held.ensures.emptied
+    ∙ ap (λ (s : Stored g.row.T.Denot). filter (λ h. not (has_id h (id_at s.spots p))) s.held) c.self.view_is
+
+pub returns-clause-spots : goal.returns-clause-spots
+returns-clause-spots g c =
+    ap spots_of c.empty-held.ensures.emptied ∙ spots_of-set c.self.inside.slots.items c.args.place None ∙ ap (λ (s : Stored g.row.T.Denot). slice_set s.spots c.args.place None) c.self.view_is

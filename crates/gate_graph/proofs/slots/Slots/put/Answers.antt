@@ -1,0 +1,42 @@
+use Rattle.std.proofs.Common.{◌++◌, ◌∷◌, [], ◌+◌, ap, sym, ◌∙◌, length, is_some, Some, if◌then◌else◌, arith}
+use Rattle.std.specs.Str.{bytes_eq}
+use Rattle.indexmap.specs.IndexMap.{get, index_map_len}
+use Rattle.gate_graph.specs.Families.{has}
+use Rattle.gate_graph.specs.Holding.{Stored, nodes_of, spots_of}
+use Rattle.gate_graph.specs.Slots.{entries_of}
+use Rattle.gate_graph.proofs.Indexing.{entries_of-push}
+use Rattle.gate_graph.proofs.Placing.{IsPlaced-put, spots_of-push, length-spots}
+use Rattle.gate_graph.proofs.slots.Slots.put.Goals as goal
+
+pub invariant_of-self : goal.invariant_of-self
+invariant_of-self g c =
+    let h = c.args.held in
+    let old = c.self.inside.places in
+    let updates = rw c.unwrap.ensures at c.insert-put.ensures.updates in
+    let len = rw c.unwrap.ensures at c.insert-put.ensures.len in
+    let before = rw c.unwrap.ensures at c.insert-put.ensures.old in (
+      IsPlaced-put h (length c.as_slice-place.result.now) c.push_reserved.new.self.items (index_map_len c.insert-put.new.self) (get bytes_eq c.insert-put.new.self) c.self.invariant.0
+          (ap (λ (s : Stored g.row.T.Denot). has (nodes_of s.held) h.id) c.self.view_is ∙ c.requires.new)
+          (ap length c.as_slice-place.ensures.value)
+          c.push_reserved.ensures.items
+          (λ k. updates.0 k)
+          (λ absent. len ∙ ap (λ o. index_map_len old + (if is_some o then 0 else 1)) (before ∙ absent)),
+      record {
+        place = λ l. absurd (omega (arith, l));
+        slot = λ l. absurd (omega (arith, l));
+      },
+    )
+
+pub returns-clause-held : goal.returns-clause-held
+returns-clause-held g c =
+    let h = c.args.held in
+    ap entries_of c.push_reserved.ensures.items ∙ entries_of-push c.self.inside.slots.items h ∙ ap (λ (s : Stored g.row.T.Denot). s.held ++ h ∷ []) c.self.view_is
+
+pub returns-clause-spots : goal.returns-clause-spots
+returns-clause-spots g c =
+    let h = c.args.held in
+    ap spots_of c.push_reserved.ensures.items ∙ spots_of-push c.self.inside.slots.items (Some h) ∙ ap (λ (s : Stored g.row.T.Denot). s.spots ++ Some h.id ∷ []) c.self.view_is
+
+pub returns-clause-place : goal.returns-clause-place
+returns-clause-place g c =
+    ap length c.as_slice-place.ensures.value ∙ sym (length-spots c.self.inside.slots.items) ∙ ap (λ (s : Stored g.row.T.Denot). length s.spots) c.self.view_is

@@ -1,0 +1,55 @@
+use Rattle.std.proofs.Common.{◌∙◌, [], ◌≤◌, sym, ap, subst, refl, map, take, get_or, length, rules}
+use Rattle.std.specs.Prelude.{Contains}
+use Rattle.std.specs.Str.{bytes_eq}
+use Rattle.std.proofs.lemmas.List.{take_more, take_all}
+use Rattle.gate_graph.specs.Families.{are_apart}
+use Rattle.gate_graph.specs.Holding.{at_id, ids_at, nodes_of}
+use Rattle.gate_graph.specs.Weighing.{lowered, lowered_of}
+use Rattle.gate_graph.proofs.Marking.{same_at, stands_at, ids_lt, ids_le}
+use Rattle.gate_graph.proofs.Lowering.{lowered_none, lowered_more, nodes_lowered, within_still, once_new}
+use Rattle.gate_graph.proofs.weigh.lower_all.Goals as goal
+
+pub loop-place-init : goal.loop-place-init
+loop-place-init g c = record { all = lowered_none c.args.size c.args.fee c.args.slots.now.held; spots = refl; room = refl }
+
+pub lower-requires-clause-apart : goal.lower-requires-clause-apart
+lower-requires-clause-apart g c =
+    let ids = ids_at c.args.slots.now.spots c.args.places.now in
+    ap (λ l. are_apart (nodes_of l)) c.loop-place.invariant.all ∙ ap are_apart (nodes_lowered (take c.loop-place.place-index ids) c.args.size c.args.fee c.args.slots.now.held) ∙ c.requires.apart
+
+pub lower-requires-clause-stands : goal.lower-requires-clause-stands
+lower-requires-clause-stands g c = stands_at c.args.slots.now.spots c.loop-place.slots.spots c.args.places.now c.loop-place.place-index 0 c.requires.standing c.loop-place.invariant.spots c.loop-place-test.true
+
+pub lower-requires-clause-within : goal.lower-requires-clause-within
+lower-requires-clause-within g c h m t =
+    let spots = c.args.slots.now.spots in
+    let places = c.args.places.now in
+    let i = c.loop-place.place-index in
+    let same = same_at spots c.loop-place.slots.spots places i 0 c.loop-place.invariant.spots c.loop-place-test.true in
+    within_still c.args.size c.args.fee (ids_at spots places) i [] c.args.slots.now.held c.requires.standing.once (ids_lt spots places i c.loop-place-test.true) c.requires.within h (subst (λ l. Contains l h) c.loop-place.invariant.all m) (ap (bytes_eq h.id) (sym same) ∙ t)
+
+pub loop-place-preserved : goal.loop-place-preserved
+loop-place-preserved g c =
+    let spots = c.args.slots.now.spots in
+    let places = c.args.places.now in
+    let ids = ids_at spots places in
+    let i = c.loop-place.place-index in
+    let lt = ids_lt spots places i c.loop-place-test.true in
+    let same = same_at spots c.loop-place.slots.spots places i 0 c.loop-place.invariant.spots c.loop-place-test.true in
+    record {
+      all = c.lower.ensures.lowered
+          ∙ ap (λ y. map (at_id y (lowered c.args.size c.args.fee)) c.loop-place.slots.held) same
+          ∙ ap (map (at_id (get_or ids i []) (lowered c.args.size c.args.fee))) c.loop-place.invariant.all
+          ∙ lowered_more (take i ids) (get_or ids i []) c.args.size c.args.fee c.args.slots.now.held (once_new ids i [] c.requires.standing.once lt)
+          ∙ ap (λ l. map (lowered_of l c.args.size c.args.fee) c.args.slots.now.held) (sym (take_more ids i [] lt));
+      spots = c.lower.ensures.spots ∙ c.loop-place.invariant.spots;
+      room = c.lower.ensures.room ∙ c.loop-place.invariant.room;
+    }
+
+pub returns-clause-lowered : goal.returns-clause-lowered
+returns-clause-lowered g c =
+    let spots = c.args.slots.now.spots in
+    let places = c.args.places.now in
+    let i = c.loop-place.place-index in
+    let end : length places ≤ i = search rules in
+    c.loop-place.invariant.all ∙ ap (λ l. map (lowered_of l c.args.size c.args.fee) c.args.slots.now.held) (take_all i (ids_at spots places) (ids_le spots places i end))

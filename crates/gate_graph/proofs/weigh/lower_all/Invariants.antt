@@ -1,0 +1,12 @@
+use Rattle.std.proofs.Common.{◌≡◌, take, map}
+use Rattle.gate_graph.specs.Holding.{ids_at}
+use Rattle.gate_graph.specs.Weighing.{lowered_of}
+use Rattle.gate_graph.proofs.weigh.lower_all.Given as goal
+
+-- the nodes so far are lowered
+abbrev pub invariant-loop-place : goal.invariant-loop-place
+invariant-loop-place g l = record {
+  all : l.slots.held ≡ map (lowered_of (take l.place-index (ids_at l.initial.slots.spots l.places)) l.size l.fee) l.initial.slots.held;
+  spots : l.slots.spots ≡ l.initial.slots.spots;
+  room : l.slots.room ≡ l.initial.slots.room;
+}

@@ -1,0 +1,215 @@
+//! Lists of ids, one for each id, which share their room.
+ghost use Rattle.std.specs.Prelude.{◌≡◌, ◌≢◌, ◌<◌, ◌+◌, ◌==◌, ℕ, List, length, get_or, cond, ◌≤◌, Some, None, IsSome, if◌then◌else◌, ◌++◌, ◌∷◌, [], OnOk};
+ghost use Rattle.std.specs.Str.{bytes_eq};
+ghost use Rattle.std.specs.Option.{unwrap_or};
+ghost use Rattle.indexmap.specs.IndexMap.{get, spare};
+ghost use Rattle.gate_graph.specs.declared.links.Link.{Link as ALink};
+ghost use Rattle.gate_graph.specs.Linking.{IsWithout, listing, link, link_eq};
+
+use crate::id::NodeId;
+use gate_bytes::Memory;
+use indexmap::IndexMap;
+use std::alloc::Global;
+use std::hash::BuildHasher;
+use std::marker::Model;
+
+/// The place of an id in the list of another.
+#[derive(Clone, Copy, Debug, PartialEq, Eq, Hash)]
+pub(crate) struct Link {
+    pub(crate) parent: NodeId,
+    pub(crate) number: u64,
+}
+
+/// Writes what stands at a place where something stands already. It takes no room.
+fn write_link<S: BuildHasher>(links: &mut IndexMap<Link, NodeId, S>, at: &Link, id: NodeId)
+    requires { IsSome (get link_eq links.old at.now) }
+    ensures look { (k : ALink) → get link_eq links.new k ≡ cond (link_eq at.now k) (Some id) (get link_eq links.old k) }
+    ensures room { spare links.new ≡ spare links.old }
+{
+    if let Some(held) = links.get_mut(at) {
+        *held = id;
+    }
+}
+
+/// Writes a count where there is one already. It takes no room.
+fn write_count<S: BuildHasher>(counts: &mut IndexMap<NodeId, u64, S>, id: &NodeId, count: u64)
+    requires { IsSome (get bytes_eq counts.old id.now) }
+    ensures look { (a : List ℕ) → get bytes_eq counts.new a ≡ cond (bytes_eq id.now a) (Some count) (get bytes_eq counts.old a) }
+    ensures room { spare counts.new ≡ spare counts.old }
+{
+    if let Some(held) = counts.get_mut(id) {
+        *held = count;
+    }
+}
+
+/// Puts what stands last at another place.
+fn move_last<S: BuildHasher>(
+    links: &mut IndexMap<Link, NodeId, S>,
+    id: &NodeId,
+    number: u64,
+    last: u64,
+)
+    requires last { IsSome (get link_eq links.old (link id.now last)) }
+    requires place { IsSome (get link_eq links.old (link id.now number)) }
+    ensures room { spare links.old ≤ spare links.new }
+    ensures look { (k : ALink) → get link_eq links.new k ≡ cond (link_eq (link id.now last) k) None (cond (link_eq (link id.now number) k) (get link_eq links.old (link id.now last)) (get link_eq links.old k)) }
+{
+    let end = Link {
+        parent: *id,
+        number: last,
+    };
+    let moved = *links.get(&end).unwrap();
+    write_link(
+        links,
+        &Link {
+            parent: *id,
+            number,
+        },
+        moved,
+    );
+    let _ = links.swap_remove(&end);
+}
+
+/// Writes how many the list of an id has.
+fn set_count<S: BuildHasher>(counts: &mut IndexMap<NodeId, u64, S>, id: &NodeId, count: u64)
+    requires { IsSome (get bytes_eq counts.old id.now) }
+    ensures room { spare counts.old ≤ spare counts.new }
+    ensures count { (a : List ℕ) → unwrap_or (get bytes_eq counts.new a) 0 ≡ cond (bytes_eq id.now a) count (unwrap_or (get bytes_eq counts.old a) 0) }
+{
+    if count == 0 {
+        let _ = counts.swap_remove(id);
+    } else {
+        write_count(counts, id, count);
+    }
+}
+
+/// Lists of ids, one for each id.
+#[derive(Drop)]
+pub(crate) struct Links<S: BuildHasher + Drop> {
+    links: IndexMap<Link, NodeId, S>,
+    counts: IndexMap<NodeId, u64, S>,
+    room: usize,
+}
+
+impl<S: BuildHasher + Drop> Model for Links<S> {
+    ghost use Rattle.indexmap.specs.IndexMap.{spare};
+    ghost use Rattle.gate_graph.specs.Linking.{Lists, IsListed};
+
+    ghost Value = { Lists };
+
+    ghost view = { λ l. record { links = l.links.entries; counts = l.counts.entries; room = l.room } };
+
+    ghost invariant = { λ l. IsListed (record { links = l.links.entries; counts = l.counts.entries; room = l.room }) (spare l.links) (spare l.counts) };
+}
+
+impl<S: BuildHasher + Copy + Drop> Links<S> {
+    pub(crate) fn new(alloc: Global, hasher: S) -> Links<S>
+        ensures links { result.links ≡ [] }
+        ensures counts { result.counts ≡ [] }
+        ensures room { result.room ≡ 0 }
+    {
+        Links {
+            links: IndexMap::with_hasher(alloc, hasher),
+            counts: IndexMap::with_hasher(alloc, hasher),
+            room: 0,
+        }
+    }
+}
+
+impl<S: BuildHasher + Drop> Links<S> {
+    /// How many the list of an id has.
+    pub(crate) fn count(&self, id: &NodeId) -> u64
+        ensures { result ≡ length (listing self.now id.now) }
+    {
+        match self.counts.get(id) {
+            Some(count) => *count,
+            None => 0,
+        }
+    }
+
+    /// One of the list of an id.
+    pub(crate) fn at(&self, id: &NodeId, number: u64) -> &NodeId
+        requires { number < length (listing self.now id.now) }
+        ensures { result.now ≡ get_or (listing self.now id.now) number result.now }
+    {
+        self.links
+            .get(&Link {
+                parent: *id,
+                number,
+            })
+            .unwrap()
+    }
+
+    /// Takes the memory for so many more.
+    pub(crate) fn reserve(&mut self, more: usize) -> Result<(), Memory>
+        ensures links { self.new.links ≡ self.old.links }
+        ensures counts { self.new.counts ≡ self.old.counts }
+        ensures room { OnOk result (self.new.room ≡ more) }
+    {
+        self.room = 0;
+        self.links.reserve(more)?;
+        self.counts.reserve(more)?;
+        self.room = more;
+        Ok(())
+    }
+
+    /// Puts an id at the end of the list of another, for which there is room.
+    pub(crate) fn put(&mut self, parent: &NodeId, child: &NodeId)
+        requires { 0 < self.old.room }
+        ensures room { self.new.room + 1 ≡ self.old.room }
+        ensures this { listing self.new parent.now ≡ listing self.old parent.now ++ child.now ∷ [] }
+        ensures others { (a : List ℕ) → a ≢ parent.now → listing self.new a ≡ listing self.old a }
+    {
+        let _links = self.links.len();
+        let number = self.count(parent);
+        self.room -= 1;
+        let link = Link {
+            parent: *parent,
+            number,
+        };
+        let put: Result<_, _> = self.links.insert(link, *child);
+        let _ = put.unwrap();
+        let put_count: Result<_, _> = self.counts.insert(*parent, number + 1);
+        let _ = put_count.unwrap();
+    }
+
+    /// Takes one out of the list of an id; the last of the list takes its place.
+    fn swap_out(&mut self, id: &NodeId, number: u64)
+        requires { number < length (listing self.old id.now) }
+        ensures room { self.new.room ≡ self.old.room }
+        ensures len { length (listing self.new id.now) + 1 ≡ length (listing self.old id.now) }
+        ensures this { (k : ℕ) (d : List ℕ) → k < length (listing self.new id.now) → get_or (listing self.new id.now) k d ≡ get_or (listing self.old id.now) (if k == number then length (listing self.new id.now) else k) d }
+        ensures others { (a : List ℕ) → a ≢ id.now → listing self.new a ≡ listing self.old a }
+    {
+        let last = self.count(id) - 1;
+        move_last(&mut self.links, id, number, last);
+        set_count(&mut self.counts, id, last);
+    }
+
+    /// Takes all out of the list of an id.
+    pub(crate) fn drop_list(&mut self, id: &NodeId)
+        ensures empty { listing self.new id.now ≡ [] }
+        ensures others { (a : List ℕ) → a ≢ id.now → listing self.new a ≡ listing self.old a }
+        ensures room { self.new.room ≡ self.old.room }
+    {
+        let mut number = self.count(id);
+        while number > 0 {
+            number -= 1;
+            self.swap_out(id, number);
+        }
+    }
+
+    /// Takes an id out of the list of another.
+    pub(crate) fn remove(&mut self, parent: &NodeId, child: &NodeId)
+        ensures lists { IsWithout parent.now child.now self.old self.new }
+        ensures room { self.new.room ≡ self.old.room }
+    {
+        let mut number = self.count(parent);
+        while number > 0 {
+            number -= 1;
+            if *self.at(parent, number) == *child {
+                self.swap_out(parent, number);
+            }
+        }
+    }
+}

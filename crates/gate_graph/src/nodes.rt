@@ -1,0 +1,244 @@
+ghost use Rattle.std.specs.Prelude.{◌≡◌, ◌≤◌, ◌<◌, ◌+◌, ◌++◌, ◌∷◌, [], false, true, ℕ, List, Contains, map, filter, IfOk, OnOk, IfSome, length, vec_len, is_some};
+ghost use Rattle.std.specs.Vec.{vec_capacity};
+ghost use Rattle.gate_graph.specs.Families.{among, has, ids_of, is_root, with_parent, without_parent};
+ghost use Rattle.gate_graph.specs.Family.{Node};
+ghost use Rattle.gate_graph.specs.Leading.{are_led};
+ghost use Rattle.gate_graph.specs.Holding.{without_below, without_one, nodes_in, load_in, AreGone};
+ghost use Rattle.gate_graph.specs.Weighing.{totals_of};
+
+use crate::copy::copy_each;
+use crate::find::{find, in_order};
+use crate::held::{Held, Sums, Totals};
+use crate::id::{Id, NodeId};
+use crate::links::Links;
+use crate::name::{name_each, unname};
+use crate::put::put_node;
+use crate::slots::Slots;
+use crate::take::{take_family, take_one};
+use crate::walk::{Scratch, Way};
+use gate_bytes::{Copied, Memory};
+use indexmap::IndexSet;
+use std::alloc::Global;
+use std::hash::BuildHasher;
+use std::marker::Model;
+
+/// Nodes in the order of adding, each with what it carries, and with the totals of its families. A node may name ids that are
+/// no node's, and nothing is asked of where its steps lead.
+#[derive(Drop)]
+pub struct Nodes<T: Drop, S: BuildHasher + Copy + Drop> {
+    slots: Slots<T, S>,
+    links: Links<S>,
+    scratch: Scratch,
+    room: usize,
+}
+
+impl<T: Drop, S: BuildHasher + Copy + Drop> Model for Nodes<T, S> {
+    ghost use Rattle.gate_graph.specs.Holding.{Carried, loaded};
+    ghost use Rattle.gate_graph.specs.Keeping.{AreKept};
+
+    ghost Value = { Carried T };
+
+    ghost view = { λ g. record { nodes = loaded g.slots.held; room = g.room } };
+
+    ghost invariant = { λ g. AreKept g.slots g.links g.scratch g.room };
+}
+
+impl<T: Drop, S: BuildHasher + Copy + Drop> Nodes<T, S> {
+    /// No nodes, in tables that hash by what is handed in.
+    pub fn new(alloc: Global, hasher: S) -> Nodes<T, S>
+        ensures { result.nodes ≡ [] }
+    {
+        Nodes {
+            slots: Slots::new(alloc, hasher),
+            links: Links::new(alloc, hasher),
+            scratch: Scratch {
+                marks: Vec::new(alloc),
+                found: Vec::new(alloc),
+                above: Vec::new(alloc),
+            },
+            room: 0,
+        }
+    }
+
+    pub fn count(&self) -> usize
+        ensures { result ≡ length self.now.nodes }
+    {
+        self.slots.count()
+    }
+
+    pub fn contains(&self, id: &NodeId) -> bool
+        ensures { result ≡ has (nodes_in self.now.nodes) id.now }
+    {
+        self.slots.contains(id)
+    }
+
+    /// What the families of a node come to, for a node: stored, and lent without memory.
+    pub fn totals(&self, id: &NodeId) -> Option<&Totals>
+        ensures found { is_some result ≡ has (nodes_in self.now.nodes) id.now }
+        ensures totals { IfSome result (λ totals. totals.now ≡ totals_of (nodes_in self.now.nodes) id.now) }
+    {
+        match self.slots.place(id) {
+            Some(place) => Some(&self.slots.at(place).totals),
+            None => None,
+        }
+    }
+
+    /// Takes the memory for a node that names so many.
+    pub fn reserve(&mut self, parents: usize) -> Result<(), Memory>
+        ensures nodes { self.new.nodes ≡ self.old.nodes }
+        ensures room { OnOk result (parents < self.new.room) }
+    {
+        self.room = 0;
+        let Some(room) = parents.checked_add(1) else {
+            return Err(Memory);
+        };
+        let Some(places) = self.slots.count().checked_add(1) else {
+            return Err(Memory);
+        };
+        self.scratch.marks.reserve(1)?;
+        self.scratch.found.reserve(places)?;
+        self.scratch.above.reserve(places)?;
+        self.links.reserve(parents)?;
+        self.slots.reserve()?;
+        self.room = room;
+        Ok(())
+    }
+
+    /// Puts a node at the end, below those that it names and above those that name it. It takes no memory, and uses up the
+    /// room that was taken.
+    pub fn put(&mut self, id: NodeId, parents: Vec<NodeId>, size: u64, fee: u64, load: T)
+        requires room { length parents.items < self.old.room }
+        requires new { has (nodes_in self.old.nodes) id ≡ false }
+        ensures { self.new.nodes ≡ self.old.nodes ++ (record { id = id; size = size; fee = fee; parents = parents.items }, load) ∷ [] }
+    {
+        self.room = 0;
+        let none = Sums {
+            count: 0,
+            size: 0,
+            fees: 0,
+        };
+        let held = Held {
+            id,
+            size,
+            fee,
+            parents,
+            totals: Totals {
+                above: none,
+                below: none,
+            },
+            load,
+        };
+        put_node(&mut self.slots, &mut self.links, &mut self.scratch, held);
+    }
+
+    /// Takes out a node and all that is below its id, and puts what they carry at the end of a list with room. It takes no
+    /// memory, and keeps the room that was taken.
+    pub fn take_family(&mut self, id: &NodeId, gone: &mut Vec<T>)
+        requires { vec_len gone.old + length self.old.nodes ≤ vec_capacity gone.old }
+        ensures room { self.new.room ≡ self.old.room }
+        ensures left { self.new.nodes ≡ without_below self.old.nodes id.now }
+        ensures gone { AreGone self.old.nodes id.now gone.old.items gone.new.items }
+    {
+        take_family(
+            &mut self.slots,
+            &mut self.links,
+            &mut self.scratch,
+            gone,
+            id,
+        );
+    }
+
+    /// Takes out a node alone, and gives what it carries: what names it stays. It takes no memory. Where the node names no
+    /// node it costs what is below it; else the totals of what is above it and below it are found afresh.
+    pub fn take_one(&mut self, id: &NodeId) -> Option<T>
+        ensures left { self.new.nodes ≡ without_one self.old.nodes id.now }
+        ensures load { result ≡ load_in self.old.nodes id.now }
+    {
+        self.room = 0;
+        take_one(&mut self.slots, &mut self.links, &mut self.scratch, id)
+    }
+}
+
+impl<T: Drop, S: BuildHasher + Copy + Drop> Nodes<T, S> {
+    /// Whether an id is that of a node without parents.
+    pub(crate) fn is_root(&self, id: &NodeId) -> bool
+        ensures { result ≡ is_root (nodes_in self.now.nodes) id.now }
+    {
+        match self.slots.place(id) {
+            Some(place) => self.slots.at(place).parents.as_slice().is_empty(),
+            None => false,
+        }
+    }
+
+    /// All that a chain leads to this way from one of these ids, each once and the ids first, whether they are nodes or not.
+    pub(crate) fn find(
+        &self,
+        alloc: Global,
+        ids: &[Id],
+        way: Way,
+    ) -> Result<IndexSet<NodeId, S>, Memory>
+        ensures { IfOk result (λ found. (other : List ℕ) → among found.keys other ≡ are_led way (nodes_in self.now.nodes) ids.now other) }
+    {
+        find(alloc, &self.slots, &self.links, ids, way)
+    }
+
+    /// The ids of the nodes that were found, each once, in the order of adding.
+    pub(crate) fn in_order(&self, alloc: Global, found: &[NodeId]) -> Result<Vec<Id>, Memory>
+        ensures { IfOk result (λ ids. ids.items ≡ ids_of (filter (λ n. among found.now n.id) (nodes_in self.now.nodes))) }
+    {
+        in_order(alloc, &self.slots, found)
+    }
+
+    /// Lets the nodes of these ids name another, which nothing names, as their last parent. Where memory runs out, some of them
+    /// name it.
+    pub(crate) fn name_each(&mut self, children: &[Id], parent: &NodeId) -> Result<(), Memory>
+        requires none { has (nodes_in self.old.nodes) parent.now ≡ false }
+        requires unnamed { (n : Node) → Contains (nodes_in self.old.nodes) n → among n.parents parent.now ≡ false }
+        ensures ok { OnOk result (nodes_in self.new.nodes ≡ map (with_parent parent.now children.now) (nodes_in self.old.nodes)) }
+        ensures back { map (without_parent parent.now) (nodes_in self.new.nodes) ≡ map (without_parent parent.now) (nodes_in self.old.nodes) }
+    {
+        self.room = 0;
+        name_each(&mut self.slots, &mut self.links, children, parent)
+    }
+
+    /// Makes ready for a node that is put above others: they name its id, and there is memory for it and for so many parents.
+    pub(crate) fn make_ready(
+        &mut self,
+        id: &NodeId,
+        parents: usize,
+        children: &[Id],
+    ) -> Result<(), Memory>
+        requires none { has (nodes_in self.old.nodes) id.now ≡ false }
+        requires unnamed { (n : Node) → Contains (nodes_in self.old.nodes) n → among n.parents id.now ≡ false }
+        ensures ok { OnOk result (nodes_in self.new.nodes ≡ map (with_parent id.now children.now) (nodes_in self.old.nodes)) }
+        ensures room { OnOk result (parents < self.new.room) }
+        ensures back { map (without_parent id.now) (nodes_in self.new.nodes) ≡ map (without_parent id.now) (nodes_in self.old.nodes) }
+    {
+        self.name_each(children, id)?;
+        self.reserve(parents)
+    }
+
+    /// Takes an id that no node has out of the parents of all that name it. It takes no memory.
+    pub(crate) fn unname(&mut self, id: &NodeId)
+        requires { has (nodes_in self.old.nodes) id.now ≡ false }
+        ensures { nodes_in self.new.nodes ≡ map (without_parent id.now) (nodes_in self.old.nodes) }
+    {
+        self.room = 0;
+        unname(&mut self.slots, &mut self.links, id);
+    }
+
+    /// The same nodes again, with what they carry. It costs what putting each of them costs.
+    pub fn copy(&self, alloc: Global) -> Result<Nodes<T, S>, Memory>
+    where
+        T: Copied,
+        ensures { IfOk result (λ copy. copy.nodes ≡ self.now.nodes) }
+    {
+        let mut copy = Nodes::new(alloc, self.slots.hasher());
+        copy_each(alloc, self.slots.as_slice(), &mut copy)?;
+        Ok(copy)
+    }
+
+    pub(crate) fn alloc(&self) -> Global {
+        self.slots.alloc()
+    }
+}

@@ -1,0 +1,181 @@
+ghost use Rattle.std.specs.Prelude.{◌≡◌, ◌<◌, [], ◌∷◌, ◌++◌, ℕ, not, true, false, Some, None, is_some, map, filter, find, length, slice_set, OnOk, IfSome};
+ghost use Rattle.std.specs.Str.{bytes_eq};
+ghost use Rattle.std.specs.Option.{option_map};
+ghost use Rattle.gate_graph.specs.Families.{has, ids_of};
+ghost use Rattle.gate_graph.specs.Holding.{has_id, id_at, at_id, with_parents, with_totals, nodes_of};
+ghost use Rattle.gate_graph.specs.Slots.{at, entries_of};
+
+use crate::held::{Held, Totals};
+use crate::id::NodeId;
+use crate::places::{empty, id_at, rewrite, standing, write};
+use gate_bytes::Memory;
+use indexmap::IndexMap;
+use std::alloc::Global;
+use std::hash::BuildHasher;
+use std::marker::Model;
+
+/// Nodes in the order of adding, in slots with holes where some were taken out, and the place of each id.
+#[derive(Drop)]
+pub(crate) struct Slots<T: Drop, S: BuildHasher + Drop> {
+    slots: Vec<Option<Held<T>>>,
+    places: IndexMap<NodeId, usize, S>,
+    /// How many nodes there is room for.
+    room: usize,
+}
+
+impl<T: Drop, S: BuildHasher + Drop> Model for Slots<T, S> {
+    ghost use Rattle.std.specs.Prelude.{List};
+    ghost use Rattle.std.specs.Str.{bytes_eq};
+    ghost use Rattle.std.specs.Vec.{vec_len, vec_capacity};
+    ghost use Rattle.indexmap.specs.IndexMap.{get, spare, index_map_len};
+    ghost use Rattle.gate_graph.specs.declared.held.Held.{Held};
+    ghost use Rattle.gate_graph.specs.Slots.{entries_of};
+    ghost use Rattle.gate_graph.specs.Holding.{Stored, IsPlaced, HasSpot, spots_of};
+
+    ghost Value = { Stored T };
+
+    ghost view = { λ s. record { held = entries_of s.slots.items; spots = spots_of s.slots.items; room = s.room } };
+
+    ghost invariant = { λ s. IsPlaced s.slots.items (index_map_len s.places) (get bytes_eq s.places) × HasSpot s.room (spare s.places) (vec_len s.slots) (vec_capacity s.slots) };
+}
+
+impl<T: Drop, S: BuildHasher + Drop> Slots<T, S> {
+    pub(crate) fn new(alloc: Global, hasher: S) -> Slots<T, S>
+        ensures held { result.held ≡ [] }
+        ensures spots { result.spots ≡ [] }
+        ensures room { result.room ≡ 0 }
+    {
+        Slots {
+            slots: Vec::new(alloc),
+            places: IndexMap::with_hasher(alloc, hasher),
+            room: 0,
+        }
+    }
+
+    /// The slots, in the order of adding.
+    pub(crate) fn as_slice(&self) -> &[Option<Held<T>>]
+        ensures { entries_of result.now ≡ self.now.held }
+    {
+        self.slots.as_slice()
+    }
+
+    /// How many slots there are, holes among them.
+    pub(crate) fn len(&self) -> usize
+        ensures len { result ≡ length self.now.spots }
+        ensures ids { ids_of (nodes_of self.now.held) ≡ entries_of self.now.spots }
+    {
+        self.slots.as_slice().len()
+    }
+
+    /// The id that stands at a place.
+    pub(crate) fn id(&self, place: usize) -> Option<NodeId>
+        ensures { result ≡ at self.now.spots place }
+    {
+        id_at(&self.slots, place)
+    }
+
+    pub(crate) fn count(&self) -> usize
+        ensures { result ≡ length self.now.held }
+    {
+        self.places.len()
+    }
+
+    /// The place of the node that has an id.
+    pub(crate) fn place(&self, id: &NodeId) -> Option<usize>
+        ensures sound { IfSome result (λ place. at self.now.spots place ≡ Some id.now) }
+        ensures whole { (place : ℕ) → at self.now.spots place ≡ Some id.now → result ≡ Some place }
+        ensures has { is_some result ≡ has (nodes_of self.now.held) id.now }
+    {
+        match self.places.get(id) {
+            Some(place) => Some(*place),
+            None => None,
+        }
+    }
+
+    pub(crate) fn contains(&self, id: &NodeId) -> bool
+        ensures { result ≡ has (nodes_of self.now.held) id.now }
+    {
+        self.place(id).is_some()
+    }
+
+    /// The node at a place.
+    pub(crate) fn at(&self, place: usize) -> &Held<T>
+        requires { is_some (at self.now.spots place) ≡ true }
+        ensures { find (λ h. has_id h (id_at self.now.spots place)) self.now.held ≡ Some result.now }
+    {
+        standing(&self.slots, place)
+    }
+
+    /// Writes the totals of a node.
+    pub(crate) fn set_totals(&mut self, place: usize, totals: Totals)
+        requires { is_some (at self.old.spots place) ≡ true }
+        ensures held { self.new.held ≡ map (at_id (id_at self.old.spots place) (with_totals totals)) self.old.held }
+        ensures spots { self.new.spots ≡ self.old.spots }
+        ensures room { self.new.room ≡ self.old.room }
+    {
+        write(&mut self.slots, place, totals);
+    }
+
+    /// Writes the parents of a node, and gives those that it had.
+    pub(crate) fn relist(&mut self, place: usize, parents: Vec<NodeId>) -> Vec<NodeId>
+        requires { is_some (at self.old.spots place) ≡ true }
+        ensures had { option_map (λ h. h.parents) (find (λ h. has_id h (id_at self.old.spots place)) self.old.held) ≡ Some result }
+        ensures held { self.new.held ≡ map (at_id (id_at self.old.spots place) (with_parents parents)) self.old.held }
+        ensures spots { self.new.spots ≡ self.old.spots }
+        ensures room { self.new.room ≡ self.old.room }
+    {
+        rewrite(&mut self.slots, place, parents)
+    }
+
+    /// Takes out a node and leaves a hole.
+    pub(crate) fn pull(&mut self, place: usize) -> Held<T>
+        requires { is_some (at self.old.spots place) ≡ true }
+        ensures taken { find (λ h. has_id h (id_at self.old.spots place)) self.old.held ≡ Some result }
+        ensures left { self.new.held ≡ filter (λ h. not (has_id h (id_at self.old.spots place))) self.old.held }
+        ensures spots { self.new.spots ≡ slice_set self.old.spots place None }
+        ensures room { self.new.room ≡ self.old.room }
+    {
+        let held = empty(&mut self.slots, place);
+        let _ = self.places.swap_remove(&held.id);
+        held
+    }
+
+    /// Takes the memory for one more.
+    pub(crate) fn reserve(&mut self) -> Result<(), Memory>
+        ensures held { self.new.held ≡ self.old.held }
+        ensures spots { self.new.spots ≡ self.old.spots }
+        ensures room { OnOk result (0 < self.new.room) }
+    {
+        self.room = 0;
+        self.places.reserve(1)?;
+        self.slots.reserve(1)?;
+        self.room = 1;
+        Ok(())
+    }
+
+    /// Puts a node at the end, for which there is room, and tells its place.
+    pub(crate) fn put(&mut self, held: Held<T>) -> usize
+        requires room { 0 < self.old.room }
+        requires new { has (nodes_of self.old.held) held.id ≡ false }
+        ensures held { self.new.held ≡ self.old.held ++ held ∷ [] }
+        ensures spots { self.new.spots ≡ self.old.spots ++ Some held.id ∷ [] }
+        ensures place { result ≡ length self.old.spots }
+    {
+        self.room = 0;
+        let place = self.slots.as_slice().len();
+        let put: Result<_, _> = self.places.insert(held.id, place);
+        let _ = put.unwrap();
+        self.slots.push_reserved(Some(held));
+        place
+    }
+}
+
+impl<T: Drop, S: BuildHasher + Copy + Drop> Slots<T, S> {
+    pub(crate) fn hasher(&self) -> S {
+        *self.places.hasher()
+    }
+
+    pub(crate) fn alloc(&self) -> Global {
+        *self.places.allocator()
+    }
+}

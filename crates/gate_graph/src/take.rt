@@ -1,0 +1,287 @@
+//! Nodes taken out with all that is below them, without memory.
+ghost use Rattle.std.specs.Prelude.{◌≡◌, ◌==◌, ◌≤◌, ◌<◌, ◌+◌, ◌++◌, ◌∷◌, [], IsTrue, None, not, true, is_some, Some, ℕ, List, filter, length, slice_set, vec_len};
+ghost use Rattle.std.specs.Vec.{vec_capacity};
+ghost use Rattle.gate_graph.specs.Families.{has, are_apart};
+ghost use Rattle.std.specs.List.{list_all};
+ghost use Rattle.gate_graph.specs.Holding.{has_id, id_at, ids_at, nodes_of, loaded, left_of, load_of, loads_of, without_below, without_one, AreGone};
+ghost use Rattle.gate_graph.specs.Slots.{at};
+ghost use Rattle.gate_graph.specs.Linking.{IsLinked, AreWithout};
+ghost use Rattle.gate_graph.specs.Walking.{AreClear, AreStanding};
+ghost use Rattle.gate_graph.specs.Weighing.{AreSmall, IsRoot, IsWeighed};
+
+use crate::held::Held;
+use crate::id::NodeId;
+use crate::links::Links;
+use crate::refresh::refresh_each;
+use crate::slots::Slots;
+use crate::walk::{Heading, Scratch, Way, walk, walk_below};
+use crate::weigh::{ease_all, lower_above_each};
+use std::hash::BuildHasher;
+
+/// Takes an id out of the lists of others.
+fn unlink<S: BuildHasher + Drop>(links: &mut Links<S>, parents: &[NodeId], child: &NodeId)
+    ensures lists { AreWithout parents.now child.now links.old links.new }
+    ensures room { links.new.room ≡ links.old.room }
+{
+    for parent in parents {
+        links.remove(parent, child);
+    }
+}
+
+/// Takes out a node, and gives what it carries.
+fn pull_one<T: Drop, S: BuildHasher + Drop>(
+    slots: &mut Slots<T, S>,
+    links: &mut Links<S>,
+    place: usize,
+) -> T
+    requires stands { is_some (at slots.old.spots place) ≡ true }
+    requires apart { are_apart (nodes_of slots.old.held) ≡ true }
+    requires linked { IsLinked (nodes_of slots.old.held) links.old }
+    ensures load { load_of slots.old.held (id_at slots.old.spots place) ≡ Some result }
+    ensures left { slots.new.held ≡ filter (λ h. not (has_id h (id_at slots.old.spots place))) slots.old.held }
+    ensures fewer { length slots.new.held < length slots.old.held }
+    ensures linked { IsLinked (nodes_of slots.new.held) links.new }
+    ensures spots { slots.new.spots ≡ slice_set slots.old.spots place None }
+    ensures slots_room { slots.new.room ≡ slots.old.room }
+    ensures links_room { links.new.room ≡ links.old.room }
+{
+    let held = slots.pull(place);
+    let Held {
+        id,
+        parents,
+        load,
+        ..
+    } = held;
+    unlink(links, parents.as_slice(), &id);
+    load
+}
+
+/// Takes out each of these nodes, and puts what it carries at the end of a list with room.
+fn pull_each<T: Drop, S: BuildHasher + Drop>(
+    slots: &mut Slots<T, S>,
+    links: &mut Links<S>,
+    gone: &mut Vec<T>,
+    places: &[usize],
+)
+    requires room { vec_len gone.old + length slots.old.held ≤ vec_capacity gone.old }
+    requires apart { are_apart (nodes_of slots.old.held) ≡ true }
+    requires linked { IsLinked (nodes_of slots.old.held) links.old }
+    requires standing { AreStanding slots.old.spots places.now }
+    ensures left { slots.new.held ≡ left_of (ids_at slots.old.spots places.now) slots.old.held }
+    ensures linked { IsLinked (nodes_of slots.new.held) links.new }
+    ensures gone { gone.new.items ≡ gone.old.items ++ loads_of (ids_at slots.old.spots places.now) slots.old.held }
+    ensures spots { length slots.new.spots ≡ length slots.old.spots }
+    ensures slots_room { slots.new.room ≡ slots.old.room }
+    ensures links_room { links.new.room ≡ links.old.room }
+{
+    for place in places {
+        let load = pull_one(slots, links, *place);
+        gone.push_reserved(load);
+    }
+}
+
+/// Takes out a node and all that is below it, and gives what they carry. What is left has the totals of what is left.
+pub(crate) fn take_family<T: Drop, S: BuildHasher + Drop>(
+    slots: &mut Slots<T, S>,
+    links: &mut Links<S>,
+    scratch: &mut Scratch,
+    gone: &mut Vec<T>,
+    id: &NodeId,
+)
+    requires clear { AreClear (length slots.old.spots) scratch.old.marks.items }
+    requires found { length slots.old.held ≤ vec_capacity scratch.old.found }
+    requires above { length slots.old.held ≤ vec_capacity scratch.old.above }
+    requires room { vec_len gone.old + length slots.old.held ≤ vec_capacity gone.old }
+    requires apart { are_apart (nodes_of slots.old.held) ≡ true }
+    requires linked { IsLinked (nodes_of slots.old.held) links.old }
+    requires weighed { IsWeighed slots.old.held }
+    requires small { AreSmall (nodes_of slots.old.held) }
+    ensures left { loaded slots.new.held ≡ without_below (loaded slots.old.held) id.now }
+    ensures apart { are_apart (nodes_of slots.new.held) ≡ true }
+    ensures linked { IsLinked (nodes_of slots.new.held) links.new }
+    ensures weighed { IsWeighed slots.new.held }
+    ensures small { AreSmall (nodes_of slots.new.held) }
+    ensures clear { AreClear (length slots.new.spots) scratch.new.marks.items }
+    ensures marks { vec_capacity scratch.new.marks ≡ vec_capacity scratch.old.marks }
+    ensures spots { length slots.new.spots ≡ length slots.old.spots }
+    ensures found { vec_capacity scratch.new.found ≡ vec_capacity scratch.old.found }
+    ensures above { vec_capacity scratch.new.above ≡ vec_capacity scratch.old.above }
+    ensures slots_room { slots.new.room ≡ slots.old.room }
+    ensures links_room { links.new.room ≡ links.old.room }
+    ensures gone { AreGone (loaded slots.old.held) id.now gone.old.items gone.new.items }
+{
+    walk_below(slots, links, &mut scratch.marks, &mut scratch.found, id);
+    lower_above_each(
+        slots,
+        links,
+        &mut scratch.marks,
+        &mut scratch.above,
+        scratch.found.as_slice(),
+    );
+    pull_each(slots, links, gone, scratch.found.as_slice());
+}
+
+/// Takes a place out of a list.
+fn leave_out(places: &mut Vec<usize>, place: usize)
+    ensures left { places.new.items ≡ filter (λ p. not (p == place)) places.old.items }
+    ensures capacity { vec_capacity places.new ≡ vec_capacity places.old }
+{
+    places.retain(|other| *other != place);
+}
+
+/// Takes out a node alone, and gives what it carries: what names it stays. The totals of what was above it and of what is
+/// below it are found afresh, so that nothing is asked of the steps.
+fn take_alone<T: Drop, S: BuildHasher + Drop>(
+    slots: &mut Slots<T, S>,
+    links: &mut Links<S>,
+    scratch: &mut Scratch,
+    place: usize,
+) -> T
+    requires stands { is_some (at slots.old.spots place) ≡ true }
+    requires clear { AreClear (length slots.old.spots) scratch.old.marks.items }
+    requires found { length slots.old.held ≤ vec_capacity scratch.old.found }
+    requires above { length slots.old.held ≤ vec_capacity scratch.old.above }
+    requires apart { are_apart (nodes_of slots.old.held) ≡ true }
+    requires linked { IsLinked (nodes_of slots.old.held) links.old }
+    requires weighed { IsWeighed slots.old.held }
+    requires small { AreSmall (nodes_of slots.old.held) }
+    ensures left { loaded slots.new.held ≡ without_one (loaded slots.old.held) (id_at slots.old.spots place) }
+    ensures load { load_of slots.old.held (id_at slots.old.spots place) ≡ Some result }
+    ensures apart { are_apart (nodes_of slots.new.held) ≡ true }
+    ensures linked { IsLinked (nodes_of slots.new.held) links.new }
+    ensures weighed { IsWeighed slots.new.held }
+    ensures small { AreSmall (nodes_of slots.new.held) }
+    ensures clear { AreClear (length slots.new.spots) scratch.new.marks.items }
+    ensures marks { vec_capacity scratch.new.marks ≡ vec_capacity scratch.old.marks }
+    ensures spots { length slots.new.spots ≡ length slots.old.spots }
+    ensures found { vec_capacity scratch.new.found ≡ vec_capacity scratch.old.found }
+    ensures above { vec_capacity scratch.new.above ≡ vec_capacity scratch.old.above }
+{
+    let id = slots.at(place).id;
+    walk(
+        slots,
+        links,
+        &mut scratch.marks,
+        &mut scratch.above,
+        Heading {
+            place,
+            way: Way::Up,
+        },
+    );
+    let load = pull_one(slots, links, place);
+    leave_out(&mut scratch.above, place);
+    refresh_each(
+        slots,
+        links,
+        &mut scratch.marks,
+        &mut scratch.found,
+        scratch.above.as_slice(),
+    );
+    walk_below(slots, links, &mut scratch.marks, &mut scratch.above, &id);
+    refresh_each(
+        slots,
+        links,
+        &mut scratch.marks,
+        &mut scratch.found,
+        scratch.above.as_slice(),
+    );
+    load
+}
+
+/// Takes out a node that names no node, and it alone, and gives what it carries: what names it stays, and has one less above
+/// it.
+fn take_root<T: Drop, S: BuildHasher + Drop>(
+    slots: &mut Slots<T, S>,
+    links: &mut Links<S>,
+    scratch: &mut Scratch,
+    place: usize,
+) -> T
+    requires stands { is_some (at slots.old.spots place) ≡ true }
+    requires clear { AreClear (length slots.old.spots) scratch.old.marks.items }
+    requires found { length slots.old.held ≤ vec_capacity scratch.old.found }
+    requires apart { are_apart (nodes_of slots.old.held) ≡ true }
+    requires linked { IsLinked (nodes_of slots.old.held) links.old }
+    requires weighed { IsWeighed slots.old.held }
+    requires small { AreSmall (nodes_of slots.old.held) }
+    requires root { IsRoot (nodes_of slots.old.held) (id_at slots.old.spots place) }
+    ensures left { loaded slots.new.held ≡ without_one (loaded slots.old.held) (id_at slots.old.spots place) }
+    ensures load { load_of slots.old.held (id_at slots.old.spots place) ≡ Some result }
+    ensures apart { are_apart (nodes_of slots.new.held) ≡ true }
+    ensures linked { IsLinked (nodes_of slots.new.held) links.new }
+    ensures weighed { IsWeighed slots.new.held }
+    ensures small { AreSmall (nodes_of slots.new.held) }
+    ensures clear { AreClear (length slots.new.spots) scratch.new.marks.items }
+    ensures marks { vec_capacity scratch.new.marks ≡ vec_capacity scratch.old.marks }
+    ensures spots { length slots.new.spots ≡ length slots.old.spots }
+    ensures found { vec_capacity scratch.new.found ≡ vec_capacity scratch.old.found }
+    ensures above { vec_capacity scratch.new.above ≡ vec_capacity scratch.old.above }
+{
+    let held = slots.at(place);
+    let size = held.size;
+    let fee = held.fee;
+    walk(
+        slots,
+        links,
+        &mut scratch.marks,
+        &mut scratch.found,
+        Heading {
+            place,
+            way: Way::Down,
+        },
+    );
+    ease_all(slots, scratch.found.as_slice(), size, fee);
+    pull_one(slots, links, place)
+}
+
+/// Whether a node names no node.
+fn is_root<T: Drop, S: BuildHasher + Drop>(slots: &Slots<T, S>, place: usize) -> bool
+    requires apart { are_apart (nodes_of slots.now.held) ≡ true }
+    requires stands { is_some (at slots.now.spots place) ≡ true }
+    ensures { IsTrue result → IsRoot (nodes_of slots.now.held) (id_at slots.now.spots place) }
+{
+    names_none(slots, slots.at(place).parents.as_slice())
+}
+
+fn names_none<T: Drop, S: BuildHasher + Drop>(slots: &Slots<T, S>, ids: &[NodeId]) -> bool
+    ensures { result ≡ list_all (λ id. not (has (nodes_of slots.now.held) id)) ids.now }
+{
+    ids.iter().all(|id| !slots.contains(id))
+}
+
+/// Takes out a node alone, by differences where it names no node.
+pub(crate) fn take_one<T: Drop, S: BuildHasher + Drop>(
+    slots: &mut Slots<T, S>,
+    links: &mut Links<S>,
+    scratch: &mut Scratch,
+    id: &NodeId,
+) -> Option<T>
+    requires clear { AreClear (length slots.old.spots) scratch.old.marks.items }
+    requires found { length slots.old.held ≤ vec_capacity scratch.old.found }
+    requires above { length slots.old.held ≤ vec_capacity scratch.old.above }
+    requires apart { are_apart (nodes_of slots.old.held) ≡ true }
+    requires linked { IsLinked (nodes_of slots.old.held) links.old }
+    requires weighed { IsWeighed slots.old.held }
+    requires small { AreSmall (nodes_of slots.old.held) }
+    ensures left { loaded slots.new.held ≡ without_one (loaded slots.old.held) id.now }
+    ensures load { result ≡ load_of slots.old.held id.now }
+    ensures apart { are_apart (nodes_of slots.new.held) ≡ true }
+    ensures linked { IsLinked (nodes_of slots.new.held) links.new }
+    ensures weighed { IsWeighed slots.new.held }
+    ensures small { AreSmall (nodes_of slots.new.held) }
+    ensures clear { AreClear (length slots.new.spots) scratch.new.marks.items }
+    ensures marks { vec_capacity scratch.new.marks ≡ vec_capacity scratch.old.marks }
+    ensures spots { length slots.new.spots ≡ length slots.old.spots }
+    ensures found { vec_capacity scratch.new.found ≡ vec_capacity scratch.old.found }
+    ensures above { vec_capacity scratch.new.above ≡ vec_capacity scratch.old.above }
+{
+    match slots.place(id) {
+        Some(place) => {
+            if is_root(slots, place) {
+                Some(take_root(slots, links, scratch, place))
+            } else {
+                Some(take_alone(slots, links, scratch, place))
+            }
+        }
+        None => None,
+    }
+}

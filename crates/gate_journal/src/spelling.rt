@@ -1,0 +1,15 @@
+//! That transactions have texts, which the types of events say.
+ghost use Rattle.std.specs.List.{All};
+ghost use Rattle.gate_message.specs.Spelled.{IsSpelled};
+ghost use Rattle.gate_journal.specs.Legal.{events_of};
+
+use crate::entry::Entry;
+
+/// That the transactions of these entries have texts, as laws on runs ask of events: it does nothing.
+pub fn tells_spelled(entries: &[Entry])
+    ensures { All IsSpelled (events_of entries.now) }
+{
+    for entry in entries {
+        entry.event.tells_spelled();
+    }
+}

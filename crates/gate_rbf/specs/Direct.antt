@@ -1,0 +1,14 @@
+-- The entries that a transaction conflicts with, as they are found.
+use Rattle.std.specs.Prelude.{List, Contains}
+use Rattle.gate_tx.specs.Tx.{Tx}
+use Rattle.gate_pool.specs.Pool.{Admitted}
+
+-- a transaction beside the entries of a pool
+pub record Beside : Type 0 where
+  pub entries : List Admitted
+  pub tx : Tx
+
+-- what is found is these entries, in whatever order and each however often
+pub record AreThese (found some : List Admitted) : Type 0 where
+  pub all : (e : Admitted) → Contains some e → Contains found e
+  pub only : (e : Admitted) → Contains found e → Contains some e

@@ -1,6 +1,0 @@
-use Rattle.std.proofs.Common.{drop}
-use Rattle.gate_reorg.proofs.Telling.{AreSpelled}
-use Rattle.gate_reorg.proofs.spelling.tells_all.Given as goal
-
-abbrev pub invariant-loop-transaction : goal.invariant-loop-transaction
-invariant-loop-transaction l = AreSpelled (drop l.transaction-index l.transactions) → AreSpelled l.transactions

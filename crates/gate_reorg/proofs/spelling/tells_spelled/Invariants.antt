@@ -1,8 +1,0 @@
-use Rattle.std.proofs.Common.{drop}
-use Rattle.gate_reorg.specs.Events.{present}
-use Rattle.gate_reorg.specs.Reorganisation.{transactions_of}
-use Rattle.gate_reorg.proofs.Telling.{AreSpelled}
-use Rattle.gate_reorg.proofs.spelling.tells_spelled.Given as goal
-
-abbrev pub invariant-loop-block : goal.invariant-loop-block
-invariant-loop-block l = AreSpelled (transactions_of (present (drop l.block-index l.blocks))) → AreSpelled (transactions_of (present l.blocks))

@@ -1,0 +1,14 @@
+//! What is submitted, before it meets a chain and a pool, and what a chain event comes to: what callers and replies say of
+//! admission and reorganisation without standing on them.
+//!
+//! The main clause is that of `Prepared::of`: the transaction, with the first of A2 to A19 that fails.
+#![tactic(auto)]
+
+mod moved;
+mod prepared;
+mod spelling;
+
+pub use gate_inputs::InputReport;
+pub use moved::Moved;
+pub use prepared::{Candidate, Prepared};
+pub use spelling::tells_spelled;

@@ -1,0 +1,253 @@
+//! A submission before it meets a chain and a pool.
+ghost use Rattle.std.specs.Prelude.{◌≡◌, None, Some, IfOk, IfSome};
+ghost use Rattle.std.specs.Option.{option_map, option_copied};
+ghost use Rattle.gate_tx.specs.Reading.{decoded};
+ghost use Rattle.gate_tx.specs.Ids.{txid_of, wtxid_of};
+ghost use Rattle.gate_tx.specs.Text.{IsTx};
+ghost use Rattle.gate_bytes.specs.Order.{first_failing};
+ghost use Rattle.gate_submission.specs.Alone.{alone_rules, first_denial};
+
+use gate_bytes::{Copied, Counted, Exact, Kept, Memory};
+use gate_inputs::InputReport;
+use gate_standard::{Denial, check_transaction, is_standard};
+use gate_tx::{Identified, Transaction, TxFault, Txid, Wtxid};
+use std::alloc::Global;
+use std::marker::Model;
+
+/// A submission before it meets a chain and a pool: contracts see the transaction that its bytes spell, or none.
+#[derive(Debug, Drop)]
+pub struct Prepared {
+    identified: Option<Counted<Identified>>,
+    denial: Option<Denial>,
+    reports: Option<Kept<InputReport>>,
+}
+
+impl Model for Prepared {
+    ghost use Rattle.std.specs.Prelude.{◌≡◌, Option};
+    ghost use Rattle.gate_tx.specs.Tx.{Tx};
+
+    ghost Value = { Option Tx };
+
+    ghost use Rattle.gate_submission.specs.Alone.{first_denial};
+
+    ghost view = { λ p. p.identified };
+
+    ghost invariant = { λ p. p.denial ≡ first_denial p.identified };
+}
+
+/// A transaction that is judged, with the first rule that fails of those on it alone, and reports that were made of its
+/// inputs: contracts see the transaction.
+#[derive(Drop)]
+pub struct Candidate<'a> {
+    identified: &'a Counted<Identified>,
+    denial: Option<Denial>,
+    reports: &'a [InputReport],
+}
+
+impl<'a> Model for Candidate<'a> {
+    ghost use Rattle.std.specs.Prelude.{◌≡◌};
+    ghost use Rattle.gate_bytes.specs.Order.{first_failing};
+    ghost use Rattle.gate_tx.specs.Tx.{Tx};
+    ghost use Rattle.gate_submission.specs.Alone.{alone_rules};
+
+    ghost Value = { Tx };
+
+    ghost view = { λ c. c.identified.now };
+
+    ghost invariant = { λ c. c.denial ≡ first_failing (alone_rules c.identified.now) };
+}
+
+impl<'a> Candidate<'a> {
+    pub fn identified(&self) -> &'a Counted<Identified>
+        ensures { result.now ≡ self.now }
+    {
+        self.identified
+    }
+
+    /// The first of A2 to A19 that fails.
+    pub fn denial(&self) -> Option<Denial>
+        ensures { result ≡ first_failing (alone_rules self.now) }
+    {
+        self.denial
+    }
+
+    pub fn reports(&self) -> &'a [InputReport] {
+        self.reports
+    }
+}
+
+/// The first of A2 to A19 that fails.
+#[tactic(auto, using(gate_bytes::proofs::OrderLemmas::first_failing_append), unfolding(crate::specs::Alone::alone_rules))]
+fn check_alone(alloc: Global, tx: &Transaction) -> Result<Option<Denial>, Memory>
+    ensures { IfOk result (λ found. found ≡ first_failing (alone_rules tx.now)) }
+{
+    match check_transaction(alloc, tx)? {
+        Some(denial) => Ok(Some(denial)),
+        None => Ok(is_standard(tx)),
+    }
+}
+
+impl Prepared {
+    /// The submission of these bytes.
+    pub fn new(alloc: Global, bytes: &[u8]) -> Result<Prepared, Memory>
+        ensures { IfOk result (λ prepared. prepared ≡ decoded bytes.now) }
+    {
+        match Identified::read(alloc, bytes) {
+            Ok(identified) => Prepared::of(alloc, Counted::new(alloc, identified)?),
+            Err(TxFault::Memory) => Err(Memory),
+            Err(_) => Ok(Prepared::undecodable()),
+        }
+    }
+
+    /// The submission of a transaction that is at hand, with its owners.
+    pub fn of(alloc: Global, identified: Counted<Identified>) -> Result<Prepared, Memory>
+        ensures { IfOk result (λ prepared. prepared ≡ Some identified) }
+    {
+        let denial = check_alone(alloc, identified.get().transaction())?;
+        Ok(Prepared {
+            identified: Some(identified),
+            denial,
+            reports: None,
+        })
+    }
+
+    /// The submission of what spells no transaction.
+    pub fn undecodable() -> Prepared
+        ensures { result ≡ None }
+    {
+        Prepared {
+            identified: None,
+            denial: Some(Denial::Decode),
+            reports: None,
+        }
+    }
+
+    /// The same with reports on its inputs, which were made beforehand: the first on input 0, and so on. One that is
+    /// missing or is that of another input or coin is made where it is needed.
+    pub fn with_reports(self, reports: Kept<InputReport>) -> Prepared
+        ensures { result ≡ self }
+    {
+        let Prepared {
+            identified,
+            denial,
+            reports: _replaced,
+        } = self;
+        Prepared {
+            identified,
+            denial,
+            reports: Some(reports),
+        }
+    }
+
+    fn reports(&self) -> &[InputReport] {
+        match &self.reports {
+            Some(reports) => reports.as_slice(),
+            None => &[],
+        }
+    }
+
+    /// The transaction, as it is judged.
+    pub fn candidate(&self) -> Option<Candidate<'_>>
+        ensures { result ≡ self.now }
+    {
+        let denial = self.denial;
+        let reports = self.reports();
+        match &self.identified {
+            Some(identified) => Some(Candidate {
+                identified,
+                denial,
+                reports,
+            }),
+            None => None,
+        }
+    }
+
+    pub fn transaction(&self) -> Option<&Transaction>
+        ensures { option_copied result ≡ self.now }
+    {
+        match &self.identified {
+            Some(identified) => Some(identified.get().transaction()),
+            None => None,
+        }
+    }
+
+    /// That the transaction has a text: it does nothing.
+    pub fn tells_spelled(&self)
+        ensures { IfSome self.now IsTx }
+    {
+        if let Some(identified) = &self.identified {
+            identified.get().transaction().tells_invariant();
+        }
+    }
+
+    pub fn txid(&self) -> Option<Txid>
+        ensures { result ≡ option_map txid_of self.now }
+    {
+        match &self.identified {
+            Some(identified) => Some(identified.get().txid()),
+            None => None,
+        }
+    }
+
+    pub fn wtxid(&self) -> Option<Wtxid>
+        ensures { result ≡ option_map wtxid_of self.now }
+    {
+        match &self.identified {
+            Some(identified) => Some(identified.get().wtxid()),
+            None => None,
+        }
+    }
+
+    /// The first rule that fails of those on a transaction alone.
+    pub fn denial(&self) -> Option<Denial>
+        ensures { result ≡ first_denial self.now }
+    {
+        self.denial
+    }
+}
+
+/// One more owner of the same transaction; reports are made anew where they are needed.
+impl Copied for Prepared {
+    fn copy(&self, alloc: Global) -> Result<Prepared, Memory> {
+        Ok(Prepared {
+            identified: self.identified.copy(alloc)?,
+            denial: self.denial,
+            reports: None,
+        })
+    }
+}
+
+impl PartialEq for Prepared {
+    ghost use Rattle.std.proofs.Common.{refl};
+    ghost use Rattle.std.specs.Option.{option_eq};
+    ghost use Rattle.gate_tx.specs.Equality.{transaction_decides, tx_in_decides, tx_out_decides};
+    ghost use Rattle.gate_submission.specs.Equality.{option_decides, deciding};
+
+    ghost eq = { λ a b. option_eq ⟦<Transaction as PartialEq>⟧.eq a b };
+
+    ghost laws = { deciding (option_decides (λ a b. transaction_decides tx_in_decides tx_out_decides a b (⟦<Transaction as PartialEq>⟧.eq a b) refl)) };
+
+    fn eq(&self, other: &Prepared) -> bool {
+        match (&self.identified, &other.identified) {
+            (Some(one), Some(another)) => one.get().transaction() == another.get().transaction(),
+            (None, None) => true,
+            _ => false,
+        }
+    }
+}
+
+impl Eq for Prepared {
+    ghost use Rattle.std.proofs.Common.{refl};
+    ghost use Rattle.gate_tx.specs.Equality.{transaction_decides, tx_in_decides, tx_out_decides};
+    ghost use Rattle.gate_submission.specs.Equality.{option_decides, deciding_all};
+
+    ghost laws = { deciding_all (option_decides (λ a b. transaction_decides tx_in_decides tx_out_decides a b (⟦<Transaction as PartialEq>⟧.eq a b) refl)) };
+}
+
+impl Exact for Prepared {
+    ghost use Rattle.std.proofs.Common.{refl};
+    ghost use Rattle.gate_tx.specs.Equality.{transaction_decides, tx_in_decides, tx_out_decides};
+    ghost use Rattle.gate_submission.specs.Equality.{option_decides};
+
+    ghost exact = { option_decides (λ a b. transaction_decides tx_in_decides tx_out_decides a b (⟦<Transaction as PartialEq>⟧.eq a b) refl) };
+}

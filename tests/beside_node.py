@@ -1,0 +1,219 @@
+"""tools/opening and tools/compare, on what two nodes answered (data/README.md)."""
+
+import json
+import os
+import subprocess
+import sys
+import tempfile
+
+from gate import ROOT, same, same_lines
+
+sys.path.insert(0, os.path.join(ROOT, "tools"))
+
+import node
+
+DATA = os.path.join(ROOT, "tests", "data")
+NODES = ("knots-29", "litecoin-0.21")
+VERSION_3 = "679a1599a59ff7d18d3b27188abe082d71ecdae708bd26702561245abeebbef5"
+DUST = "90f14d64b742aee6869e3203ecb235f4176f0e89bc31305038ac63d4ad11bc04"
+FAILING_SCRIPT = "b3347f8030e4d37a3d5eadafb6e3816b18866e4169e53644138f19756ca42eda"
+KNOTS_DIFFERS = [
+    "known: gate: A12 version; node: taken with fee 400 and virtual size 96 (version 3 is standard (BIP 431))",
+    "    " + VERSION_3,
+    "known: gate: A17 dust; node: dust-nonanchor (the same refusal under another name)",
+    "    " + DUST,
+    "known: gate: A44 non-mandatory-script-verify-flag; node: mempool-script-verify-flag-failed"
+    " (Witness program hash mismatch) (the same refusal under another name)",
+    "    " + FAILING_SCRIPT,
+]
+
+
+def recording(name):
+    return os.path.join(DATA, name + ".jsonl")
+
+
+def trials(name):
+    return os.path.join(DATA, name + ".hex")
+
+
+def calls(name):
+    with open(recording(name), encoding="utf-8") as lines:
+        return [json.loads(line) for line in lines]
+
+
+def result_of(recorded, method):
+    """The first answer to this method, to be changed."""
+    return next(call["result"] for call in recorded if call["method"] == method)
+
+
+def ran(tool, *words):
+    done = subprocess.run([os.path.join(ROOT, "tools", tool), *words], capture_output=True, text=True, check=False)
+    return done.stdout.splitlines(), done.stderr, done.returncode
+
+
+def compared(gate, *words):
+    return ran("compare", *words, gate.program)
+
+
+def compared_with(gate, recorded, name):
+    """The same on a recording that was changed."""
+    with tempfile.TemporaryDirectory() as folder:
+        return compared(gate, "--from", written(folder, recorded), "--try", trials(name))
+
+
+def written(folder, recorded):
+    path = os.path.join(folder, "recording.jsonl")
+    with open(path, "w", encoding="utf-8") as file:
+        file.writelines(json.dumps(call) + "\n" for call in recorded)
+    return path
+
+
+def test_pools_and_trials(gate):
+    """Every transaction of both pools is admitted with the node's fee and size, and every trial gets the node's decision,
+    or differs as is known."""
+    found = compared(gate, "--from", recording(NODES[1]), "--try", trials(NODES[1]))
+    same("litecoin-0.21", found, (["71 compared: 71 alike, 0 known differences, 0 others"], "", 0))
+    wanted = KNOTS_DIFFERS + ["71 compared: 68 alike, 3 known differences, 0 others"]
+    found, said, status = compared(gate, "--from", recording(NODES[0]), "--try", trials(NODES[0]))
+    same_lines(found, wanted)
+    same("standard error and status", (said, status), ("", 0))
+
+
+def test_a_running_node(gate):
+    """A node that is asked by its command answers as its recording does. The pool is cut to three entries, since each
+    question starts a process."""
+    recorded = calls(NODES[1])
+    pool = result_of(recorded, "getrawmempool")
+    for txid in sorted(pool, key=lambda it: pool[it]["ancestorcount"])[3:]:
+        del pool[txid]
+    with tempfile.TemporaryDirectory() as folder:
+        path = written(folder, recorded)
+        command = "%s %s" % (os.path.join(ROOT, "tests", "recorded_node.py"), path)
+        again = os.path.join(folder, "again.jsonl")
+        same("opening", ran("opening", "--rpc", command, "--record", again), ran("opening", "--from", path))
+        same("compare with what was written down", compared(gate, "--from", again), (["3 compared: 3 alike, 0 known differences, 0 others"], "", 0))
+
+
+def test_differences_are_told(gate):
+    """What differs and isn't known is listed, and the status is 1."""
+    recorded = calls(NODES[1])
+    pool = result_of(recorded, "getrawmempool")
+    dearer, larger = sorted(it for it in pool if not pool[it]["depends"])[:2]
+    fee, size = round(pool[dearer]["fees"]["base"] * 1e8), pool[larger]["vsize"]
+    other_fee = round(pool[larger]["fees"]["base"] * 1e8)
+    pool[dearer]["fees"]["base"] = (fee + 1) / 1e8
+    pool[larger]["vsize"] += 1
+    refused = next(call["result"][0] for call in recorded if call["method"] == "testmempoolaccept" and call["result"][0]["allowed"])
+    refused.update({"allowed": False, "reject-reason": "dust"})
+    taken = "taken with fee %d and virtual size %d"
+    wanted = [
+        "differs: gate: %s; node: %s" % (taken % (fee, pool[dearer]["vsize"]), taken % (fee + 1, pool[dearer]["vsize"])),
+        "    " + dearer,
+        "differs: gate: %s; node: %s" % (taken % (other_fee, size), taken % (other_fee, size + 1)),
+        "    " + larger,
+        "differs: gate: taken with fee 400 and virtual size 96; node: dust",
+        "    " + refused["txid"],
+    ]
+    found, said, status = compared_with(gate, recorded, NODES[1])
+    same("in pairs of lines", sorted(zip(found[:-1:2], found[1:-1:2])), sorted(zip(wanted[::2], wanted[1::2])))
+    same("the last line, standard error, status", (found[-1], said, status), ("71 compared: 68 alike, 0 known differences, 3 others", "", 1))
+
+
+def test_known_differences_are_those_of_later_releases(gate):
+    """The same answers of a node of an earlier release are no known differences."""
+    recorded = calls(NODES[0])
+    result_of(recorded, "getnetworkinfo")["version"] = 220000
+    found, said, status = compared_with(gate, recorded, NODES[0])
+    same("the last line, standard error, status", (found[-1], said, status), ("71 compared: 68 alike, 0 known differences, 3 others", "", 1))
+
+
+def test_what_does_not_read(gate):
+    """What is no transaction is refused by both sides, and comments and empty lines are skipped."""
+    recorded = calls(NODES[1])
+    refused = {"error": {"message": "TX decode failed. Make sure the tx has at least one input."}}
+    recorded += [dict(refused, method="testmempoolaccept", params=[[digits], 0]) for digits in ("00", "0200000000")]
+    with tempfile.TemporaryDirectory() as folder:
+        tried = os.path.join(folder, "tried.hex")
+        with open(tried, "w", encoding="utf-8") as file:
+            file.write("# cut\n00\n\n0200000000\n")
+        found = compared(gate, "--from", written(folder, recorded), "--try", tried)
+    same("compare", found, (["53 compared: 53 alike, 0 known differences, 0 others"], "", 0))
+
+
+def test_children_of_what_is_denied(gate):
+    """A pool transaction that is denied here takes its children along, which is told as what it is."""
+    recorded = calls(NODES[1])
+    pool = result_of(recorded, "getrawmempool")
+    (parent,) = {it for one in pool.values() for it in one["depends"] if sum(it in other["depends"] for other in pool.values()) == 5}
+    spent = next(call["result"] for call in recorded if call["method"] == "getrawtransaction" and call["params"] == [parent])
+    for it in node.read_transaction(spent).spent:
+        coin = next(call for call in recorded if call["method"] == "gettxout" and call["params"][:2] == [it.txid, it.index])
+        coin["result"] = None
+    children = sum(parent in one["depends"] for one in pool.values())
+    found, said, status = compared_with(gate, recorded, NODES[1])
+    told = [line for line in found if line.endswith("(a parent of the pool is denied here)")]
+    same("children", (len(told) > 0, children, said, status), (True, 5, "", 1))
+
+
+def test_an_opening_and_its_pool(gate):
+    """The opening is taken, and every event behind it is granted."""
+    for name in NODES:
+        lines, said, status = ran("opening", "--from", recording(name))
+        same("standard error and status", (said, status), ("", 0))
+        done = gate.run("run", "".join(line + "\n" for line in lines))
+        words = [line.split(" ")[0] for line in done.stdout.decode().splitlines()]
+        same("replies", words, ["entered"] + ["admitted"] * 51)
+
+
+class FakeView:
+    """A chain whose block times are a thousand times their heights."""
+
+    def __init__(self, tip):
+        self.tip = tip
+
+    def time(self, height):
+        return 1000 * height
+
+
+def test_times(gate):
+    """The last eleven, and the eleven before each height under a lock of time; what is between has the time above it."""
+    same_lines(node.times_of(FakeView(3), set()), ["times 1 %d 0" % (1000 * it) for it in range(4)])
+    same_lines(node.times_of(FakeView(100), set()), ["times 91 90000 0"] + ["times 1 %d000 0" % it for it in range(91, 101)])
+    wanted = ["times 20 19000 0"] + ["times 1 %d000 0" % it for it in range(20, 30)]
+    wanted += ["times 61 90000 0"] + ["times 1 %d000 0" % it for it in range(91, 101)]
+    same_lines(node.times_of(FakeView(100), {30}), wanted)
+    same_lines(node.times_of(FakeView(20), {0, 1}), ["times 1 0 0", "times 10 10000 0"] + ["times 1 %d000 0" % it for it in range(11, 21)])
+
+
+def test_parents_come_first(gate):
+    """Whatever the times say, and each once."""
+    depends = {"a": [], "b": ["c"], "c": ["a", "d"], "d": []}
+    same("order", node.parents_first(["b", "a", "c", "d"], depends), ["d", "a", "c", "b"])
+    same("kept", node.parents_first(["d", "a", "c", "b"], depends), ["d", "a", "c", "b"])
+
+
+def test_amounts(gate):
+    """Whole satoshi, to the last one."""
+    for text, wanted in (("20999999.97690001", 2099999997690001), ("0.00000001", 1), ("1e-8", 1), ("0.001", 100000), ("0", 0)):
+        same(text, node.satoshi(node.read_json(text)), wanted)
+
+
+def test_nodes_that_fail(gate):
+    """One line says what a node answered wrongly, and nothing is printed."""
+    moved = calls(NODES[1])
+    result_of(moved, "getblockchaininfo")["bestblockhash"] = "00" * 32
+    without = calls(NODES[1])
+    del result_of(without, "getmempoolinfo")["mempoolminfee"]
+    with tempfile.TemporaryDirectory() as folder:
+        lacking = os.path.join(folder, "lacking.jsonl")
+        os.rename(written(folder, without), lacking)
+        for words, wanted in (
+            (("--rpc", "/no/such/command"), "opening: /no/such/command does not start: No such file or directory\n"),
+            (("--rpc", "echo"), "opening: an answer of the node does not read: Expecting value: line 1 column 1 (char 0)\n"),
+            (("--from", "/no/such/file"), "opening: [Errno 2] No such file or directory: '/no/such/file'\n"),
+            (("--from", lacking), "opening: an answer of the node has no field 'mempoolminfee'\n"),
+            (("--rpc", "false"), "opening: false getblockchaininfo: status 1\n"),
+            (("--from", os.devnull), 'opening: the recording has no answer to ["getblockchaininfo"]\n'),
+            (("--from", written(folder, moved)), "opening: a block came while the node was asked: start again\n"),
+        ):
+            same(" ".join(words), ran("opening", *words), ([], wanted, 1))
