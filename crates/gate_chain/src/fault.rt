@@ -50,7 +50,7 @@ impl<T: Drop> From<AllocFailed<T>> for OpenFault {
     }
 }
 
-/// Why a block isn't connected: a rule fails, or memory is wanting.
+/// Why a block isn't connected: a rule fails, or memory runs out.
 #[derive(Clone, Copy, Debug, PartialEq, Eq, Error)]
 pub enum ChainFault {
     #[error("out of memory")]

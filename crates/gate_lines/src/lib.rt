@@ -2,7 +2,7 @@
 //!
 //! The main clauses are those of [`Lines::next`] and of [`Sink::write_text`]: which bytes a reader lost for a line, and which
 //! a writer was given, whatever the outcome. [`Lines`] counts the lines of a reader and bounds them. A reader in memory never
-//! fails, and a writer in memory fails for want of memory alone.
+//! fails, and a writer in memory fails only when out of memory.
 #![tactic(auto)]
 
 mod fault;

@@ -8,9 +8,9 @@ use crate::fault::LaneFault;
 use gate_bytes::Memory;
 use std::io::{BufWriter, Write};
 
-/// A writer of texts. One over a list in memory fails for want of memory alone.
+/// A writer of texts. One over a list in memory fails only when out of memory.
 pub trait Sink: Write {
-    // Whether a writer of this type fails for want of memory alone.
+    // Whether a writer of this type fails only when out of memory.
     ghost steady: { Bool };
 
     // The bytes that the writer took and has not sent on yet.

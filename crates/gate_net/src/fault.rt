@@ -6,7 +6,7 @@ use gate_bytes::Memory;
 use std::alloc::AllocFailed;
 use thiserror::Error;
 
-/// Why a whitelist is not read: a rule on an entry fails, or memory is wanting.
+/// Why a whitelist is not read: a rule on an entry fails, or memory runs out.
 #[derive(Clone, Copy, Debug, PartialEq, Eq, Error)]
 pub enum NetFault {
     #[error("out of memory")]

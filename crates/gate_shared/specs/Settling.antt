@@ -81,7 +81,7 @@ WhyUnsettled journal passes Memory = Unit {0}
 abbrev pub SettlesAll : World → List PassView → Settled → Type 0
 SettlesAll base passes s = IsLegal base s.journal.entries × IsSettled s.journal.entries passes s
 
--- there was a legal journal that the passes don't settle with, or memory was wanting
+-- there was a legal journal that the passes don't settle with, or memory ran out
 abbrev pub WhyNone : World → List PassView → Unsettled → Type 0
 WhyNone base passes why = (s : Held) × IsHeld base s × WhyUnsettled s.journal passes why
 

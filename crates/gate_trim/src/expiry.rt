@@ -16,7 +16,7 @@ pub fn expire<S: BuildHasher + Copy + Drop>(pool: &mut Pool<S>, now: u64)
     pool.take_before(now.saturating_sub(LONGEST_STAY));
 }
 
-/// The same for callers to whom each change of a pool may want memory: this one never does.
+/// The same for callers whose changes of a pool may run out of memory: this one never does.
 pub fn try_expire<S: BuildHasher + Copy + Drop>(pool: &mut Pool<S>, now: u64) -> Result<(), Memory>
     ensures done { IsOk result }
     ensures entries { pool.new.entries ≡ expired now pool.old.entries }

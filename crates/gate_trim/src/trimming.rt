@@ -21,7 +21,7 @@ pub fn trim<S: BuildHasher + Copy + Drop>(pool: &mut Pool<S>, floor: &mut Floor,
     }
 }
 
-/// The same for callers to whom each change of a pool may want memory: this one never does.
+/// The same for callers whose changes of a pool may run out of memory: this one never does.
 pub fn try_trim<S: BuildHasher + Copy + Drop>(
     pool: &mut Pool<S>,
     floor: &mut Floor,
