@@ -5,3 +5,5 @@
 mod queries;
 #[cfg(test)]
 mod rpc;
+#[cfg(test)]
+mod submitting;

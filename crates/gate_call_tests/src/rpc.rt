@@ -392,3 +392,16 @@ fn methods_of_refused_calls_are_told(rt: HostRuntime) -> Result<(), Fail> {
     lists_only_narrow();
     Ok(())
 }
+
+#[test]
+fn faults_are_told(rt: HostRuntime) -> Result<(), Fail> {
+    let faults = [
+        (RpcFault::Memory, "out of memory"),
+        (RpcFault::Call(CallError::ParseError), "no request"),
+    ];
+    for (fault, wanted) in &faults {
+        let printed = format!(in rt.alloc(); "{fault}")?;
+        assert!(rt; printed.as_str() == *wanted);
+    }
+    Ok(())
+}

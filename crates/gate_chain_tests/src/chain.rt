@@ -281,3 +281,60 @@ fn denials_are_printed(rt: HostRuntime) -> Result<(), Fail> {
     }
     Ok(())
 }
+
+#[test]
+fn faults_are_told(rt: HostRuntime) -> Result<(), Fail> {
+    let faults = [
+        (OpenFault::Memory, "out of memory"),
+        (OpenFault::NoTimes, "there are no block times"),
+        (
+            OpenFault::TimesLimit,
+            "there are more than 1,000,000 block times",
+        ),
+        (
+            OpenFault::CoinValue(7),
+            "coin 7 has a value outside 0 to 2,100,000,000,000,000",
+        ),
+        (OpenFault::CoinUnspendable(7), "nothing can spend coin 7"),
+        (
+            OpenFault::CoinAboveTip(7),
+            "coin 7 has a height above the tip",
+        ),
+        (
+            OpenFault::CoinTwice(7),
+            "coin 7 has the outpoint of an earlier one",
+        ),
+    ];
+    for (fault, wanted) in faults {
+        let printed = format!(in rt.alloc(); "{fault}")?;
+        assert!(rt; printed.as_str() == wanted);
+    }
+    let faults = [
+        (ChainFault::Memory, "out of memory"),
+        (ChainFault::Denied(ChainDenial::NoUndo), "no-undo"),
+    ];
+    for (fault, wanted) in faults {
+        let printed = format!(in rt.alloc(); "{fault}")?;
+        assert!(rt; printed.as_str() == wanted);
+    }
+    Ok(())
+}
+
+/// What is wrong with a chain of so many blocks of one time, if anything is.
+fn fault_of_length(alloc: Global, blocks: usize) -> Result<Option<OpenFault>, Fail> {
+    let times = vec![in alloc; 1_600; blocks]?;
+    let chain: Result<Chain<Hasher>, OpenFault> = Chain::open(
+        alloc,
+        BuildHasherDefault::new(),
+        Vec::new(alloc),
+        times,
+    );
+    Ok(chain.err())
+}
+
+#[test]
+fn a_chain_opens_with_a_million_blocks(rt: HostRuntime) -> Result<(), Fail> {
+    assert!(rt; fault_of_length(rt.alloc(), 1_000_000)?.is_none());
+    assert!(rt; fault_of_length(rt.alloc(), 1_000_001)? == Some(OpenFault::TimesLimit));
+    Ok(())
+}

@@ -8,6 +8,10 @@ mod finishing;
 #[cfg(test)]
 mod passes;
 #[cfg(test)]
+mod replaying;
+#[cfg(test)]
 mod running;
 #[cfg(test)]
 mod splitting;
+#[cfg(test)]
+mod words;

@@ -420,7 +420,8 @@ fn with_reply(alloc: Global, entry: &Entry, reply: &Reply) -> Result<Entry, Memo
     }
 }
 
-fn add(journal: &mut Journal, entry: Entry) -> Result<(), Memory>
+/// Adds an entry to a journal that has room for one.
+pub(crate) fn add(journal: &mut Journal, entry: Entry) -> Result<(), Memory>
     requires { length journal.old.entries < 100000 }
     ensures { OnOk result (length journal.new.entries ≡ length journal.old.entries + 1) }
 {

@@ -432,3 +432,18 @@ fn a_node_above_others_is_refused_in_order(rt: HostRuntime) -> Result<(), Fail> 
     drop(graph);
     Ok(result?)
 }
+
+#[test]
+fn faults_are_told(rt: HostRuntime) -> Result<(), Fail> {
+    let faults = [
+        (GraphFault::Present, "the id is a node's already"),
+        (GraphFault::NoNode, "a neighbour is no node"),
+        (GraphFault::Cycle, "the node would be above itself"),
+        (GraphFault::Memory, "out of memory"),
+    ];
+    for (fault, wanted) in faults {
+        let printed = format!(in rt.alloc(); "{fault}")?;
+        assert!(rt; printed.as_str() == wanted);
+    }
+    Ok(())
+}

@@ -16,3 +16,5 @@ mod scripts;
 mod standardness;
 #[cfg(test)]
 mod transactions;
+#[cfg(test)]
+mod words;
