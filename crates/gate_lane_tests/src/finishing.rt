@@ -4,7 +4,7 @@ ghost use Rattle.std.specs.Prelude.{◌≡◌};
 use crate::passes::{Hasher, called, opened};
 use gate_bytes::Memory;
 use gate_core::{Caller, Event, State};
-use gate_shared::{Base, FinishFault, Gate, Pass, Unsettled, finish};
+use gate_shared::{Base, FinishFault, Gate, Pass, SettleFault, Unsettled, finish};
 use std::alloc::Global;
 use std::marker::Brand;
 use std::sync::Wait;
@@ -26,21 +26,79 @@ fn floored<N: Base, R: Wait>(
     )
 }
 
-/// How many entries and calls a gate has at its end without a pass, where they differ, and the gate that goes on.
-fn unfinished<N: Base>(
-    alloc: Global,
-    gate: Gate<N, Hasher>,
-) -> Option<(u64, u64, Gate<N, Hasher>)> {
-    let Err(FinishFault { shared, fault }) = finish(alloc, gate, Vec::new(alloc)) else {
-        return None;
-    };
-    match fault.why {
-        Unsettled::CountDiffers { journal, passes } => Some((journal, passes, Gate::of(shared))),
+/// How many entries and calls there were at an end, where they differ.
+fn counts_of<N: Base>(fault: &FinishFault<N, Hasher>) -> Option<(u64, u64)> {
+    match &fault.fault {
+        SettleFault {
+            why: Unsettled::CountDiffers { journal, passes },
+            ..
+        } => Some((*journal, *passes)),
         _ => None,
     }
 }
 
-/// How many calls settle at the end of a gate, and the floor that it had then.
+/// The gate that goes on.
+fn gone_on<N: Base>(fault: FinishFault<N, Hasher>) -> Gate<N, Hasher> {
+    let FinishFault { shared, fault } = fault;
+    drop(fault);
+    Gate::of(shared)
+}
+
+/// The number of the next call of a gate.
+fn next_number<N: Base, R: Wait>(
+    rt: &R,
+    alloc: Global,
+    gate: &Gate<N, Hasher>,
+) -> Result<Option<u64>, Memory> {
+    let pass = floored(rt, alloc, gate, 6000)?;
+    let number = pass.last().map(|made| made.receipt.number);
+    drop(pass);
+    Ok(number)
+}
+
+/// What differs at the end of a gate whose one pass is lacking, and the number of the call after that.
+fn goes_on<N: Base, R: Wait>(
+    rt: &R,
+    alloc: Global,
+    gate: Gate<N, Hasher>,
+) -> Result<(Option<(u64, u64)>, Option<u64>), Memory> {
+    match finish(alloc, gate, Vec::new(alloc)) {
+        Ok(finished) => {
+            drop(finished);
+            Ok((None, None))
+        }
+        Err(fault) => {
+            let counts = counts_of(&fault);
+            let gate = gone_on(fault);
+            let number = next_number(rt, alloc, &gate);
+            drop(gate);
+            Ok((counts, number?))
+        }
+    }
+}
+
+fn lacks_a_pass<N: Base, R: Wait>(
+    rt: &R,
+    alloc: Global,
+    state: State<Hasher>,
+) -> Result<(Option<(u64, u64)>, Option<u64>), Memory>
+    requires { state ≡ N.base }
+{
+    let gate: Gate<N, Hasher> = Gate::open(alloc, state);
+    drop(floored(rt, alloc, &gate, 5000)?);
+    goes_on(rt, alloc, gate)
+}
+
+#[test]
+fn a_gate_goes_on_where_a_pass_is_lacking(rt: HostRuntime) -> Result<(), Fail> {
+    let alloc = rt.alloc();
+    let state = opened(alloc)?;
+    let told = lacks_a_pass::<Brand, _>(&rt, alloc, state)?;
+    assert!(rt; told == (Some((1, 0)), Some(2)));
+    Ok(())
+}
+
+/// How many calls settle at the end of a gate, and the floor that it has then.
 fn finished<N: Base>(
     alloc: Global,
     gate: Gate<N, Hasher>,
@@ -52,29 +110,24 @@ fn finished<N: Base>(
     }
 }
 
-/// What a gate of one call told when its pass was lacking, and then after one call more with both passes.
-fn finished_late<N: Base, R: Wait>(
+fn has_its_passes<N: Base, R: Wait>(
     rt: &R,
     alloc: Global,
     state: State<Hasher>,
-) -> Result<Option<((u64, u64), (u64, u64))>, Memory>
+) -> Result<Option<(u64, u64)>, Memory>
     requires { state ≡ N.base }
 {
     let gate: Gate<N, Hasher> = Gate::open(alloc, state);
-    let first = floored(rt, alloc, &gate, 5000)?;
-    let Some((journal, calls, gate)) = unfinished(alloc, gate) else {
-        return Ok(None);
-    };
-    let second = floored(rt, alloc, &gate, 6000)?;
-    let passes = Vec::from_array(alloc, [first, second])?;
-    Ok(finished(alloc, gate, passes).map(|last| ((journal, calls), last)))
+    let pass = floored(rt, alloc, &gate, 5000)?;
+    let passes = Vec::from_array(alloc, [pass])?;
+    Ok(finished(alloc, gate, passes))
 }
 
 #[test]
-fn a_gate_goes_on_and_is_finished(rt: HostRuntime) -> Result<(), Fail> {
+fn a_gate_is_finished(rt: HostRuntime) -> Result<(), Fail> {
     let alloc = rt.alloc();
     let state = opened(alloc)?;
-    let told = finished_late::<Brand, _>(&rt, alloc, state)?;
-    assert!(rt; told == Some(((1, 0), (2, 6000))));
+    let told = has_its_passes::<Brand, _>(&rt, alloc, state)?;
+    assert!(rt; told == Some((1, 5000)));
     Ok(())
 }
