@@ -1,0 +1,5 @@
+//! Tests of reports by worker threads.
+#![tactic(auto)]
+
+#[cfg(test)]
+mod reports;
