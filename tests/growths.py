@@ -7,6 +7,7 @@ from chain_model import Block
 from failing import each_growth
 from gate import ROOT, lines, same, same_lines, true
 from lanes import ENTER, opening, submitted
+from long import long
 from model import NULL
 from streams import NO_MEMORY
 
@@ -23,6 +24,18 @@ def row(name):
             texts.append(text.read().splitlines())
     head = texts[0].index("---")
     return texts[0][:head], texts[0][head + 1 :], texts[1]
+
+
+def args_of(name):
+    with open(os.path.join(ROOT, "rows", name, "args")) as args:
+        return " ".join(args.read().split())
+
+
+def is_short(name):
+    """Whether a row's input is a text of at most 20,000 bytes with a line `---`."""
+    with open(os.path.join(ROOT, "rows", name, "stdin"), "rb") as file:
+        text = file.read()
+    return len(text) <= 20000 and b"\n---\n" in text and text.isascii() and b"\r" not in text
 
 
 def questions(replies):
@@ -110,28 +123,59 @@ def events_of_each_kind():
     return ["whitelist noban@192.0.2.1", "rpcwhitelist b:getmempoolinfo", "rpcwhitelistdefault 0"] + opening(coin(1), coin(2)), events
 
 
+class WholeRun:
+    """A run over events, and the same without one of them."""
+
+    def __init__(self, gate, head, events):
+        self.gate, self.head = gate, head
+        self.events = [event for event in events if event and not event.startswith("#")]
+        self.right, self.without = gate.replies(head, self.events), {}
+
+    def replies_without(self, at):
+        if at not in self.without:
+            self.without[at] = self.gate.replies(self.head, self.events[:at] + self.events[at + 1 :])
+        return self.without[at]
+
+    def refuse_each(self):
+        """Refuses each growth: the run ends with the replies of whole events, or one event is answered by `fault memory` and changes nothing.
+
+        Gives the places of the events that were answered so, and how many runs ended.
+        """
+        met, ended = set(), 0
+        for growth, done in each_growth(self.gate.program, "run", lines(self.head) + "---\n" + lines(self.events)):
+            what, replies = "growth %d" % growth, done.stdout.decode().splitlines()
+            if done.status:
+                same(what, (done.status, done.stderr), (1, NO_MEMORY))
+                is_front(what, replies, self.right)
+                ended += 1
+            elif FAULT in replies:
+                at = replies.index(FAULT)
+                same_lines([what] + replies[:at] + replies[at + 1 :], [what] + self.replies_without(at))
+                met.add(at)
+            else:
+                same_lines([what] + replies, [what] + self.right)
+        return met, ended
+
+
 def test_each_growth_of_a_run(gate):
-    """Of a run over events of each kind: it ends with the replies of whole events, or one event is answered `fault memory` and changes nothing."""
-    head, events = events_of_each_kind()
-    answered = [event for event in events if not event.startswith("#")]
-    right = gate.replies(head, answered)
-    without = {at: gate.replies(head, answered[:at] + answered[at + 1 :]) for at in range(len(answered))}
-    met, ended = set(), 0
-    for growth, done in each_growth(gate.program, "run", lines(head) + "---\n" + lines(events)):
-        replies = done.stdout.decode().splitlines()
-        if done.status == 0 and FAULT in replies:
-            at = replies.index(FAULT)
-            same_lines(replies[:at] + replies[at + 1 :], without[at])
-            met.add(at)
-        elif done.status == 0:
-            same_lines(replies, right)
-        else:
-            same("growth %d" % growth, (done.status, done.stderr), (1, NO_MEMORY))
-            same("the replies before growth %d" % growth, done.stdout, lines(right[: len(replies)]).encode())
-            ended += 1
-    missed = [event for at, event in enumerate(answered) if at not in met and not event.startswith(NEED_NO_MEMORY)]
+    """Of a run over events of each kind."""
+    run = WholeRun(gate, *events_of_each_kind())
+    met, ended = run.refuse_each()
+    missed = [event for at, event in enumerate(run.events) if at not in met and not event.startswith(NEED_NO_MEMORY)]
     same("events that were never answered by `fault memory`", missed, [])
     true("no refusal ended the run", ended)
+
+
+@long
+def test_each_growth_of_each_row(gate):
+    """Of the rows of `gate run` whose opening is none of a fault and whose input is short."""
+    tried = 0
+    for name in sorted(os.listdir(os.path.join(ROOT, "rows"))):
+        if os.path.exists(os.path.join(ROOT, "rows", name, "stdin")) and args_of(name) == "run" and is_short(name):
+            head, events, _ = row(name)
+            WholeRun(gate, head, events).refuse_each()
+            tried += 1
+    true("%d rows were tried, of 80 at least" % tried, tried >= 80)
 
 
 def laned():
