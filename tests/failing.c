@@ -11,13 +11,16 @@ extern void *__libc_realloc(void *, size_t);
 extern long syscall(long, ...);
 extern char *getenv(const char *);
 extern int *__errno_location(void);
+extern void *dlsym(void *, const char *);
 
-enum { READ = 0, WRITE = 1, EIO = 5, ENOMEM = 12, ALWAYS = -1 };
+enum { READ = 0, WRITE = 1, EIO = 5, EAGAIN = 11, ENOMEM = 12, ALWAYS = -1 };
 
-static long growth, window_line, failing_read, read_error, failing_write, write_error, most_read, most_written, tell;
+#define NEXT ((void *)-1L)
+
+static long growth, window_line, failing_read, read_error, failing_write, write_error, most_read, most_written, tell, failing_thread, failing_entropy;
 static const char *window_mark;
 
-static long growths, is_open, lines, reads, writes;
+static long growths, is_open, lines, reads, writes, threads;
 
 static long number(const char *name) {
     const char *text = getenv(name);
@@ -44,6 +47,8 @@ __attribute__((constructor)) static void begin(void) {
     most_read = number("FAILING_READS_MOST");
     most_written = number("FAILING_WRITES_MOST");
     tell = number("FAILING_TELL");
+    failing_thread = number("FAILING_THREAD");
+    failing_entropy = number("FAILING_ENTROPY");
     __atomic_store_n(&is_open, !window_line && !window_mark, __ATOMIC_SEQ_CST);
 }
 
@@ -118,4 +123,19 @@ ssize_t write(int to, const void *from, size_t length) {
     if (window_mark && is_mark('>', from, length))
         __atomic_store_n(&is_open, 1, __ATOMIC_SEQ_CST);
     return done;
+}
+
+int getentropy(void *to, size_t length) {
+    if (failing_entropy) {
+        *__errno_location() = EIO;
+        return -1;
+    }
+    return ((int (*)(void *, size_t))dlsym(NEXT, "getentropy"))(to, length);
+}
+
+int pthread_create(void *thread, const void *attributes, void *(*start)(void *), void *argument) {
+    typedef int create(void *, const void *, void *(*)(void *), void *);
+    if (__atomic_add_fetch(&threads, 1, __ATOMIC_SEQ_CST) == failing_thread || failing_thread == ALWAYS)
+        return EAGAIN;
+    return ((create *)dlsym(NEXT, "pthread_create"))(thread, attributes, start, argument);
 }

@@ -122,6 +122,23 @@ def test_all_reads_and_all_writes_fail(gate):
         same("gate %s without an output" % words, (done.status, done.stdout, done.stderr), (1, b"", UNWRITTEN))
 
 
+def test_no_random_numbers(gate):
+    """Tables that peers' ids go into have keys that nobody knows, or the program ends."""
+    for words in ("run", "lanes", "audit"):
+        done = failing(gate.program, words, RIGHT["run"][0], entropy=1)
+        same("gate " + words, (done.status, done.stdout, done.stderr), (1, b"", b"gate: no random numbers for the hash tables\n"))
+
+
+def test_no_threads(gate):
+    """Where a thread can't be made, and where none can, every lane is answered all the same."""
+    lanes = ["peer %d leave\n" % peer * 3 for peer in range(4)]
+    text = HEAD + "---\n".join(lanes)
+    wanted = "".join("lane %d\n" % number + "denied P1 keep peer-unknown\n" * 3 for number in range(1, 5)) + "settled 12\n"
+    for thread in (1, 2, 3, 4, ALWAYS):
+        done = failing(gate.program, "lanes", text, thread=thread)
+        same("without thread %d" % thread, (done.status, done.stdout.decode(), done.stderr), (0, wanted, b""))
+
+
 def reads_no_further(gate, words, text, limit, status, stdout, stderr=b""):
     """Of a long input no more is read than a buffer behind the limit."""
     done = failing(gate.program, words, text + "x" * (8 * BUFFER))
