@@ -65,13 +65,14 @@ def many_parents(number):
 def many_inputs_of_conflicts(conflicts, inputs, parents):
     """A41: conflicts of many inputs, and a replacement that spends outputs of so many parents, too."""
     first = parents + 1
-    older = [transaction([it], [VALUE // 2, VALUE // 2 - FEE]) for it in range(1, parents + 1)]
-    outs = [(hash_of([it], [VALUE // 2, VALUE // 2 - FEE]), 0) for it in range(1, parents + 1)]
+    shares = [VALUE // 2, VALUE // 2 - 1000]
+    older = [transaction([it], shares) for it in range(1, parents + 1)]
+    outs = [(hash_of([it], shares), 0) for it in range(1, parents + 1)]
     groups = [range(first + at * inputs, first + (at + 1) * inputs) for at in range(conflicts)]
     value = inputs * VALUE - 100000
     wide = [transaction(group, [value], witness=False) for group in groups[:-1]]
     last = transaction([*outs, *groups[-1]], [value], witness=False)
-    digits = transaction([*(group[0] for group in groups), *outs], [10], witness=False)
+    digits = transaction([*(group[0] for group in groups), *outs], [1000], witness=False)
     every = [*older, *wide, last]
     return lambda events: (opened(coins(parents + conflicts * inputs), map(submission, every)), repeated(submission(digits), events))
 
@@ -159,11 +160,11 @@ def streams():
         Stream("A31: 58 inputs of 1,650 pushes, by ScriptHash", unlocked(58, SCRIPT_HASH, key), 2, 0, "denied A31"),
         Stream("A33: 1,500 redeem scripts of 15 CHECKSIG", unlocked(1500, SCRIPT_HASH, "0f" + "ac" * 15), 2, 0, "denied A33"),
         Stream("A33: 100 witness scripts of 3,600 CHECKSIG below 99 items", unlocked(100, WITNESS_SCRIPT_HASH, "", items), 2, 0, "denied A33"),
-        Stream("A35: 190,000 empty witness items of a Taproot coin", unlocked(1, TAPROOT, "", empty(190000)), 2, 0, "denied"),
+        Stream("A32: 190,000 empty witness items of a Taproot coin", unlocked(1, TAPROOT, "", empty(190000)), 2, 0, "denied A32"),
         Stream("A36: 1,000 parents", many_parents(1000), 2, 0, "denied A36"),
         Stream("A38: a parent of 6,700 outputs, 22 grandparents", wide.another_child, 1, 0, "denied A38"),
         Stream("A39: 2,400 conflicts", many_conflicts(MOST_INPUTS), 2, 0, "denied A39"),
-        Stream("A40 and A41: 20 conflicts of 2,400 inputs, 23 parents", many_inputs_of_conflicts(20, 2400, 23), 1, 0, "denied A4"),
+        Stream("A40, then A41: 20 conflicts of 2,300 inputs, 23 parents", many_inputs_of_conflicts(20, 2300, 23), 1, 0, "denied A41"),
         Stream("A41: 50 conflicts of 7,000 outputs with a child each", beside_wide_conflicts(50, 7000), 1, 0, "denied A41"),
         Stream("trim: a newcomer for which 600 of 2,000 entries go", trimming_many(2000, 2100), 1, 0, "admitted"),
         Stream("C6: nothing moves, over 10,000 entries", empty_block_that_goes(10000), 1, 0, "chain"),
