@@ -6,6 +6,7 @@ from bitcoin import coin, payment
 from gate import lines, same, same_lines
 from growths import ASKED, row
 from heights import block
+from kinds import long
 from lanes import ENTER, admitted, opening, submitted
 
 KILOBYTE = 1 << 10
@@ -73,6 +74,7 @@ def test_a_reorganisation_over_a_thousand(gate):
     over(gate, 1000)
 
 
+@long
 def test_a_reorganisation_over_a_hundred_thousand(gate):
     over(gate, 100000)
 

@@ -90,7 +90,8 @@ def test_a_failed_write(gate):
     What a write did not take may be tried once more as the program ends.
     """
     for words, (text, right) in RIGHT.items():
-        for error, numbers in ((ENOSPC, range(1, len(right) + 1)), (EIO, (1, 2, len(right) // 2, len(right)))):
+        step = 1 if words == "run" else 7
+        for error, numbers in ((ENOSPC, range(1, len(right) + 1, step)), (EIO, (1, 2, len(right) // 2, len(right)))):
             for number in numbers:
                 done = failing(gate.program, words, text, write=number, write_error=error, writes_most=1)
                 what = "gate %s, write %d" % (words, number)
