@@ -90,11 +90,11 @@ def on_a_stack(size):
 
 
 def test_small_stacks(gate):
-    """The deepest JSON is answered on a stack of 256 KB, by a run, and by 64 lanes, each on a thread with that stack."""
+    """The deepest JSON is answered on a stack of 128 KB, by a run, and by 64 lanes, each on a thread with that stack."""
     head = lines(["times 1 0 0"])
     for depth, reply in ((DEEPEST, RPC % "[]"), (DEEPEST + 1, 'rpc 500 {"error":{"code":-32700,"message":"Parse error"},"id":null,"result":null}')):
-        done = gate.run("run", head + "---\n" + nested(depth) + "\n", preexec_fn=on_a_stack(256))
+        done = gate.run("run", head + "---\n" + nested(depth) + "\n", preexec_fn=on_a_stack(128))
         same("a run, %d deep" % depth, (done.status, done.stdout.decode(), done.stderr), (0, reply + "\n", b""))
-        done = gate.run("lanes", head + ("---\n" + nested(depth) + "\n") * 64, preexec_fn=on_a_stack(256))
+        done = gate.run("lanes", head + ("---\n" + nested(depth) + "\n") * 64, preexec_fn=on_a_stack(128))
         wanted = "".join("lane %d\n%s\n" % (number, reply) for number in range(1, 65)) + "settled 64\n"
         same("64 lanes, %d deep" % depth, (done.status, done.stdout.decode(), done.stderr), (0, wanted, b""))
