@@ -20,7 +20,8 @@ make demo      prints its replies to examples/first-path.txt; without a built pr
                compiles one without the proofs, in about a minute
 make check     quick: what has to agree in the repository, then proves what changed
 make test      everything from nothing: proofs, must-fail edits, tests, the program; then the
-               rows and the program's own tests on it
+               rows and the program's own tests on it; make test LONG=1 with those that take
+               more than a minute
 make mutants   tries the wrong bodies of mutants/, which takes as long as make test
                make mutants CRATES="gate_net gate_rpc" tries those of these crates
 make try       the rows and the program's own tests alone, on the built program
@@ -48,7 +49,7 @@ check:
 
 test:
 	@tools/need rt python3
-	@tools/test $(PROGRAM)
+	@tools/test $(if $(LONG),--long) $(PROGRAM)
 
 mutants:
 	@tools/need rt python3
@@ -56,7 +57,7 @@ mutants:
 
 try: build
 	@rows/run $(PROGRAM)
-	@tests/run $(PROGRAM)
+	@tests/run $(if $(LONG),--long) $(PROGRAM)
 
 bench: build
 	@tools/need valgrind

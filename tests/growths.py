@@ -1,0 +1,301 @@
+"""Each growth of memory refused in turn, on the built program: nothing has changed, and what comes after is answered."""
+
+import os
+
+from bitcoin import Input, Output, Transaction, coin, payment
+from chain_model import Block
+from failing import each_growth, failing
+from gate import ROOT, lines, same, same_lines, true
+from lanes import ENTER, opening, submitted
+from kinds import long, needs_calls
+from model import NULL
+from streams import NO_MEMORY
+
+FAULT = "fault memory"
+NEED_NO_MEMORY = ("x", "peer 1 getblock", "peer 1 headers", "peer 1 leave", "operator")
+ASKED = 'user a rpc 5000 {"method":"%s","params":[%s],"id":1}'
+
+
+def row(name):
+    """The opening and the events of a row, and its reply lines."""
+    texts = []
+    for file in ("stdin", "stdout"):
+        with open(os.path.join(ROOT, "rows", name, file)) as text:
+            texts.append(text.read().splitlines())
+    head = texts[0].index("---")
+    return texts[0][:head], texts[0][head + 1 :], texts[1]
+
+
+def args_of(name):
+    with open(os.path.join(ROOT, "rows", name, "args")) as args:
+        return " ".join(args.read().split())
+
+
+def is_short(name):
+    """Whether a row's input is a text of at most 20,000 bytes with a line `---`."""
+    with open(os.path.join(ROOT, "rows", name, "stdin"), "rb") as file:
+        text = file.read()
+    return len(text) <= 20000 and b"\n---\n" in text and text.isascii() and b"\r" not in text
+
+
+def questions(replies):
+    """What tells one pool from another: floor, budget, listing, and each admitted entry with its family; a tip and sessions."""
+    txids = sorted({reply.split(" ")[1] for reply in replies if reply.startswith("admitted ")})
+    asked = [ASKED % ("getmempoolinfo", ""), ASKED % ("getrawmempool", "")]
+    for txid in txids:
+        asked += [ASKED % (method, '"%s"' % txid) for method in ("getmempoolentry", "getmempoolancestors", "getmempooldescendants")]
+    return asked + ["peer 1 headers 0", "peer 1 getblock 101", "peer 2 leave"]
+
+
+def refuse_each(gate, head, events, at, wanted):
+    """Event `at` has each of its growths refused in turn, and is made again; questions before and after it tell that nothing has changed.
+
+    A refusal while its line is read, or while its reply line is made, ends the program, with the replies before it. Gives how many
+    refusals were answered by `fault memory`.
+    """
+    asked = questions(wanted)
+    before, event, after = events[:at], events[at], events[at + 1 :]
+    untouched = gate.replies(head, before + asked)[at:]
+    text = lines(head) + "---\n" + lines(before + [event] + asked + [event] + after)
+    right = lines(wanted[:at] + [FAULT] + untouched + wanted[at:]).encode()
+    ended = lines(wanted[:at]).encode()
+    faults = 0
+    for growth, done in each_growth(gate.program, "run", text, line=len(head) + 1 + at + 1):
+        what = "growth %d of %s" % (growth, event[:60])
+        if done.status == 0:
+            same_lines([what] + done.stdout.decode().splitlines(), [what] + right.decode().splitlines())
+            faults += 1
+        else:
+            same(what, (done.status, done.stdout, done.stderr), (1, ended, NO_MEMORY))
+    return faults
+
+
+def refused(gate, name, at, least):
+    head, events, wanted = row(name)
+    faults = refuse_each(gate, head, events, at % len(events), wanted)
+    true("%s: %d growths were answered by `fault memory`, of %d at least" % (name, faults, least), faults >= least)
+
+
+def test_a_replacement(gate):
+    refused(gate, "replacement-fees", 4, 6)
+
+
+def test_a_replacement_of_ninety_nine(gate):
+    refused(gate, "replacement-of-ninety-nine", -2, 20)
+
+
+def test_a_submission_that_trims(gate):
+    refused(gate, "trim-and-floor", 3, 3)
+
+
+def test_a_reorganisation(gate):
+    """A disconnected parent comes back above its children."""
+    refused(gate, "reorganisation-returns-a-parent", 5, 40)
+
+
+def test_a_question_about_an_entry(gate):
+    refused(gate, "reorganisation-returns-a-parent", 6, 4)
+
+
+def test_a_listing(gate):
+    """A peer's, of 50 entries."""
+    made = [payment(number, 99000) for number in range(1, 51)]
+    head = opening(*[coin(number) for number in range(1, 51)])
+    events = [ENTER[0]] + [submitted(tx) for tx in made] + ["peer 1 mempool"]
+    wanted = [ENTER[1]] + ["admitted %s fee 1000 vsize %d replaced 0" % (tx.txid(), tx.virtual_size(1)) for tx in made]
+    wanted.append("listing 50 " + " ".join(tx.txid() for tx in made))
+    true("no listing was refused", refuse_each(gate, head, events, len(events) - 1, wanted) >= 1)
+
+
+def events_of_each_kind():
+    """An opening, and events of each kind, with a block that comes and goes again."""
+    one, two, three = payment(1, 99000), payment(2, 99000), payment(1, 98000)
+    user = 'user a rpc 5000 {"method":"%s","params":[%s],"id":1}'
+    coinbase = Transaction([Input(NULL[0], NULL[1], b"\x04abcd")], [Output(5000000000)])
+    events = [
+        "peer 1 enter 192.0.2.1", submitted(one), submitted(three), "x", "# skipped", "peer 1 mempool",
+        user % ("sendrawtransaction", '"%s"' % two.hex()), user % ("testmempoolaccept", '["%s"]' % one.hex()),
+        user % ("getrawmempool", ""), user % ("getmempoolentry", '"%s"' % two.txid()), user % ("getmempoolancestors", '"%s"' % two.txid()),
+        user % ("getmempooldescendants", '"%s"' % two.txid()), user % ("getmempoolinfo", ""), user % ("none", ""), "user a rpc 0 {",
+        "chain 0 5000 " + Block(70000, [coinbase, two]).hex(), "peer 1 getblock 101", "peer 1 headers 0", "chain 1 5000", "peer 1 mempool",
+        "operator floor 5000", "operator bloom off", "operator ibd on", "peer 1 leave", "peer 1 leave",
+    ]
+    return ["whitelist noban@192.0.2.1", "rpcwhitelist b:getmempoolinfo", "rpcwhitelistdefault 0"] + opening(coin(1), coin(2)), events
+
+
+class WholeRun:
+    """A run over events, and the same without one of them."""
+
+    def __init__(self, gate, head, events):
+        self.gate, self.head = gate, head
+        self.events = [event for event in events if event and not event.startswith("#")]
+        self.right, self.without = gate.replies(head, self.events), {}
+
+    def replies_without(self, at):
+        if at not in self.without:
+            self.without[at] = self.gate.replies(self.head, self.events[:at] + self.events[at + 1 :])
+        return self.without[at]
+
+    def refuse_each(self):
+        """Refuses each growth: the run ends with the replies of whole events, or one event is answered by `fault memory` and changes nothing.
+
+        Gives the places of the events that were answered so, and how many runs ended.
+        """
+        met, ended = set(), 0
+        for growth, done in each_growth(self.gate.program, "run", lines(self.head) + "---\n" + lines(self.events)):
+            what, replies = "growth %d" % growth, done.stdout.decode().splitlines()
+            if done.status:
+                same(what, (done.status, done.stderr), (1, NO_MEMORY))
+                is_front(what, replies, self.right)
+                ended += 1
+            elif FAULT in replies:
+                at = replies.index(FAULT)
+                same_lines([what] + replies[:at] + replies[at + 1 :], [what] + self.replies_without(at))
+                met.add(at)
+            else:
+                same_lines([what] + replies, [what] + self.right)
+        return met, ended
+
+
+def test_each_growth_of_a_run(gate):
+    """Of a run over events of each kind."""
+    run = WholeRun(gate, *events_of_each_kind())
+    met, ended = run.refuse_each()
+    missed = [event for at, event in enumerate(run.events) if at not in met and not event.startswith(NEED_NO_MEMORY)]
+    same("events that were never answered by `fault memory`", missed, [])
+    true("no refusal ended the run", ended)
+
+
+@long
+def test_each_growth_of_each_row(gate):
+    """Of the rows of `gate run` whose opening is none of a fault and whose input is short."""
+    tried = 0
+    for name in sorted(os.listdir(os.path.join(ROOT, "rows"))):
+        if os.path.exists(os.path.join(ROOT, "rows", name, "stdin")) and args_of(name) == "run" and is_short(name):
+            head, events, _ = row(name)
+            WholeRun(gate, head, events).refuse_each()
+            tried += 1
+    true("%d rows were tried, of 80 at least" % tried, tried >= 80)
+
+
+def laned():
+    """A lane of a peer, whose last line but one is another caller's, and a lane of a user; and the lines of the first."""
+    head, events, wanted = row("replacement-fees")
+    first, replies = events + ["operator bloom on", "x"], wanted + ["fault wrong-caller", "refused L1 bad-line"]
+    return lines(head), first, replies, lines(first) + "---\n" + 'user a rpc 0 {"method":"none","id":1}\n'
+
+
+def is_front(what, found, wanted):
+    same_lines([what] + found, [what] + wanted[: len(found)])
+
+
+def parts_of(printed):
+    """The replies of each lane, the number of calls that were settled, and the journal's lines; none of the last two where they are not whole."""
+    found, settled, journal = [], None, []
+    for line in printed:
+        if settled is not None:
+            journal.append(line)
+        elif line.startswith("lane "):
+            found.append([])
+        elif line.startswith("settled "):
+            settled = int(line.split(" ")[1])
+        else:
+            found[-1].append(line)
+    return found, settled, journal
+
+
+def test_each_growth_of_lanes(gate):
+    """Each lane's replies are a front of those of its calls, with `fault memory` for at most one event; a journal that was printed is legal."""
+    head, first, wanted, second = laned()
+    user = 'rpc 404 {"error":{"code":-32601,"message":"Method not found"},"id":1,"result":null}'
+    without = {at: gate.run("run", head + "---\n" + lines(first[:at] + first[at + 1 :])).stdout.decode().splitlines() for at in range(len(wanted) - 2)}
+    met, stopped, unprinted = set(), 0, 0
+    for growth, done in each_growth(gate.program, "lanes --journal", head + "---\n" + second):
+        what = "growth %d" % growth
+        same(what, (done.status, done.stderr), (1, NO_MEMORY) if done.status else (0, b""))
+        found, settled, journal = parts_of(done.stdout.decode().splitlines())
+        replies = (found + [[], []])[:2]
+        if FAULT in replies[0]:
+            at = replies[0].index(FAULT)
+            same_lines(replies[0][:at] + replies[0][at + 1 :], without[at][:-2] + wanted[-2:])
+            met.add(at)
+        else:
+            is_front(what, replies[0], wanted)
+        is_front(what, replies[1], [FAULT if FAULT in replies[1] else user])
+        met.update("user" for reply in replies[1] if reply == FAULT)
+        if settled is None or len(journal) < 2 * settled:
+            same(what, done.status, 1)
+            unprinted += 1
+            continue
+        audit = gate.run("audit", head + "---\n" + lines(journal))
+        same("the audit of the journal behind " + what, (audit.stdout, audit.status), (b"legal %d\n" % settled, 0))
+        stopped += done.status
+    same("events that were answered by `fault memory`", met, {0, 1, 2, 3, 4, "user"})
+    true("no lane was stopped, or everything was printed", stopped and unprinted)
+
+
+def test_each_growth_of_an_audit(gate):
+    """An audit answers, or ends without an answer."""
+    head, first, wanted, _ = laned()
+    journal = "".join("> %s\n< %s\n" % pair for pair in zip(first[:-2], wanted))
+    ended = 0
+    for growth, done in each_growth(gate.program, "audit", head + "---\n" + journal):
+        if done.status:
+            same("growth %d" % growth, (done.status, done.stdout, done.stderr), (1, b"", NO_MEMORY))
+            ended += 1
+        else:
+            same("growth %d" % growth, (done.status, done.stdout, done.stderr), (0, b"legal 5\n", b""))
+    true("no refusal ended the audit", ended)
+
+
+def test_each_growth_of_a_check(gate):
+    """A check of a word, and of the input, and of an opening with a fault: the right text, or none."""
+    tx = payment(1, 1000)
+    right = ("%s %s %d\nstandard\n" % (tx.txid(), tx.wtxid(), tx.weight())).encode()
+    for words, text, answer, status in (("check " + tx.hex(), "", right, 0), ("check -", tx.hex(), right, 0), ("run", "bloom 2\n", b"opening 1 bad-line\n", 2)):
+        ended = 0
+        for growth, done in each_growth(gate.program, words, text):
+            what = "growth %d of gate %s" % (growth, words)
+            if done.status == 1:
+                same(what, (done.stdout, done.stderr), (b"", NO_MEMORY))
+                ended += 1
+            else:
+                same(what, (done.status, done.stdout, done.stderr), (status, answer, b""))
+        true("no refusal ended gate " + words, ended)
+
+
+CALLS = ("step", "enroll", "call", "settle", "finish")
+
+
+def marked(name, *told):
+    return ["> " + name, "< " + name, *told]
+
+
+@needs_calls
+def test_each_growth_of_each_call(gate):
+    """Of the calls that a caller of the crates makes: a step, a pass, a call under it, settling, and the end of a gate.
+
+    The program of `crates/gate_growth` makes them. It tells state, journal and passes before a call that ran out of memory
+    and behind it, and makes the call once more.
+    """
+    refused = dict.fromkeys(CALLS, 0)
+    for name, at in (("replacement-fees", 4), ("replacement-of-ninety-nine", -2), ("trim-and-floor", 3), ("reorganisation-returns-a-parent", 5), ("reorganisation-returns-a-parent", 6)):
+        head, events, wanted = row(name)
+        made = events[: at % len(events) + 1]
+        count, reply = len(made), wanted[len(made) - 1]
+        told = (reply, "pass %d" % count, "%d %s" % (count, reply), "settled %d" % count, None)
+        text = lines(head) + "---\n" + lines(made) + "---\n" + lines(questions(wanted))
+        plain = failing(gate.calls, "", text)
+        same("without a refusal", (plain.status, plain.stderr), (0, b""))
+        right = plain.stdout.decode().splitlines()
+        same_lines(right[:-1], [line for call, line in zip(CALLS, told) for line in marked(call, *filter(None, [line]))])
+        same("the end", right[-1].split(" ")[:2], ["finished", str(count)])
+        for call in CALLS:
+            place = right.index("< " + call) + 1
+            with_fault = right[:place] + [FAULT, "unchanged"] + marked(call) + right[place:]
+            for growth, done in each_growth(gate.calls, "", text, mark=call):
+                what = "%s: growth %d of %s" % (name, growth, call)
+                same(what, (done.status, done.stderr), (0, b""))
+                same_lines([what] + done.stdout.decode().splitlines(), [what] + with_fault)
+                refused[call] += 1
+    same("calls without a growth that was refused", [call for call in CALLS if not refused[call]], [])
