@@ -1,0 +1,5 @@
+pub mod Keeping
+pub mod Lesser
+pub mod Ranking
+pub mod Rate
+pub mod Tournament
