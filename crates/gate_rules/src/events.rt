@@ -15,7 +15,7 @@ pub(crate) fn chain_event_rules() -> [Rule; 7]
             token: "block-decode",
             then: Then::Nothing,
             core: Some("Block decode failed"),
-            says: "The bytes of a block are not its text",
+            says: "The bytes of a block are not 80 bytes of a header, a count and so many transactions, at most 33,554,432 bytes in all",
         },
         Rule {
             name: "C2",
