@@ -6,7 +6,7 @@
 use gate_prog::{ArgsFault, Job, LaneFault, read_args, run_job};
 use std::alloc::{AllocError, AllocFailed};
 use std::hash::RandomState;
-use std::io::{BufReader, BufWriter, ErrorKind, IsTerminal};
+use std::io::{BufReader, BufWriter, ErrorKind};
 use std::process::ExitCode;
 use std::random::RandomSource;
 use std::rt::Env;
@@ -57,7 +57,7 @@ impl<T: Drop> From<AllocFailed<T>> for Fault {
 const BUFFER: usize = 65_536;
 
 fn main(rt: HostRuntime) -> ExitCode {
-    match status(&rt, rt.stdin().is_terminal()) {
+    match status(&rt) {
         Ok(status) => ExitCode::from(status),
         Err(fault) => {
             // Where standard error takes nothing either, the status alone says it.
@@ -75,23 +75,6 @@ fn words(rt: &(impl Env + AllocGlobal)) -> Result<Vec<String>, Fault> {
             ErrorKind::InvalidData => Fault::Words,
             _ => Fault::Lane(LaneFault::Memory),
         }),
-    }
-}
-
-/// Whether the words ask how to ask for help, which is told by the help.
-fn asks_for_help(args: &[String]) -> bool {
-    match args {
-        [first, second] => {
-            first.as_str() == "help" && (second.as_str() == "--help" || second.as_str() == "-h")
-        }
-        _ => false,
-    }
-}
-
-fn reads_input(job: &Job) -> bool {
-    match job {
-        Job::CheckInput | Job::Run | Job::Lanes { .. } | Job::Audit => true,
-        Job::Check(_) | Job::Rules | Job::Explain(_) => false,
     }
 }
 
@@ -114,43 +97,18 @@ fn run<R: AllocGlobal + Input + Print + RandomSource + Threads + Wait + Sync>(
     Ok(run_job(rt, alloc, hasher, job, &mut reader, &mut writer)?)
 }
 
-/// The same. Standard error says that input is read from a terminal, and that a word names nothing.
-fn run_told<R: AllocGlobal + Input + Print + Eprint + RandomSource + Threads + Wait + Sync>(
-    rt: &R,
-    job: &Job,
-    is_terminal: bool,
-) -> Result<u8, Fault> {
-    if is_terminal && reads_input(job) {
-        let _written = eprintln!(rt; "gate: reading standard input, to its end");
-    }
-    let status = run(rt, job)?;
-    if let Job::Explain(word) = job {
-        if status != 0 {
-            let word = word.as_str();
-            let _written = eprintln!(rt;
-                "gate: no rule and no token is named {word}; gate rules lists them"
-            );
-        }
-    }
-    Ok(status)
-}
-
 /// The status of what these words ask for.
 fn answer<R: AllocGlobal + Input + Print + Eprint + RandomSource + Threads + Wait + Sync>(
     rt: &R,
     args: &[String],
-    is_terminal: bool,
 ) -> Result<u8, Fault> {
     let alloc = rt.alloc();
     let mut words = Vec::new(alloc);
     for word in args {
         words.push(word.as_str())?;
     }
-    if asks_for_help(args) {
-        words.truncate(1);
-    }
     match read_args(alloc, words.as_slice()) {
-        Ok(job) => run_told(rt, &job, is_terminal),
+        Ok(job) => run(rt, &job),
         Err(ArgsFault::Help(text)) => printed(rt.print(text), 0),
         Err(ArgsFault::Usage(text)) => printed(rt.eprint(text), 2),
         Err(ArgsFault::Memory) => Err(Fault::Lane(LaneFault::Memory)),
@@ -160,10 +118,9 @@ fn answer<R: AllocGlobal + Input + Print + Eprint + RandomSource + Threads + Wai
 /// The status of what the words behind the program's name ask for.
 fn status<R: AllocGlobal + Env + Input + Print + Eprint + RandomSource + Threads + Wait + Sync>(
     rt: &R,
-    is_terminal: bool,
 ) -> Result<u8, Fault> {
     let args = words(rt)?;
-    let status = answer(rt, args.as_slice(), is_terminal);
+    let status = answer(rt, args.as_slice());
     drop(args);
     status
 }
