@@ -1,0 +1,376 @@
+//! The rules of admission, in the order in which they are tested.
+ghost use Rattle.std.specs.Prelude.{◌≡◌, map};
+ghost use Rattle.gate_rules.specs.Keys.{transaction_rules, standard_rules, chain_rules, fee_rules, replacement_rules, verdict_rules};
+ghost use Rattle.gate_rules.specs.Rules.{key_of};
+
+use crate::rule::{Rule, Then};
+
+/// A1 to A11: the transaction by itself.
+pub(crate) fn transaction_rules() -> [Rule; 11]
+    ensures { map key_of result ≡ transaction_rules }
+{
+    [
+        Rule {
+            name: "A1",
+            token: "tx-decode",
+            then: Then::Keep,
+            core: Some("TX decode failed (BIP 144)"),
+            says: "The bytes are not the text of a transaction",
+        },
+        Rule {
+            name: "A2",
+            token: "bad-txns-vin-empty",
+            then: Then::Close,
+            core: Some("CheckTransaction"),
+            says: "The transaction has no input",
+        },
+        Rule {
+            name: "A3",
+            token: "bad-txns-vout-empty",
+            then: Then::Close,
+            core: Some("CheckTransaction"),
+            says: "The transaction has no output",
+        },
+        Rule {
+            name: "A4",
+            token: "bad-txns-oversize",
+            then: Then::Close,
+            core: Some("CheckTransaction"),
+            says: "Four times the size without witnesses is above 4,000,000 bytes",
+        },
+        Rule {
+            name: "A5",
+            token: "bad-txns-vout-negative",
+            then: Then::Close,
+            core: Some("CheckTransaction"),
+            says: "The value of an output is below 0",
+        },
+        Rule {
+            name: "A6",
+            token: "bad-txns-vout-toolarge",
+            then: Then::Close,
+            core: Some("CheckTransaction"),
+            says: "The value of an output is above 2,100,000,000,000,000 satoshi",
+        },
+        Rule {
+            name: "A7",
+            token: "bad-txns-txouttotal-toolarge",
+            then: Then::Close,
+            core: Some("CheckTransaction"),
+            says: "The outputs up to one of them sum to more than 2,100,000,000,000,000 satoshi",
+        },
+        Rule {
+            name: "A8",
+            token: "bad-txns-inputs-duplicate",
+            then: Then::Close,
+            core: Some("CheckTransaction (CVE-2018-17144)"),
+            says: "Two inputs spend one outpoint",
+        },
+        Rule {
+            name: "A9",
+            token: "bad-cb-length",
+            then: Then::Close,
+            core: Some("CheckTransaction"),
+            says: "The script of a coinbase has fewer than 2 or more than 100 bytes",
+        },
+        Rule {
+            name: "A10",
+            token: "bad-txns-prevout-null",
+            then: Then::Close,
+            core: Some("CheckTransaction"),
+            says: "An input has the null outpoint, and the transaction is no coinbase",
+        },
+        Rule {
+            name: "A11",
+            token: "coinbase",
+            then: Then::Close,
+            core: Some("AcceptToMemoryPool"),
+            says: "The transaction is a coinbase",
+        },
+    ]
+}
+
+/// A12 to A19: whether the transaction is standard.
+pub(crate) fn standard_rules() -> [Rule; 8]
+    ensures { map key_of result ≡ standard_rules }
+{
+    [
+        Rule {
+            name: "A12",
+            token: "version",
+            then: Then::Keep,
+            core: Some("IsStandardTx"),
+            says: "The version is neither 1 nor 2",
+        },
+        Rule {
+            name: "A13",
+            token: "tx-size",
+            then: Then::Keep,
+            core: Some("IsStandardTx, MAX_STANDARD_TX_WEIGHT"),
+            says: "The weight is above 400,000",
+        },
+        Rule {
+            name: "A14",
+            token: "scriptsig-size",
+            then: Then::Keep,
+            core: Some("IsStandardTx"),
+            says: "The script of an input has more than 1,650 bytes",
+        },
+        Rule {
+            name: "A15",
+            token: "scriptsig-not-pushonly",
+            then: Then::Keep,
+            core: Some("IsStandardTx"),
+            says: "The script of an input does something else than push",
+        },
+        Rule {
+            name: "A16",
+            token: "scriptpubkey",
+            then: Then::Keep,
+            core: Some("IsStandardTx, IsStandard"),
+            says: "The script of an output is not standard",
+        },
+        Rule {
+            name: "A17",
+            token: "dust",
+            then: Then::Keep,
+            core: Some("IsDust"),
+            says: "An output has less than its dust threshold, which is what spending it costs at 3,000 satoshi per 1,000 virtual bytes",
+        },
+        Rule {
+            name: "A18",
+            token: "multi-op-return",
+            then: Then::Keep,
+            core: Some("IsStandardTx"),
+            says: "More than one output carries data (OP_RETURN)",
+        },
+        Rule {
+            name: "A19",
+            token: "tx-size-small",
+            then: Then::Keep,
+            core: Some("MIN_STANDARD_TX_NONWITNESS_SIZE"),
+            says: "The size without witnesses is below 82 bytes",
+        },
+    ]
+}
+
+/// A20 to A33: the transaction beside chain and pool, without its fee.
+pub(crate) fn chain_rules() -> [Rule; 14]
+    ensures { map key_of result ≡ chain_rules }
+{
+    [
+        Rule {
+            name: "A20",
+            token: "non-final",
+            then: Then::Keep,
+            core: Some("ContextualCheckTransaction (BIP 113)"),
+            says: "The locktime does not allow the transaction in the next block",
+        },
+        Rule {
+            name: "A21",
+            token: "txn-already-in-mempool",
+            then: Then::Keep,
+            core: Some("AcceptToMemoryPool"),
+            says: "The pool has an entry with this wtxid",
+        },
+        Rule {
+            name: "A22",
+            token: "txn-same-nonwitness-data-in-mempool",
+            then: Then::Keep,
+            core: Some("AcceptToMemoryPool"),
+            says: "The pool has an entry with this txid and another witness",
+        },
+        Rule {
+            name: "A23",
+            token: "txn-mempool-conflict",
+            then: Then::Keep,
+            core: Some("AcceptToMemoryPool (BIP 125)"),
+            says: "An entry of the pool spends the same outpoint, and none of its inputs has a sequence of at most 0xfffffffd, so that it may not be replaced",
+        },
+        Rule {
+            name: "A24",
+            token: "txn-already-known",
+            then: Then::Keep,
+            core: Some("AcceptToMemoryPool"),
+            says: "An input has no coin, and the transaction is in the chain already",
+        },
+        Rule {
+            name: "A25",
+            token: "bad-txns-inputs-missingorspent",
+            then: Then::Keep,
+            core: Some("AcceptToMemoryPool"),
+            says: "An input spends what is no unspent output of the chain or the pool",
+        },
+        Rule {
+            name: "A26",
+            token: "non-BIP68-final",
+            then: Then::Keep,
+            core: Some("SequenceLocks (BIP 68)"),
+            says: "The sequence of an input asks for more blocks or more time than have passed since its coin was made",
+        },
+        Rule {
+            name: "A27",
+            token: "bad-txns-premature-spend-of-coinbase",
+            then: Then::Keep,
+            core: Some("CheckTxInputs, COINBASE_MATURITY"),
+            says: "An input spends the coin of a coinbase that is fewer than 100 blocks below the next height",
+        },
+        Rule {
+            name: "A28",
+            token: "bad-txns-inputvalues-outofrange",
+            then: Then::Close,
+            core: Some("CheckTxInputs"),
+            says: "The value of a coin, or the sum up to an input, is below 0 or above 2,100,000,000,000,000 satoshi",
+        },
+        Rule {
+            name: "A29",
+            token: "bad-txns-in-belowout",
+            then: Then::Close,
+            core: Some("CheckTxInputs"),
+            says: "The coins of the inputs sum to less than the outputs",
+        },
+        Rule {
+            name: "A30",
+            token: "bad-txns-fee-outofrange",
+            then: Then::Close,
+            core: Some("CheckTxInputs"),
+            says: "The fee is below 0 or above 2,100,000,000,000,000 satoshi",
+        },
+        Rule {
+            name: "A31",
+            token: "bad-txns-nonstandard-inputs",
+            then: Then::Keep,
+            core: Some("AreInputsStandard"),
+            says: "An input spends a coin whose script is not standard, or a redeem script of more than 15 signature operations",
+        },
+        Rule {
+            name: "A32",
+            token: "bad-witness-nonstandard",
+            then: Then::Keep,
+            core: Some("IsWitnessStandard"),
+            says: "A witness is not standard: one where none belongs, a witness script above 3,600 bytes, more than 100 items or an item above 80 bytes, or an annex",
+        },
+        Rule {
+            name: "A33",
+            token: "bad-txns-too-many-sigops",
+            then: Then::Keep,
+            core: Some("MAX_STANDARD_TX_SIGOPS_COST"),
+            says: "The cost of the signature operations is above 16,000",
+        },
+    ]
+}
+
+/// A34 to A37: its fee, and its family in the pool.
+pub(crate) fn fee_rules() -> [Rule; 4]
+    ensures { map key_of result ≡ fee_rules }
+{
+    [
+        Rule {
+            name: "A34",
+            token: "mempool min fee not met",
+            then: Then::Keep,
+            core: Some("AcceptToMemoryPool, GetMinFee"),
+            says: "The fee is below the fee at the pool's floor for the virtual size",
+        },
+        Rule {
+            name: "A35",
+            token: "min relay fee not met",
+            then: Then::Keep,
+            core: Some("-minrelaytxfee"),
+            says: "The fee is below the fee at 1,000 satoshi per 1,000 virtual bytes for the virtual size",
+        },
+        Rule {
+            name: "A36",
+            token: "too-long-mempool-chain",
+            then: Then::Keep,
+            core: Some("CalculateMemPoolAncestors"),
+            says: "With its ancestors in the pool it would be more than 25 transactions or 101,000 virtual bytes, or an ancestor would get more than 25 descendants or 101,000 virtual bytes of them",
+        },
+        Rule {
+            name: "A37",
+            token: "bad-txns-spends-conflicting-tx",
+            then: Then::Close,
+            core: Some("AcceptToMemoryPool"),
+            says: "The transaction descends from an entry that it would replace",
+        },
+    ]
+}
+
+/// A38 to A42: what it would replace.
+pub(crate) fn replacement_rules() -> [Rule; 5]
+    ensures { map key_of result ≡ replacement_rules }
+{
+    [
+        Rule {
+            name: "A38",
+            token: "insufficient fee",
+            then: Then::Keep,
+            core: Some("PaysMoreThanConflicts (BIP 125)"),
+            says: "The feerate is not above that of an entry that it would replace",
+        },
+        Rule {
+            name: "A39",
+            token: "too many potential replacements",
+            then: Then::Keep,
+            core: Some("BIP 125, rule 5"),
+            says: "It would replace more than 100 entries, counted with their descendants",
+        },
+        Rule {
+            name: "A40",
+            token: "replacement-adds-unconfirmed",
+            then: Then::Keep,
+            core: Some("BIP 125, rule 2"),
+            says: "It would replace entries, and spends an output of the pool that none of them spends",
+        },
+        Rule {
+            name: "A41",
+            token: "insufficient fee",
+            then: Then::Keep,
+            core: Some("BIP 125, rule 3"),
+            says: "The fee is below the sum of the fees of the entries that it would replace",
+        },
+        Rule {
+            name: "A42",
+            token: "insufficient fee",
+            then: Then::Keep,
+            core: Some("BIP 125, rule 4, -incrementalrelayfee"),
+            says: "What it pays above the fees that it would replace is below the fee at 1,000 satoshi per 1,000 virtual bytes for its virtual size",
+        },
+    ]
+}
+
+/// A43 to A46: its scripts, and the pool's budget.
+pub(crate) fn verdict_rules() -> [Rule; 4]
+    ensures { map key_of result ≡ verdict_rules }
+{
+    [
+        Rule {
+            name: "A43",
+            token: "verdict-missing",
+            then: Then::Keep,
+            core: None,
+            says: "The opening has no verdict on the script of an input; the line `verdict * ok` gives one for every input",
+        },
+        Rule {
+            name: "A44",
+            token: "non-mandatory-script-verify-flag",
+            then: Then::Keep,
+            core: Some("PolicyScriptChecks"),
+            says: "The script of an input breaks a rule of policy, by its verdict soft",
+        },
+        Rule {
+            name: "A45",
+            token: "mandatory-script-verify-flag-failed",
+            then: Then::Close,
+            core: Some("PolicyScriptChecks"),
+            says: "The script of an input fails, by its verdict hard",
+        },
+        Rule {
+            name: "A46",
+            token: "mempool full",
+            then: Then::Keep,
+            core: Some("LimitMempoolSize"),
+            says: "The pool is above its budget, and the transaction itself leaves it again",
+        },
+    ]
+}

@@ -1,0 +1,192 @@
+//! The rules of chain events and lines, and the words for openings and lanes.
+ghost use Rattle.std.specs.Prelude.{◌≡◌, map};
+ghost use Rattle.gate_rules.specs.Keys.{chain_event_rules, line_rules, opening_words, lane_faults};
+ghost use Rattle.gate_rules.specs.Rules.{key_of};
+
+use crate::rule::{Rule, Then};
+
+/// C1 to C7: events of the chain.
+pub(crate) fn chain_event_rules() -> [Rule; 7]
+    ensures { map key_of result ≡ chain_event_rules }
+{
+    [
+        Rule {
+            name: "C1",
+            token: "block-decode",
+            then: Then::Nothing,
+            core: Some("Block decode failed"),
+            says: "The bytes of a block are not 80 bytes of a header, a count and so many transactions, at most 33,554,432 bytes in all",
+        },
+        Rule {
+            name: "C2",
+            token: "block-coinbase",
+            then: Then::Nothing,
+            core: Some("bad-cb-missing, bad-cb-multiple"),
+            says: "A block has no transaction, its first is no coinbase, or a later one is",
+        },
+        Rule {
+            name: "C3",
+            token: "block-inputs",
+            then: Then::Nothing,
+            core: Some("bad-txns-inputs-missingorspent"),
+            says: "An input of a block spends no coin",
+        },
+        Rule {
+            name: "C4",
+            token: "block-txid-repeated",
+            then: Then::Nothing,
+            core: Some("bad-txns-BIP30"),
+            says: "A transaction of a block has the txid of one that the chain has",
+        },
+        Rule {
+            name: "C5",
+            token: "time-too-old",
+            then: Then::Nothing,
+            core: Some("time-too-old"),
+            says: "The time of a block is not above the median time past",
+        },
+        Rule {
+            name: "C6",
+            token: "no-undo",
+            then: Then::Nothing,
+            core: None,
+            says: "More blocks are to be disconnected than are connected, or than 100",
+        },
+        Rule {
+            name: "C7",
+            token: "chain-full",
+            then: Then::Nothing,
+            core: None,
+            says: "The height would pass 10,000,000",
+        },
+    ]
+}
+
+/// L1 to L3: lines that are no events.
+pub(crate) fn line_rules() -> [Rule; 3]
+    ensures { map key_of result ≡ line_rules }
+{
+    [
+        Rule {
+            name: "L1",
+            token: "bad-line",
+            then: Then::Nothing,
+            core: None,
+            says: "The line has none of the forms of an event",
+        },
+        Rule {
+            name: "L2",
+            token: "line-too-long",
+            then: Then::EndsRun,
+            core: None,
+            says: "The line has more than 16,777,216 bytes",
+        },
+        Rule {
+            name: "L3",
+            token: "too-many-lines",
+            then: Then::EndsRun,
+            core: None,
+            says: "There are more than 1,000,000 lines behind the opening",
+        },
+    ]
+}
+
+/// The words for an opening's faults, beside those of N1 to N3.
+pub(crate) fn opening_words() -> [Rule; 7]
+    ensures { map key_of result ≡ opening_words }
+{
+    [
+        Rule {
+            name: "opening",
+            token: "bad-line",
+            then: Then::EndsProgram,
+            core: None,
+            says: "A line has none of the forms of an opening, says again what was said, or passes the limits of lines",
+        },
+        Rule {
+            name: "opening",
+            token: "times-limit",
+            then: Then::EndsProgram,
+            core: None,
+            says: "There are more than 1,000,000 block times, or one after the first of its line does not fit 32 bits",
+        },
+        Rule {
+            name: "opening",
+            token: "no-times",
+            then: Then::EndsProgram,
+            core: None,
+            says: "There is no block time; a line `times COUNT FIRST STEP` gives some",
+        },
+        Rule {
+            name: "opening",
+            token: "coin-value",
+            then: Then::EndsProgram,
+            core: None,
+            says: "The value of a coin is above 2,100,000,000,000,000 satoshi",
+        },
+        Rule {
+            name: "opening",
+            token: "coin-unspendable",
+            then: Then::EndsProgram,
+            core: None,
+            says: "The script of a coin begins with 0x6a (OP_RETURN) or has more than 10,000 bytes",
+        },
+        Rule {
+            name: "opening",
+            token: "coin-above-tip",
+            then: Then::EndsProgram,
+            core: None,
+            says: "The height of a coin is above the tip, which is the number of block times less one",
+        },
+        Rule {
+            name: "opening",
+            token: "coin-twice",
+            then: Then::EndsProgram,
+            core: None,
+            says: "An earlier coin has the same outpoint",
+        },
+    ]
+}
+
+/// The words for events that were not called.
+pub(crate) fn lane_faults() -> [Rule; 5]
+    ensures { map key_of result ≡ lane_faults }
+{
+    [
+        Rule {
+            name: "fault",
+            token: "wrong-caller",
+            then: Then::Nothing,
+            core: None,
+            says: "The event is of another caller than the first one of its lane; a line `---` begins a new lane",
+        },
+        Rule {
+            name: "fault",
+            token: "pass-full",
+            then: Then::Nothing,
+            core: None,
+            says: "The lane has made 65,536 calls",
+        },
+        Rule {
+            name: "fault",
+            token: "audit-full",
+            then: Then::Nothing,
+            core: None,
+            says: "The lanes together have made 100,000 calls",
+        },
+        Rule {
+            name: "fault",
+            token: "history-short",
+            then: Then::Nothing,
+            core: None,
+            says: "The journal lacks the last call of the lane; no input leads to it",
+        },
+        Rule {
+            name: "fault",
+            token: "memory",
+            then: Then::Nothing,
+            core: None,
+            says: "Memory ran out in the event",
+        },
+    ]
+}

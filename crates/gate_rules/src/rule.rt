@@ -1,0 +1,83 @@
+//! A rule, or a word beside the rules.
+ghost use Rattle.std.specs.Prelude.{◌≡◌};
+ghost use Rattle.gate_rules.specs.Rules.{is_named, key_of};
+ghost use Rattle.gate_rules.specs.Texts.{then_text};
+
+use std::fmt;
+
+/// What follows where a rule fails.
+#[derive(Clone, Copy, Debug, PartialEq, Eq)]
+pub enum Then {
+    /// The session is kept.
+    Keep,
+    /// The session is closed, unless the peer has noban.
+    Close,
+    /// The session is closed, whatever the peer has.
+    CloseAlways,
+    /// The session is kept, and for a peer with forcerelay the transaction is relayed once more.
+    Relay,
+    /// There is no session, and nothing changes.
+    Nothing,
+    /// The run ends there.
+    EndsRun,
+    /// The program ends with status 2.
+    EndsProgram,
+}
+
+impl Then {
+    /// It in a sentence.
+    pub fn as_str(&self) -> &'static str
+        ensures { result.now ≡ then_text self.now }
+    {
+        match self {
+            Then::Keep => "The session is kept.",
+            Then::Close => "The session is closed, unless the peer has noban.",
+            Then::CloseAlways => "The session is closed, also with noban.",
+            Then::Relay => {
+                "The session is kept, and for a peer with forcerelay the transaction is relayed once more."
+            }
+            Then::Nothing => "Nothing changes.",
+            Then::EndsRun => "The run ends there.",
+            Then::EndsProgram => "The program ends with status 2.",
+        }
+    }
+}
+
+/// A rule, or a word beside the rules.
+#[derive(Clone, Copy, Debug, PartialEq, Eq)]
+pub struct Rule {
+    /// What stands before its token where it is printed: letter and number, or `opening` or `fault`.
+    pub name: &'static str,
+    pub token: &'static str,
+    pub then: Then,
+    /// Its name in Bitcoin Core 22.0, or that of the function or the option that has it; a rule of the gate's own has none.
+    pub core: Option<&'static str>,
+    /// When it fails, in a sentence without its full stop.
+    pub says: &'static str,
+}
+
+impl Rule {
+    /// Whether a word is its name or its token.
+    pub fn is_named(&self, word: &str) -> bool
+        ensures { result ≡ is_named word.now (key_of self.now) }
+    {
+        self.name == word || self.token == word
+    }
+}
+
+/// `NAME TOKEN: SENTENCE. WHAT FOLLOWS. Core: NAME.`
+impl fmt::Display for Rule {
+    ghost use Rattle.std.specs.Prelude.{Some};
+    ghost use Rattle.gate_rules.specs.Texts.{rule_text};
+
+    ghost output = { λ rule. Some (rule_text rule) };
+
+    fn fmt<W: fmt::Write>(&self, f: &mut fmt::Formatter<W>) -> fmt::Result {
+        let (name, token, says) = (self.name, self.token, self.says);
+        let then = self.then.as_str();
+        match self.core {
+            Some(core) => write!(f, "{name} {token}: {says}. {then} Core: {core}."),
+            None => write!(f, "{name} {token}: {says}. {then}"),
+        }
+    }
+}
