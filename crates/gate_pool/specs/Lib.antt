@@ -3,7 +3,5 @@ pub mod Family
 pub mod Removal
 pub mod Scores
 pub mod Distinct
-pub mod Walk
 pub mod Search
-pub mod Slots
 pub mod Keeping

@@ -6,6 +6,8 @@ mod graph;
 #[cfg(test)]
 mod graph_edits;
 #[cfg(test)]
+mod nodes;
+#[cfg(test)]
 mod paying;
 #[cfg(test)]
 mod plain_graph;

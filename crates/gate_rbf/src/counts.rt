@@ -6,7 +6,7 @@ ghost use Rattle.gate_rbf.specs.Replacing.{descendant_count};
 
 use crate::direct::DirectConflicts;
 use gate_bytes::Memory;
-use gate_pool::{Pool, descendants};
+use gate_pool::Pool;
 use gate_tx::Txid;
 use std::alloc::Global;
 use std::hash::BuildHasher;
@@ -14,33 +14,26 @@ use std::hash::BuildHasher;
 /// No more descendants go with the entries that a transaction conflicts with.
 const MOST_DESCENDANTS: usize = 100;
 
-/// Whether entries, given by their ids, have few enough descendants together, themselves among them.
-fn has_few_descendants<S: BuildHasher + Copy + Drop>(
-    alloc: Global,
-    pool: &Pool<S>,
-    ids: &[Txid],
-) -> Result<bool, Memory>
-    ensures { (test : Admitted → Bool) → AreIdsOf ids.now (filter test pool.now.entries) → IfOk result (λ few. few ≡ not (nat_lt 100 (descendant_count pool.now.entries (filter test pool.now.entries)))) }
+/// Whether entries, given by their ids, have few enough descendants together, themselves among them. An entry below two of them
+/// counts twice.
+fn has_few_descendants<S: BuildHasher + Copy + Drop>(pool: &Pool<S>, ids: &[Txid]) -> bool
+    ensures { (test : Admitted → Bool) → AreIdsOf ids.now (filter test pool.now.entries) → result ≡ not (nat_lt 100 (descendant_count pool.now.entries (filter test pool.now.entries))) }
 {
-    pool.tells_distinct();
-    let mut left = MOST_DESCENDANTS;
+    let mut left = MOST_DESCENDANTS as u64;
     for id in ids {
-        let Some(found) = descendants(alloc, pool, &[*id], left)? else {
-            return Ok(false);
+        let count = match pool.totals(id) {
+            Some(totals) => totals.below.count,
+            None => 0,
         };
-        left -= found.len();
+        if count > left {
+            return false;
+        }
+        left -= count;
     }
-    Ok(true)
+    true
 }
 
 impl<'a, S: BuildHasher + Copy + Drop> DirectConflicts<'a, S> {
-    /// Whether the conflicts, which have these ids, have few enough descendants.
-    fn has_few_descendants(&self, alloc: Global, ids: &[Txid]) -> Result<bool, Memory>
-        ensures { AreIdsOf ids.now (conflicts_of self.now.entries self.now.tx) → IfOk result (λ few. few ≡ not (nat_lt 100 (descendant_count self.now.entries (conflicts_of self.now.entries self.now.tx)))) }
-    {
-        has_few_descendants(alloc, self.pool(), ids)
-    }
-
     /// The ids of the conflicts, each once. None where they have too many descendants.
     pub(crate) fn few_ids(&self, alloc: Global) -> Result<Option<Vec<Txid>>, Memory>
         ensures ids { IfOk result (λ few. IfSome few (λ ids. AreIdsOf ids.items (conflicts_of self.now.entries self.now.tx))) }
@@ -50,7 +43,7 @@ impl<'a, S: BuildHasher + Copy + Drop> DirectConflicts<'a, S> {
         let Some(ids) = self.ids_within(alloc, MOST_DESCENDANTS)? else {
             return Ok(None);
         };
-        if !self.has_few_descendants(alloc, ids.as_slice())? {
+        if !has_few_descendants(self.pool(), ids.as_slice()) {
             return Ok(None);
         }
         Ok(Some(ids))

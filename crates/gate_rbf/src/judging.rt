@@ -29,6 +29,11 @@ impl<'a, S: BuildHasher + Copy + Drop> DirectConflicts<'a, S> {
         ensures { IfOk result (λ sums. sums ≡ sums_of (replaced_of self.now.entries self.now.tx)) }
     {
         let pool = self.pool();
+        if let [only] = ids {
+            if let Some(totals) = pool.totals(only) {
+                return Ok(Sums::from(totals.below));
+            }
+        }
         let gone = with_descendants(alloc, pool, ids)?;
         Ok(add_up(pool, gone.as_slice()))
     }
