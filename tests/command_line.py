@@ -60,7 +60,8 @@ def test_gate_alone(gate):
 def test_words_that_ask_for_nothing(gate):
     """Unknown commands, missing words, words too many and unknown options are faults of usage."""
     for words in ("check", "check 00 00", "check - -", "run -", "run x", "run run", "admit", "--nothing", "run --nothing", "check --nothing", "RUN",
-                  "lanes x", "lanes -", "lanes --workers", "lanes --workers 2", "lanes --journal x", "lanes --journal=1", "lanes --journal --journal", "lanes -j",
+                  "lanes x", "lanes -", "lanes --workers", "lanes --workers 0", "lanes --workers 65", "lanes --workers 02", "lanes --workers +2", "lanes --workers -1", "lanes --workers two",
+                  "lanes --workers 2 --workers 2", "run --workers 2", "--workers 2 lanes", "lanes --journal x", "lanes --journal=1", "lanes --journal --journal", "lanes -j",
                   "run --journal", "--journal lanes", "audit x", "audit -", "audit --journal", "audit lanes"):
         is_usage(gate, words)
 
@@ -96,6 +97,7 @@ def test_examples_in_the_help(gate):
         "gate check - < examples/payment.hex": 0,
         "gate check 01000000000000000000": 1,
         "gate lanes --journal < examples/lanes.txt": 0,
+        "gate lanes --workers 4 < examples/lanes.txt": 0,
         "gate audit < examples/journal.txt": 0,
     }
     for word in ("", "run", "check", "lanes", "audit"):

@@ -1,5 +1,5 @@
 //! Tests of the rooms that judge what comes over the wire by itself: bytes, lines, addresses, transactions, scripts,
-//! standardness and input reports. Tests stand in crates of their own, since a crate with tests is proved twice.
+//! standardness and input reports, also by workers. Tests stand in crates of their own, since a crate with tests is proved twice.
 #![tactic(auto)]
 
 #[cfg(test)]
@@ -10,6 +10,8 @@ mod bytes;
 mod inputs;
 #[cfg(test)]
 mod lines;
+#[cfg(test)]
+mod reports;
 #[cfg(test)]
 mod scripts;
 #[cfg(test)]

@@ -1,0 +1,16 @@
+//! Reports on the inputs of a submission, made by worker threads before the submission meets the gate's lock.
+//!
+//! The main clause is that of `verify_all`: the reports of the pieces in their order, whatever the workers did. Where pieces
+//! and reports go between threads, nothing is promised of their coming: a report that does not come, or is that of another
+//! piece, is made by the caller.
+#![tactic(auto)]
+
+mod check;
+mod gathering;
+mod verifying;
+mod workers;
+
+pub use check::{InputCheck, PolicyCheck};
+pub use gate_inputs::{InputReport, Piece};
+pub use verifying::verify_all;
+pub use workers::{MAX_WORKERS, Workers};

@@ -1,0 +1,180 @@
+//! Reports by workers: in order with any number of them, and whatever the check that was handed in does.
+use gate_bytes::{Copied, Kept, Memory};
+use gate_inputs::report;
+use gate_tx::{Coin, OutPoint, TxIn, Txid, Wtxid};
+use gate_verify::{InputCheck, InputReport, Piece, PolicyCheck, Workers, verify_all};
+use std::alloc::Global;
+use std::process::Abort;
+use std::sync::Wait;
+use std::sync::atomic::{AtomicU64, Ordering};
+use std::test::Fail;
+use std::thread::Threads;
+
+/// An input by its place, with its coin's script, its own, and what they cost: four for each signature operation, of which
+/// OP_CHECKMULTISIG counts 20 (Bitcoin Core 22.0's `GetTransactionSigOpCost`).
+struct Spend {
+    index: u32,
+    coin: &'static [u8],
+    script: &'static [u8],
+    cost: u64,
+}
+
+/// An output to a key's hash that is met by OP_CHECKSIG and OP_CHECKMULTISIG, one to a script's hash by a push of
+/// OP_CHECKMULTISIG, and OP_1 by nothing.
+const SPENDS: [Spend; 3] = [
+    Spend {
+        index: 0,
+        coin: &[
+            0x76, 0xa9, 20, 1, 1, 1, 1, 1, 1, 1, 1, 1, 1, 1, 1, 1, 1, 1, 1, 1, 1, 1, 1, 0x88, 0xac,
+        ],
+        script: &[0xac, 0xae],
+        cost: 84,
+    },
+    Spend {
+        index: 1,
+        coin: &[
+            0xa9, 20, 1, 1, 1, 1, 1, 1, 1, 1, 1, 1, 1, 1, 1, 1, 1, 1, 1, 1, 1, 1, 0x87,
+        ],
+        script: &[0x01, 0xae],
+        cost: 80,
+    },
+    Spend {
+        index: 2,
+        coin: &[0x51],
+        script: &[],
+        cost: 0,
+    },
+];
+
+fn piece(alloc: Global, spend: &Spend) -> Result<Piece, Fail> {
+    let script = Kept::from_vec(spend.script.to_vec(alloc)?);
+    let locking = Kept::from_vec(spend.coin.to_vec(alloc)?);
+    Ok(Piece {
+        wtxid: Wtxid::new([0; 32]),
+        index: spend.index,
+        input: TxIn {
+            prevout: OutPoint {
+                txid: Txid::new([0x11; 32]),
+                index: spend.index,
+            },
+            script,
+            sequence: 0xffff_fffd,
+            witness: Kept::from_vec(Vec::new(alloc)),
+        },
+        coin: Coin {
+            value: 100_000,
+            script: locking,
+            height: 1,
+            coinbase: false,
+        },
+    })
+}
+
+fn three_pieces(alloc: Global) -> Result<Vec<Piece>, Fail> {
+    let mut pieces = Vec::new(alloc);
+    for spend in &SPENDS {
+        pieces.push(piece(alloc, spend)?)?;
+    }
+    Ok(pieces)
+}
+
+/// Whether these are the reports of the three pieces, in their order.
+fn are_of_three(reports: &[InputReport]) -> bool {
+    reports.len() == 3
+        && reports.iter().zip(&SPENDS).all(|(report, spend)| {
+            report.piece().index == spend.index && report.sigop_cost() == spend.cost
+        })
+}
+
+fn workers<R: Abort>(rt: &R, count: usize) -> Workers {
+    Workers::new(count).expect(rt, "a number from 1 to 64")
+}
+
+/// Whether 1, 2 and 64 workers with this check give the reports of the three pieces in their order.
+fn gives_all<R: Threads + Wait + Abort + Sync, C: InputCheck + Sync>(
+    rt: &R,
+    alloc: Global,
+    check: &C,
+) -> Result<bool, Fail> {
+    let pieces = three_pieces(alloc)?;
+    for count in [1, 2, 64] {
+        let reports = verify_all(rt, alloc, check, pieces.as_slice(), workers(rt, count))?;
+        if !are_of_three(reports.as_slice()) {
+            return Ok(false);
+        }
+    }
+    Ok(true)
+}
+
+#[test]
+fn three_pieces_in_order(rt: HostRuntime) -> Result<(), Fail> {
+    assert!(rt; gives_all(&rt, rt.alloc(), &PolicyCheck)?);
+    Ok(())
+}
+
+/// A check whose memory is out.
+#[derive(Drop)]
+struct Forgets;
+
+impl InputCheck for Forgets {
+    fn check(&self, _alloc: Global, _piece: &Piece) -> Result<InputReport, Memory> {
+        Err(Memory)
+    }
+}
+
+/// A check that reports one piece, whatever it is asked about.
+#[derive(Drop)]
+struct Mistakes(Piece);
+
+impl InputCheck for Mistakes {
+    fn check(&self, alloc: Global, _piece: &Piece) -> Result<InputReport, Memory> {
+        report(alloc, self.0.copy(alloc)?)
+    }
+}
+
+/// A check that counts the pieces that it meets.
+#[derive(Drop)]
+struct Counts(AtomicU64);
+
+impl InputCheck for Counts {
+    fn check(&self, alloc: Global, piece: &Piece) -> Result<InputReport, Memory> {
+        self.0.fetch_add(1, Ordering::SeqCst);
+        PolicyCheck.check(alloc, piece)
+    }
+}
+
+/// What no worker reports, or what is no report of its piece, is made by the caller.
+#[test]
+fn reports_that_are_missing_or_strange(rt: HostRuntime) -> Result<(), Fail> {
+    assert!(rt; gives_all(&rt, rt.alloc(), &Forgets)?);
+    let check = Mistakes(piece(rt.alloc(), &SPENDS[1])?);
+    assert!(rt; gives_all(&rt, rt.alloc(), &check)?);
+    Ok(())
+}
+
+/// Each piece is checked once by the check that was handed in.
+#[test]
+fn each_piece_is_checked_once(rt: HostRuntime) -> Result<(), Fail> {
+    let check = Counts(AtomicU64::new(0));
+    assert!(rt; gives_all(&rt, rt.alloc(), &check)?);
+    assert_eq!(rt; check.0.load(Ordering::SeqCst), 9);
+    Ok(())
+}
+
+#[test]
+fn no_pieces_have_no_reports(rt: HostRuntime) -> Result<(), Fail> {
+    let reports = verify_all(&rt, rt.alloc(), &PolicyCheck, &[], Workers::default())?;
+    assert!(rt; reports.is_empty());
+    Ok(())
+}
+
+#[test]
+fn numbers_of_workers(rt: HostRuntime) {
+    for count in [1, 2, 64] {
+        assert!(rt; Workers::new(count).map(|workers| workers.count()) == Some(count));
+    }
+    for count in [0, 65, usize::MAX] {
+        assert!(rt; Workers::new(count).is_none());
+    }
+    assert!(rt; Workers::default().count() == 2);
+}
