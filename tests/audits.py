@@ -103,4 +103,5 @@ def test_openings_of_audits(gate):
         ("times 1 0 0\n", "legal 0\n", 0), ("times 1 0 0\n---", "legal 0\n", 0),
     ):
         done = gate.run("audit", opening)
-        same("%r" % opening, (done.stdout.decode(), done.stderr, done.status), (printed, b"", status))
+        same("%r" % opening, (done.stdout.decode(), done.status), (printed, status))
+        same("lines on standard error", len(done.stderr.splitlines()), 1 if status == 2 else 0)

@@ -1,6 +1,7 @@
 """The words of the command line, help, usage, and `gate check`."""
 
 import os
+import re
 import subprocess
 import tempfile
 
@@ -47,9 +48,14 @@ def help_of(gate, words):
     return text
 
 
+def here_documents(text):
+    """The here-documents of a help text, each with its command."""
+    return re.findall(r"^gate \S[^\n]* <<'END'\n.*?^END$", text, re.MULTILINE | re.DOTALL)
+
+
 def examples(text):
     """The commands that stand as examples in a help text."""
-    return [line.strip() for line in text.splitlines() if line.startswith("  gate ") and "Usage" not in line]
+    return [line.strip() for line in text.splitlines() if line.startswith("  gate ") and "Usage" not in line] + here_documents(text)
 
 
 def test_gate_alone(gate):
@@ -61,7 +67,8 @@ def test_words_that_ask_for_nothing(gate):
     """Unknown commands, missing words, words too many and unknown options are faults of usage."""
     for words in ("check", "check 00 00", "check - -", "run -", "run x", "run run", "admit", "--nothing", "run --nothing", "check --nothing", "RUN",
                   "lanes x", "lanes -", "lanes --workers", "lanes --workers 2", "lanes --journal x", "lanes --journal=1", "lanes --journal --journal", "lanes -j",
-                  "run --journal", "--journal lanes", "audit x", "audit -", "audit --journal", "audit lanes"):
+                  "run --journal", "--journal lanes", "audit x", "audit -", "audit --journal", "audit lanes", "rules x", "rules A1", "explain", "explain A1 A2",
+                  "explain -x"):
         is_usage(gate, words)
 
 
@@ -75,9 +82,9 @@ def test_words_that_are_no_text(gate):
 
 def test_help(gate):
     """`gate --help` names the commands, on standard output with status 0."""
-    for words in ("--help", "-h", "help"):
+    for words in ("--help", "-h", "help", "help --help", "help -h"):
         text = help_of(gate, words)
-        for word in ("run", "check", "lanes", "audit", "--version"):
+        for word in ("run", "check", "lanes", "audit", "rules", "explain", "--version"):
             true("the help does not name %s" % word, word in text)
 
 
@@ -97,10 +104,21 @@ def test_examples_in_the_help(gate):
         "gate check 01000000000000000000": 1,
         "gate lanes --journal < examples/lanes.txt": 0,
         "gate audit < examples/journal.txt": 0,
+        "gate rules": 0,
+        "gate explain A36": 0,
+        "gate explain 'insufficient fee'": 0,
+        "gate run <<'END'\ntimes 101 1000 600\n---\npeer 1 enter 192.0.2.1\nEND": 0,
+        "gate check - <<'END'\n01000000000000000000\nEND": 1,
+        "gate lanes <<'END'\ntimes 101 1000 600\n---\npeer 1 enter 192.0.2.1\n---\nuser a rpc 0 {\"method\":\"getmempoolinfo\",\"id\":1}\nEND": 0,
+        "gate audit <<'END'\ntimes 101 1000 600\n---\n> peer 1 enter 192.0.2.1\n< entered none\nEND": 0,
     }
-    for word in ("", "run", "check", "lanes", "audit"):
+    everywhere = [command for command in wanted if command.startswith("gate run <<") or "<<" not in command]
+    for word in ("", "run", "check", "lanes", "audit", "rules", "explain"):
         found = examples(help_of(gate, (word + " --help").strip()))
-        same("examples of gate " + word, sorted(found), sorted(command for command in wanted if command.startswith("gate " + word)))
+        own = [command for command in wanted if command.startswith("gate " + word)] if word else everywhere
+        same("examples of gate " + word, sorted(found), sorted(own))
+        for page in ("docs/FORMATS.md", "docs/POLICY.md"):
+            true("the help of gate %s does not name %s" % (word, page), page in help_of(gate, (word + " --help").strip()))
     path = dict(os.environ, PATH=os.path.dirname(gate.program) + os.pathsep + os.environ["PATH"])
     for command in wanted:
         done = subprocess.run(["sh", "-c", command], cwd=ROOT, env=path, capture_output=True)

@@ -30,6 +30,11 @@ class Gate:
         done = subprocess.run(self.words(words), stdout=stdout, stderr=subprocess.PIPE, timeout=SECONDS, **given, **more)
         return Done(done.returncode, done.stdout, done.stderr)
 
+    def run_words(self, words):
+        """Runs it on words that may hold spaces, without input."""
+        done = subprocess.run([self.program] + words, stdin=subprocess.DEVNULL, capture_output=True, timeout=SECONDS, check=False)
+        return Done(done.returncode, done.stdout, done.stderr)
+
     def replies(self, opening, events):
         """The reply lines of `gate run`, which has to end with status 0."""
         done = self.run("run", lines(opening) + "---\n" + lines(events))

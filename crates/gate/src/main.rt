@@ -3,10 +3,11 @@
 //! Where it stops before its work is done, standard error has one line that says why.
 #![tactic(auto)]
 
+use gate_causes::{Behind, Heard, Watched, refusal_told};
 use gate_prog::{ArgsFault, Job, LaneFault, read_args, run_job};
 use std::alloc::{AllocError, AllocFailed};
 use std::hash::RandomState;
-use std::io::{BufReader, BufWriter, ErrorKind};
+use std::io::{BufReader, BufWriter, ErrorKind, IsTerminal};
 use std::process::ExitCode;
 use std::random::RandomSource;
 use std::rt::Env;
@@ -57,7 +58,7 @@ impl<T: Drop> From<AllocFailed<T>> for Fault {
 const BUFFER: usize = 65_536;
 
 fn main(rt: HostRuntime) -> ExitCode {
-    match status(&rt) {
+    match status(&rt, rt.stdin().is_terminal()) {
         Ok(status) => ExitCode::from(status),
         Err(fault) => {
             // Where standard error takes nothing either, the status alone says it.
@@ -78,37 +79,128 @@ fn words(rt: &(impl Env + AllocGlobal)) -> Result<Vec<String>, Fault> {
     }
 }
 
+/// Whether the words ask how to ask for help, which is told by the help.
+fn asks_for_help(args: &[String]) -> bool {
+    match args {
+        [first, second] => {
+            first.as_str() == "help" && (second.as_str() == "--help" || second.as_str() == "-h")
+        }
+        _ => false,
+    }
+}
+
+/// What stands behind the opening that a job reads.
+fn behind(job: &Job) -> Behind {
+    match job {
+        Job::Lanes { .. } => Behind::Lanes,
+        Job::Audit => Behind::Journal,
+        Job::Run | Job::Check(_) | Job::CheckInput | Job::Rules | Job::Explain(_) => {
+            Behind::Events
+        }
+    }
+}
+
+/// Takes the flag `--explain` out of the words, and tells whether it stood behind a command that has it.
+fn take_explain(words: &mut Vec<&str>) -> bool {
+    let has_it = match words.as_slice() {
+        [command, ..] => *command == "run" || *command == "lanes" || *command == "audit",
+        [] => false,
+    };
+    if !has_it {
+        return false;
+    }
+    match words.iter().position(|word| *word == "--explain") {
+        Some(at) => {
+            words.remove(at);
+            true
+        }
+        None => false,
+    }
+}
+
+fn reads_input(job: &Job) -> bool {
+    match job {
+        Job::CheckInput | Job::Run | Job::Lanes { .. } | Job::Audit => true,
+        Job::Check(_) | Job::Rules | Job::Explain(_) => false,
+    }
+}
+
 /// The status of a job, over the standard streams.
-fn run<R: AllocGlobal + Input + Print + RandomSource + Threads + Wait + Sync>(
+fn run<R: AllocGlobal + Input + Print + Eprint + RandomSource + Threads + Wait + Sync>(
     rt: &R,
     job: &Job,
+    explains: bool,
 ) -> Result<u8, Fault> {
     let alloc = rt.alloc();
     // Peers choose txids and outpoints: with keys that they can't know they can't make them collide.
     let Ok(hasher) = RandomState::new(rt) else {
         return Err(Fault::Random);
     };
-    let Ok(mut reader) = BufReader::with_capacity(alloc, BUFFER, rt.reader()) else {
+    let Ok(reader) = BufReader::with_capacity(alloc, BUFFER, rt.reader()) else {
         return Err(Fault::Lane(LaneFault::Memory));
     };
-    let Ok(mut writer) = BufWriter::with_capacity(alloc, BUFFER, io::writer(rt)) else {
+    let Ok(writer) = BufWriter::with_capacity(alloc, BUFFER, io::writer(rt)) else {
         return Err(Fault::Lane(LaneFault::Memory));
     };
-    Ok(run_job(rt, alloc, hasher, job, &mut reader, &mut writer)?)
+    let mut watched = Watched::new(alloc, rt, reader, behind(job), explains);
+    let mut heard = Heard::new(alloc, writer);
+    let ended = run_job(rt, alloc, hasher, job, &mut watched, &mut heard);
+    if let Some(refusal) = heard.first() {
+        tell_refusal(rt, refusal, watched.lines(), watched.last());
+    }
+    Ok(ended?)
+}
+
+/// Says on standard error what is wrong with an opening, where the first text that was written refuses one.
+fn tell_refusal<R: AllocGlobal + Eprint>(rt: &R, refusal: &[u8], lines: u64, last: &[u8]) {
+    let Ok(text) = std::str::from_utf8(refusal) else {
+        return;
+    };
+    // Without memory for it, or where standard error takes nothing, standard output alone says it.
+    if let Ok(Some(told)) = refusal_told(rt.alloc(), text.trim_end(), lines, last) {
+        let _written = eprintln!(rt; "gate: {told}");
+    }
+}
+
+/// The same. Standard error says that input is read from a terminal, and that a word names nothing.
+fn run_told<R: AllocGlobal + Input + Print + Eprint + RandomSource + Threads + Wait + Sync>(
+    rt: &R,
+    job: &Job,
+    is_terminal: bool,
+    explains: bool,
+) -> Result<u8, Fault> {
+    if is_terminal && reads_input(job) {
+        let _written = eprintln!(rt; "gate: reading standard input, to its end");
+    }
+    let status = run(rt, job, explains)?;
+    if let Job::Explain(word) = job {
+        if status != 0 {
+            let word = word.as_str();
+            let _written = eprintln!(rt;
+                "gate: no rule and no token is named {word}; gate rules lists them"
+            );
+        }
+    }
+    Ok(status)
 }
 
 /// The status of what these words ask for.
 fn answer<R: AllocGlobal + Input + Print + Eprint + RandomSource + Threads + Wait + Sync>(
     rt: &R,
     args: &[String],
+    is_terminal: bool,
 ) -> Result<u8, Fault> {
     let alloc = rt.alloc();
     let mut words = Vec::new(alloc);
     for word in args {
         words.push(word.as_str())?;
     }
+    if asks_for_help(args) {
+        words.truncate(1);
+    }
+    let explains = take_explain(&mut words);
     match read_args(alloc, words.as_slice()) {
-        Ok(job) => run(rt, &job),
+        Ok(job) => run_told(rt, &job, is_terminal, explains),
         Err(ArgsFault::Help(text)) => printed(rt.print(text), 0),
         Err(ArgsFault::Usage(text)) => printed(rt.eprint(text), 2),
         Err(ArgsFault::Memory) => Err(Fault::Lane(LaneFault::Memory)),
@@ -118,9 +210,10 @@ fn answer<R: AllocGlobal + Input + Print + Eprint + RandomSource + Threads + Wai
 /// The status of what the words behind the program's name ask for.
 fn status<R: AllocGlobal + Env + Input + Print + Eprint + RandomSource + Threads + Wait + Sync>(
     rt: &R,
+    is_terminal: bool,
 ) -> Result<u8, Fault> {
     let args = words(rt)?;
-    let status = answer(rt, args.as_slice());
+    let status = answer(rt, args.as_slice(), is_terminal);
     drop(args);
     status
 }
