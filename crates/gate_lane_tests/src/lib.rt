@@ -8,8 +8,6 @@ mod finishing;
 #[cfg(test)]
 mod passes;
 #[cfg(test)]
-mod replaying;
-#[cfg(test)]
 mod running;
 #[cfg(test)]
 mod splitting;
