@@ -218,7 +218,7 @@ def files_below(folder):
 def test_installing(gate):
     """`make install` puts the program and the examples below PREFIX, and `make uninstall` takes these away and nothing else."""
     with tempfile.TemporaryDirectory() as folder:
-        made = ["make", "--silent", "PROGRAM=" + gate.program, "DESTDIR=" + folder, "PREFIX=/opt"]
+        made = ["make", "--silent", "PROGRAM=" + gate.program, "LIBRARY=" + os.path.join(folder, "none"), "DESTDIR=" + folder, "PREFIX=/opt"]
         other = os.path.join(folder, "opt", "bin", "other")
         subprocess.run(made + ["install"], cwd=ROOT, check=True, stdout=subprocess.DEVNULL)
         examples = ["opt/share/gate/examples/" + name for name in sorted(os.listdir(os.path.join(ROOT, "examples")))]

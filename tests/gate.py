@@ -15,6 +15,10 @@ class Differs(Exception):
     """What was found is not what is wanted."""
 
 
+class NotTried(Exception):
+    """What a test needs is not on this machine."""
+
+
 class Gate:
     """The program under test, and beside it the one that makes calls of the crates, where it is there."""
 

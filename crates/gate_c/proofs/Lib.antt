@@ -1,0 +1,4 @@
+mod AsBox
+mod Answering
+mod Reaching
+mod Checking

@@ -1,0 +1,79 @@
+-- What a call comes to: its status, what stands in the buffer, and what becomes of the handle.
+use Rattle.std.specs.Prelude.{◌≡◌, ◌⊎◌, ℕ, ◌<◌, ◌≤◌, ◌++◌, ◌∷◌, List, [], length, Option, Some, None, Err}
+use Rattle.gate_lines.specs.Lines.{line_limit, unlines}
+use Rattle.gate_opening.specs.declared.OpeningFault.TheVariants as faults
+use Rattle.gate_opening.specs.declared.OpeningToken.{OpeningToken}
+use Rattle.gate_opening.specs.Said.{spelled}
+use Rattle.gate_prog.specs.Checks.{check_lines, check_status, input_spells}
+use Rattle.gate_prog.specs.Jobs.{opening_line}
+use Rattle.gate_c.specs.declared.answer.Answer.{Answer}
+use Rattle.gate_c.specs.declared.session.Session.{Session}
+use Rattle.gate_c.specs.declared.status.Status.TheVariants as statuses
+use Rattle.gate_c.specs.Answers.{answer_lines, Answered}
+use Rattle.gate_c.specs.Outputs.{NothingPut, OutOfMemory, TextPut}
+use Rattle.gate_c.specs.Sessions.{AnswerKept, IsOpened}
+use Rattle.gate_c.specs.Statuses.{code_of, done}
+
+-- ---- a check
+
+-- the lines of `gate check -`, and its status
+abbrev pub CheckCalled : List ℕ → List ℕ → List ℕ → ℕ → ℕ → Type 0
+CheckCalled input before after size status =
+    TextPut (check_status (input_spells input)) (unlines (check_lines (input_spells input))) before after size status
+    ⊎ OutOfMemory before after size status
+
+-- ---- an answer
+
+-- the line of the answer is put, or the buffer is too small for it, or memory ran out in its text
+abbrev pub AnswerPut : Answer → List ℕ → List ℕ → ℕ → ℕ → Type 0
+AnswerPut answer before after size status =
+    TextPut done (unlines (answer_lines answer)) before after size status
+    ⊎ NothingPut (code_of statuses.ReplyKept) before after size status
+
+-- a line within the limits is answered, and its answer is kept; or nothing has changed
+abbrev pub LineCalled : Session → List ℕ → Session → List ℕ → List ℕ → ℕ → ℕ → Type 0
+LineCalled old line new before after size status =
+    ((length line ≤ line_limit) × Answered old.state line new.answer new.state × AnswerPut new.answer before after size status)
+    ⊎ (AnswerKept old new × OutOfMemory before after size status)
+    ⊎ (AnswerKept old new × (line_limit < length line) × NothingPut (code_of statuses.LineTooLong) before after size status)
+
+-- a closed handle stays closed
+abbrev pub AnswerCalled : Option Session → List ℕ → Option Session → List ℕ → List ℕ → ℕ → ℕ → Type 0
+AnswerCalled None line new before after size status = (new ≡ None) × NothingPut (code_of statuses.NotOpen) before after size status
+AnswerCalled (Some old) line None before after size status = ⊥
+AnswerCalled (Some old) line (Some new) before after size status = LineCalled old line new before after size status
+
+-- the last answer, once more
+abbrev pub AnswerRepeated : Session → Session → List ℕ → List ℕ → ℕ → ℕ → Type 0
+AnswerRepeated old new before after size status = AnswerKept old new × AnswerPut old.answer before after size status
+
+abbrev pub ReplyCalled : Option Session → Option Session → List ℕ → List ℕ → ℕ → ℕ → Type 0
+ReplyCalled None new before after size status = (new ≡ None) × NothingPut (code_of statuses.NotOpen) before after size status
+ReplyCalled (Some old) None before after size status = ⊥
+ReplyCalled (Some old) (Some new) before after size status = AnswerRepeated old new before after size status
+
+-- ---- an opening
+
+-- the line of a fault is put
+abbrev pub RefusalPut : ℕ → OpeningToken → List ℕ → List ℕ → ℕ → ℕ → Type 0
+RefusalPut line token before after size status =
+    TextPut (code_of statuses.OpeningRefused) (opening_line line token ++ 10 ∷ []) before after size status
+    ⊎ OutOfMemory before after size status
+
+-- the opening has this first fault, whose line is put
+abbrev pub FaultPut : List ℕ → List ℕ → List ℕ → ℕ → ℕ → Type 0
+FaultPut opening before after size status = (line : ℕ) × (token : OpeningToken)
+    × (spelled opening ≡ Err (faults.Line line token)) × RefusalPut line token before after size status
+
+-- the opening has a fault, or memory ran out
+abbrev pub Unopened : List ℕ → List ℕ → List ℕ → ℕ → ℕ → Type 0
+Unopened opening before after size status = FaultPut opening before after size status ⊎ OutOfMemory before after size status
+
+-- the handle holds the session of the opening
+abbrev pub Opened : List ℕ → Session → List ℕ → List ℕ → ℕ → Type 0
+Opened opening new before after size = IsOpened opening new × (after ≡ before) × (size ≡ 0)
+
+abbrev pub OpenCalled : Option Session → List ℕ → Option Session → List ℕ → List ℕ → ℕ → ℕ → Type 0
+OpenCalled (Some old) opening new before after size status = (new ≡ Some old) × NothingPut (code_of statuses.AlreadyOpen) before after size status
+OpenCalled None opening (Some new) before after size status = (status ≡ done) × Opened opening new before after size
+OpenCalled None opening None before after size status = Unopened opening before after size status

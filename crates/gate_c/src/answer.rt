@@ -1,0 +1,36 @@
+//! The answer to a line.
+ghost use Rattle.std.specs.Prelude.{◌≡◌, OnOk, string_bytes};
+ghost use Rattle.gate_lines.specs.Lines.{unlines};
+
+use gate_bytes::Memory;
+use gate_message::Reply;
+use std::alloc::Global;
+
+/// The answer to a line within the limits.
+#[derive(Debug, Drop)]
+pub enum Answer {
+    /// The line asks for nothing.
+    Nothing,
+    /// The line has no form.
+    BadLine,
+    Reply(Reply),
+}
+
+impl Answer {
+    ghost use Rattle.gate_c.specs.Answers.{answer_lines};
+
+    /// Writes the line of the answer, with its newline, in the place of what `text` holds.
+    pub fn write(&self, alloc: Global, text: &mut String) -> Result<(), Memory>
+        ensures { OnOk result (string_bytes text.new ≡ unlines (answer_lines self.now)) }
+    {
+        text.clear();
+        match self {
+            Answer::Nothing => Ok(()),
+            Answer::BadLine => Ok(text.push_str("refused L1 bad-line\n")?),
+            Answer::Reply(reply) => {
+                reply.push_text(alloc, text)?;
+                Ok(text.push('\n')?)
+            }
+        }
+    }
+}

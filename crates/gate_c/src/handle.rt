@@ -1,0 +1,73 @@
+//! The handle that C holds: a slot for a session, and whether it is full.
+ghost use Rattle.std.specs.Prelude.{◌≡◌, Some, None, MatchOption, is_some};
+
+mod parts;
+mod slot;
+
+use crate::session::Session;
+use parts::Parts;
+pub use slot::Slot;
+use std::alloc::Global;
+use std::mem;
+
+/// A handle, which C begins as zeros: a pointer that is null, and `false`.
+#[repr(C)]
+pub struct Gate {
+    pub slot: Slot,
+    pub is_open: bool,
+    ghost full: { is_open ≡ is_some slot.session },
+}
+
+impl Drop for Gate {
+    fn drop(self) {
+        drop(self.into_box());
+    }
+}
+
+/// Lets a value through that may go to another thread.
+fn sent<T: Send>(value: T) -> T
+    ensures { result ≡ value }
+{
+    value
+}
+
+impl Gate {
+    fn closed(alloc: Global) -> Gate
+        ensures { result.slot.session ≡ None }
+    {
+        Gate {
+            slot: Slot::empty(alloc),
+            is_open: false,
+        }
+    }
+
+    fn into_box(self) -> Option<Box<Session, Global>>
+        ensures { MatchOption result (self.slot.session ≡ None) (λ session. self.slot.session ≡ Some session.value) }
+    {
+        let Gate { slot, is_open } = self;
+        if is_open {
+            Some(slot.into_parts().into_box())
+        } else {
+            slot.let_go();
+            None
+        }
+    }
+
+    /// Closes the handle, and gives the session of one that was open.
+    pub fn take(&mut self, alloc: Global) -> Option<Box<Session, Global>>
+        ensures closed { self.new.slot.session ≡ None }
+        ensures taken { MatchOption result (self.old.slot.session ≡ None) (λ session. self.old.slot.session ≡ Some session.value) }
+    {
+        mem::replace(self, Gate::closed(alloc)).into_box()
+    }
+
+    /// Opens the handle with a session, in the place of what it holds.
+    pub fn put(&mut self, session: Box<Session, Global>)
+        ensures { self.new.slot.session ≡ Some session.value }
+    {
+        *self = sent(Gate {
+            slot: Slot::of_parts(Parts::of(session)),
+            is_open: true,
+        });
+    }
+}

@@ -1,0 +1,71 @@
+/* gate: the proved admission gate of a Bitcoin node's mempool, as a library. docs/LIBRARY.md says how to embed it.
+
+   Each call answers by a status, and most put a text into a buffer `out` that has room for so many bytes: `*size` then
+   tells the text's size, also where the buffer is too small for it, and 0 where there is no text. No pointer may be null,
+   also where its size is 0, and none may overlap another. */
+#ifndef GATE_H
+#define GATE_H
+
+#include <stdbool.h>
+#include <stddef.h>
+#include <stdint.h>
+
+#ifdef __cplusplus
+extern "C" {
+#endif
+
+/* A handle, which begins as `struct gate gate = GATE_CLOSED;`. Only the calls below read or write it. It serves one call at
+   a time; any thread may make it, if a lock or the like orders the calls. A copy of an open handle is not a second one. */
+struct gate {
+    struct {
+        void *session;
+    } slot;
+    bool is_open;
+};
+
+#define GATE_CLOSED { { NULL }, false }
+
+/* The keys of the handle's hash tables. Draw both at random where peers choose transactions: with keys that they don't know
+   they can't make ids collide. No reply depends on them. */
+struct gate_keys {
+    uint64_t first;
+    uint64_t second;
+};
+
+enum gate_status {
+    GATE_DONE = 0,
+    GATE_DENIED = 1,            /* of gate_check: the transaction is denied, and `out` has its lines */
+    GATE_BUFFER_TOO_SMALL = 2,  /* `out` is as it was, and `*size` is the size of the text */
+    GATE_OUT_OF_MEMORY = 3,     /* nothing has changed */
+    GATE_NOT_OPEN = 4,          /* the handle is closed */
+    GATE_ALREADY_OPEN = 5,      /* the handle is open */
+    GATE_OPENING_REFUSED = 6,   /* the opening has a fault, and `out` has its line */
+    GATE_LINE_TOO_LONG = 7,     /* the line has more than 16,777,216 bytes; nothing has changed */
+    GATE_REPLY_KEPT = 8         /* the line is answered; memory ran out in the text of its reply, which gate_reply gives */
+};
+
+/* Opens a closed handle, from the lines that stand before `---` in the input of `gate run`. */
+uint32_t gate_open(struct gate *gate, const struct gate_keys *keys, const uint8_t *opening, size_t opening_size,
+                   uint8_t *out, size_t room, size_t *size);
+
+/* Answers a line, which is given without its newline. The reply line in `out` has one; a line that is empty or a comment
+   has no reply, and `*size` is 0. After GATE_BUFFER_TOO_SMALL the line is answered, and gate_reply gives the reply. */
+uint32_t gate_answer(struct gate *gate, const uint8_t *line, size_t line_size, uint8_t *out, size_t room, size_t *size);
+
+/* Gives the reply to the last line once more. */
+uint32_t gate_reply(struct gate *gate, uint8_t *out, size_t room, size_t *size);
+
+/* Closes a handle and frees what it holds. A closed one stays closed. */
+void gate_close(struct gate *gate);
+
+/* Checks the transaction that a text of hexadecimal spells by itself, as `gate check -` does. */
+uint32_t gate_check(const uint8_t *input, size_t input_size, uint8_t *out, size_t room, size_t *size);
+
+/* Gives the version of the gate, without a newline. */
+uint32_t gate_version(uint8_t *out, size_t room, size_t *size);
+
+#ifdef __cplusplus
+}
+#endif
+
+#endif

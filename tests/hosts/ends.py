@@ -1,0 +1,51 @@
+#!/usr/bin/env python3
+"""The ends of the module for Python: its exceptions, a gate that is closed, and what the shared library shows."""
+
+import ctypes
+import os
+import sys
+from concurrent.futures import ThreadPoolExecutor
+
+sys.dont_write_bytecode = True
+sys.path.insert(0, os.path.join(os.path.dirname(os.path.abspath(__file__)), "..", "..", "lib"))
+
+import gate
+
+OPENING = "times 101 1000 600\nverdict * ok\nbloom 1\n"
+LIMIT = 16777216
+
+
+def raised(kind, call, *given):
+    try:
+        call(*given)
+    except kind as error:
+        return error
+    raise AssertionError("%s was not raised" % kind.__name__)
+
+
+def main():
+    refused = raised(gate.OpeningRefused, gate.Gate, "nonsense\n")
+    assert str(refused) == "opening 1 bad-line" and refused.status == gate.Status.OPENING_REFUSED
+    with gate.Gate(OPENING.encode(), keys=(1, 2)) as one, gate.Gate(OPENING) as other:
+        assert one.is_open and one.reply() == ""
+        assert one.answer("peer 1 enter 192.0.2.1") == "entered none\n"
+        assert one.answer("") == "" and one.answer("# a comment") == "" and one.reply() == ""
+        assert one.answer(b"\xff") == "refused L1 bad-line\n"
+        assert one.answer("peer 1 enter 192.0.2.1") == "denied P3 keep peer-known\n"
+        assert raised(gate.LineTooLong, one.answer, "x" * (LIMIT + 1)).status == gate.Status.LINE_TOO_LONG
+        assert one.reply() == "denied P3 keep peer-known\n"
+        assert other.answer("peer 1 enter 192.0.2.1") == "entered none\n"
+    assert not one.is_open and not other.is_open
+    assert raised(gate.NotOpen, one.answer, "peer 1 mempool").status == gate.Status.NOT_OPEN
+    assert isinstance(raised(gate.GateError, one.reply), gate.NotOpen)
+    one.close()
+    with gate.Gate(OPENING) as shared, ThreadPoolExecutor(8) as threads:
+        replies = threads.map(lambda peer: shared.answer("peer %d enter 192.0.2.1" % peer), range(1000))
+        assert list(replies) == ["entered none\n"] * 1000
+    assert gate.check("zz") == gate.Check(False, "denied A1 tx-decode\n")
+    library = ctypes.CDLL(os.environ["GATE_LIBRARY"])
+    assert hasattr(library, "gate_answer") and not hasattr(library, "rattle_alloc")
+
+
+if __name__ == "__main__":
+    main()

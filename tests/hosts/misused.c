@@ -1,0 +1,116 @@
+/* The ends of the interface: each status where it is due, and nothing changed there. Prints what isn't so. */
+#include "gate.h"
+
+#include <stdio.h>
+#include <stdlib.h>
+#include <string.h>
+
+static int failed;
+
+#define HOLDS(what) do { if (!(what)) { printf("line %d: not so: %s\n", __LINE__, #what); failed = 1; } } while (0)
+
+enum { LIMIT = 16777216, ROOM = 256 };
+
+static const uint8_t *bytes(const char *text) { return (const uint8_t *)text; }
+
+static uint8_t out[ROOM];
+static size_t size;
+
+static int is_text(const char *wanted) { return size == strlen(wanted) && memcmp(out, wanted, size) == 0; }
+
+static int is_untouched(void) {
+    for (size_t at = 0; at < sizeof out; at++)
+        if (out[at] != 0x55) return 0;
+    return 1;
+}
+
+/* Fills the buffer and the size with what no call puts there. */
+static void mark(void) {
+    memset(out, 0x55, sizeof out);
+    size = 12345;
+}
+
+static uint32_t answer(struct gate *gate, const char *line, size_t room) {
+    mark();
+    return gate_answer(gate, bytes(line), strlen(line), out, room, &size);
+}
+
+int main(void) {
+    const struct gate_keys keys = {3, 4};
+    const char *opening = "budget 100000\ntimes 101 1000 600\nverdict * ok\nbloom 1\n";
+    struct gate gate = GATE_CLOSED;
+
+    /* closed */
+    HOLDS(answer(&gate, "peer 1 mempool", ROOM) == GATE_NOT_OPEN && is_untouched() && size == 0);
+    mark();
+    HOLDS(gate_reply(&gate, out, ROOM, &size) == GATE_NOT_OPEN && is_untouched() && size == 0);
+    gate_close(&gate);
+    HOLDS(!gate.is_open);
+
+    /* an opening with a fault */
+    mark();
+    HOLDS(gate_open(&gate, &keys, bytes("nonsense\n"), 9, out, ROOM, &size) == GATE_OPENING_REFUSED);
+    HOLDS(is_text("opening 1 bad-line\n") && !gate.is_open);
+    mark();
+    HOLDS(gate_open(&gate, &keys, bytes("nonsense\n"), 9, out, 18, &size) == GATE_BUFFER_TOO_SMALL);
+    HOLDS(is_untouched() && size == 19 && !gate.is_open);
+
+    /* open, and open again */
+    mark();
+    HOLDS(gate_open(&gate, &keys, bytes(opening), strlen(opening), out, ROOM, &size) == GATE_DONE);
+    HOLDS(is_untouched() && size == 0 && gate.is_open);
+    mark();
+    HOLDS(gate_reply(&gate, out, ROOM, &size) == GATE_DONE && is_untouched() && size == 0);
+    HOLDS(answer(&gate, "peer 1 enter 192.0.2.1", ROOM) == GATE_DONE && is_text("entered none\n"));
+    mark();
+    HOLDS(gate_open(&gate, &keys, bytes(opening), strlen(opening), out, ROOM, &size) == GATE_ALREADY_OPEN);
+    HOLDS(is_untouched() && size == 0 && gate.is_open);
+    HOLDS(answer(&gate, "peer 1 enter 192.0.2.1", ROOM) == GATE_DONE && is_text("denied P3 keep peer-known\n"));
+
+    /* lines without a reply, and without a form */
+    HOLDS(answer(&gate, "# a comment", ROOM) == GATE_DONE && is_untouched() && size == 0);
+    HOLDS(answer(&gate, "", ROOM) == GATE_DONE && is_untouched() && size == 0);
+    HOLDS(answer(&gate, "nonsense", ROOM) == GATE_DONE && is_text("refused L1 bad-line\n"));
+    HOLDS(answer(&gate, "peer 1 mempool\npeer 1 mempool", ROOM) == GATE_DONE && is_text("refused L1 bad-line\n"));
+
+    /* a buffer of exactly the size, and one byte less: the line is answered, and the reply stays */
+    HOLDS(answer(&gate, "peer 2 enter 192.0.2.2", 13) == GATE_DONE && is_text("entered none\n") && out[13] == 0x55);
+    HOLDS(answer(&gate, "peer 3 enter 192.0.2.3", 12) == GATE_BUFFER_TOO_SMALL && is_untouched() && size == 13);
+    mark();
+    HOLDS(gate_reply(&gate, out, 12, &size) == GATE_BUFFER_TOO_SMALL && is_untouched() && size == 13);
+    mark();
+    HOLDS(gate_reply(&gate, out, ROOM, &size) == GATE_DONE && is_text("entered none\n"));
+    HOLDS(answer(&gate, "peer 3 enter 192.0.2.3", ROOM) == GATE_DONE && is_text("denied P3 keep peer-known\n"));
+
+    /* a line at the limit, and one past it: the last reply stays */
+    char *longest = malloc(LIMIT + 2);
+    memset(longest, 'x', LIMIT + 1);
+    longest[LIMIT + 1] = 0;
+    HOLDS(answer(&gate, longest, ROOM) == GATE_LINE_TOO_LONG && is_untouched() && size == 0);
+    mark();
+    HOLDS(gate_reply(&gate, out, ROOM, &size) == GATE_DONE && is_text("denied P3 keep peer-known\n"));
+    longest[LIMIT] = 0;
+    HOLDS(answer(&gate, longest, ROOM) == GATE_DONE && is_text("refused L1 bad-line\n"));
+    free(longest);
+
+    /* another handle knows nothing of this one */
+    struct gate other = GATE_CLOSED;
+    HOLDS(gate_open(&other, &keys, bytes(opening), strlen(opening), out, ROOM, &size) == GATE_DONE);
+    HOLDS(answer(&other, "peer 1 enter 192.0.2.1", ROOM) == GATE_DONE && is_text("entered none\n"));
+    gate_close(&other);
+
+    /* closed twice, and opened again */
+    gate_close(&gate);
+    HOLDS(!gate.is_open && answer(&gate, "peer 1 mempool", ROOM) == GATE_NOT_OPEN);
+    gate_close(&gate);
+    HOLDS(gate_open(&gate, &keys, bytes(opening), strlen(opening), out, ROOM, &size) == GATE_DONE);
+    HOLDS(answer(&gate, "peer 1 enter 192.0.2.1", ROOM) == GATE_DONE && is_text("entered none\n"));
+    gate_close(&gate);
+
+    /* checks */
+    mark();
+    HOLDS(gate_check(bytes("zz"), 2, out, ROOM, &size) == GATE_DENIED && is_text("denied A1 tx-decode\n"));
+    mark();
+    HOLDS(gate_check(bytes("zz"), 2, out, 3, &size) == GATE_BUFFER_TOO_SMALL && is_untouched() && size == 20);
+    return failed;
+}

@@ -1,0 +1,112 @@
+/* `gate run`, `gate check -` and `gate --version`, as `version`, by the library. Other words go to the program that the variable GATE names.
+
+   The variable ROOM has the bytes of the buffer, from 1; every reply without room comes by gate_reply. */
+#include "gate.h"
+
+#include <stdio.h>
+#include <stdlib.h>
+#include <string.h>
+#include <unistd.h>
+
+enum { LINES = 1000000 };
+
+static uint8_t *out;
+static size_t room;
+
+static uint8_t *read_all(size_t *size) {
+    size_t held = 1 << 16, got;
+    uint8_t *text = malloc(held);
+    for (*size = 0; (got = fread(text + *size, 1, held - *size, stdin)) != 0;) {
+        *size += got;
+        if (*size == held) text = realloc(text, held *= 2);
+    }
+    return text;
+}
+
+static uint8_t *end_of_line(uint8_t *at, uint8_t *end) {
+    uint8_t *newline = memchr(at, '\n', (size_t)(end - at));
+    return newline ? newline : end;
+}
+
+/* What stands behind the line `---`. */
+static uint8_t *behind_opening(uint8_t *text, uint8_t *end) {
+    for (uint8_t *at = text, *stop; at < end; at = stop + 1) {
+        stop = end_of_line(at, end);
+        if (stop - at == 3 && memcmp(at, "---", 3) == 0) return stop < end ? stop + 1 : end;
+    }
+    return end;
+}
+
+/* Prints the reply that had no room. */
+static uint32_t print_greater(struct gate *gate, size_t size) {
+    uint8_t *greater = malloc(size);
+    size_t again = 0;
+    uint32_t status = gate_reply(gate, greater, size, &again);
+    if (status == GATE_DONE && again == size) fwrite(greater, 1, size, stdout);
+    free(greater);
+    return again == size ? status : GATE_BUFFER_TOO_SMALL;
+}
+
+static int run(void) {
+    size_t size, written = 0;
+    uint8_t *text = read_all(&size), *end = text + size, *events = behind_opening(text, end);
+    const struct gate_keys keys = {0x0123456789abcdef + size, 0xfedcba9876543210};
+    struct gate gate = GATE_CLOSED;
+    uint8_t line[64];
+    uint32_t status = gate_open(&gate, &keys, text, (size_t)(events - text), line, sizeof line, &written);
+    if (status == GATE_OPENING_REFUSED) {
+        fwrite(line, 1, written, stdout);
+        free(text);
+        return 2;
+    }
+    if (status != GATE_DONE || written != 0) return 90;
+    long lines = 0;
+    for (uint8_t *at = events, *stop; at < end; at = stop + 1) {
+        stop = end_of_line(at, end);
+        if (lines++ == LINES) {
+            fputs("refused L3 too-many-lines\n", stdout);
+            break;
+        }
+        status = gate_answer(&gate, at, (size_t)(stop - at), out, room, &written);
+        if (status == GATE_LINE_TOO_LONG) {
+            fputs("refused L2 line-too-long\n", stdout);
+            break;
+        }
+        if (status == GATE_BUFFER_TOO_SMALL) status = print_greater(&gate, written);
+        else fwrite(out, 1, written, stdout);
+        if (status != GATE_DONE) return 91;
+    }
+    gate_close(&gate);
+    free(text);
+    return 0;
+}
+
+static int check(void) {
+    size_t size, written = 0;
+    uint8_t *text = read_all(&size), lines[512];
+    uint32_t status = gate_check(text, size, lines, sizeof lines, &written);
+    fwrite(lines, 1, written, stdout);
+    free(text);
+    return (int)status;
+}
+
+static int version(void) {
+    uint8_t text[64];
+    size_t size = 0;
+    uint32_t status = gate_version(text, sizeof text, &size);
+    printf("gate %.*s\n", (int)size, (const char *)text);
+    return (int)status;
+}
+
+int main(int count, char **words) {
+    const char *wanted = getenv("ROOM");
+    room = wanted ? strtoul(wanted, NULL, 10) : 1 << 16;
+    out = malloc(room);
+    int status = 99;
+    if (count == 2 && strcmp(words[1], "run") == 0) status = run();
+    else if (count == 3 && strcmp(words[1], "check") == 0 && strcmp(words[2], "-") == 0) status = check();
+    else if (count == 2 && strcmp(words[1], "version") == 0) status = version();
+    else if (getenv("GATE")) execv(getenv("GATE"), words);
+    free(out);
+    return status;
+}

@@ -1,0 +1,88 @@
+//! `gate run`, `gate check -` and `gate --version`, as `version`, by the module for Rust. Other words go to the program that
+//! the variable GATE names.
+
+#[path = "../../lib/gate.rs"]
+mod gate;
+
+use gate::{Error, Gate, Keys};
+use std::io::{BufWriter, Read, Write, stdin, stdout};
+use std::os::unix::process::CommandExt;
+use std::process::{Command, exit};
+
+const LINES: usize = 1_000_000;
+
+fn everything() -> Vec<u8> {
+    let mut text = Vec::new();
+    stdin().read_to_end(&mut text).expect("an input");
+    text
+}
+
+/// The opening with its line `---`, and the lines behind it.
+fn parted(text: &[u8]) -> (&[u8], &[u8]) {
+    let mut at = 0;
+    for line in text.split_inclusive(|byte| *byte == b'\n') {
+        at += line.len();
+        if line.strip_suffix(b"\n").unwrap_or(line) == b"---" {
+            break;
+        }
+    }
+    text.split_at(at)
+}
+
+fn run() -> i32 {
+    let text = everything();
+    let (opening, events) = parted(&text);
+    let mut out = BufWriter::new(stdout());
+    let gate = match Gate::open(Keys { first: 5, second: text.len() as u64 }, opening) {
+        Ok(gate) => gate,
+        Err(Error::OpeningRefused(line)) => {
+            out.write_all(&line).expect("an output");
+            return 2;
+        }
+        Err(_) => return 90,
+    };
+    // a gate may go to another thread
+    std::thread::scope(|threads| threads.spawn(move || answer_all(gate, events, &mut out)).join().expect("no panic"))
+}
+
+fn answer_all(mut gate: Gate, events: &[u8], out: &mut impl Write) -> i32 {
+    for (number, line) in events.split_inclusive(|byte| *byte == b'\n').enumerate() {
+        if number == LINES {
+            out.write_all(b"refused L3 too-many-lines\n").expect("an output");
+            break;
+        }
+        match gate.answer(line.strip_suffix(b"\n").unwrap_or(line)) {
+            Ok(reply) => {
+                assert_eq!(gate.reply().as_ref(), Ok(&reply));
+                out.write_all(&reply).expect("an output");
+            }
+            Err(Error::LineTooLong) => {
+                out.write_all(b"refused L2 line-too-long\n").expect("an output");
+                break;
+            }
+            Err(_) => return 91,
+        }
+    }
+    0
+}
+
+fn main() {
+    let words: Vec<String> = std::env::args().skip(1).collect();
+    let status = match words.iter().map(String::as_str).collect::<Vec<_>>().as_slice() {
+        ["run"] => run(),
+        ["check", "-"] => {
+            let (is_standard, lines) = gate::check(&everything()).expect("memory");
+            stdout().write_all(&lines).expect("an output");
+            i32::from(!is_standard)
+        }
+        ["version"] => {
+            println!("gate {}", gate::version());
+            0
+        }
+        _ => {
+            let program = std::env::var_os("GATE").expect("a program");
+            panic!("{}", Command::new(program).args(&words).exec())
+        }
+    };
+    exit(status)
+}

@@ -1,0 +1,275 @@
+"""The library for C: hosts in C, C++, Rust and Python do what the program does, byte for byte, and its ends are tried.
+
+Each host is a stand-in for the program: it does `run` and `check -` by the library, and hands other words to the program.
+The library is that of `make lib`. Where it, or what makes a host, is not on this machine, the test says so.
+"""
+
+import functools
+import glob
+import importlib
+import os
+import shutil
+import subprocess
+import sys
+import tempfile
+
+from gate import ROOT, Differs, Gate, NotTried, same, true
+
+LIBRARY = os.path.join(ROOT, "crates", "gate_c", "out", "library")
+HOSTS = os.path.join(ROOT, "tests", "hosts")
+ARCHIVE = os.path.join(LIBRARY, "lib", "libgate_c.a")
+SHARED = os.path.join(LIBRARY, "lib", "libgate_c.so")
+SECONDS = 600
+WARNINGS = ["-O1", "-Wall", "-Wextra", "-Werror"]
+C = ["-std=c11", "-D_POSIX_C_SOURCE=200809L"]
+WRAPPED = ["-Wl,--wrap=" + it for it in ("malloc", "realloc", "free")]
+EXAMPLES = ("first-path.txt", "permissions.txt", "replacement.txt", "reorganisation.txt", "rpc.txt")
+STREAMS = ("family_streams", "caller_streams", "chain_streams", "permissions", "calls", "heights", "openings", "json_texts", "decoding")
+
+
+def done_by(words, **more):
+    """What a command ends with; it has to end well."""
+    done = subprocess.run(words, stdin=subprocess.DEVNULL, stdout=subprocess.PIPE, stderr=subprocess.STDOUT, timeout=SECONDS, check=False, **more)
+    if done.returncode:
+        raise Differs("%s ended with status %d:\n%s" % (" ".join(words), done.returncode, done.stdout.decode(errors="replace")[-2000:]))
+    return done.stdout.decode()
+
+
+def newest(*folders):
+    """The last time that a file below these was changed."""
+    return max(os.path.getmtime(os.path.join(at, name)) for folder in folders for at, _, names in os.walk(folder) for name in names)
+
+
+@functools.lru_cache(None)
+def why_no_library():
+    """Why there is no library to try, or None."""
+    if not os.path.exists(ARCHIVE) or not os.path.exists(SHARED):
+        return "there is no library yet: `make lib` builds it"
+    sources = [it for part in ("src", "specs", "proofs") for it in glob.glob(os.path.join(ROOT, "crates", "*", part))]
+    if newest(*sources) > os.path.getmtime(ARCHIVE):
+        return "the library is older than its sources: `make lib` builds it"
+    return None
+
+
+def library():
+    if why_no_library():
+        raise NotTried(why_no_library())
+    return ARCHIVE
+
+
+@functools.lru_cache(None)
+def folder():
+    """Where hosts are made. It goes when the tests end."""
+    return tempfile.TemporaryDirectory(prefix="gate-hosts-")
+
+
+@functools.lru_cache(None)
+def compiler(variable, names, ending, text):
+    """The first compiler that makes a program, with the headers of its language, or None."""
+    source = os.path.join(folder().name, "try" + ending)
+    with open(source, "w", encoding="utf-8") as file:
+        file.write(text)
+    for name in filter(None, (os.environ.get(variable), *names)):
+        words = [name, "-o", os.path.join(folder().name, "try"), source]
+        if shutil.which(name) and subprocess.run(words, capture_output=True, check=False).returncode == 0:
+            return name
+    return None
+
+
+def c_compiler():
+    found = compiler("CC", ("cc", "clang", "gcc"), ".c", "#include <stdio.h>\nint main(void) { return puts(\"\") < 0; }\n")
+    if not found:
+        raise NotTried("there is no C compiler")
+    return found
+
+
+def cpp_compiler():
+    found = compiler("CXX", ("c++", "clang++", "g++"), ".cpp", "#include <iostream>\nint main() { std::cout << 1; }\n")
+    if not found:
+        raise NotTried("there is no C++ compiler")
+    return found
+
+
+def made(host, source, compiles, *more):
+    """A host, made once by a compiler."""
+    path = os.path.join(folder().name, host)
+    if not os.path.exists(path):
+        done_by([*compiles, "-o", path, os.path.join(HOSTS, source), *more])
+    return path
+
+
+def with_c(host, source, *flags):
+    archive = library()
+    return made(host, source, [c_compiler(), *WARNINGS, *C, *flags, "-I", os.path.join(LIBRARY, "include")], archive)
+
+
+def in_c():
+    return with_c("run-c", "run.c")
+
+
+def in_cpp():
+    archive = library()
+    return made("run-cpp", "run.cpp", [cpp_compiler(), *WARNINGS, "-std=c++17", "-I", os.path.join(LIBRARY, "include")], archive)
+
+
+def in_rust():
+    library()
+    if not shutil.which("rustc"):
+        raise NotTried("there is no rustc")
+    words = ["rustc", "--edition", "2021", "-D", "warnings", "-O", "-L", os.path.join(LIBRARY, "lib"), "-l", "static=gate_c", "-l", "gcc"]
+    return made("run-rs", "run.rs", words)
+
+
+def in_python():
+    library()
+    return os.path.join(HOSTS, "run.py")
+
+
+def surroundings(gate, **more):
+    """The variables that hosts read."""
+    return {**os.environ, "GATE": gate.program, "GATE_LIBRARY": SHARED, **more}
+
+
+def does_rows(gate, host, **more):
+    """The host does every row as the program has to; the version is the program's."""
+    printed = done_by([os.path.join(ROOT, "rows", "run"), host], env=surroundings(gate, **more)).splitlines()
+    passed, _, rest = printed[-1].partition(" ")
+    same("the last line", rest, "passed, 0 failed")
+    true("few rows: " + passed, int(passed) > 100)
+    same("the version", done_by([host, "version"], env=surroundings(gate, **more)), gate.run("--version").stdout.decode())
+
+
+def does_examples(gate, host, **more):
+    """What the host prints of each example is what the program prints."""
+    for name in sorted(os.listdir(os.path.join(ROOT, "examples"))):
+        words = ["check", "-"] if name.endswith(".hex") else ["run"]
+        with open(os.path.join(ROOT, "examples", name), "rb") as file:
+            text = file.read()
+        found = subprocess.run([host, *words], input=text, capture_output=True, timeout=SECONDS, check=False, env=surroundings(gate, **more))
+        wanted = gate.run(" ".join(words), text)
+        same(name, (found.returncode, found.stdout, found.stderr), (wanted.status, wanted.stdout, wanted.stderr))
+
+
+def does_tests(gate, host, files):
+    """The host passes the program's own tests of these files."""
+    stand_in, before = Gate(host), dict(os.environ)
+    os.environ.update(surroundings(gate))
+    try:
+        for file in files:
+            tests = vars(importlib.import_module(file))
+            names = [name for name in tests if name.startswith("test_")]
+            true("no tests in " + file, names)
+            for name in names:
+                tests[name](stand_in)
+    finally:
+        os.environ.clear()
+        os.environ.update(before)
+
+
+def test_rows_in_c(gate):
+    """A host in C does the rows and the examples as the program does."""
+    does_rows(gate, in_c())
+    does_examples(gate, in_c())
+
+
+def test_rows_in_c_with_little_room(gate):
+    """So does one whose buffer has five bytes, which fetches each longer reply once more."""
+    does_rows(gate, in_c(), ROOM="5")
+    does_examples(gate, in_c(), ROOM="5")
+
+
+def test_rows_in_cpp(gate):
+    """A host in C++."""
+    does_rows(gate, in_cpp())
+    does_examples(gate, in_cpp())
+
+
+def test_rows_in_rust(gate):
+    """A host in Rust."""
+    does_rows(gate, in_rust())
+    does_examples(gate, in_rust())
+
+
+def test_rows_in_python(gate):
+    """A host in Python."""
+    does_rows(gate, in_python())
+    does_examples(gate, in_python())
+
+
+def test_streams_in_c(gate):
+    """A host in C passes the tests of random streams, and of all else that `run` and `check -` alone do."""
+    does_tests(gate, in_c(), ("random_streams", *STREAMS))
+
+
+def test_streams_in_cpp(gate):
+    """The random streams in C++."""
+    does_tests(gate, in_cpp(), ("random_streams",))
+
+
+def test_streams_in_rust(gate):
+    """The random streams in Rust."""
+    does_tests(gate, in_rust(), ("random_streams",))
+
+
+def test_streams_in_python(gate):
+    """The random streams in Python."""
+    does_tests(gate, in_python(), ("random_streams",))
+
+
+def test_failing_allocations(gate):
+    """Each allocation of an opening and of lines fails in turn: nothing is lost, and no memory is left at the end."""
+    host = with_c("failing", "failing.c", *WRAPPED)
+    for name in EXAMPLES:
+        told = done_by([host, os.path.join(ROOT, "examples", name)])
+        true("few allocations: " + told, int(told.split()[0]) > 20)
+
+
+def test_misuse(gate):
+    """Each status where it is due, with nothing changed there: closed, open already, too little room, a line too long."""
+    same("what isn't so", done_by([with_c("misused", "misused.c")]), "")
+
+
+def test_nothing_is_left(gate):
+    """Valgrind finds neither an error nor memory that is left."""
+    hosts = [with_c("misused", "misused.c")], [in_c(), "run"]
+    if not shutil.which("valgrind"):
+        raise NotTried("there is no valgrind")
+    watched = ["valgrind", "--quiet", "--error-exitcode=99", "--leak-check=full", "--show-leak-kinds=all", "--errors-for-leak-kinds=all"]
+    same("misuse", done_by([*watched, *hosts[0]]), "")
+    for name in EXAMPLES:
+        with open(os.path.join(ROOT, "examples", name), "rb") as file:
+            found = subprocess.run([*watched, *hosts[1]], stdin=file, capture_output=True, timeout=SECONDS, check=False)
+        with open(os.path.join(ROOT, "examples", name), "rb") as file:
+            same(name, (found.returncode, found.stdout, found.stderr), (0, gate.run("run", file).stdout, b""))
+
+
+def test_ends_in_python(gate):
+    """The exceptions of the module for Python, and what the shared library shows."""
+    library()
+    same("what isn't so", done_by([sys.executable, os.path.join(HOSTS, "ends.py")], env=surroundings(gate)), "")
+
+
+def test_installing_the_library(gate):
+    """`make install` puts the library in its places, and `make uninstall` takes it away."""
+    library()
+    installed = ("include/gate.h", "include/gate.hpp", "lib/libgate_c.a", "lib/libgate_c.so", "lib/pkgconfig/gate.pc", "share/gate/gate.py", "share/gate/gate.rs")
+    with tempfile.TemporaryDirectory() as to:
+        words = ["make", "--silent", "PROGRAM=" + gate.program, "DESTDIR=" + to, "PREFIX=/opt"]
+        done_by([*words, "install"], cwd=ROOT)
+        for it in installed:
+            true(it + " is not installed", os.path.isfile(os.path.join(to, "opt", it)))
+        done_by([*words, "uninstall"], cwd=ROOT)
+        same("what is left", [name for _, _, names in os.walk(to) for name in names], [])
+
+
+def test_the_file_of_pkg_config(gate):
+    """A host is compiled with what pkg-config tells, and runs with the shared library."""
+    library()
+    if not shutil.which("pkg-config"):
+        raise NotTried("there is no pkg-config")
+    libraries = os.path.join(LIBRARY, "lib")
+    asked = dict(os.environ, PKG_CONFIG_PATH=os.path.join(libraries, "pkgconfig"))
+    flags = done_by(["pkg-config", "--cflags", "--libs", "gate"], env=asked).split()
+    host = os.path.join(folder().name, "shared")
+    done_by([c_compiler(), *C, "-o", host, os.path.join(HOSTS, "misused.c"), *flags, "-Wl,-rpath," + libraries])
+    same("what isn't so", done_by([host]), "")

@@ -1,0 +1,103 @@
+"""Proving crates, several at once, and saying meanwhile which are at work."""
+
+import os
+import subprocess
+import sys
+import threading
+import time
+
+import crates
+
+GIGABYTES_EACH = 4
+SECONDS_BETWEEN = 5
+SHOWN = 20
+
+
+def places():
+    """How many crates may be proved at once."""
+    memory = os.sysconf("SC_PAGE_SIZE") * os.sysconf("SC_PHYS_PAGES")
+    return max(1, min(len(os.sched_getaffinity(0)), round(memory / 2**30) // GIGABYTES_EACH))
+
+
+def at_work():
+    """The crates of this tree whose proofs or code the toolchain works at now."""
+    home, found = crates.folder(""), set()
+    for process in filter(str.isdigit, os.listdir("/proc")):
+        try:
+            name = os.readlink("/proc/%s/exe" % process)
+            folder = os.readlink("/proc/%s/cwd" % process)
+        except OSError:
+            continue
+        if os.path.basename(name) in ("rattle", "clang") and folder.startswith(home):
+            found.add(os.path.relpath(folder, home).split(os.sep)[0])
+    return sorted(found)
+
+
+class Progress(threading.Thread):
+    """Says what is at work, each time that it is something else."""
+
+    def __init__(self, count):
+        super().__init__(daemon=True)
+        self.count, self.done, self.ended = count, 0, threading.Event()
+
+    def run(self):
+        said = None
+        while not self.ended.wait(SECONDS_BETWEEN):
+            names = at_work()
+            if names and names != said:
+                about = (", ".join(names), self.count - self.done, self.count)
+                print("at work: %s; %d of %d crates left" % about, file=sys.stderr, flush=True)
+                said = names
+
+
+class Proving:
+    """Commands of rt in one crate's folder, whose output goes to a log there."""
+
+    def __init__(self, crate):
+        self.crate, self.began = crate, time.monotonic()
+        self.path = os.path.join("crates", crate, "out", "build.log")
+        os.chdir(crates.ROOT)
+        os.makedirs(os.path.dirname(self.path), exist_ok=True)
+        self.log = open(self.path, "w", encoding="utf-8")
+        self.progress = Progress(len(crates.below(crate, crates.uses())))
+
+    def __enter__(self):
+        self.progress.start()
+        return self
+
+    def __exit__(self, *_):
+        self.progress.ended.set()
+        self.log.close()
+
+    def _counted(self, line):
+        self.progress.done += line.startswith("== gate")
+
+    def ran(self, *words):
+        """Whether a command succeeds."""
+        run = subprocess.Popen(
+            words,
+            cwd=crates.folder(self.crate),
+            stdin=subprocess.DEVNULL,
+            stdout=subprocess.PIPE,
+            stderr=subprocess.STDOUT,
+            text=True,
+            errors="replace",
+        )
+        for line in run.stdout:
+            self.log.write(line)
+            self._counted(line)
+        return run.wait() == 0
+
+    def proved(self):
+        """Whether the crate and all that it stands on are proved."""
+        return self.ran("rt", "all", "check", "--jobs", str(places()))
+
+    def said(self, is_built, what):
+        """Says how long it took, or ends where nothing was built."""
+        if not is_built:
+            with open(self.path, encoding="utf-8", errors="replace") as lines:
+                sys.stderr.write("".join(lines.readlines()[-SHOWN:]))
+            sys.exit("%s was not built; the whole log is %s" % (what, self.path))
+        minutes = (time.monotonic() - self.began) / 60
+        if minutes >= 1:
+            print("proved and built in %.0f minutes" % minutes, file=sys.stderr)
