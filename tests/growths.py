@@ -4,10 +4,10 @@ import os
 
 from bitcoin import Input, Output, Transaction, coin, payment
 from chain_model import Block
-from failing import each_growth, failing
+from failing import each_growth
 from gate import ROOT, lines, same, same_lines, true
 from lanes import ENTER, opening, submitted
-from kinds import long, needs_calls
+from kinds import long
 from model import NULL
 from streams import NO_MEMORY
 
@@ -262,40 +262,3 @@ def test_each_growth_of_a_check(gate):
             else:
                 same(what, (done.status, done.stdout, done.stderr), (status, answer, b""))
         true("no refusal ended gate " + words, ended)
-
-
-CALLS = ("step", "enroll", "call", "settle", "finish")
-
-
-def marked(name, *told):
-    return ["> " + name, "< " + name, *told]
-
-
-@needs_calls
-def test_each_growth_of_each_call(gate):
-    """Of the calls that a caller of the crates makes: a step, a pass, a call under it, settling, and the end of a gate.
-
-    The program of `crates/gate_growth` makes them. It tells state, journal and passes before a call that ran out of memory
-    and behind it, and makes the call once more.
-    """
-    refused = dict.fromkeys(CALLS, 0)
-    for name, at in (("replacement-fees", 4), ("replacement-of-ninety-nine", -2), ("trim-and-floor", 3), ("reorganisation-returns-a-parent", 5), ("reorganisation-returns-a-parent", 6)):
-        head, events, wanted = row(name)
-        made = events[: at % len(events) + 1]
-        count, reply = len(made), wanted[len(made) - 1]
-        told = (reply, "pass %d" % count, "%d %s" % (count, reply), "settled %d" % count, None)
-        text = lines(head) + "---\n" + lines(made) + "---\n" + lines(questions(wanted))
-        plain = failing(gate.calls, "", text)
-        same("without a refusal", (plain.status, plain.stderr), (0, b""))
-        right = plain.stdout.decode().splitlines()
-        same_lines(right[:-1], [line for call, line in zip(CALLS, told) for line in marked(call, *filter(None, [line]))])
-        same("the end", right[-1].split(" ")[:2], ["finished", str(count)])
-        for call in CALLS:
-            place = right.index("< " + call) + 1
-            with_fault = right[:place] + [FAULT, "unchanged"] + marked(call) + right[place:]
-            for growth, done in each_growth(gate.calls, "", text, mark=call):
-                what = "%s: growth %d of %s" % (name, growth, call)
-                same(what, (done.status, done.stderr), (0, b""))
-                same_lines([what] + done.stdout.decode().splitlines(), [what] + with_fault)
-                refused[call] += 1
-    same("calls without a growth that was refused", [call for call in CALLS if not refused[call]], [])
