@@ -34,7 +34,7 @@ make try       the rows and the program's own tests alone, on the built program
 make bench     what the program costs, in instructions and time; make bench LONG=1 with larger pools too
                bench/run --beside OTHER PROGRAM compares two programs
 make install   puts the program that make gate built, and the examples, below PREFIX (/usr/local), and
-               the library where make lib built it; DESTDIR stands before it; make uninstall takes them away
+               the library if make lib built it; DESTDIR stands before it; make uninstall takes them away
 endef
 export HELP
 

@@ -137,7 +137,7 @@ def replacement():
     child, cheap, dear = spending(parent.hash(), 99780), spending(COIN, 99671), spending(COIN, 99670)
     granted = "admitted %s fee %d vsize 110 replaced %d"
     return [
-        ("a peer comes", "enter 192.0.2.1", "entered none"),
+        ("a peer connects", "enter 192.0.2.1", "entered none"),
         ("it spends the coin, and says by its sequence that it may be replaced", "tx 5000 " + parent.hex(), granted % (parent.txid(), 110, 0)),
         ("a child of that", "tx 5001 " + child.hex(), granted % (child.txid(), 110, 0)),
         ("it spends the coin again: 329 satoshi pay for the two that would go, and one too few for its own 110 bytes", "tx 5002 " + cheap.hex(), "denied A42 keep insufficient fee"),

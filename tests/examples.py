@@ -30,7 +30,7 @@ def permissions():
         "whitelist noban,mempool@10.0.0.0/8",
         "# one machine in it may submit too, and has what it sends relayed again",
         "whitelist forcerelay@10.1.2.3",
-        "# an entry without words: noban, mempool and download, and relay where blocksonly is off",
+        "# an entry without words: noban, mempool and download, and relay if blocksonly is off",
         "whitelist 2001:db8::/32",
     ]
     return opening, [

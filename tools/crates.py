@@ -17,7 +17,7 @@ def uses():
 
 
 def below(crate, used):
-    """The crate and all that it stands on, each behind what it uses."""
+    """The crate and all that it stands on, each after what it uses."""
     order = []
 
     def visit(name):
@@ -31,7 +31,7 @@ def below(crate, used):
 
 
 def below_all(used):
-    """All crates, each behind what it uses."""
+    """All crates, each after what it uses."""
     order = []
     for crate in used:
         order += [it for it in below(crate, used) if it not in order]

@@ -197,7 +197,7 @@ class Entry:
 
 @dataclass
 class Candidate:
-    """A transaction that is tried, with what the node says of it: no reason where it would take it."""
+    """A transaction that is tried, with what the node says of it: no reason if it would take it."""
 
     digits: str
     transaction: Optional[Transaction]
@@ -243,7 +243,7 @@ class View:
         return [it for it in found.values() if it]
 
     def entry(self, txid, told):
-        """One of them, or None where it has left the pool meanwhile."""
+        """One of them, or None if it has left the pool meanwhile."""
         try:
             digits = self.node.ask("getrawtransaction", txid)
         except Refused:
@@ -266,7 +266,7 @@ class View:
         return Candidate(digits, transaction, None, satoshi(told["fees"]["base"]), told["vsize"])
 
     def coin(self, txid, index):
-        """The line of an unspent coin of the chain with its height, or None where there is none."""
+        """The line of an unspent coin of the chain with its height, or None if there is none."""
         told = self.node.ask("gettxout", txid, index, False)
         if told is None:
             return None
@@ -282,7 +282,7 @@ class View:
 
 
 def parents_first(order, depends):
-    """The same ids, each behind those that it depends on."""
+    """The same ids, each after those that it depends on."""
     found = {}
     for txid in order:
         waiting = [txid]
