@@ -2,7 +2,7 @@
 
 from bitcoin import coin, payment
 from gate import lines, same
-from streams import UNREAD
+from streams import TOO_LONG, TOO_MANY, past
 
 OPENING = lines(["times 101 1000 600", "verdict * ok", "bloom 1", coin(1)]) + "---\n"
 LONGEST = 16777216
@@ -20,11 +20,11 @@ def says(gate, journal, answer):
     same("status", done.status, 0 if answer.startswith("legal") else 1)
 
 
-def is_unread(gate, journal):
-    """The journal passes a limit of lines: nothing is printed, and standard error says why."""
+def is_unread(gate, journal, line, limit):
+    """The journal passes a limit at this line of it: nothing is printed, and standard error says why."""
     done = gate.run("audit", OPENING + journal)
     same("standard output", done.stdout, b"")
-    same("standard error", done.stderr, UNREAD)
+    same("standard error", done.stderr, past(OPENING.count("\n") + line, limit))
     same("status", done.status, 1)
 
 
@@ -83,16 +83,16 @@ def test_lines_at_the_limits(gate):
     longest = "> " + "user a rpc 0 ".ljust(LONGEST, "x") + "\n"
     says(gate, longest + PARSE_ERROR, "legal 1")
     says(gate, longest + PARSE_ERROR.replace("Parse", "parse"), "illegal 1")
-    is_unread(gate, longest.replace("x\n", "xx\n") + PARSE_ERROR)
-    is_unread(gate, ENTERED + "> peer 1 leave\n< " + "x" * (LONGEST + 1))
+    is_unread(gate, longest.replace("x\n", "xx\n") + PARSE_ERROR, 1, TOO_LONG)
+    is_unread(gate, ENTERED + "> peer 1 leave\n< " + "x" * (LONGEST + 1), 4, TOO_LONG)
     says(gate, "> nonsense\n< refused L1 bad-line\n" + "#" * (LONGEST + 9), "illegal 1")
 
 
 def test_too_many_lines(gate):
     """1,000,000 lines are read."""
     says(gate, "\n" * 999998 + ENTERED, "legal 1")
-    is_unread(gate, "\n" * 1000000 + "\n")
-    is_unread(gate, "\n" * 999999 + ENTERED)
+    is_unread(gate, "\n" * 1000000 + "\n", 1000000, TOO_MANY)
+    is_unread(gate, "\n" * 999999 + ENTERED, 1000000, TOO_MANY)
     says(gate, "x\n" + "\n" * 1000000, "illegal 1")
 
 
@@ -103,4 +103,5 @@ def test_openings_of_audits(gate):
         ("times 1 0 0\n", "legal 0\n", 0), ("times 1 0 0\n---", "legal 0\n", 0),
     ):
         done = gate.run("audit", opening)
-        same("%r" % opening, (done.stdout.decode(), done.stderr, done.status), (printed, b"", status))
+        same("%r" % opening, (done.stdout.decode(), done.status), (printed, status))
+        same("lines on standard error", len(done.stderr.splitlines()), 1 if status == 2 else 0)

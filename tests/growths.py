@@ -9,9 +9,10 @@ from gate import ROOT, lines, same, same_lines, true
 from lanes import ENTER, opening, submitted
 from kinds import long
 from model import NULL
-from streams import NO_MEMORY
+from streams import NO_MEMORY, past
 
 FAULT = "fault memory"
+UNKNOWN = "unsettled memory"
 NEED_NO_MEMORY = ("x", "peer 1 getblock", "peer 1 headers", "peer 1 leave", "operator")
 ASKED = 'user a rpc 5000 {"method":"%s","params":[%s],"id":1}'
 
@@ -209,11 +210,16 @@ def test_each_growth_of_lanes(gate):
     head, first, wanted, second = laned()
     user = 'rpc 404 {"error":{"code":-32601,"message":"Method not found"},"id":1,"result":null}'
     without = {at: gate.run("run", head + "---\n" + lines(first[:at] + first[at + 1 :])).stdout.decode().splitlines() for at in range(len(wanted) - 2)}
-    met, stopped, unprinted = set(), 0, 0
+    met, stopped, unprinted, unknown = set(), 0, 0, 0
     for growth, done in each_growth(gate.program, "lanes --journal", head + "---\n" + second):
         what = "growth %d" % growth
         same(what, (done.status, done.stderr), (1, NO_MEMORY) if done.status else (0, b""))
-        found, settled, journal = parts_of(done.stdout.decode().splitlines())
+        printed = done.stdout.decode().splitlines()
+        if UNKNOWN in printed:
+            same(what, (printed.index(UNKNOWN), done.status), (len(wanted) + 3, 1))
+            printed.pop()
+            unknown += 1
+        found, settled, journal = parts_of(printed)
         replies = (found + [[], []])[:2]
         if FAULT in replies[0]:
             at = replies[0].index(FAULT)
@@ -232,6 +238,7 @@ def test_each_growth_of_lanes(gate):
         stopped += done.status
     same("events that were answered by `fault memory`", met, {0, 1, 2, 3, 4, "user"})
     true("no lane was stopped, or everything was printed", stopped and unprinted)
+    true("memory never ran out while the calls were settled", unknown)
 
 
 def test_each_growth_of_an_audit(gate):
@@ -252,7 +259,10 @@ def test_each_growth_of_a_check(gate):
     """A check of a word, and of the input, and of an opening with a fault: the right text, or none."""
     tx = payment(1, 1000)
     right = ("%s %s %d\nstandard\n" % (tx.txid(), tx.wtxid(), tx.weight())).encode()
-    for words, text, answer, status in (("check " + tx.hex(), "", right, 0), ("check -", tx.hex(), right, 0), ("run", "bloom 2\n", b"opening 1 bad-line\n", 2)):
+    fault = b"opening 1 bad-line\n"
+    for words, text, answer, status, said in (
+        ("check " + tx.hex(), "", right, 0, b""), ("check -", tx.hex(), right, 0, b""), ("run", "bloom 2\n", fault, 2, past(1, '"2" is unknown')),
+    ):
         ended = 0
         for growth, done in each_growth(gate.program, words, text):
             what = "growth %d of gate %s" % (growth, words)
@@ -260,5 +270,6 @@ def test_each_growth_of_a_check(gate):
                 same(what, (done.stdout, done.stderr), (b"", NO_MEMORY))
                 ended += 1
             else:
-                same(what, (done.status, done.stdout, done.stderr), (status, answer, b""))
+                same(what, (done.status, done.stdout), (status, answer))
+                true("%s says %r" % (what, done.stderr), done.stderr in (b"", said))
         true("no refusal ended gate " + words, ended)

@@ -1,0 +1,2 @@
+pub mod Coining
+pub mod Reporting

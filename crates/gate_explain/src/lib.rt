@@ -1,0 +1,21 @@
+//! Why a transaction is denied, with the figures that decide it.
+//!
+//! The main clause is that of [`explain`]: the rule that decides a submission over a state, and the figures of its definition.
+#![tactic(auto)]
+
+mod coins;
+mod denied;
+mod explanation;
+mod families;
+mod fees;
+mod figures;
+mod judging;
+mod lane;
+mod refusal;
+mod tally;
+mod verdicts;
+
+pub use explanation::Explanation;
+pub use figures::Figures;
+pub use judging::explain;
+pub use lane::run_gate_explained;
