@@ -8,6 +8,7 @@
 .PHONY: help gate demo lib check test mutants try bench install uninstall build
 
 PROGRAM := crates/gate/out/gate
+CALLS := crates/gate_growth/out/gate_growth
 CPU :=
 CRATES :=
 PREFIX := /usr/local
@@ -34,7 +35,7 @@ make try       the rows and the program's own tests alone, on the built program
 make bench     what the program costs, in instructions and time; make bench LONG=1 with larger pools too
                bench/run --beside OTHER PROGRAM compares two programs
 make install   puts the program that make gate built, and the examples, below PREFIX (/usr/local), and
-               the library where make lib built it; DESTDIR stands before it; make uninstall takes them away
+               the library if make lib built it; DESTDIR stands before it; make uninstall takes them away
 endef
 export HELP
 
@@ -68,7 +69,7 @@ mutants:
 
 try: build
 	@rows/run $(PROGRAM)
-	@tests/run $(if $(LONG),--long) $(PROGRAM)
+	@tests/run $(if $(LONG),--long) $(if $(wildcard $(CALLS)),--calls $(CALLS)) $(PROGRAM)
 
 bench: build
 	@tools/need valgrind

@@ -30,7 +30,7 @@ def permissions():
         "whitelist noban,mempool@10.0.0.0/8",
         "# one machine in it may submit too, and has what it sends relayed again",
         "whitelist forcerelay@10.1.2.3",
-        "# an entry without words: noban, mempool and download, and relay where blocksonly is off",
+        "# an entry without words: noban, mempool and download, and relay if blocksonly is off",
         "whitelist 2001:db8::/32",
     ]
     return opening, [
@@ -158,3 +158,23 @@ def test_example_of_a_journal(gate):
     same("the example", text, lines(["# what the lanes of lanes.txt were answered, in the order of their calls"] + CHAIN + ["---"] + race_output(1)[1]))
     done = gate.run("audit", text)
     same("the audit", (done.stdout, done.stderr, done.status), (b"legal 2\n", b"", 0))
+
+
+def two_rounds():
+    """A journal of two rounds: what is sent in the first is listed in the second."""
+    return lines(["# the journal of a gate that went on from a new base: two rounds, and between them the number of entries so far"] + CHAIN + [
+        "---",
+        "> " + call("alice", 5000, "sendrawtransaction", PARENT.hex()), "< " + answer(PARENT.txid()),
+        "base 1",
+        "> " + call("bob", 5001, "getrawmempool"), "< " + answer([PARENT.txid()]),
+    ])
+
+
+def test_example_of_a_journal_of_two_rounds(gate):
+    """examples/rounds-journal.txt: with another number in its base line the second entry is wrong."""
+    with open(os.path.join(ROOT, "examples", "rounds-journal.txt")) as file:
+        text = file.read()
+    same("the example", text, two_rounds())
+    for journal, printed, status in ((text, b"legal 2\n", 0), (text.replace("base 1", "base 2"), b"illegal 2\n", 1)):
+        done = gate.run("audit", journal)
+        same("the audit", (done.stdout, done.stderr, done.status), (printed, b"", status))

@@ -17,7 +17,7 @@ def uses():
 
 
 def below(crate, used):
-    """The crate and all that it stands on, each behind what it uses."""
+    """The crate and all that it stands on, each after what it uses."""
     order = []
 
     def visit(name):
@@ -31,7 +31,7 @@ def below(crate, used):
 
 
 def below_all(used):
-    """All crates, each behind what it uses."""
+    """All crates, each after what it uses."""
     order = []
     for crate in used:
         order += [it for it in below(crate, used) if it not in order]
@@ -44,4 +44,4 @@ def folder(crate):
 
 def is_product(crate):
     """Whether the crate is part of the product, or one of its tests."""
-    return not crate.endswith("_tests") and crate not in ("gate_rows", "gate_testing")
+    return not crate.endswith("_tests") and crate not in ("gate_rows", "gate_growth", "gate_testing")

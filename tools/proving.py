@@ -93,7 +93,7 @@ class Proving:
         return self.ran("rt", "all", "check", "--jobs", str(places()))
 
     def said(self, is_built, what):
-        """Says how long it took, or ends where nothing was built."""
+        """Says how long it took, or ends if nothing was built."""
         if not is_built:
             with open(self.path, encoding="utf-8", errors="replace") as lines:
                 sys.stderr.write("".join(lines.readlines()[-SHOWN:]))

@@ -50,7 +50,19 @@ fn answers_by(
     answers(alloc, input, coin.script())
 }
 
-/// What is reported of each input.
+/// The reports from the first on that is on the input at this place or on a later one.
+fn from_input(reports: &[InputReport], place: usize) -> &[InputReport] {
+    match reports
+        .iter()
+        .position(|report| report.piece().index as usize >= place)
+    {
+        Some(at) => &reports[at..],
+        None => &[],
+    }
+}
+
+/// What is reported of each input. Reports are told by the inputs that their pieces name: they stand in the order of the
+/// inputs, of which some may have none.
 pub(crate) fn reported(
     alloc: Global,
     reports: &[InputReport],
@@ -62,9 +74,11 @@ pub(crate) fn reported(
     ensures one_each { IfOk result (λ found. length found.items ≡ length inputs.now) }
 {
     let mut found = Vec::with_capacity(alloc, inputs.len())?;
+    let mut left = reports;
     for place in 0..inputs.len() {
+        left = from_input(left, place);
         let coin = &coins[place];
-        found.push(answers_by(alloc, reports.get(place), &inputs[place], coin)?)?;
+        found.push(answers_by(alloc, left.first(), &inputs[place], coin)?)?;
     }
     Ok(found)
 }

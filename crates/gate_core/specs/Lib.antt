@@ -7,6 +7,7 @@ pub mod PeerSteps
 pub mod RpcSteps
 pub mod ChainSteps
 pub mod Steps
+pub mod Submissions
 pub mod Planning
 pub mod Good
 pub mod Runs

@@ -1,5 +1,7 @@
 //! What users call, planned.
 ghost use Rattle.std.specs.Prelude.{◌≡◌, IfOk};
+ghost use Rattle.std.specs.Option.{option_copied};
+ghost use Rattle.gate_core.specs.Submissions.{StandsFor, submitted_by, submitted_in};
 ghost use Rattle.gate_rpc.specs.Calls.{request_of};
 ghost use Rattle.gate_core.specs.RpcSteps.{is_barred, rpc_step, commanded, sent, told, of_entry};
 ghost use Rattle.gate_rpc.specs.declared.result.RpcResult.TheVariants.{Txids, Entry};
@@ -10,6 +12,7 @@ ghost use Rattle.gate_core.specs.Planning.{Fits, Plans, world_of};
 
 use crate::parts::Parts;
 use crate::planning::{Change, Plan};
+use crate::submitting::standing_for;
 use gate_admit::{Conditions, Prepared, plan_submission};
 use gate_bytes::{Boxed, Copied, Kept, Memory};
 use gate_message::{Call, Reply};
@@ -74,8 +77,14 @@ impl<S: BuildHasher + Copy + Drop> Parts<S> {
         }
     }
 
-    /// What a call gives.
-    pub(crate) fn calling(&mut self, alloc: Global, call: &Call) -> Result<Plan, Memory>
+    /// What a call gives. A submission may stand for the one that it makes.
+    pub(crate) fn calling(
+        &mut self,
+        alloc: Global,
+        call: &Call,
+        prepared: Option<&Prepared>,
+    ) -> Result<Plan, Memory>
+        requires { StandsFor (option_copied prepared) (submitted_in (request_of call.now.json)) }
         ensures ok { IfOk result (Plans (world_of self.old) (rpc_step (world_of self.old) call.now.user call.now.time (request_of call.now.json))) }
         ensures fits { IfOk result (λ plan. Fits plan.change self.new.sessions self.new.pool) }
         ensures same { world_of self.new ≡ world_of self.old }
@@ -84,20 +93,31 @@ impl<S: BuildHasher + Copy + Drop> Parts<S> {
             return answered(alloc, RpcReply::NotAllowed);
         }
         match call.request() {
-            Ok(request) => self.command(alloc, call.time(), request),
+            Ok(request) => self.command(alloc, call.time(), request, prepared),
             Err(error) => answered(alloc, error.copy(alloc)?.into_reply()),
         }
     }
 
-    fn command(&mut self, alloc: Global, now: u64, request: &Request) -> Result<Plan, Memory>
+    fn command(
+        &mut self,
+        alloc: Global,
+        now: u64,
+        request: &Request,
+        prepared: Option<&Prepared>,
+    ) -> Result<Plan, Memory>
+        requires { StandsFor (option_copied prepared) (submitted_by request.now.command) }
         ensures ok { IfOk result (Plans (world_of self.old) (commanded (world_of self.old) now request.now.id request.now.command)) }
         ensures fits { IfOk result (λ plan. Fits plan.change self.new.sessions self.new.pool) }
         ensures same { world_of self.new ≡ world_of self.old }
     {
         let id = &request.id;
         match &request.command {
-            Command::SendRawTransaction(transaction) => self.sending(alloc, now, id, transaction),
-            Command::TestMempoolAccept(transaction) => self.testing(alloc, id, transaction),
+            Command::SendRawTransaction(transaction) => {
+                self.sending(alloc, now, id, standing_for(prepared, transaction))
+            }
+            Command::TestMempoolAccept(transaction) => {
+                self.testing(alloc, id, standing_for(prepared, transaction))
+            }
             Command::GetRawMempool => {
                 let txids = self.pool.listing(alloc)?;
                 telling(alloc, id, Ok(RpcResult::Txids(txids)))

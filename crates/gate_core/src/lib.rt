@@ -14,6 +14,7 @@ mod peering;
 mod planning;
 mod session;
 mod state;
+mod submitting;
 mod switches;
 
 pub use gate_message::{Call, Caller, Event, Refusal, Replies, Reply, Switch, Then};
@@ -26,4 +27,5 @@ pub use laws::{
 pub use opening::Opening;
 pub use session::Session;
 pub use state::{State, StepFault};
+pub use submitting::submission;
 pub use switches::Switches;

@@ -1,5 +1,7 @@
 //! What a state is made of, and its step in two: a plan that takes all memory and changes nothing, and its change.
 ghost use Rattle.std.specs.Prelude.{◌≡◌, ◌≢◌, IfOk, Ok};
+ghost use Rattle.std.specs.Option.{option_copied};
+ghost use Rattle.gate_core.specs.Submissions.{StandsFor, submission_of};
 ghost use Rattle.gate_message.specs.Callers.{caller_of};
 ghost use Rattle.gate_message.specs.declared.caller.Caller.TheVariants.{Chain as TheChain};
 ghost use Rattle.gate_message.specs.declared.reply.Reply.{Reply};
@@ -10,8 +12,9 @@ ghost use Rattle.gate_core.specs.Planning.{Fits, Plans, admitted_as, made_by, wo
 
 use crate::planning::{Change, Plan};
 use crate::session::Sessions;
+use crate::submitting::standing_for;
 use crate::switches::Switches;
-use gate_admit::{Chain, Coming, Floor, Pool, Verdicts, commit_submission};
+use gate_admit::{Chain, Coming, Floor, Pool, Prepared, Verdicts, commit_submission};
 use gate_bytes::{Copied, Counted, Memory};
 use gate_message::{Event, Reply};
 use gate_net::Whitelist;
@@ -38,10 +41,16 @@ pub(crate) struct Parts<S: BuildHasher + Copy + Drop> {
 
 impl<S: BuildHasher + Copy + Drop> Parts<S> {
     /// The reply to an event that is not the chain's, and what it will change: the memory for that is taken, and nothing
-    /// changes yet.
+    /// changes yet. A submission may stand for that of the event.
     #[tactic(auto, unfolding(crate::specs::Steps::step_of))]
-    pub(crate) fn plan(&mut self, alloc: Global, event: &Event) -> Result<Plan, Memory>
+    pub(crate) fn plan(
+        &mut self,
+        alloc: Global,
+        event: &Event,
+        prepared: Option<&Prepared>,
+    ) -> Result<Plan, Memory>
         requires planned { caller_of event.now ≢ TheChain }
+        requires prepared { StandsFor (option_copied prepared) (submission_of event.now) }
         ensures ok { IfOk result (Plans (world_of self.old) (step_of (world_of self.old) event.now)) }
         ensures fits { IfOk result (λ plan. Fits plan.change self.new.sessions self.new.pool) }
         ensures same { world_of self.new ≡ world_of self.old }
@@ -53,11 +62,11 @@ impl<S: BuildHasher + Copy + Drop> Parts<S> {
                 peer,
                 now,
                 transaction,
-            } => self.submission(alloc, *peer, *now, transaction),
+            } => self.submission(alloc, *peer, *now, standing_for(prepared, transaction)),
             Event::Mempool { peer } => self.listing(alloc, *peer),
             Event::GetBlock { peer, height } => Ok(self.giving_block(*peer, *height)),
             Event::Headers { peer, height } => Ok(self.giving_headers(*peer, *height)),
-            Event::Rpc(call) => self.calling(alloc, call.get()),
+            Event::Rpc(call) => self.calling(alloc, call.get(), prepared),
             Event::SetFloor { rate } => Ok(Plan {
                 reply: Reply::Set,
                 change: Change::SetFloor { rate: *rate },

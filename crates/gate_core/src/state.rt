@@ -1,6 +1,7 @@
 //! The state, and the one step that changes it.
 ghost use Rattle.std.specs.Prelude.{◌≡◌, ◌≢◌, [], IfOk, OnErr};
-ghost use Rattle.std.specs.Option.{option_map};
+ghost use Rattle.std.specs.Option.{option_copied, option_map};
+ghost use Rattle.gate_core.specs.Submissions.{StandsFor, submission_of};
 ghost use Rattle.gate_message.specs.Callers.{caller_of};
 ghost use Rattle.gate_message.specs.Replies.{chain_reply};
 ghost use Rattle.gate_core.specs.ChainSteps.{chained};
@@ -19,7 +20,7 @@ use crate::parts::Parts;
 use crate::planning::Plan;
 use crate::session::{Session, Sessions};
 use crate::switches::Switches;
-use gate_admit::{Chain, Floor, OpenFault, OpeningCoin, Pool, Verdicts};
+use gate_admit::{Chain, Floor, OpenFault, OpeningCoin, Pool, Prepared, Verdicts};
 use gate_bytes::{Counted, Kept, Memory};
 use gate_chain::{Block, ChainDenial};
 use gate_message::{Event, Replies, Reply};
@@ -138,19 +139,25 @@ impl<S: BuildHasher + Copy + Drop> State<S> {
         ensures ok { IfOk result (λ reply. (reply, self.new) ≡ step_of self.old event.now) }
         ensures err { OnErr result (self.new ≡ self.old) }
     {
-        let Plan { reply, change } = self.parts.plan(alloc, event)?;
+        let Plan { reply, change } = self.parts.plan(alloc, event, None)?;
         let denial = self.parts.commit(change);
         Ok(reply.settled(denial))
     }
 
-    /// The same step, with copies of the reply, which are made between the two.
-    fn plan_and_record(&mut self, alloc: Global, event: &Event) -> Result<Replies, Memory>
+    /// The same step, with copies of the reply, which are made between the two. A submission may stand for that of the event.
+    fn plan_and_record(
+        &mut self,
+        alloc: Global,
+        event: &Event,
+        prepared: Option<&Prepared>,
+    ) -> Result<Replies, Memory>
         requires planned { caller_of event.now ≢ TheChain }
+        requires prepared { StandsFor (option_copied prepared) (submission_of event.now) }
         ensures ok { IfOk result (λ replies. (replies.reply, self.new) ≡ step_of self.old event.now) }
         ensures copies { IfOk result AreCopies }
         ensures err { OnErr result (self.new ≡ self.old) }
     {
-        let Plan { reply, change } = self.parts.plan(alloc, event)?;
+        let Plan { reply, change } = self.parts.plan(alloc, event, prepared)?;
         let replies = Replies::of(alloc, reply)?;
         let denial = self.parts.commit(change);
         Ok(replies.settled(denial))
@@ -189,9 +196,15 @@ impl<S: BuildHasher + Copy + Drop> State<S> {
         }
     }
 
-    /// The same step, with copies of the reply.
+    /// The same step, with copies of the reply. A submission may stand for that of the event.
     #[tactic(auto, unfolding(crate::specs::Steps::step_of))]
-    fn record(&mut self, alloc: Global, event: &Event) -> Result<Replies, Memory>
+    fn record(
+        &mut self,
+        alloc: Global,
+        event: &Event,
+        prepared: Option<&Prepared>,
+    ) -> Result<Replies, Memory>
+        requires { StandsFor (option_copied prepared) (submission_of event.now) }
         ensures ok { IfOk result (λ replies. (replies.reply, self.new) ≡ step_of self.old event.now) }
         ensures copies { IfOk result AreCopies }
         ensures err { OnErr result (self.new ≡ self.old) }
@@ -205,7 +218,7 @@ impl<S: BuildHasher + Copy + Drop> State<S> {
                 let outcome = self.change_chain(alloc, *disconnect, *now, blocks.as_slice())?;
                 Ok(Replies::of_chain(outcome))
             }
-            _ => self.plan_and_record(alloc, event),
+            _ => self.plan_and_record(alloc, event, prepared),
         }
     }
 
@@ -221,14 +234,23 @@ impl<S: BuildHasher + Copy + Drop> State<S> {
     }
 
     /// The same step, with two copies of its reply. All memory is taken before anything changes.
-    pub fn step_recorded(&mut self, alloc: Global, event: &Event) -> Result<Replies, Memory>
+    ///
+    /// What stands for the event's submission is the same transaction, but may have reports on its inputs: the step is that
+    /// of the event, and takes less time.
+    pub fn step_recorded(
+        &mut self,
+        alloc: Global,
+        event: &Event,
+        prepared: Option<&Prepared>,
+    ) -> Result<Replies, Memory>
+        requires { StandsFor (option_copied prepared) (submission_of event.now) }
         ensures ok { IfOk result (λ r. StepGives self.old event.now r.reply self.new) }
         ensures exact { IfOk result (λ r. (r.reply, self.new) ≡ step_of self.old event.now) }
         ensures copies { IfOk result AreCopies }
         ensures err { OnErr result (self.new ≡ self.old) }
     {
         event.tells_spelled();
-        let replies = self.record(alloc, event)?;
+        let replies = self.record(alloc, event, prepared)?;
         Ok(replies)
     }
 

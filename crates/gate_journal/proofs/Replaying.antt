@@ -7,7 +7,7 @@ use Rattle.gate_message.specs.declared.reply.Reply.{Reply}
 use Rattle.gate_core.specs.World.{World}
 use Rattle.gate_core.specs.Steps.{step_of}
 use Rattle.gate_journal.specs.declared.entry.Entry.{Entry}
-use Rattle.gate_journal.specs.Legal.{IsLegal, IsFirstIllegal, state_after}
+use Rattle.gate_journal.specs.Legal.{AreLegalRounds, IsLegal, IsFirstIllegal, joined, state_after, state_after_rounds}
 
 -- ---- a journal in two parts
 
@@ -41,6 +41,22 @@ legal-rest w (e ∷ es) more h = legal-rest (step_of w e.event).1 es more (legal
 
 pub legal-take : (w : World) (es : List Entry) (n : ℕ) → IsLegal w es → IsLegal w (take n es)
 legal-take w es n h = legal-first w (take n es) (drop n es) (subst (IsLegal w) (sym (take-append-drop n es)) h)
+
+-- ---- rounds
+
+pub rounds-join : (w : World) (rounds : List (List Entry)) → AreLegalRounds w rounds → IsLegal w (joined rounds)
+rounds-join w [] h = refl
+rounds-join w (round ∷ rounds) (first, rest) = legal-append w round (joined rounds) first (rounds-join (state_after w round) rounds rest)
+
+pub rounds-part : (w : World) (rounds : List (List Entry)) → IsLegal w (joined rounds) → AreLegalRounds w rounds
+rounds-part w [] h = tt
+rounds-part w (round ∷ rounds) h =
+    (legal-first w round (joined rounds) h, rounds-part (state_after w round) rounds (legal-rest w round (joined rounds) h))
+
+pub state_after-joined : (w : World) (rounds : List (List Entry)) → state_after_rounds w rounds ≡ state_after w (joined rounds)
+state_after-joined w [] = refl
+state_after-joined w (round ∷ rounds) =
+    state_after-joined (state_after w round) rounds ∙ sym (state_after-append w round (joined rounds))
 
 -- ---- one entry more
 

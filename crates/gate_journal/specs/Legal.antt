@@ -1,5 +1,5 @@
--- Journals, and which of them are those of a run.
-use Rattle.std.specs.Prelude.{◌≡◌, ◌<◌, ◌≤◌, ℕ, ◌-◌, List, map, take, length}
+-- Journals, and which of them are those of a run; rounds, of which each goes on from the state that the one before leaves.
+use Rattle.std.specs.Prelude.{◌≡◌, ◌<◌, ◌≤◌, ℕ, ◌-◌, List, [], ◌∷◌, flat_map, map, take, length}
 use Rattle.gate_message.specs.declared.event.Event.{Event}
 use Rattle.gate_message.specs.declared.reply.Reply.{Reply}
 use Rattle.gate_core.specs.World.{World}
@@ -35,3 +35,20 @@ pub record IsFirstIllegal (w : World) (entries : List Entry) (number : ℕ) : Ty
   pub within : number ≤ length entries
   pub before : IsLegal w (take (number - 1) entries)
   pub with_it : ¬ IsLegal w (take number entries)
+
+-- ---- rounds
+
+-- a list of rounds is legal from a state where the first is legal from it, and each next from the state that the one before
+-- leaves
+abbrev pub AreLegalRounds : World → List (List Entry) → Type 0
+AreLegalRounds w [] = Unit {0}
+AreLegalRounds w (round ∷ rounds) = IsLegal w round × AreLegalRounds (state_after w round) rounds
+
+-- the state that the last of them leaves
+abbrev pub state_after_rounds : World → List (List Entry) → World
+state_after_rounds w [] = w
+state_after_rounds w (round ∷ rounds) = state_after_rounds (state_after w round) rounds
+
+-- their entries, joined to one list
+abbrev pub joined : List (List Entry) → List Entry
+joined rounds = flat_map (λ (round : List Entry). round) rounds

@@ -1,5 +1,5 @@
 //! What legal journals come to, as functions that do nothing.
-ghost use Rattle.gate_journal.specs.Laws.{LegalJournalsBeginLegal, LegalJournalsGoOn};
+ghost use Rattle.gate_journal.specs.Laws.{LegalJournalsBeginLegal, LegalJournalsGoOn, RoundsAreOneJournal};
 
 /// What a legal journal begins with is legal.
 pub fn legal_journals_begin_legal()
@@ -10,4 +10,10 @@ pub fn legal_journals_begin_legal()
 /// rest then leads to the same state.
 pub fn legal_journals_go_on()
     ensures { LegalJournalsGoOn }
+{}
+
+/// Rounds, each of which begins at the state that the one before leaves, are legal exactly where their entries, joined to one
+/// list, are; both lead to the same state.
+pub fn rounds_are_one_journal()
+    ensures { RoundsAreOneJournal }
 {}

@@ -12,6 +12,6 @@ mod spelling;
 
 pub use entry::Entry;
 pub use journal::{Journal, MAX_ENTRIES};
-pub use law::{legal_journals_begin_legal, legal_journals_go_on};
+pub use law::{legal_journals_begin_legal, legal_journals_go_on, rounds_are_one_journal};
 pub use replay::replay_check;
 pub use spelling::tells_spelled;

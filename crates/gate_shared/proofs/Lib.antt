@@ -3,3 +3,4 @@ mod EndingGood
 pub mod Growing
 pub mod Owners
 pub mod Passes
+pub mod Recorded

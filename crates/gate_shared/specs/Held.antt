@@ -1,11 +1,14 @@
 -- The value under the lock, and what becomes of it in one call.
-use Rattle.std.specs.Prelude.{◌≡◌, ℕ, ◌+◌, ◌-◌, ◌^◌, ◌<◌, ◌≤◌, min, List, [], ◌∷◌, ◌++◌, length, Some, Result, Ok, Err}
+use Rattle.std.specs.Prelude.{◌≡◌, ℕ, ◌+◌, ◌-◌, ◌^◌, ◌<◌, ◌≤◌, min, List, [], ◌∷◌, ◌++◌, length, Option, Some, Result, Ok, Err}
+use Rattle.gate_tx.specs.declared.Coin.{Coin}
+use Rattle.gate_tx.specs.Tx.{Tx}
 use Rattle.gate_message.specs.declared.caller.Caller.{Caller}
 use Rattle.gate_message.specs.declared.event.Event.{Event}
 use Rattle.gate_message.specs.Callers.{caller_of}
 use Rattle.gate_core.specs.Good.{IsGoodWorld}
 use Rattle.gate_core.specs.Runs.{IsRunApart}
 use Rattle.gate_core.specs.Steps.{step_of}
+use Rattle.gate_core.specs.Submissions.{coins_of}
 use Rattle.gate_core.specs.World.{World}
 use Rattle.gate_journal.specs.declared.entry.Entry.{Entry}
 use Rattle.gate_journal.specs.Legal.{entry, events_of, IsLegal, state_after}
@@ -78,6 +81,10 @@ Grows p q event r = (q ≡ with_call p event r) × EachBelow r.number p.calls
 -- place
 abbrev pub IsRecorded : World → PassView → Event → Receipt → Type 0
 IsRecorded base p event r = (journal : List Entry) × IsLegal base (journal ++ entry p.number event r.reply ∷ []) × (r.number ≡ length journal + 1) × LastStands journal p
+
+-- there was a value under the lock, in which the inputs of this submission have these coins
+abbrev pub Looked : World → Option Tx → List (Option Coin) → Type 0
+Looked base submission coins = (s : Held) × IsHeld base s × (coins ≡ coins_of s.state submission)
 
 -- ---- a pass
 

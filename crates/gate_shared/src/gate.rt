@@ -6,7 +6,9 @@ ghost use Rattle.gate_shared.specs.declared.receipt.Receipt.{Receipt as TheRecei
 ghost use Rattle.gate_shared.specs.Calls.{last_call};
 ghost use Rattle.gate_journal.specs.Legal.{state_after};
 ghost use Rattle.gate_shared.specs.Ends.{EndsGood};
-ghost use Rattle.gate_shared.specs.Held.{Called, Enrolled, Grows, IsHeld, IsRecorded};
+ghost use Rattle.std.specs.Option.{option_copied};
+ghost use Rattle.gate_core.specs.Submissions.{StandsFor, submission_of};
+ghost use Rattle.gate_shared.specs.Held.{Called, Enrolled, Grows, IsHeld, IsRecorded, Looked};
 ghost use Rattle.gate_shared.specs.Settling.{SettlesAll, WhyNone};
 
 use crate::base::Base;
@@ -17,6 +19,8 @@ use crate::shared::{CallFault, Shared};
 use gate_bytes::Memory;
 use gate_core::State;
 use gate_message::{Caller, Event};
+use gate_submission::Prepared;
+use gate_tx::Coin;
 use std::alloc::Global;
 use std::hash::BuildHasher;
 use std::sync::{Mutex, Wait};
@@ -64,6 +68,22 @@ impl<N: Base, S: BuildHasher + Copy + Drop> Gate<N, S> {
         self.shared.lock(rt).enroll(alloc, caller)
     }
 
+    /// The coin of each input of a submission in turn, where it has one at that moment. Nothing changes.
+    ///
+    /// What is found may be gone when the submission is made: a report that was made of it then counts for nothing.
+    pub fn look<R: Wait>(
+        &self,
+        rt: &R,
+        alloc: Global,
+        submission: &Prepared,
+    ) -> Result<Vec<Option<Coin>>, Memory>
+        ensures { IfOk result (λ coins. Looked N.base submission.now coins.items) }
+    {
+        let shared = self.shared.lock(rt);
+        shared.tells_held();
+        shared.look(alloc, submission)
+    }
+
     /// Makes an event under a pass, as one step of the gate. After a fault the pass is what it was.
     pub fn call<R: Wait>(
         &self,
@@ -81,6 +101,30 @@ impl<N: Base, S: BuildHasher + Copy + Drop> Gate<N, S> {
         ensures history_short { (r : TheReceipt) → IsErrOf result (CallFault.HistoryShort r) → (c : TheMade) × (last_call pass.old.calls ≡ Some c) × (r ≡ c.receipt) }
     {
         self.shared.lock(rt).apply(alloc, pass, event)
+    }
+
+    /// The same call. What stands for the event's submission is the same transaction, but may have reports on its inputs,
+    /// which neither the journal nor the pass keeps: the call then takes less time under the lock.
+    pub fn call_prepared<R: Wait>(
+        &self,
+        rt: &R,
+        alloc: Global,
+        pass: &mut Pass<N>,
+        event: &Event,
+        prepared: Option<&Prepared>,
+    ) -> Result<Receipt, CallFault>
+        requires { StandsFor (option_copied prepared) (submission_of event.now) }
+        ensures called { Called N.base pass.old pass.new event.now result }
+        ensures grows { IfOk result (Grows pass.old pass.new event.now) }
+        ensures recorded { IfOk result (IsRecorded N.base pass.old event.now) }
+        ensures kept { OnErr result (pass.new ≡ pass.old) }
+        ensures wrong_caller { ¬ (caller_of event.now ≡ pass.old.caller) → IsErrOf result CallFault.WrongCaller }
+        ensures pass_full { caller_of event.now ≡ pass.old.caller → 65536 ≤ length pass.old.calls → IsErrOf result CallFault.PassFull }
+        ensures history_short { (r : TheReceipt) → IsErrOf result (CallFault.HistoryShort r) → (c : TheMade) × (last_call pass.old.calls ≡ Some c) × (r ≡ c.receipt) }
+    {
+        self.shared
+            .lock(rt)
+            .apply_prepared(alloc, pass, event, prepared)
     }
 
     /// Settles passes, as `Shared::settle` does with the journal at that moment: its entries are exactly their calls, each

@@ -1,6 +1,8 @@
 //! What lies under the lock, and its one change.
 ghost use Rattle.std.specs.Prelude.{◌≡◌, ◌+◌, ◌<◌, [], ◌∷◌, ◌++◌, length, IfOk, IfErr, OnOk, OnErr, MatchResult};
 ghost use Rattle.std.specs.Vec.{vec_len, vec_capacity};
+ghost use Rattle.std.specs.Option.{option_copied};
+ghost use Rattle.gate_core.specs.Submissions.{StandsFor, submission_of, coins_of};
 ghost use Rattle.gate_journal.specs.Legal.{entry};
 ghost use Rattle.gate_shared.specs.Calls.{made, receipt};
 
@@ -12,6 +14,8 @@ use gate_bytes::{Copied, Memory};
 use gate_core::State;
 use gate_journal::{Entry, Journal};
 use gate_message::{Caller, Event, Replies};
+use gate_submission::Prepared;
+use gate_tx::Coin;
 use std::alloc::Global;
 use std::hash::BuildHasher;
 use std::marker::{Model, PhantomData};
@@ -164,9 +168,23 @@ impl<N: Base, S: BuildHasher + Copy + Drop> Shared<N, S> {
         Ok(())
     }
 
+    /// The coin of each input of a submission in turn, where it has one now. Nothing changes.
+    pub fn look(&self, alloc: Global, submission: &Prepared) -> Result<Vec<Option<Coin>>, Memory>
+        ensures { IfOk result (λ coins. coins.items ≡ coins_of self.now.state submission.now) }
+    {
+        self.state.coins(alloc, submission)
+    }
+
     /// Makes an event that has no fault. All memory is taken before anything changes.
-    fn enter(&mut self, alloc: Global, pass: &mut Pass<N>, event: &Event) -> Result<Receipt, Memory>
-        requires { NoFault self.old pass.old event.now }
+    fn enter(
+        &mut self,
+        alloc: Global,
+        pass: &mut Pass<N>,
+        event: &Event,
+        prepared: Option<&Prepared>,
+    ) -> Result<Receipt, Memory>
+        requires free { NoFault self.old pass.old event.now }
+        requires prepared { StandsFor (option_copied prepared) (submission_of event.now) }
         ensures ok { IfOk result (Enters self.old self.new pass.old pass.new event.now) }
         ensures above { IfOk result (λ r. EachBelow r.number pass.old.calls) }
         ensures shared { OnErr result (self.new ≡ self.old) }
@@ -175,7 +193,7 @@ impl<N: Base, S: BuildHasher + Copy + Drop> Shared<N, S> {
         self.journal.reserve()?;
         pass.calls.reserve(1)?;
         let events = Events::of(alloc, event)?;
-        match self.state.step_recorded(alloc, event) {
+        match self.state.step_recorded(alloc, event, prepared) {
             Ok(replies) => Ok(note(
                 &mut self.journal,
                 &mut pass.calls,
@@ -202,9 +220,27 @@ impl<N: Base, S: BuildHasher + Copy + Drop> Shared<N, S> {
         ensures was { IsHeld N.base self.old }
         ensures is { IsHeld N.base self.new }
     {
+        self.apply_prepared(alloc, pass, event, None)
+    }
+
+    /// The same change. What stands for the event's submission is the same transaction, but may have reports on its inputs,
+    /// which neither the journal nor the pass keeps.
+    pub fn apply_prepared(
+        &mut self,
+        alloc: Global,
+        pass: &mut Pass<N>,
+        event: &Event,
+        prepared: Option<&Prepared>,
+    ) -> Result<Receipt, CallFault>
+        requires { StandsFor (option_copied prepared) (submission_of event.now) }
+        ensures applies { Applies self.old self.new pass.old pass.new event.now result }
+        ensures above { IfOk result (λ r. EachBelow r.number pass.old.calls) }
+        ensures was { IsHeld N.base self.old }
+        ensures is { IsHeld N.base self.new }
+    {
         self.tells_held();
         self.fault(alloc, pass, event)?;
-        match self.enter(alloc, pass, event) {
+        match self.enter(alloc, pass, event, prepared) {
             Ok(receipt) => {
                 self.tells_held();
                 Ok(receipt)

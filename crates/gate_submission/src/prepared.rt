@@ -122,8 +122,8 @@ impl Prepared {
         }
     }
 
-    /// The same with reports on its inputs, which were made beforehand: the first on input 0, and so on. One that is
-    /// missing or is that of another input or coin is made where it is needed.
+    /// The same with reports on its inputs, which were made beforehand: in the order of the inputs, each told by the input
+    /// that its piece names. One that is missing or is that of another input or coin is made where it is needed.
     pub fn with_reports(self, reports: Kept<InputReport>) -> Prepared
         ensures { result ≡ self }
     {
