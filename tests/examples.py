@@ -42,6 +42,8 @@ def permissions():
         ("and again: it is denied, and relayed", "peer 2 tx 5000 " + PARENT.hex(), "denied P5 relay txn-already-in-mempool"),
         ("the same network, as an IPv4 address mapped into IPv6", "peer 3 enter ::ffff:a00:1", "entered noban,mempool,download"),
         ("it may list the pool", "peer 3 mempool", "listing 1 " + PARENT.txid()),
+        ("it asks not to be told of what pays less than 2,000 satoshi per 1,000 virtual bytes", "peer 3 feefilter 2000", "filter 2000"),
+        ("so it isn't told of this", "peer 3 mempool", "listing 0"),
         ("another network", "peer 4 enter 2001:db8::1", "entered noban,mempool,download"),
         ("the node makes its initial download", "operator ibd on", "set"),
         ("download serves headers all the same, those above height 0", "peer 4 headers 0", "headers 1 100"),
@@ -158,3 +160,23 @@ def test_example_of_a_journal(gate):
     same("the example", text, lines(["# what the lanes of lanes.txt were answered, in the order of their calls"] + CHAIN + ["---"] + race_output(1)[1]))
     done = gate.run("audit", text)
     same("the audit", (done.stdout, done.stderr, done.status), (b"legal 2\n", b"", 0))
+
+
+def two_rounds():
+    """A journal of two rounds: what is sent in the first is listed in the second."""
+    return lines(["# the journal of a gate that went on from a new base: two rounds, and between them the number of entries so far"] + CHAIN + [
+        "---",
+        "> " + call("alice", 5000, "sendrawtransaction", PARENT.hex()), "< " + answer(PARENT.txid()),
+        "base 1",
+        "> " + call("bob", 5001, "getrawmempool"), "< " + answer([PARENT.txid()]),
+    ])
+
+
+def test_example_of_a_journal_of_two_rounds(gate):
+    """examples/rounds-journal.txt: with another number in its base line the second entry is wrong."""
+    with open(os.path.join(ROOT, "examples", "rounds-journal.txt")) as file:
+        text = file.read()
+    same("the example", text, two_rounds())
+    for journal, printed, status in ((text, b"legal 2\n", 0), (text.replace("base 1", "base 2"), b"illegal 2\n", 1)):
+        done = gate.run("audit", journal)
+        same("the audit", (done.stdout, done.stderr, done.status), (printed, b"", status))
