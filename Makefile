@@ -8,6 +8,7 @@
 .PHONY: help gate demo lib check test mutants try bench install uninstall build
 
 PROGRAM := crates/gate/out/gate
+CALLS := crates/gate_growth/out/gate_growth
 CPU :=
 CRATES :=
 PREFIX := /usr/local
@@ -68,7 +69,7 @@ mutants:
 
 try: build
 	@rows/run $(PROGRAM)
-	@tests/run $(if $(LONG),--long) $(PROGRAM)
+	@tests/run $(if $(LONG),--long) $(if $(wildcard $(CALLS)),--calls $(CALLS)) $(PROGRAM)
 
 bench: build
 	@tools/need valgrind

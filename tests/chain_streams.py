@@ -8,7 +8,7 @@ from family_streams import Families, opening_lines
 from gate import Differs, same
 from model import NULL, TWO_WEEKS, Coin
 
-STREAMS = 40
+STREAMS = 48
 EVENTS = 90
 SEED = 1000
 SUBSIDY = 10**10

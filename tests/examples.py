@@ -1,4 +1,4 @@
-"""The files of examples/ on permissions, RPC and lanes stand as they are made here, and each event gets the reply that is told."""
+"""The files of examples/ on permissions, RPC, lanes and rounds stand as they are made here, and each event gets the reply that is told."""
 
 import os
 
@@ -42,6 +42,8 @@ def permissions():
         ("and again: it is denied, and relayed", "peer 2 tx 5000 " + PARENT.hex(), "denied P5 relay txn-already-in-mempool"),
         ("the same network, as an IPv4 address mapped into IPv6", "peer 3 enter ::ffff:a00:1", "entered noban,mempool,download"),
         ("it may list the pool", "peer 3 mempool", "listing 1 " + PARENT.txid()),
+        ("it asks not to be told of what pays less than 2,000 satoshi per 1,000 virtual bytes", "peer 3 feefilter 2000", "filter 2000"),
+        ("so it isn't told of this", "peer 3 mempool", "listing 0"),
         ("another network", "peer 4 enter 2001:db8::1", "entered noban,mempool,download"),
         ("the node makes its initial download", "operator ibd on", "set"),
         ("download serves headers all the same, those above height 0", "peer 4 headers 0", "headers 1 100"),
@@ -158,3 +160,48 @@ def test_example_of_a_journal(gate):
     same("the example", text, lines(["# what the lanes of lanes.txt were answered, in the order of their calls"] + CHAIN + ["---"] + race_output(1)[1]))
     done = gate.run("audit", text)
     same("the audit", (done.stdout, done.stderr, done.status), (b"legal 2\n", b"", 0))
+
+
+def rounds():
+    """The rounds of examples/rounds.txt: of each what is said of it, and the event and the reply of its one lane."""
+    return [
+        ("the first round: a user sends a transaction", call("alice", 5000, "sendrawtransaction", PARENT.hex()), answer(PARENT.txid())),
+        ("the second: another finds it in the pool", call("bob", 5001, "getrawmempool"), answer([PARENT.txid()])),
+    ]
+
+
+def rounds_text():
+    opening = ["# a gate that goes on: the line === ends a round, and the next begins with the state that this one leaves"] + CHAIN
+    return lines(opening) + "===\n".join("---\n# %s\n%s\n" % (about, line) for about, line, _ in rounds())
+
+
+def rounds_output():
+    """What is printed of these rounds, with their journals."""
+    first, second = [["lane 1", reply, "settled 1", "> " + line, "< " + reply] for _, line, reply in rounds()]
+    return first + ["base 1"] + second
+
+
+def test_example_of_rounds(gate):
+    """examples/rounds.txt: each round prints its journal, and the line of the base stands between them."""
+    with open(os.path.join(ROOT, "examples", "rounds.txt")) as file:
+        text = file.read()
+    same("the example", text, rounds_text())
+    done = gate.run("lanes --journal", text)
+    same_lines(done.stdout.decode().splitlines(), rounds_output())
+    same("status", (done.status, done.stderr), (0, b""))
+
+
+def two_rounds():
+    """The journal of these rounds."""
+    journal = [line for line in rounds_output() if line.startswith(("> ", "< ", "base "))]
+    return lines(["# what the rounds of rounds.txt were answered; between two rounds stands the number of entries so far"] + CHAIN + ["---"] + journal)
+
+
+def test_example_of_a_journal_of_two_rounds(gate):
+    """examples/rounds-journal.txt: with another number in its base line the second entry is wrong."""
+    with open(os.path.join(ROOT, "examples", "rounds-journal.txt")) as file:
+        text = file.read()
+    same("the example", text, two_rounds())
+    for journal, printed, status in ((text, b"legal 2\n", 0), (text.replace("base 1", "base 2"), b"illegal 2\n", 1)):
+        done = gate.run("audit", journal)
+        same("the audit", (done.stdout, done.stderr, done.status), (printed, b"", status))

@@ -9,6 +9,7 @@ from collections import Counter
 from bitcoin import Input, Output, Transaction, WITNESS_KEY_HASH, number_hash, printed
 from gate import Differs, same, true
 from model import MULTISIG, RETURN, SMALL, TWO_WEEKS, Coin, Limits, Model, Opening, carries_data, fee_at, fees_of, rate_of, size_of
+from random_streams import filter_rate
 
 STREAMS = 20
 EVENTS = 110
@@ -70,7 +71,7 @@ class Families:
             self.peer += 1
             return "peer %d enter 192.0.2.1" % self.peer, self.model.enter(self.peer)
         if self.random.random() < 0.04:
-            return "peer %d mempool" % self.peer, self.model.mempool(self.peer)
+            return self.listing_event()
         if self.shape == "full" and self.random.random() < 0.1:
             return self.operator_event()
         tx = self.transaction()
@@ -81,6 +82,13 @@ class Families:
         reply = self.model.submit(self.peer, now, tx)
         self.count(reply, about)
         return "peer %d tx %d %s" % (self.peer, now, tx.hex()), reply
+
+    def listing_event(self):
+        """A listing, or the rate that the next ones have to pay."""
+        if self.random.random() < 0.5:
+            rate = filter_rate(self.random, self.model.pool)
+            return "peer %d feefilter %d" % (self.peer, rate), self.model.fee_filter(self.peer, rate)
+        return "peer %d mempool" % self.peer, self.model.mempool(self.peer)
 
     def operator_event(self):
         """A floor, which is 0 again more often than not."""

@@ -123,6 +123,7 @@ class Model:
         self.opening = opening
         self.tip = len(opening.times) - 1
         self.sessions = {}
+        self.rates = {}
         self.pool = []
         self.floor = 0
         self.gone = Counter()
@@ -146,7 +147,21 @@ class Model:
         refusal = self.refusal(peer) or (None if self.opening.bloom else "P6")
         if refusal:
             return self.denied(refusal, peer)
-        return " ".join(["listing", str(len(self.pool))] + [entry.tx.txid() for entry in self.pool])
+        return self.listing(peer)
+
+    def listing(self, peer):
+        """What a peer is told: the entries that its own rate doesn't hide."""
+        told = [entry for entry in self.pool if entry.fee >= fee_at(self.rates.get(peer, 0), entry.size)]
+        return " ".join(["listing", str(len(told))] + [entry.tx.txid() for entry in told])
+
+    def fee_filter(self, peer, rate):
+        """The rate that is in force then."""
+        refusal = self.refusal(peer)
+        if refusal:
+            return self.denied(refusal, peer)
+        if rate <= GREATEST_AMOUNT:
+            self.rates[peer] = rate
+        return "filter %d" % self.rates.get(peer, 0)
 
     def set_floor(self, rate):
         self.floor = rate

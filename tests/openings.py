@@ -1,7 +1,7 @@
 """Openings: their first fault, with its line, ends the program with status 2."""
 
 from bitcoin import coin, number_hash, payment, printed
-from gate import lines, same
+from gate import lines, same, true
 
 LIMIT = 16777216
 TIMES = "times 101 1000 600"
@@ -16,7 +16,9 @@ def fails(gate, opening, line, token):
     done = gate.run("run", text + EVENTS.encode())
     about = repr(text[-200:])
     same("standard output for " + about, done.stdout, b"opening %d %s\n" % (line, token.encode()))
-    same("standard error", done.stderr, b"")
+    said = done.stderr.decode().splitlines()
+    true("one line on standard error: %r" % said, len(said) == 1 and said[0].startswith("gate: "))
+    true("no line %d in %r" % (line, said), ("gate: line %d: " % line if line else "gate: the opening: ") in said[0])
     same("status", done.status, 2)
 
 

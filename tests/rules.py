@@ -189,6 +189,7 @@ def test_explain(gate):
 
 
 def test_explain_nothing(gate):
-    """A word that names nothing prints nothing, and the status is 1."""
+    """A word that names nothing prints nothing, standard error says so, and the status is 1."""
     for word in ("A47", "a36", "A", "A036", "fee", "", "insufficient  fee"):
-        same("explain %r" % word, explained(gate, word), ([], "", 1))
+        told = 'gate: no rule and no token is named "%s"; gate rules lists them\n' % word
+        same("explain %r" % word, explained(gate, word), ([], told, 1))

@@ -16,7 +16,13 @@ SECONDS = 20
 OPENING = "times 101 1000 600\nverdict * ok\nbloom 1\n---\n"
 UNWRITTEN = b"gate: the output could not be written\n"
 UNREAD = b"gate: the input could not be read\n"
+TOO_LONG, TOO_MANY, TOO_MANY_LANES = "more than 16,777,216 bytes", "1,000,000 lines are the most", "a 65th lane; 64 are the most"
 NO_MEMORY = b"gate: out of memory\n"
+
+
+def past(line, limit):
+    """What is said of an input that goes past a limit at this line."""
+    return ("gate: line %d: %s\n" % (line, limit)).encode()
 
 
 def said(done, status, line):
@@ -125,11 +131,14 @@ def test_a_line_too_long_is_out(gate):
 
 
 def test_a_full_device(gate):
-    """Where nothing can be written the status is 1, and one line says why."""
+    """Where nothing can be written the status is 1, and one line says why; what is wrong with an opening is told before."""
     events = OPENING + "peer 1 enter 192.0.2.1\n"
-    for words, stdin in (("run", events), ("run", events * 5000), ("run", "x\n"), ("check 00", ""), ("check -", "00"), ("--help", ""), ("check --help", ""), ("--version", "")):
+    for words, stdin in (("run", events), ("run", events * 5000), ("check 00", ""), ("check -", "00"), ("--help", ""), ("check --help", ""), ("--version", "")):
         with open("/dev/full", "wb") as full:
             said(gate.run(words, stdin, stdout=full), 1, UNWRITTEN)
+    for words in ("run", "lanes", "audit"):
+        with open("/dev/full", "wb") as full:
+            said(gate.run(words, "x\n", stdout=full), 1, past(1, '"x" is unknown') + UNWRITTEN)
 
 
 def test_nothing_to_write_on_a_full_device(gate):

@@ -44,4 +44,4 @@ def folder(crate):
 
 def is_product(crate):
     """Whether the crate is part of the product, or one of its tests."""
-    return not crate.endswith("_tests") and crate not in ("gate_rows", "gate_testing")
+    return not crate.endswith("_tests") and crate not in ("gate_rows", "gate_growth", "gate_testing")

@@ -1,21 +1,19 @@
 -- Limits of families, over ids and over parts of a pool.
 use Rattle.std.proofs.Common.{not, None, ◌≡◌, ◌≢◌, ℕ, ◌+◌, ◌<◌, ◌≤◌, Bool, true, false, cond, ◌&&◌, ◌||◌, List, [], ◌∷◌, length, refl, sym, ap, ◌∙◌, ◌⊎◌, inl, inr, arith}
-use Rattle.std.specs.Prelude.{Contains, filter, sum_by, nat_le, ◌==◌}
+use Rattle.std.specs.Prelude.{Contains, filter, sum_by, nat_le, nat_lt, ◌==◌}
 use Rattle.std.specs.List.{list_all, list_any}
-use Rattle.std.proofs.lemmas.Bool.{and_from, and_parts, true≢false}
+use Rattle.std.proofs.lemmas.Bool.{and_from, true≢false}
 use Rattle.std.proofs.lemmas.Bool.Decides.{nat_tests}
 use Rattle.std.proofs.lemmas.List.Sums.{sum_by-cons}
 use Rattle.gate_bytes.specs.Order.{first_failing}
 use Rattle.gate_tx.specs.Ids.{txid_of}
 use Rattle.gate_tx.specs.Tx.{Tx}
-use Rattle.gate_graph.proofs.Members.{Contains-cons_cases, Contains-head, Contains-rest, not_in_none, list_any_of}
-use Rattle.gate_graph.specs.Family.{reaches}
+use Rattle.gate_graph.proofs.Members.{Contains-cons_cases, Contains-head, Contains-rest, not_in_none}
 use Rattle.gate_standard.specs.declared.Denial.TheVariants.{TooLongChain, SpendsConflicting}
 use Rattle.gate_pool.specs.Pool.{Admitted, has_txid, size_of}
-use Rattle.gate_pool.specs.Family.{steps, all_below, descendants_of, ancestors_above, conflicts_of, is_below_some, is_conflict, AreIdsOf}
-use Rattle.gate_pool.proofs.Adding.{passed, length-ones}
+use Rattle.gate_pool.specs.Family.{all_below, descendants_of, ancestors_above, conflicts_of, is_conflict, AreIdsOf}
+use Rattle.gate_pool.proofs.Adding.{length-ones}
 use Rattle.gate_pool.proofs.Ids.{descendants_of_one}
-use Rattle.gate_pool.proofs.Walking.{Contains-from_filter}
 use Rattle.gate_admit.specs.declared.attempt.Attempt.TheVariants.{First}
 use Rattle.gate_admit.specs.declared.limits.FamilyLimits.{FamilyLimits}
 use Rattle.gate_admit.specs.Limits.{grown, usual_limits, carved_out, has_room, has_room_below, is_within, fits_families, limit_rules}
@@ -47,33 +45,14 @@ list_all_not {X} p (y ∷ xs) x c h = go (p y) (λ same. ap p same ∙ h) (λ k.
     go true k ih (inr m) = ih m
     go false k ih c = refl
 
--- ---- room below an entry
-
--- fewer entries have room where more do
-pub room_for_fewer : (limits : FamilyLimits) (vsize : ℕ) (p q : Admitted → Bool) (entries : List Admitted) → ((x : Admitted) → Contains entries x → p x ≡ true → q x ≡ true) → has_room limits vsize (filter q entries) ≡ true
-    → has_room limits vsize (filter p entries) ≡ true
-room_for_fewer limits vsize p q entries h room =
-    let parts = and_parts _ _ room in
-    let count = fewer p q entries h in
-    let size : size_of (filter p entries) ≤ size_of (filter q entries) = lighter (λ (e : Admitted). e.vsize) p q entries h in
-    and_from _ _ (le (length (filter p entries) + 1) (length (filter q entries) + 1) limits.descendants (omega (arith, count)) parts.0)
-    (le (size_of (filter p entries) + vsize) (size_of (filter q entries) + vsize) limits.descendants_size (omega (arith, size)) parts.1)
+-- room by totals that are kept
+pub kept_room : (limits : FamilyLimits) (vsize : ℕ) (family : List Admitted) (count size asked : ℕ) → count ≡ length family → size ≡ size_of family → asked ≡ vsize
+    → (nat_lt count limits.descendants && nat_le (size + asked) limits.descendants_size) ≡ has_room limits vsize family
+kept_room limits vsize family count size asked a b d =
+    (λ i. nat_lt (a i) limits.descendants && nat_le (b i + d i) limits.descendants_size) ∙ ap (λ x. x && nat_le (size_of family + vsize) limits.descendants_size) (less (length family) limits.descendants)
   where
-    le : (a b c : ℕ) → a ≤ b → nat_le b c ≡ true → nat_le a c ≡ true
-    le a b c h k = grind (arith, nat_tests)
-
--- where there is room below all, there is room below each
-pub room_for_all : (limits : FamilyLimits) (entries : List Admitted) (vsize : ℕ) (test : Admitted → Bool) → has_room limits vsize (all_below test entries) ≡ true → list_all (has_room_below limits entries vsize) (filter test entries) ≡ true
-room_for_all limits entries vsize test room = list_all_of (has_room_below limits entries vsize) (filter test entries) (λ a c.
-    room_for_fewer limits vsize (λ e. reaches (steps entries) (txid_of a.tx) (txid_of e.tx)) (is_below_some test entries) entries
-    (λ x m r. list_any_of (λ b. test b && reaches (steps entries) (txid_of b.tx) (txid_of x.tx)) entries a (Contains-from_filter test entries a c) (and_from _ _ (passed test entries a c) r)) room)
-
--- more than the limit have no room for one more
-pub no_room : (limits : FamilyLimits) (vsize : ℕ) (family : List Admitted) → limits.descendants < length family → has_room limits vsize family ≡ false
-no_room limits vsize family many = ap (λ b. b && nat_le (size_of family + vsize) limits.descendants_size) (too_many (length family) limits.descendants many)
-  where
-    too_many : (n m : ℕ) → m < n → nat_le (n + 1) m ≡ false
-    too_many n m h = grind (arith, nat_tests)
+    less : (m n : ℕ) → nat_lt m n ≡ nat_le (m + 1) n
+    less m n = grind (arith, nat_tests)
 
 -- what is below an id is what is below its entry
 pub below_one : (entries : List Admitted) (a : Admitted) (txid : List ℕ) → Contains entries a → txid_of a.tx ≡ txid → all_below (λ x. has_txid x txid) entries ≡ descendants_of entries (txid_of a.tx)

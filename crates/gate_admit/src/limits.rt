@@ -11,7 +11,7 @@ ghost use Rattle.gate_admit.specs.declared.attempt.Attempt.TheVariants.{First, A
 use crate::again::fits_again;
 use crate::attempt::Attempt;
 use gate_bytes::{Counted, Memory};
-use gate_pool::{Pool, add_up, ancestors, descendants};
+use gate_pool::{Pool, add_up, ancestors};
 use gate_rbf::DirectConflicts;
 use gate_standard::Denial;
 use gate_tx::{Identified, Txid};
@@ -39,130 +39,93 @@ const USUAL: FamilyLimits = FamilyLimits {
 const CARVE_OUT_VSIZE: u64 = 10_000;
 
 /// The limits of the first try: more descendants where the transaction replaces exactly one entry directly.
-fn first_limits<S: BuildHasher + Copy + Drop>(
-    alloc: Global,
-    direct: &DirectConflicts<'_, S>,
-) -> Result<FamilyLimits, Memory>
-    ensures limits { IfOk result (λ limits. limits ≡ grown direct.now.entries (conflicts_of direct.now.entries direct.now.tx) usual_limits) }
-    ensures small { IfOk result (λ limits. limits.descendants_size < 2 ^ 101) }
+fn first_limits<S: BuildHasher + Copy + Drop>(direct: &DirectConflicts<'_, S>) -> FamilyLimits
+    ensures limits { result ≡ grown direct.now.entries (conflicts_of direct.now.entries direct.now.tx) usual_limits }
+    ensures small { result.descendants_size < 2 ^ 101 }
 {
     let Some(conflict) = direct.only() else {
-        return Ok(USUAL);
+        return USUAL;
     };
-    let pool = direct.pool();
-    let found = descendants(alloc, pool, &[conflict], pool.count())?;
-    let family = found.unwrap();
-    Ok(FamilyLimits {
-        descendants: USUAL.descendants + 1,
-        descendants_size: USUAL.descendants_size + add_up(pool, &family).size,
-        ..USUAL
-    })
+    match direct.pool().totals(&conflict) {
+        Some(totals) => FamilyLimits {
+            descendants: USUAL.descendants + 1,
+            descendants_size: USUAL.descendants_size + totals.below.size,
+            ..USUAL
+        },
+        None => USUAL,
+    }
 }
 
-/// Whether a transaction of this size can join some entries.
-fn has_room<S: BuildHasher + Copy + Drop>(
-    pool: &Pool<S>,
-    family: &[Txid],
-    vsize: u64,
-    limits: FamilyLimits,
-) -> bool
-    ensures { (test : Admitted → Bool) → AreIdsOf family.now (filter test pool.now.entries) → result ≡ has_room limits vsize (filter test pool.now.entries) }
-{
-    let sums = add_up(pool, family);
-    let size = sums.size + u128::from(vsize);
-    (sums.count < limits.descendants) & (size <= limits.descendants_size)
-}
-
-/// Whether it can join the descendants of the entry with this id.
+/// Whether a transaction of this size can join the descendants of the entry with this id.
 fn has_room_below<S: BuildHasher + Copy + Drop>(
-    alloc: Global,
     pool: &Pool<S>,
     txid: &Txid,
     vsize: u64,
     limits: FamilyLimits,
-) -> Result<bool, Memory>
-    ensures { (a : Admitted) → Contains pool.now.entries a → txid_of a.tx ≡ txid.now → IfOk result (λ fits. fits ≡ has_room_below limits pool.now.entries vsize a) }
+) -> bool
+    ensures { (a : Admitted) → Contains pool.now.entries a → txid_of a.tx ≡ txid.now → result ≡ has_room_below limits pool.now.entries vsize a }
 {
-    let Some(family) = descendants(alloc, pool, &[*txid], limits.descendants)? else {
-        return Ok(false);
-    };
-    Ok(has_room(pool, &family, vsize, limits))
+    match pool.totals(txid) {
+        Some(totals) => {
+            let size = totals.below.size + u128::from(vsize);
+            (totals.below.count < limits.descendants as u64) & (size <= limits.descendants_size)
+        }
+        None => true,
+    }
 }
 
 /// The same for each of some entries.
 fn each_has_room<S: BuildHasher + Copy + Drop>(
-    alloc: Global,
     pool: &Pool<S>,
     above: &[Txid],
     vsize: u64,
     limits: FamilyLimits,
-) -> Result<bool, Memory>
-    ensures { (test : Admitted → Bool) → AreIdsOf above.now (filter test pool.now.entries) → IfOk result (λ fits. fits ≡ list_all (has_room_below limits pool.now.entries vsize) (filter test pool.now.entries)) }
+) -> bool
+    ensures { (test : Admitted → Bool) → AreIdsOf above.now (filter test pool.now.entries) → result ≡ list_all (has_room_below limits pool.now.entries vsize) (filter test pool.now.entries) }
 {
     for txid in above {
-        if !has_room_below(alloc, pool, txid, vsize, limits)? {
-            return Ok(false);
+        if !has_room_below(pool, txid, vsize, limits) {
+            return false;
         }
     }
-    Ok(true)
-}
-
-/// Whether the transaction could join all that are below some entries together, and so the descendants of each.
-fn all_have_room<S: BuildHasher + Copy + Drop>(
-    alloc: Global,
-    pool: &Pool<S>,
-    above: &[Txid],
-    vsize: u64,
-    limits: FamilyLimits,
-) -> Result<bool, Memory>
-    ensures { (test : Admitted → Bool) → AreIdsOf above.now (filter test pool.now.entries) → IfOk result (λ fits. fits ≡ true → list_all (has_room_below limits pool.now.entries vsize) (filter test pool.now.entries) ≡ true) }
-{
-    let Some(all) = descendants(alloc, pool, above, limits.descendants)? else {
-        return Ok(false);
-    };
-    Ok(has_room(pool, &all, vsize, limits))
+    true
 }
 
 /// Whether a transaction of this size, with these ancestors, is within the limits.
 fn is_within<S: BuildHasher + Copy + Drop>(
-    alloc: Global,
     pool: &Pool<S>,
     above: &[Txid],
     vsize: u64,
     limits: FamilyLimits,
-) -> Result<bool, Memory>
-    ensures { (test : Admitted → Bool) → AreIdsOf above.now (filter test pool.now.entries) → IfOk result (λ fits. fits ≡ is_within limits pool.now.entries (filter test pool.now.entries) vsize) }
+) -> bool
+    ensures { (test : Admitted → Bool) → AreIdsOf above.now (filter test pool.now.entries) → result ≡ is_within limits pool.now.entries (filter test pool.now.entries) vsize }
 {
     let sums = add_up(pool, above);
     if sums.count >= limits.ancestors {
-        return Ok(false);
+        return false;
     }
     if sums.count > 0 && sums.size + u128::from(vsize) > limits.ancestors_size {
-        return Ok(false);
+        return false;
     }
-    if all_have_room(alloc, pool, above, vsize, limits)? {
-        return Ok(true);
-    }
-    each_has_room(alloc, pool, above, vsize, limits)
+    each_has_room(pool, above, vsize, limits)
 }
 
 /// Whether one of the two tries succeeds.
 fn fits_families<S: BuildHasher + Copy + Drop>(
-    alloc: Global,
     direct: &DirectConflicts<'_, S>,
     above: &[Txid],
     vsize: u64,
-) -> Result<bool, Memory>
+) -> bool
     requires { AreIdsOf above.now (ancestors_above direct.now.entries direct.now.tx.inputs) }
-    ensures { IfOk result (λ fits. fits ≡ fits_families direct.now.entries direct.now.tx vsize) }
+    ensures { result ≡ fits_families direct.now.entries direct.now.tx vsize }
 {
     let pool = direct.pool();
-    let limits = first_limits(alloc, direct)?;
-    if is_within(alloc, pool, above, vsize, limits)? {
-        return Ok(true);
+    let limits = first_limits(direct);
+    if is_within(pool, above, vsize, limits) {
+        return true;
     }
     if vsize > CARVE_OUT_VSIZE {
-        return Ok(false);
+        return false;
     }
     let carved_out = FamilyLimits {
         ancestors: 2,
@@ -170,7 +133,7 @@ fn fits_families<S: BuildHasher + Copy + Drop>(
         descendants: limits.descendants + 1,
         descendants_size: limits.descendants_size + u128::from(CARVE_OUT_VSIZE),
     };
-    is_within(alloc, pool, above, vsize, carved_out)
+    is_within(pool, above, vsize, carved_out)
 }
 
 /// The ids of the transaction's ancestors in the pool. None where there are more than `most`.
@@ -202,7 +165,7 @@ fn check_first<S: BuildHasher + Copy + Drop>(
     if above.is_empty() {
         return Ok(None);
     }
-    if !fits_families(alloc, direct, &above, vsize)? {
+    if !fits_families(direct, &above, vsize) {
         return Ok(Some(Denial::TooLongChain));
     }
     if direct.has_one_of(&above) {

@@ -22,14 +22,14 @@ use Rattle.gate_reorg.proofs.Origins.{floors_never_fall}
 use Rattle.gate_reorg.proofs.Spending.{events_keep_the_budget}
 use Rattle.gate_message.specs.declared.caller.Caller.TheVariants.{Operator}
 use Rattle.gate_message.specs.declared.event.Event.{Event}
-use Rattle.gate_message.specs.declared.event.Event.TheVariants.{Enter, Leave, Tx as Submit, Mempool, GetBlock, Headers, Rpc, SetFloor, Set as Turn, Chain as Extend}
+use Rattle.gate_message.specs.declared.event.Event.TheVariants.{Enter, Leave, Tx as Submit, Mempool, GetBlock, Headers, FeeFilter, Rpc, SetFloor, Set as Turn, Chain as Extend}
 use Rattle.gate_message.specs.declared.refusal.Refusal.{Refusal}
 use Rattle.gate_message.specs.declared.reply.Reply.{Reply}
 use Rattle.gate_message.specs.declared.reply.Reply.TheVariants.{Admitted}
 use Rattle.gate_core.specs.Access.{entering_rules, session_rules, submission_rules, listing_rules, block_rules, headers_rules}
 use Rattle.gate_message.specs.Callers.{caller_of}
 use Rattle.gate_core.specs.Opening.{Start}
-use Rattle.gate_core.specs.PeerSteps.{decided, answered, entered, left, submitted, listed, block_given, headers_given}
+use Rattle.gate_core.specs.PeerSteps.{decided, answered, entered, left, submitted, listed, block_given, headers_given, filter_set}
 use Rattle.gate_core.specs.Runs.{run_of}
 use Rattle.gate_core.specs.ChainSteps.{chained_as}
 use Rattle.gate_core.specs.Steps.{step_of}
@@ -78,9 +78,10 @@ step_within w (Submit peer now transaction) h =
     let s = submit_of (standing_of w) transaction now w.budget in
     answered_within w peer (submitted w peer now transaction) (first_failing (submission_rules w peer transaction)) h
     (decided_within (record w { pool = s.entries; floor = s.floor }) peer transaction s.decision (after_within w now transaction h))
-step_within w (Mempool peer) h = answered_within w peer (listed w) (first_failing (listing_rules w peer)) h h
+step_within w (Mempool peer) h = answered_within w peer (listed w peer) (first_failing (listing_rules w peer)) h h
 step_within w (GetBlock peer height) h = answered_within w peer (block_given w height) (first_failing (block_rules w peer height)) h h
 step_within w (Headers peer height) h = answered_within w peer (headers_given w height) (first_failing (headers_rules w peer height)) h h
+step_within w (FeeFilter peer rate) h = answered_within w peer (filter_set w peer rate) (first_failing (session_rules w.sessions peer)) h h
 step_within w (Rpc call) h = call_gives (λ p. IsWithin p.1) w call.time call.user (request_of call.json) (λ answer. h) (λ id transaction is. after_within w call.time transaction h)
 step_within w (SetFloor rate) h = h
 step_within w (Turn switch on) h = h
@@ -119,9 +120,10 @@ unfolding step_of
 step_floor w (Enter peer address) h = answered_floor w peer (entered w peer address) (first_failing (entering_rules w.sessions peer)) (omega arith)
 step_floor w (Leave peer) h = answered_floor w peer (left w peer) (first_failing (session_rules w.sessions peer)) (omega arith)
 step_floor w (Submit peer now transaction) h = answered_floor w peer (submitted w peer now transaction) (first_failing (submission_rules w peer transaction)) (submitted_floor w peer now transaction)
-step_floor w (Mempool peer) h = answered_floor w peer (listed w) (first_failing (listing_rules w peer)) (omega arith)
+step_floor w (Mempool peer) h = answered_floor w peer (listed w peer) (first_failing (listing_rules w peer)) (omega arith)
 step_floor w (GetBlock peer height) h = answered_floor w peer (block_given w height) (first_failing (block_rules w peer height)) (omega arith)
 step_floor w (Headers peer height) h = answered_floor w peer (headers_given w height) (first_failing (headers_rules w peer height)) (omega arith)
+step_floor w (FeeFilter peer rate) h = answered_floor w peer (filter_set w peer rate) (first_failing (session_rules w.sessions peer)) (omega arith)
 step_floor w (Rpc call) h =
     call_gives (λ p. w.floor ≤ p.1.floor) w call.time call.user (request_of call.json) (λ answer. omega arith) (λ id transaction is. submission_floor (standing_of w) transaction call.time w.budget)
 step_floor w (SetFloor rate) h = absurd (h refl)

@@ -33,13 +33,13 @@ use Rattle.gate_submission.specs.Blocks.{transactions_of as block_transactions}
 use Rattle.gate_reorg.proofs.Keeping.{events_keep_pools_good}
 use Rattle.gate_reorg.proofs.Origins.{events_bring_nothing_else}
 use Rattle.gate_message.specs.declared.event.Event.{Event}
-use Rattle.gate_message.specs.declared.event.Event.TheVariants.{Enter, Leave, Tx as Submit, Mempool, GetBlock, Headers, Rpc, SetFloor, Set as Turn, Chain as Extend}
+use Rattle.gate_message.specs.declared.event.Event.TheVariants.{Enter, Leave, Tx as Submit, Mempool, GetBlock, Headers, FeeFilter, Rpc, SetFloor, Set as Turn, Chain as Extend}
 use Rattle.gate_core.specs.Opening.{Start}
 use Rattle.gate_message.specs.declared.refusal.Refusal.{Refusal}
 use Rattle.gate_message.specs.declared.reply.Reply.{Reply}
 use Rattle.gate_core.specs.World.{World, opened_world, standing_of}
 use Rattle.gate_core.specs.Access.{entering_rules, session_rules, submission_rules, listing_rules, block_rules, headers_rules}
-use Rattle.gate_core.specs.PeerSteps.{decided, answered, entered, left, submitted, listed, block_given, headers_given}
+use Rattle.gate_core.specs.PeerSteps.{decided, answered, entered, left, submitted, listed, block_given, headers_given, filter_set}
 use Rattle.gate_core.specs.ChainSteps.{chained_as}
 use Rattle.gate_core.specs.Steps.{step_of}
 use Rattle.gate_message.specs.Spelled.{IsSpelled, offered, transactions_of}
@@ -62,6 +62,7 @@ StaysApart w (Submit peer now transaction) = StaysUnconnected (standing_of w) tr
 StaysApart w (Mempool peer) = Unit {0}
 StaysApart w (GetBlock peer height) = Unit {0}
 StaysApart w (Headers peer height) = Unit {0}
+StaysApart w (FeeFilter peer rate) = Unit {0}
 StaysApart w (Rpc call) = StaysUnconnected (standing_of w) (offered (request_of call.json))
 StaysApart w (SetFloor rate) = Unit {0}
 StaysApart w (Turn switch on) = Unit {0}
@@ -203,9 +204,10 @@ step_good w (Enter peer address) told new good = answered_good w peer (entered w
 step_good w (Leave peer) told new good = answered_good w peer (left w peer) (first_failing (session_rules w.sessions peer)) good (same_good w _ refl refl refl good)
 step_good w (Submit peer now transaction) told new good =
     answered_good w peer (submitted w peer now transaction) (first_failing (submission_rules w peer transaction)) good (submitted_good w peer now transaction told new good)
-step_good w (Mempool peer) told new good = answered_good w peer (listed w) (first_failing (listing_rules w peer)) good good
+step_good w (Mempool peer) told new good = answered_good w peer (listed w peer) (first_failing (listing_rules w peer)) good good
 step_good w (GetBlock peer height) told new good = answered_good w peer (block_given w height) (first_failing (block_rules w peer height)) good good
 step_good w (Headers peer height) told new good = answered_good w peer (headers_given w height) (first_failing (headers_rules w peer height)) good good
+step_good w (FeeFilter peer rate) told new good = answered_good w peer (filter_set w peer rate) (first_failing (session_rules w.sessions peer)) good (same_good w _ refl refl refl good)
 step_good w (Rpc call) told new good =
     call_gives (λ p. IsGoodWorld p.1) w call.time call.user (request_of call.json) (λ answer. good)
     (λ id transaction is. after_good w call.time transaction (subst (λ (o : Option Tx). IfSome o IsTx) (sym is) told) (subst (StaysUnconnected (standing_of w)) (sym is) new) good)
@@ -236,6 +238,7 @@ apart_stays w (Submit peer now transaction) settled spelled apart = offered_stay
 apart_stays w (Mempool peer) settled spelled apart = tt
 apart_stays w (GetBlock peer height) settled spelled apart = tt
 apart_stays w (Headers peer height) settled spelled apart = tt
+apart_stays w (FeeFilter peer rate) settled spelled apart = tt
 apart_stays w (Rpc call) settled spelled apart = offered_stays w (offered (request_of call.json)) settled spelled apart
 apart_stays w (SetFloor rate) settled spelled apart = tt
 apart_stays w (Turn switch on) settled spelled apart = tt
@@ -262,9 +265,10 @@ step_budget w (Leave peer) = answered_budget w peer (left w peer) (first_failing
 step_budget w (Submit peer now transaction) =
     let s = submit_of (standing_of w) transaction now w.budget in
     answered_budget w peer (submitted w peer now transaction) (first_failing (submission_rules w peer transaction)) (decided_budget (record w { pool = s.entries; floor = s.floor }) peer transaction s.decision)
-step_budget w (Mempool peer) = answered_budget w peer (listed w) (first_failing (listing_rules w peer)) refl
+step_budget w (Mempool peer) = answered_budget w peer (listed w peer) (first_failing (listing_rules w peer)) refl
 step_budget w (GetBlock peer height) = answered_budget w peer (block_given w height) (first_failing (block_rules w peer height)) refl
 step_budget w (Headers peer height) = answered_budget w peer (headers_given w height) (first_failing (headers_rules w peer height)) refl
+step_budget w (FeeFilter peer rate) = answered_budget w peer (filter_set w peer rate) (first_failing (session_rules w.sessions peer)) refl
 step_budget w (Rpc call) = call_gives (λ p. p.1.budget ≡ w.budget) w call.time call.user (request_of call.json) (λ answer. refl) (λ id transaction is. refl)
 step_budget w (SetFloor rate) = refl
 step_budget w (Turn switch on) = refl
@@ -281,9 +285,10 @@ step_from w (Enter peer address) tx h = answered_from w peer (entered w peer add
 step_from w (Leave peer) tx h = answered_from w peer (left w peer) (first_failing (session_rules w.sessions peer)) [] tx (λ k. Contains-append_left _ _ tx k) h
 step_from w (Submit peer now transaction) tx h =
     answered_from w peer (submitted w peer now transaction) (first_failing (submission_rules w peer transaction)) (option_to_list transaction) tx (submitted_from w peer now transaction tx) h
-step_from w (Mempool peer) tx h = answered_from w peer (listed w) (first_failing (listing_rules w peer)) [] tx (λ k. Contains-append_left _ _ tx k) h
+step_from w (Mempool peer) tx h = answered_from w peer (listed w peer) (first_failing (listing_rules w peer)) [] tx (λ k. Contains-append_left _ _ tx k) h
 step_from w (GetBlock peer height) tx h = answered_from w peer (block_given w height) (first_failing (block_rules w peer height)) [] tx (λ k. Contains-append_left _ _ tx k) h
 step_from w (Headers peer height) tx h = answered_from w peer (headers_given w height) (first_failing (headers_rules w peer height)) [] tx (λ k. Contains-append_left _ _ tx k) h
+step_from w (FeeFilter peer rate) tx h = answered_from w peer (filter_set w peer rate) (first_failing (session_rules w.sessions peer)) [] tx (λ k. Contains-append_left _ _ tx k) h
 step_from w (Rpc call) tx h =
     let request = request_of call.json in
     call_gives (λ p. Contains (transactions_in p.1) tx → Contains (transactions_in w ++ option_to_list (offered request)) tx) w call.time call.user request (λ answer k. Contains-append_left _ _ tx k)

@@ -66,6 +66,7 @@ impl<S: BuildHasher + Copy + Drop> Parts<S> {
             Event::Mempool { peer } => self.listing(alloc, *peer),
             Event::GetBlock { peer, height } => Ok(self.giving_block(*peer, *height)),
             Event::Headers { peer, height } => Ok(self.giving_headers(*peer, *height)),
+            Event::FeeFilter { peer, rate } => Ok(self.filtering(*peer, *rate)),
             Event::Rpc(call) => self.calling(alloc, call.get(), prepared),
             Event::SetFloor { rate } => Ok(Plan {
                 reply: Reply::Set,
@@ -92,6 +93,7 @@ impl<S: BuildHasher + Copy + Drop> Parts<S> {
             Change::Nothing => (),
             Change::Enter { peer, flags } => self.sessions.enter(peer, flags),
             Change::Close { peer } => self.sessions.close(peer),
+            Change::SetFilter { peer, rate } => self.sessions.set_rate(peer, rate),
             Change::SetFloor { rate } => self.floor = Floor::new(rate),
             Change::Turn { switch, on } => self.switches = self.switches.set(switch, on),
             Change::Admit { coming } => return self.admit(coming.into_inner()),

@@ -421,7 +421,7 @@ fn with_reply(alloc: Global, entry: &Entry, reply: &Reply) -> Result<Entry, Memo
 }
 
 /// Adds an entry to a journal that has room for one.
-fn add(journal: &mut Journal, entry: Entry) -> Result<(), Memory>
+pub(crate) fn add(journal: &mut Journal, entry: Entry) -> Result<(), Memory>
     requires { length journal.old.entries < 100000 }
     ensures { OnOk result (length journal.new.entries ≡ length journal.old.entries + 1) }
 {

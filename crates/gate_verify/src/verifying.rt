@@ -1,10 +1,10 @@
-//! Pieces, checked by several threads.
+//! All pieces of a list, checked by this thread or by several.
 ghost use Rattle.std.specs.Prelude.{◌≡◌, IfOk};
 
 use crate::check::InputCheck;
-use crate::gathering::{gather, report_on};
+use crate::crew::{Crew, serve};
+use crate::gathering::report_on;
 use crate::workers::Workers;
-use crossbeam_channel::{Receiver, Sender, unbounded};
 use gate_bytes::Memory;
 use gate_inputs::{InputReport, Piece};
 use std::alloc::Global;
@@ -12,95 +12,9 @@ use std::sync::Wait;
 use std::thread;
 use std::thread::Threads;
 
-/// A piece that is to be checked, with its place in the list.
-#[derive(Drop)]
-struct Task<'a> {
-    place: usize,
-    piece: &'a Piece,
-}
-
-/// What was reported of the piece at a place.
-#[derive(Drop)]
-struct Done {
-    place: usize,
-    report: InputReport,
-}
-
-/// Checks the pieces that come, until no more can. Where memory runs out for one, no report on it is sent.
-fn work<T: Wait, C: InputCheck>(
-    rt: &T,
-    alloc: Global,
-    check: &C,
-    tasks: Receiver<Task<'_>>,
-    back: Sender<Done>,
-) {
-    for task in tasks.iter(rt) {
-        let place = task.place;
-        if let Ok(report) = check.check(alloc, task.piece) {
-            let _ = back.send(rt, Done { place, report });
-        }
-    }
-}
-
-/// The ends of a worker.
-fn ends<'a>(
-    tasks: &Receiver<Task<'a>>,
-    back: &Sender<Done>,
-) -> Result<(Receiver<Task<'a>>, Sender<Done>), Memory> {
-    Ok((tasks.clone()?, back.clone()?))
-}
-
-/// Sends out all pieces.
-fn send_all<'a, T: Wait>(rt: &T, out: Sender<Task<'a>>, pieces: &'a [Piece]) {
-    for (place, piece) in pieces.iter().enumerate() {
-        let _ = out.send(rt, Task { place, piece });
-    }
-}
-
-/// The reports that came, each at its place.
-fn arrivals<T: Wait>(
-    rt: &T,
-    alloc: Global,
-    count: usize,
-    back: Receiver<Done>,
-) -> Result<Vec<Option<InputReport>>, Memory> {
-    let mut came = Vec::with_capacity(alloc, count)?;
-    for _ in 0..count {
-        came.push(None)?;
-    }
-    for done in back.iter(rt) {
-        let Done { place, report } = done;
-        if place < came.len() {
-            came[place] = Some(report);
-        }
-    }
-    Ok(came)
-}
-
-/// What so many threads report of the pieces, the caller's own among them.
-fn check_among<T: Threads + Wait + Sync, C: InputCheck + Sync>(
-    rt: &T,
-    alloc: Global,
-    check: &C,
-    pieces: &[Piece],
-    threads: usize,
-) -> Result<Vec<Option<InputReport>>, Memory> {
-    let (out, tasks) = unbounded(alloc)?;
-    let (back, reports) = unbounded(alloc)?;
-    send_all(rt, out, pieces);
-    thread::scope(thread::scope_env(), rt, |scope| {
-        for _ in 1..threads {
-            if let Ok((tasks, back)) = ends(&tasks, &back) {
-                let _ = scope.spawn(move || work(rt, alloc, check, tasks, back));
-            }
-        }
-        work(rt, alloc, check, tasks, back);
-    });
-    arrivals(rt, alloc, pieces.len(), reports)
-}
-
-/// The reports of the pieces as this thread makes them, one after another.
-fn check_each<C: InputCheck>(
+/// The reports of the pieces as this thread makes them, one after another. One on which the check gives none, or another, is
+/// made all the same.
+pub fn check_each<C: InputCheck>(
     alloc: Global,
     check: &C,
     pieces: &[Piece],
@@ -113,6 +27,40 @@ fn check_each<C: InputCheck>(
         reports.push(report_on(alloc, piece, found)?)?;
     }
     Ok(reports)
+}
+
+/// The reports of the pieces beside so many workers, the caller among them, who stand there for these pieces alone.
+fn verify_beside<T: Threads + Wait + Sync, C: InputCheck + Sync>(
+    rt: &T,
+    alloc: Global,
+    check: &C,
+    pieces: &[Piece],
+    workers: Workers,
+) -> Result<Vec<InputReport>, Memory>
+    ensures { IfOk result (λ reports. reports.items ≡ pieces.now) }
+{
+    let (crew, post) = Crew::new(alloc)?;
+    let ((), reports) = thread::join(
+        rt,
+        move || serve(rt, alloc, check, post, workers),
+        move || -> Result<Vec<InputReport>, Memory>
+            ensures { IfOk result (λ reports. reports.items ≡ pieces.entry.now) }
+        { verify_by(rt, alloc, check, pieces, crew) },
+    );
+    reports
+}
+
+/// The reports of the pieces by a crew, which is then dismissed.
+fn verify_by<T: Wait, C: InputCheck>(
+    rt: &T,
+    alloc: Global,
+    check: &C,
+    pieces: &[Piece],
+    crew: Crew,
+) -> Result<Vec<InputReport>, Memory>
+    ensures { IfOk result (λ reports. reports.items ≡ pieces.now) }
+{
+    crew.verify(rt, alloc, check, pieces)
 }
 
 /// The reports of the pieces, in their order, whatever the workers do.
@@ -130,9 +78,8 @@ pub fn verify_all<T: Threads + Wait + Sync, C: InputCheck + Sync>(
     ensures { IfOk result (λ reports. reports.items ≡ pieces.now) }
 {
     let threads = workers.count().min(pieces.len());
-    if threads <= 1 {
-        return check_each(alloc, check, pieces);
+    match Workers::new(threads) {
+        Some(workers) if threads > 1 => verify_beside(rt, alloc, check, pieces, workers),
+        _ => check_each(alloc, check, pieces),
     }
-    let came = check_among(rt, alloc, check, pieces, threads)?;
-    gather(alloc, pieces, came)
 }

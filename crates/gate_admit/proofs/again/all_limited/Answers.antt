@@ -2,7 +2,7 @@ use Rattle.std.proofs.Common.{◌≡◌, false, ◌∙◌, sym, ap, subst, take,
 use Rattle.std.specs.Prelude.{Contains, filter}
 use Rattle.std.proofs.lemmas.List.{take_all}
 use Rattle.gate_tx.specs.Ids.{txid_of}
-use Rattle.gate_pool.proofs.Noting.{Contains-take_more}
+use Rattle.gate_pool.proofs.Points.{Contains-take_more}
 use Rattle.gate_pool.proofs.Walking.{Contains-from_filter}
 use Rattle.gate_admit.specs.Limits.{is_limited}
 use Rattle.gate_admit.proofs.Families.{list_all_of, list_all_not}

@@ -1,0 +1,340 @@
+//! A reader that tells of the lines that pass.
+ghost use Rattle.std.specs.Prelude.{◌≡◌};
+
+use crate::place::{Limit, Place};
+use crate::told::event_told;
+use gate_bytes::Memory;
+use gate_events::event_on;
+use gate_lines::{LaneFault, MAX_LINE, MAX_LINES, Part, Source, asks_nothing};
+use gate_message::Caller;
+use std::alloc::Global;
+use std::io;
+use std::io::{BufRead, Read};
+
+/// What stands behind an opening.
+#[derive(Clone, Copy, Debug, PartialEq, Eq)]
+pub enum Behind {
+    /// Nothing, nor is there an opening: no line is looked at.
+    Nothing,
+    /// Events, one a line.
+    Events,
+    /// Lanes of events, each behind a line `---`, in rounds, each up to a line `===`.
+    Lanes,
+    /// A journal: events behind `> `, replies behind `< `, and bases behind `base `.
+    Journal,
+}
+
+/// The most lanes of an input.
+const MAX_LANES: u64 = 64;
+
+/// A reader of an opening and what stands behind it, in front of another reader. It keeps the last line of the opening, tells
+/// of lines behind it that have no form, on standard error and where it is asked to, and keeps the place where it stands.
+#[derive(Drop)]
+pub struct Watched<'a, R, T> {
+    pub reader: R,
+    rt: &'a T,
+    alloc: Global,
+    behind: Behind,
+    tells: bool,
+    place: &'a Place,
+    has_opened: bool,
+    lines: u64,
+    lanes: u64,
+    /// Whether a round ended, and no lane of the next one has begun.
+    awaits_lane: bool,
+    caller: Option<Caller>,
+    last: Vec<u8>,
+    is_kept: bool,
+}
+
+impl<'a, R, T: Eprint> Watched<'a, R, T> {
+    pub fn new(
+        alloc: Global,
+        rt: &'a T,
+        reader: R,
+        behind: Behind,
+        tells: bool,
+        place: &'a Place,
+    ) -> Watched<'a, R, T>
+        ensures { result.reader ≡ reader }
+    {
+        Watched {
+            reader,
+            rt,
+            alloc,
+            behind,
+            tells,
+            place,
+            has_opened: false,
+            lines: 0,
+            lanes: 1,
+            awaits_lane: false,
+            caller: None,
+            last: Vec::new(alloc),
+            is_kept: true,
+        }
+    }
+
+    /// The last line of the opening that was read whole, where there was memory to keep it.
+    pub fn last(&self) -> Option<&[u8]> {
+        if self.is_kept {
+            Some(self.last.as_slice())
+        } else {
+            None
+        }
+    }
+
+    /// Keeps a line of the opening, or ends the opening.
+    fn keep(&mut self, line: &[u8])
+        ensures { self.new.reader ≡ self.old.reader }
+    {
+        if line == b"---".as_slice() {
+            self.has_opened = true;
+            return;
+        }
+        self.last.clear();
+        self.is_kept = self.last.extend_from_slice(line).is_ok();
+    }
+
+    /// The event of a line behind the opening, where it has to have one.
+    fn event_in<'b>(&self, line: &'b [u8]) -> Option<&'b [u8]> {
+        if asks_nothing(line) {
+            return None;
+        }
+        match self.behind {
+            Behind::Nothing => None,
+            Behind::Events => Some(line),
+            Behind::Lanes => if self.awaits_lane || line == b"---".as_slice() {
+                None
+            } else {
+                Some(line)
+            },
+            Behind::Journal => match line {
+                [b'>', b' ', event @ ..] => Some(event),
+                _ => None,
+            },
+        }
+    }
+
+    /// Whether the line stands in a journal and is none of its lines.
+    fn lacks_mark(&self, line: &[u8]) -> bool {
+        if self.behind != Behind::Journal || asks_nothing(line) {
+            return false;
+        }
+        match line {
+            [b'>' | b'<', b' ', ..] | [b'b', b'a', b's', b'e', b' ', ..] => false,
+            _ => true,
+        }
+    }
+
+    /// Whether a line of a lane is an event of another caller than the lane's first is.
+    fn is_strange(&mut self, line: &[u8]) -> Result<bool, Memory>
+        ensures { self.new.reader ≡ self.old.reader }
+    {
+        let Some(event) = event_on(self.alloc, line)? else {
+            return Ok(false);
+        };
+        let caller = event.caller(self.alloc);
+        drop(event);
+        let caller = caller?;
+        match &self.caller {
+            Some(first) => Ok(*first != caller),
+            None => {
+                self.caller = Some(caller);
+                Ok(false)
+            }
+        }
+    }
+
+    /// Tells of a line of a lane, where its caller is not the lane's.
+    fn tell_caller(&mut self, number: u64, line: &[u8])
+        ensures { self.new.reader ≡ self.old.reader }
+    {
+        if self.behind != Behind::Lanes || asks_nothing(line) {
+            return;
+        }
+        if let Ok(true) = self.is_strange(line) {
+            let _written = eprintln!(self.rt;
+                "gate: line {number}: the caller is not that of the lane, which is the caller of its first event; is a line --- missing?"
+            );
+        }
+    }
+
+    /// Tells of a line behind the opening, where it has no form.
+    fn tell(&self, number: u64, line: &[u8]) {
+        // What standard error doesn't take is not told.
+        if self.lacks_mark(line) {
+            self.place.refuse();
+            let _written = eprintln!(self.rt;
+                "gate: line {number}: begins neither with \"> \" nor with \"< \""
+            );
+            return;
+        }
+        let Some(event) = self.event_in(line) else {
+            return;
+        };
+        if let Ok(Some(text)) = event_told(self.alloc, event) {
+            self.place.refuse();
+            let _written = eprintln!(self.rt; "gate: line {number}: {text}");
+        }
+    }
+
+    /// Keeps in mind that a line is past a limit, and tells of it where it is an event's.
+    fn pass(&self, number: u64, limit: Limit) {
+        self.place.pass(limit);
+        if self.tells && self.has_opened && self.behind == Behind::Events {
+            self.place.refuse();
+            let _written = eprintln!(self.rt; "gate: line {number}: {limit}");
+        }
+    }
+
+    /// Whether a line without a mark stands in a journal, longer than a line may be: one with a mark may have that besides.
+    fn is_too_long(&self, line: &[u8]) -> bool {
+        if self.behind != Behind::Journal || line.len() <= MAX_LINE {
+            return false;
+        }
+        match line {
+            [b'>' | b'<', b' ', ..] => false,
+            _ => true,
+        }
+    }
+
+    /// Counts a line of lanes: a lane that it begins, or a round that it ends.
+    fn count_lanes(&mut self, line: &[u8])
+        ensures { self.new.reader ≡ self.old.reader }
+    {
+        if line == b"---".as_slice() {
+            self.caller = None;
+            self.awaits_lane = false;
+            self.lanes = self.lanes.saturating_add(1);
+            if self.lanes > MAX_LANES {
+                self.place.pass(Limit::Lanes);
+            }
+            return;
+        }
+        if self.awaits_lane && !asks_nothing(line) {
+            self.place.pass(Limit::Round);
+        }
+        if line == b"===".as_slice() {
+            self.awaits_lane = true;
+        }
+    }
+
+    /// Counts a line behind the opening.
+    fn count(&mut self, number: u64, line: &[u8])
+        ensures { self.new.reader ≡ self.old.reader }
+    {
+        self.lines = self.lines.saturating_add(1);
+        if self.lines > MAX_LINES {
+            self.pass(number, Limit::Lines);
+        }
+        if self.is_too_long(line) {
+            self.pass(number, Limit::Line);
+        }
+        if self.behind == Behind::Lanes {
+            self.count_lanes(line);
+        }
+    }
+
+    /// The input ended.
+    fn end(&self) {
+        if self.awaits_lane {
+            self.place.pass(Limit::Round);
+        }
+    }
+
+    fn watch(&mut self, line: &[u8])
+        ensures { self.new.reader ≡ self.old.reader }
+    {
+        if self.behind == Behind::Nothing {
+            return;
+        }
+        let number = self.place.advance(line.len());
+        if !self.has_opened {
+            if number > MAX_LINES {
+                self.pass(number, Limit::Lines);
+            }
+            self.keep(line);
+            return;
+        }
+        self.count(number, line);
+        if self.tells {
+            self.tell(number, line);
+            self.tell_caller(number, line);
+        }
+    }
+
+    /// The limit that the next line is past, of which more bytes stand there than are kept: where all lines were read that there
+    /// may be, none is kept.
+    fn limit(&self) -> Limit {
+        let lines = if self.has_opened {
+            self.lines
+        } else {
+            self.place.line()
+        };
+        if lines >= MAX_LINES {
+            Limit::Lines
+        } else {
+            Limit::Line
+        }
+    }
+
+    /// The next line is past a limit.
+    fn pass_line(&self, line: &[u8]) {
+        let limit = self.limit();
+        let number = self.place.advance(line.len());
+        self.pass(number, limit);
+    }
+}
+
+impl<R: Source, T: Eprint> Read for Watched<'_, R, T> {
+    ghost remaining = { λ watched. R.remaining watched.reader };
+
+    fn read(&mut self, buf: &mut [u8]) -> io::Result<usize> {
+        self.reader.read(buf)
+    }
+}
+
+impl<R: Source, T: Eprint> BufRead for Watched<'_, R, T> {
+    ghost consumable_len = { λ watched. R.consumable_len watched.reader };
+
+    fn fill_buf(&mut self) -> io::Result<&[u8]> {
+        self.reader.fill_buf()
+    }
+
+    fn consume(&mut self, amount: usize) {
+        self.reader.consume(amount)
+    }
+}
+
+impl<R: Source, T: Eprint> Source for Watched<'_, R, T> {
+    ghost steady = { R.steady };
+
+    fn take_waiting(&mut self, line: &mut Vec<u8>, room: usize) -> Result<bool, Memory> {
+        let is_whole = self.reader.take_waiting(line, room)?;
+        if is_whole {
+            self.watch(line.as_slice());
+        }
+        Ok(is_whole)
+    }
+
+    fn take_part(&mut self, line: &mut Vec<u8>, room: usize) -> Result<Part, LaneFault> {
+        let part = self.reader.take_part(line, room)?;
+        match part {
+            Part::Newline => self.watch(line.as_slice()),
+            Part::End => {
+                if room > 0 && !line.is_empty() {
+                    self.watch(line.as_slice());
+                }
+                self.end();
+            }
+            Part::TooLong => self.pass_line(line.as_slice()),
+            Part::More => {}
+        }
+        Ok(part)
+    }
+
+    fn take_rest(&mut self, text: &mut Vec<u8>) -> Result<(), LaneFault> {
+        self.reader.take_rest(text)
+    }
+}

@@ -1,0 +1,69 @@
+//! How far a long run has come.
+use crate::telling::Telling;
+use std::time::{Clock, Instant};
+
+/// So many events pass between two looks at the clock.
+const EVENTS: u64 = 100;
+
+/// So many seconds pass at least between two lines, and before the first.
+const SECONDS: u64 = 5;
+
+/// When a run was last told of while it went on.
+#[derive(Clone, Copy)]
+pub(crate) struct Progress {
+    /// None where nothing is told.
+    begun: Option<Instant>,
+    next: u64,
+}
+
+/// How many in a hundred bytes of an input of this length were read; none where it has no length.
+fn percent(bytes: u64, length: u64) -> Option<u64> {
+    let parts = (u128::from(bytes) * 100).checked_div(u128::from(length))?;
+    Some(parts.min(100) as u64)
+}
+
+impl Progress {
+    /// The run begins now. Without a clock nothing is told.
+    pub(crate) fn begin<T: Clock>(rt: &T, telling: &Telling<'_>) -> Progress {
+        let begun = if telling.progress {
+            Instant::now(rt).ok()
+        } else {
+            None
+        };
+        Progress {
+            begun,
+            next: SECONDS,
+        }
+    }
+
+    /// The seconds since the beginning, where a line is due after so many events.
+    fn due<T: Clock>(&mut self, rt: &T, events: u64) -> Option<u64> {
+        if events % EVENTS != 0 {
+            return None;
+        }
+        let seconds = self.begun?.elapsed(rt).ok()?.as_secs();
+        if seconds < self.next {
+            return None;
+        }
+        self.next = seconds.saturating_add(SECONDS);
+        Some(seconds)
+    }
+
+    /// Tells of a run that has come so far, where a line is due.
+    pub(crate) fn tell<T: Clock + Eprint>(&mut self, rt: &T, telling: &Telling<'_>, events: u64) {
+        let Some(seconds) = self.due(rt, events) else {
+            return;
+        };
+        let rate = events / seconds.max(1);
+        let read = match telling.length {
+            Some(length) => percent(telling.place.bytes(), length),
+            None => None,
+        };
+        let _written = match read {
+            Some(read) => eprintln!(rt;
+                "gate: {events} events, {rate} a second, {read} % of the input"
+            ),
+            None => eprintln!(rt; "gate: {events} events, {rate} a second"),
+        };
+    }
+}

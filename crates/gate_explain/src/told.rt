@@ -1,0 +1,46 @@
+//! What is told of a reply.
+use crate::denied::{call_fault, denial_in, rule_in};
+use gate_bytes::Memory;
+use gate_figures::{Explained, Figures};
+use gate_message::Reply;
+use gate_rules::rules_named;
+use std::alloc::Global;
+
+/// The figures of the rule that a reply names, where the explanation has some. A transaction that was granted and is gone
+/// again is explained by none.
+fn figures_for(explained: &Option<Explained>, reply: &Reply) -> Option<Figures> {
+    match explained {
+        Some(Err(explanation)) if denial_in(reply) == Some(explanation.denial) =>
+            explanation.figures,
+        _ => None,
+    }
+}
+
+/// A rule by its name, and its sentence.
+fn rule_text(alloc: Global, name: &str) -> Result<String, Memory> {
+    let rules = rules_named(alloc, name)?;
+    match rules.as_slice().first() {
+        Some(rule) => Ok(format!(in alloc; "{name} {}", rule.says)?),
+        None => Ok(String::from_str(alloc, name)?),
+    }
+}
+
+/// What is told of a reply that says a rule fails: the rule by its name, and its figures; of a rule without figures its
+/// sentence. What is told of a call that is answered by another error is what is wrong with it. Of other replies nothing is
+/// told.
+pub(crate) fn reply_told(
+    alloc: Global,
+    explained: &Option<Explained>,
+    reply: &Reply,
+) -> Result<Option<String>, Memory> {
+    let Some(name) = rule_in(alloc, reply)? else {
+        return match call_fault(reply) {
+            Some(fault) => Ok(Some(String::from_str(alloc, fault)?)),
+            None => Ok(None),
+        };
+    };
+    match figures_for(explained, reply) {
+        Some(figures) => Ok(Some(format!(in alloc; "{name} {figures}")?)),
+        None => Ok(Some(rule_text(alloc, name.as_str())?)),
+    }
+}

@@ -1,0 +1,6 @@
+use Rattle.std.proofs.Common.{◌≡◌, drop}
+use Rattle.gate_figures.specs.Figures.{dust}
+use Rattle.gate_figures.proofs.outputs.dust.Given as goal
+
+abbrev pub invariant-loop-output : goal.invariant-loop-output
+invariant-loop-output l = dust 0 l.outputs ≡ dust l.output (drop l.output l.outputs)

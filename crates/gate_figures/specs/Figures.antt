@@ -1,0 +1,171 @@
+-- What decides that a transaction is denied, in numbers.
+use Rattle.std.specs.Prelude.{ℕ, ◌+◌, ◌-◌, ◌^◌, nat_lt, Bool, true, false, if◌then◌else◌, List, [], ◌∷◌, length, is_none, Option, Some, None}
+use Rattle.std.specs.Option.{option_or}
+use Rattle.gate_tx.specs.declared.Coin.{Coin}
+use Rattle.gate_tx.specs.declared.TxIn.{TxIn}
+use Rattle.gate_tx.specs.declared.TxOut.{TxOut}
+use Rattle.gate_tx.specs.Ids.{txid_of, wtxid_of}
+use Rattle.gate_tx.specs.Sizes.{stripped_size_of, weight_of}
+use Rattle.gate_tx.specs.Tx.{Tx}
+use Rattle.gate_standard.specs.Amounts.{feerate, required_fee}
+use Rattle.gate_standard.specs.Outputs.{dust_threshold_of, is_dust}
+use Rattle.gate_standard.specs.declared.Denial.{Denial}
+use Rattle.gate_standard.specs.declared.Denial.TheVariants.{Oversize, TxSize, Dust as BelowDust, TxSizeSmall, NonFinal, MempoolConflict, MissingOrSpent, PrematureSpend, InBelowOut, TooManySigops, MempoolMinFee, MinRelayFee, TooLongChain, LowerFeeRate, TooManyReplacements, LowerFee, LowerDifference, VerdictMissing, SoftVerdict, HardVerdict}
+use Rattle.gate_chain.specs.History.{History}
+use Rattle.gate_chain.specs.Times.{tip_of}
+use Rattle.gate_locks.specs.Locks.{median_at}
+use Rattle.gate_pool.specs.Pool.{Admitted, size_of, spender_of}
+use Rattle.gate_pool.specs.Family.{ancestors_above, conflicts_of, fees_of, replaced_of}
+use Rattle.gate_rbf.specs.Replacing.{descendant_count, incremental_relay_rate, signals}
+use Rattle.gate_admit.specs.declared.verdicts.Verdict.{Verdict}
+use Rattle.gate_admit.specs.declared.verdicts.Verdict.TheVariants.{Good}
+use Rattle.gate_admit.specs.Coins.{coins_of, view_coin}
+use Rattle.gate_admit.specs.Reports.{reported, sigop_cost, vsize_of}
+use Rattle.gate_admit.specs.Rules.{coins_value, is_immature, min_relay_rate, outputs_value}
+use Rattle.gate_admit.specs.Standing.{Standing}
+use Rattle.gate_admit.specs.Verdicts.{VerdictTable, verdict_of}
+use Rattle.gate_figures.specs.declared.figures.Figures.{Figures}
+use Rattle.gate_figures.specs.declared.figures.Figures.TheVariants.{Large, Small, Weighs, Dust, Final, Spent, NoCoin, Young, Balance, Costs, Pays, Ancestors, AncestorsSized, Outpaid, Descendants, Above, Input}
+
+-- ---- outputs
+
+-- the first output that is dust, the first at this index
+abbrev pub dust : ℕ → List TxOut → Option Figures
+dust index [] = None
+dust index (output ∷ outputs) =
+    if is_dust output then Some (Dust index output.value (dust_threshold_of output)) else dust (index + 1) outputs
+
+-- ---- coins
+
+-- the first input without a coin, the first at this index
+abbrev pub coinless : History → List Admitted → ℕ → List TxIn → Option Figures
+coinless chain entries index [] = None
+coinless chain entries index (input ∷ inputs) =
+    if is_none (view_coin chain entries input.prevout) then Some (NoCoin index input.prevout) else coinless chain entries (index + 1) inputs
+
+-- a coin that the input at this index spends, where a coinbase made it and it is too young for the next block
+abbrev pub young_by : ℕ → ℕ → Option Coin → Option Figures
+young_by next_height index None = None
+young_by next_height index (Some coin) = if is_immature next_height coin then Some (Young index coin.height next_height) else None
+
+-- the first of them, input by input, the first at this index
+abbrev pub young : History → List Admitted → ℕ → List TxIn → Option Figures
+young chain entries index [] = None
+young chain entries index (input ∷ inputs) =
+    option_or (young_by (tip_of chain + 1) index (view_coin chain entries input.prevout)) (young chain entries (index + 1) inputs)
+
+-- ---- entries that spend what the transaction spends
+
+-- an entry that spends what the input at this index does, where it doesn't say that it may be replaced
+abbrev pub firm_by : ℕ → Option Admitted → Option Figures
+firm_by index None = None
+firm_by index (Some e) = if signals e.tx then None else Some (Spent index (txid_of e.tx))
+
+-- the first of them, input by input, the first at this index
+abbrev pub firm : List Admitted → ℕ → List TxIn → Option Figures
+firm entries index [] = None
+firm entries index (input ∷ inputs) = option_or (firm_by index (spender_of entries input.prevout)) (firm entries (index + 1) inputs)
+
+-- the rate of a fee for a size; a fee that 64 bits don't hold has none
+unfoldable pub rate_at : ℕ → Option ℕ → Option ℕ
+rate_at fee None = None
+rate_at fee (Some vsize) = if nat_lt (2 ^ 64 - 1) fee then None else Some (feerate fee vsize)
+
+-- an entry that spends what an input does, where it pays at least this rate
+abbrev pub outpaid_by : ℕ → Option Admitted → Option Figures
+outpaid_by rate None = None
+outpaid_by rate (Some e) = if nat_lt (feerate e.fee e.vsize) rate then None else Some (Outpaid rate (feerate e.fee e.vsize) (txid_of e.tx))
+
+-- the first of them, input by input
+abbrev pub outpaid : List Admitted → ℕ → List TxIn → Option Figures
+outpaid entries rate [] = None
+outpaid entries rate (input ∷ inputs) = option_or (outpaid_by rate (spender_of entries input.prevout)) (outpaid entries rate inputs)
+
+-- the same at a rate, where there is one
+unfoldable pub outpaid_at : List Admitted → Option ℕ → List TxIn → Option Figures
+outpaid_at entries None inputs = None
+outpaid_at entries (Some rate) inputs = outpaid entries rate inputs
+
+-- ---- fees
+
+-- what its coins hold
+abbrev pub coins_at : History → List Admitted → Tx → ℕ
+coins_at chain entries tx = coins_value (coins_of chain entries tx.inputs)
+
+-- what they hold above what its outputs do
+abbrev pub fee_at : History → List Admitted → Tx → ℕ
+fee_at chain entries tx = coins_at chain entries tx - outputs_value tx
+
+-- what its signature operations cost
+abbrev pub cost_at : History → List Admitted → Tx → ℕ
+cost_at chain entries tx = sigop_cost (reported tx.inputs (coins_of chain entries tx.inputs)) tx.outputs
+
+-- the size in virtual bytes at a cost, of which nothing is asked where the cost is past its limit
+abbrev pub sized : ℕ → Tx → Option ℕ
+sized cost tx = if nat_lt 16000 cost then None else Some (vsize_of cost tx)
+
+-- its size in virtual bytes
+abbrev pub vsize_at : History → List Admitted → Tx → Option ℕ
+vsize_at chain entries tx = sized (cost_at chain entries tx) tx
+
+-- what it pays, and the fee of its size at a rate
+unfoldable pub pays : ℕ → ℕ → Option ℕ → Option Figures
+pays rate fee None = None
+pays rate fee (Some vsize) = Some (Pays fee (required_fee rate vsize))
+
+-- what it pays, what those that it would replace pay, and what is asked above that
+unfoldable pub pays_above : ℕ → ℕ → Option ℕ → Option Figures
+pays_above gone fee None = None
+pays_above gone fee (Some vsize) = Some (Above fee gone (required_fee incremental_relay_rate vsize))
+
+-- ---- families
+
+-- the transaction's ancestors and itself, where they are too many, or too large
+abbrev pub crowded : List Admitted → Option ℕ → Option Figures
+crowded above None = None
+crowded above (Some vsize) =
+    if nat_lt 25 (length above + 1)
+    then Some (Ancestors (length above + 1))
+    else if nat_lt 101000 (size_of above + vsize) then Some (AncestorsSized (size_of above + vsize)) else None
+
+-- ---- verdicts
+
+abbrev pub is_good : Option Verdict → Bool
+is_good (Some Good) = true
+is_good other = false
+
+-- the first input whose verdict is not a good one, the first at this index
+abbrev pub doubted : VerdictTable → List ℕ → ℕ → List TxIn → Option Figures
+doubted verdicts wtxid index [] = None
+doubted verdicts wtxid index (input ∷ inputs) =
+    if is_good (verdict_of verdicts wtxid index) then doubted verdicts wtxid (index + 1) inputs else Some (Input index wtxid)
+
+-- ---- the whole
+
+-- the figures of the rules on what a transaction pays and for what size
+unfoldable pub paying_figures : Standing → Tx → Denial → Option Figures
+paying_figures over tx InBelowOut = Some (Balance (coins_at over.chain over.entries tx) (outputs_value tx))
+paying_figures over tx TooManySigops = Some (Costs (cost_at over.chain over.entries tx))
+paying_figures over tx MempoolMinFee = pays over.floor (fee_at over.chain over.entries tx) (vsize_at over.chain over.entries tx)
+paying_figures over tx MinRelayFee = pays min_relay_rate (fee_at over.chain over.entries tx) (vsize_at over.chain over.entries tx)
+paying_figures over tx TooLongChain = crowded (ancestors_above over.entries tx.inputs) (vsize_at over.chain over.entries tx)
+paying_figures over tx LowerFeeRate = outpaid_at over.entries (rate_at (fee_at over.chain over.entries tx) (vsize_at over.chain over.entries tx)) tx.inputs
+paying_figures over tx LowerFee = Some (Pays (fee_at over.chain over.entries tx) (fees_of (replaced_of over.entries tx)))
+paying_figures over tx LowerDifference = pays_above (fees_of (replaced_of over.entries tx)) (fee_at over.chain over.entries tx) (vsize_at over.chain over.entries tx)
+paying_figures over tx other = None
+
+-- the figures by which a rule denies a transaction; a rule without figures has none
+unfoldable pub figures_of : Standing → Tx → Denial → Option Figures
+figures_of over tx Oversize = Some (Large (stripped_size_of tx))
+figures_of over tx TxSize = Some (Weighs (weight_of tx))
+figures_of over tx BelowDust = dust 0 tx.outputs
+figures_of over tx TxSizeSmall = Some (Small (stripped_size_of tx))
+figures_of over tx NonFinal = Some (Final tx.locktime (tip_of over.chain + 1) (median_at over.chain (tip_of over.chain)))
+figures_of over tx MempoolConflict = firm over.entries 0 tx.inputs
+figures_of over tx MissingOrSpent = coinless over.chain over.entries 0 tx.inputs
+figures_of over tx PrematureSpend = young over.chain over.entries 0 tx.inputs
+figures_of over tx TooManyReplacements = Some (Descendants (descendant_count over.entries (conflicts_of over.entries tx)))
+figures_of over tx VerdictMissing = doubted over.verdicts (wtxid_of tx) 0 tx.inputs
+figures_of over tx SoftVerdict = doubted over.verdicts (wtxid_of tx) 0 tx.inputs
+figures_of over tx HardVerdict = doubted over.verdicts (wtxid_of tx) 0 tx.inputs
+figures_of over tx other = paying_figures over tx other

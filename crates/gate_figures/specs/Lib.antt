@@ -1,0 +1,3 @@
+pub mod Figures
+pub mod Explaining
+pub mod Laws

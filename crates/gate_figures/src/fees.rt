@@ -1,0 +1,190 @@
+//! What a transaction pays, and for what size.
+ghost use Rattle.std.specs.Prelude.{◌≡◌, ◌≤◌, ◌<◌, ◌^◌, IfOk, IfSome, length};
+ghost use Rattle.gate_tx.specs.Money.{amount_or_zero};
+ghost use Rattle.gate_admit.specs.Reports.{output_sigops, reported, sigop_cost, vsize_of};
+ghost use Rattle.gate_admit.specs.Rules.{coins_value, outputs_value};
+ghost use Rattle.gate_figures.specs.Figures.{coins_at, cost_at, fee_at, pays, pays_above, sized, vsize_at};
+
+use crate::coins::coins_of;
+use crate::figures::Figures;
+use gate_admit::{Chain, LentCoin, Pool};
+use gate_bytes::Memory;
+use gate_inputs::{Answers, answers};
+use gate_script::sigops;
+use gate_standard::fee_at;
+use gate_tx::{Identified, Transaction, TxIn, TxOut};
+use std::alloc::Global;
+use std::hash::BuildHasher;
+
+/// The most that signature operations may cost (Bitcoin Core's `MAX_STANDARD_TX_SIGOPS_COST`).
+const MAX_COST: u128 = 16_000;
+
+/// What a replacement pays for its own relay, in satoshi per 1,000 virtual bytes.
+const INCREMENTAL_RELAY_RATE: u64 = 1000;
+
+/// What a transaction pays over a chain and a pool, and for what size.
+#[derive(Clone, Copy)]
+pub(crate) struct Price {
+    /// What its coins hold, in satoshi.
+    pub(crate) coins: u128,
+    /// What its outputs hold, in satoshi.
+    pub(crate) outputs: u128,
+    /// What the coins hold above what the outputs do.
+    pub(crate) fee: u128,
+    /// What its signature operations cost.
+    pub(crate) cost: u128,
+    /// Its size in virtual bytes, where the cost is within its limit.
+    pub(crate) vsize: Option<u64>,
+}
+
+/// What a coin holds.
+fn coin_amount(coin: &LentCoin<'_>) -> u128
+    ensures value { result ≡ amount_or_zero coin.now.value }
+    ensures small { result < 2 ^ 63 }
+{
+    let value = coin.value();
+    if value < 0 { 0 } else { value as u128 }
+}
+
+/// What an output holds.
+fn output_amount(output: &TxOut) -> u128
+    ensures value { result ≡ amount_or_zero output.now.value }
+    ensures small { result < 2 ^ 63 }
+{
+    if output.value < 0 {
+        0
+    } else {
+        output.value as u128
+    }
+}
+
+/// What the coins hold.
+fn coins_value(coins: &[LentCoin<'_>]) -> u128
+    ensures { result ≡ coins_value coins.now }
+{
+    let mut sum: u128 = 0;
+    for coin in coins {
+        sum += coin_amount(coin);
+    }
+    sum
+}
+
+/// What the outputs hold.
+fn outputs_value(tx: &Transaction) -> u128
+    ensures { result ≡ outputs_value tx.now }
+{
+    tx.tells_invariant();
+    let mut sum: u128 = 0;
+    for output in tx.outputs() {
+        sum += output_amount(output);
+    }
+    sum
+}
+
+/// What is reported of each input with its coin.
+fn reported(alloc: Global, inputs: &[TxIn], coins: &[LentCoin<'_>]) -> Result<Vec<Answers>, Memory>
+    requires { length coins.now ≤ length inputs.now }
+    ensures reported { IfOk result (λ found. found.items ≡ reported inputs.now coins.now) }
+    ensures few { IfOk result (λ found. length found.items ≤ length inputs.now) }
+{
+    let mut found = Vec::with_capacity(alloc, coins.len())?;
+    for place in 0..coins.len() {
+        let coin = &coins[place];
+        found.push(answers(alloc, &inputs[place], coin.script())?)?;
+    }
+    Ok(found)
+}
+
+/// What the script of an output counts.
+fn output_sigops(output: &TxOut) -> u64
+    ensures { result ≡ output_sigops output.now }
+{
+    sigops(output.script.as_slice(), false)
+}
+
+/// What the signature operations of a transaction cost.
+fn sigop_cost(tx: &Transaction, answers: &[Answers]) -> u128
+    requires { length answers.now ≤ length tx.now.inputs }
+    ensures { result ≡ sigop_cost answers.now tx.now.outputs }
+{
+    tx.tells_invariant();
+    let mut cost: u128 = 0;
+    for answer in answers {
+        cost += u128::from(answer.sigop_cost);
+    }
+    let mut count: u128 = 0;
+    for output in tx.outputs() {
+        count += u128::from(output_sigops(output));
+    }
+    cost + 4 * count
+}
+
+/// The size in virtual bytes of a transaction whose signature operations cost so much.
+#[tactic(auto, using(gate_admit::proofs::Weighing::positive))]
+fn vsize_of(cost: u64, tx: &Identified) -> u64
+    requires { cost ≤ 16000 }
+    ensures size { result ≡ vsize_of cost tx.now }
+    ensures some { 0 < result }
+{
+    (tx.weight() as u64).max(20 * cost).div_ceil(4)
+}
+
+/// The same, where the cost is within its limit.
+fn sized(cost: u128, tx: &Identified) -> Option<u64>
+    ensures size { result ≡ sized cost tx.now }
+    ensures some { IfSome result (λ vsize. 0 < vsize) }
+{
+    if cost > MAX_COST {
+        return None;
+    }
+    Some(vsize_of(cost as u64, tx))
+}
+
+impl Price {
+    /// That of a transaction.
+    pub(crate) fn of<S: BuildHasher + Copy + Drop>(
+        alloc: Global,
+        chain: &Chain<S>,
+        pool: &Pool<S>,
+        tx: &Identified,
+    ) -> Result<Price, Memory>
+        ensures coins { IfOk result (λ price. price.coins ≡ coins_at chain.now pool.now.entries tx.now) }
+        ensures outputs { IfOk result (λ price. price.outputs ≡ outputs_value tx.now) }
+        ensures fee { IfOk result (λ price. price.fee ≡ fee_at chain.now pool.now.entries tx.now) }
+        ensures cost { IfOk result (λ price. price.cost ≡ cost_at chain.now pool.now.entries tx.now) }
+        ensures vsize { IfOk result (λ price. price.vsize ≡ vsize_at chain.now pool.now.entries tx.now) }
+        ensures some { IfOk result (λ price. IfSome price.vsize (λ vsize. 0 < vsize)) }
+    {
+        let transaction = tx.transaction();
+        let found = coins_of(alloc, chain, pool, transaction.inputs())?;
+        let answers = reported(alloc, transaction.inputs(), found.as_slice())?;
+        let coins = coins_value(found.as_slice());
+        let outputs = outputs_value(transaction);
+        let cost = sigop_cost(transaction, answers.as_slice());
+        Ok(Price {
+            coins,
+            outputs,
+            fee: coins.saturating_sub(outputs),
+            cost,
+            vsize: sized(cost, tx),
+        })
+    }
+}
+
+/// What is paid, and the fee of a size at a rate.
+#[tactic(auto, unfolding(crate::specs::Figures::pays))]
+pub(crate) fn pays(rate: u64, fee: u128, vsize: Option<u64>) -> Option<Figures>
+    ensures { result ≡ pays rate fee vsize }
+{
+    let needs = fee_at(rate, vsize?);
+    Some(Figures::Pays { fee, needs })
+}
+
+/// What is paid, what those pay that would be replaced, and what is asked above that.
+#[tactic(auto, unfolding(crate::specs::Figures::pays_above))]
+pub(crate) fn pays_above(gone: u128, fee: u128, vsize: Option<u64>) -> Option<Figures>
+    ensures { result ≡ pays_above gone fee vsize }
+{
+    let needs = fee_at(INCREMENTAL_RELAY_RATE, vsize?);
+    Some(Figures::Above { fee, gone, needs })
+}

@@ -1,0 +1,152 @@
+//! The figures by which a rule denies, and their words.
+use gate_tx::{OutPoint, Txid, Wtxid};
+use std::fmt;
+
+/// What decides that a rule denies a transaction.
+#[derive(Clone, Copy, Debug, PartialEq, Eq)]
+pub enum Figures {
+    /// Its size without witnesses, in bytes, which is too large.
+    Large {
+        size: usize,
+    },
+    /// The same, which is too small.
+    Small {
+        size: usize,
+    },
+    /// Its weight.
+    Weighs {
+        weight: usize,
+    },
+    /// An output, its value, and what it has to be worth, in satoshi.
+    Dust {
+        output: usize,
+        value: i64,
+        needs: u64,
+    },
+    /// Its locktime, the height of the next block, and the median time past of the tip.
+    Final {
+        locktime: u32,
+        height: u32,
+        median: u32,
+    },
+    /// An input, and the entry that spends its outpoint and doesn't say that it may be replaced.
+    Spent {
+        input: usize,
+        by: Txid,
+    },
+    /// An input, and the outpoint that it spends: there is no such coin.
+    NoCoin {
+        input: usize,
+        outpoint: OutPoint,
+    },
+    /// An input whose coin a coinbase made, the coin's height, and that of the next block.
+    Young {
+        input: usize,
+        height: u32,
+        next: u32,
+    },
+    /// What its coins hold, and what its outputs do, in satoshi.
+    Balance {
+        coins: u128,
+        outputs: u128,
+    },
+    /// What its signature operations cost.
+    Costs {
+        cost: u128,
+    },
+    /// What it pays, and what is asked, in satoshi.
+    Pays {
+        fee: u128,
+        needs: u128,
+    },
+    /// How many ancestors it would have, with itself.
+    Ancestors {
+        count: u128,
+    },
+    /// What its ancestors and itself would take, in virtual bytes.
+    AncestorsSized {
+        size: u128,
+    },
+    /// The rate that it pays, in satoshi per 1,000 virtual bytes, and an entry that it conflicts with, which pays no less.
+    Outpaid {
+        rate: u128,
+        most: u128,
+        by: Txid,
+    },
+    /// How many descendants the entries have that it conflicts with, with themselves.
+    Descendants {
+        count: u128,
+    },
+    /// What it pays, what those that it would replace pay, and what is asked above that, in satoshi.
+    Above {
+        fee: u128,
+        gone: u128,
+        needs: u128,
+    },
+    /// An input of the transaction with this id.
+    Input {
+        input: u32,
+        wtxid: Wtxid,
+    },
+}
+
+impl fmt::Display for Figures {
+    fn fmt<W: fmt::Write>(&self, f: &mut fmt::Formatter<W>) -> fmt::Result {
+        match self {
+            Figures::Large { size } => {
+                write!(f, "{size} bytes without witnesses, 1000000 allowed")
+            }
+            Figures::Small { size } => write!(f, "{size} bytes without witnesses, needs 82"),
+            Figures::Weighs { weight } => write!(f, "weight {weight}, 400000 allowed"),
+            Figures::Dust {
+                output,
+                value,
+                needs,
+            } => write!(f, "output {output}: value {value}, needs {needs}"),
+            Figures::Final {
+                locktime,
+                height,
+                median,
+            } => write!(
+                f,
+                "locktime {locktime}, next height {height}, median time past {median}"
+            ),
+            Figures::Spent { input, by } => write!(
+                f,
+                "input {input}: {by} spends its coin, and does not signal replacement"
+            ),
+            Figures::NoCoin { input, outpoint } => {
+                let OutPoint { txid, index } = outpoint;
+                write!(f, "input {input}: no coin {txid}:{index}")
+            }
+            Figures::Young {
+                input,
+                height,
+                next,
+            } => write!(
+                f,
+                "input {input}: a coinbase of height {height}, next height {next}"
+            ),
+            Figures::Balance { coins, outputs } => {
+                write!(f, "coins of {coins}, outputs of {outputs}")
+            }
+            Figures::Costs { cost } => write!(f, "cost {cost}, 16000 allowed"),
+            Figures::Pays { fee, needs } => write!(f, "pays {fee}, needs {needs}"),
+            Figures::Ancestors { count } => write!(f, "{count} ancestors, 25 allowed"),
+            Figures::AncestorsSized { size } => write!(
+                f,
+                "ancestors of {size} virtual bytes, 101000 allowed"
+            ),
+            Figures::Outpaid { rate, most, by } => write!(
+                f,
+                "pays {rate} per 1000 virtual bytes, needs more than the {most} of {by}"
+            ),
+            Figures::Descendants { count } => write!(f, "{count} descendants, 100 allowed"),
+            Figures::Above { fee, gone, needs } => {
+                let left = fee.saturating_sub(*gone);
+                write!(f, "{fee} - {gone} = {left}, needs {needs}")
+            }
+            Figures::Input { input, wtxid } => write!(f, "input {input} of {wtxid}"),
+        }
+    }
+}

@@ -1,0 +1,171 @@
+//! The explanation of an event.
+ghost use Rattle.std.specs.Prelude.{◌≡◌, IfOk};
+ghost use Rattle.gate_locks.specs.Locks.{median_at};
+ghost use Rattle.gate_chain.specs.Times.{tip_of};
+ghost use Rattle.gate_core.specs.Submissions.{submission_of};
+ghost use Rattle.gate_core.specs.World.{standing_of};
+ghost use Rattle.gate_admit.specs.declared.attempt.Attempt.TheVariants.{First};
+ghost use Rattle.gate_figures.specs.Explaining.{explained, explanation_of, figures_for};
+ghost use Rattle.gate_admit.specs.Rules.{decision_of};
+ghost use Rattle.gate_figures.specs.Figures.{figures_of, paying_figures};
+
+use crate::coins::{coinless, young};
+use crate::explanation::{Explained, Explanation};
+use crate::families::{crowded, descendant_count, fees_gone};
+use crate::fees::{Price, pays, pays_above};
+use crate::figures::Figures;
+use crate::outputs::dust;
+use crate::rivals::{firm, outpaid_at, rate_at};
+use crate::verdicts::doubted;
+use gate_admit::{Chain, Grant, Prepared, judge};
+use gate_bytes::Memory;
+use gate_core::{Event, State, submission};
+use gate_standard::Denial;
+use gate_tx::Identified;
+use std::alloc::Global;
+use std::hash::BuildHasher;
+
+/// What every transaction has to pay, in satoshi per 1,000 virtual bytes.
+const MIN_RELAY_RATE: u64 = 1000;
+
+/// The median time past of the tip.
+fn tip_median<S: BuildHasher + Copy + Drop>(chain: &Chain<S>) -> u32
+    ensures { result ≡ median_at chain.now (tip_of chain.now) }
+{
+    chain.mtp(chain.tip()).unwrap()
+}
+
+/// The figures of a rule on what a transaction pays and for what size; of other rules there are none.
+#[tactic(auto, unfolding(crate::specs::Figures::paying_figures))]
+fn paying_figures<S: BuildHasher + Copy + Drop>(
+    alloc: Global,
+    state: &State<S>,
+    tx: &Identified,
+    denial: Denial,
+) -> Result<Option<Figures>, Memory>
+    ensures { IfOk result (λ figures. figures ≡ paying_figures (standing_of state.now) tx.now denial) }
+{
+    let transaction = tx.transaction();
+    let pool = state.pool();
+    let inputs = transaction.inputs();
+    let price = Price::of(alloc, state.chain(), pool, tx)?;
+    match denial {
+        Denial::InBelowOut => Ok(Some(Figures::Balance {
+            coins: price.coins,
+            outputs: price.outputs,
+        })),
+        Denial::TooManySigops => Ok(Some(Figures::Costs { cost: price.cost })),
+        Denial::MempoolMinFee => Ok(pays(state.floor().rate(), price.fee, price.vsize)),
+        Denial::MinRelayFee => Ok(pays(MIN_RELAY_RATE, price.fee, price.vsize)),
+        Denial::TooLongChain => crowded(alloc, pool, inputs, price.vsize),
+        Denial::LowerFeeRate => Ok(outpaid_at(pool, inputs, rate_at(price.fee, price.vsize))),
+        Denial::LowerFee => Ok(Some(Figures::Pays {
+            fee: price.fee,
+            needs: fees_gone(alloc, pool, transaction)?,
+        })),
+        Denial::LowerDifference => {
+            let gone = fees_gone(alloc, pool, transaction)?;
+            Ok(pays_above(gone, price.fee, price.vsize))
+        }
+        _ => Ok(None),
+    }
+}
+
+/// The figures by which a rule denies a transaction.
+#[tactic(auto, unfolding(crate::specs::Figures::figures_of))]
+fn figures_of<S: BuildHasher + Copy + Drop>(
+    alloc: Global,
+    state: &State<S>,
+    tx: &Identified,
+    denial: Denial,
+) -> Result<Option<Figures>, Memory>
+    ensures { IfOk result (λ figures. figures ≡ figures_of (standing_of state.now) tx.now denial) }
+{
+    let transaction = tx.transaction();
+    let inputs = transaction.inputs();
+    let chain = state.chain();
+    let pool = state.pool();
+    match denial {
+        Denial::Oversize => Ok(Some(Figures::Large {
+            size: transaction.stripped_size(),
+        })),
+        Denial::TxSizeSmall => Ok(Some(Figures::Small {
+            size: transaction.stripped_size(),
+        })),
+        Denial::Dust => Ok(dust(transaction.outputs())),
+        Denial::TxSize => Ok(Some(Figures::Weighs {
+            weight: tx.weight(),
+        })),
+        Denial::NonFinal => Ok(Some(Figures::Final {
+            locktime: transaction.locktime(),
+            height: chain.tip() + 1,
+            median: tip_median(chain),
+        })),
+        Denial::MempoolConflict => Ok(firm(pool, inputs)),
+        Denial::MissingOrSpent => Ok(coinless(chain, pool, inputs)),
+        Denial::VerdictMissing | Denial::SoftVerdict | Denial::HardVerdict => {
+            Ok(doubted(state.verdicts(), tx))
+        }
+        Denial::PrematureSpend => Ok(young(chain, pool, inputs)),
+        Denial::TooManyReplacements => Ok(Some(Figures::Descendants {
+            count: descendant_count(alloc, pool, transaction)?,
+        })),
+        _ => paying_figures(alloc, state, tx, denial),
+    }
+}
+
+/// The figures by which a rule denies a submission, which has a transaction unless it spells none.
+fn figures_for<S: BuildHasher + Copy + Drop>(
+    alloc: Global,
+    state: &State<S>,
+    prepared: &Prepared,
+    denial: Denial,
+) -> Result<Option<Figures>, Memory>
+    ensures { IfOk result (λ figures. figures ≡ figures_for (standing_of state.now) prepared.now denial) }
+{
+    match prepared.candidate() {
+        Some(candidate) => figures_of(alloc, state, candidate.identified().get(), denial),
+        None => Ok(None),
+    }
+}
+
+/// The grant of a submission, or why it is denied.
+fn explain_submission<S: BuildHasher + Copy + Drop>(
+    alloc: Global,
+    state: &State<S>,
+    prepared: &Prepared,
+) -> Result<Explained, Memory>
+    ensures { IfOk result (λ found. found ≡ explained (standing_of state.now) prepared.now (decision_of First (standing_of state.now) prepared.now)) }
+{
+    let decision = judge(
+        alloc,
+        state.chain(),
+        state.pool(),
+        state.floor(),
+        prepared,
+        state.verdicts(),
+    )?;
+    match decision {
+        Ok(grant) => Ok(Ok(grant)),
+        Err(denial) => Ok(Err(Explanation {
+            denial,
+            figures: figures_for(alloc, state, prepared, denial)?,
+        })),
+    }
+}
+
+/// What is decided of the transaction that an event submits, by the state before the event: its grant, or the first rule of
+/// the written order that fails, with the figures of its definition. Of an event that submits nothing nothing is said, and
+/// nothing of the rules on its caller.
+pub fn explain<S: BuildHasher + Copy + Drop>(
+    alloc: Global,
+    state: &State<S>,
+    event: &Event,
+) -> Result<Option<Explained>, Memory>
+    ensures { IfOk result (λ found. found ≡ explanation_of (standing_of state.now) (submission_of event.now)) }
+{
+    match submission(event) {
+        Some(prepared) => Ok(Some(explain_submission(alloc, state, prepared)?)),
+        None => Ok(None),
+    }
+}

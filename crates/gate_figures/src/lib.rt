@@ -1,0 +1,20 @@
+//! Why a transaction is denied, with the figures that decide it.
+//!
+//! The main clause is that of [`explain`]: the rule that decides a submission over a state, and the figures of its definition.
+#![tactic(auto)]
+
+mod coins;
+mod explanation;
+mod families;
+mod fees;
+mod figures;
+mod judging;
+mod laws;
+mod outputs;
+mod rivals;
+mod verdicts;
+
+pub use explanation::{Explained, Explanation};
+pub use figures::Figures;
+pub use judging::explain;
+pub use laws::figures_decide;

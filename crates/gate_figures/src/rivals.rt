@@ -1,0 +1,95 @@
+//! The entries that spend what a transaction spends, and don't give way.
+ghost use Rattle.std.specs.Prelude.{◌≡◌, ◌<◌, IfSome};
+ghost use Rattle.std.specs.Option.{option_copied};
+ghost use Rattle.gate_pool.specs.Pool.{spender_of};
+ghost use Rattle.gate_figures.specs.Figures.{firm, firm_by, outpaid, outpaid_at, outpaid_by, rate_at};
+
+use crate::figures::Figures;
+use gate_admit::{Entry, Pool};
+use gate_rbf::signals;
+use gate_standard::rate_of;
+use gate_tx::TxIn;
+use std::hash::BuildHasher;
+
+/// An entry that spends what this input does, where it doesn't say that it may be replaced.
+fn firm_by(input: usize, spender: Option<&Entry>) -> Option<Figures>
+    ensures { result ≡ firm_by input (option_copied spender.entry) }
+{
+    let entry = spender?;
+    if signals(entry.transaction()) {
+        return None;
+    }
+    Some(Figures::Spent {
+        input,
+        by: entry.txid(),
+    })
+}
+
+/// The first input whose outpoint an entry spends that doesn't say that it may be replaced.
+pub(crate) fn firm<S: BuildHasher + Copy + Drop>(pool: &Pool<S>, inputs: &[TxIn]) -> Option<Figures>
+    ensures { result ≡ firm pool.now.entries 0 inputs.now }
+{
+    for input in 0..inputs.len() {
+        if let Some(found) = firm_by(input, pool.spender(&inputs[input].prevout)) {
+            return Some(found);
+        }
+    }
+    None
+}
+
+/// The rate of a fee for a size, in satoshi per 1,000 virtual bytes.
+#[tactic(auto, unfolding(crate::specs::Figures::rate_at))]
+pub(crate) fn rate_at(fee: u128, vsize: Option<u64>) -> Option<u128>
+    requires { IfSome vsize (λ vsize. 0 < vsize) }
+    ensures { result ≡ rate_at fee vsize }
+{
+    let vsize = vsize?;
+    if fee > u128::from(u64::MAX) {
+        return None;
+    }
+    Some(rate_of(fee as u64, vsize))
+}
+
+/// An entry that spends what an input does, where it pays at least this rate.
+fn outpaid_by(rate: u128, spender: Option<&Entry>) -> Option<Figures>
+    ensures { result ≡ outpaid_by rate (option_copied spender.entry) }
+{
+    let entry = spender?;
+    let most = rate_of(entry.fee(), entry.vsize());
+    if most < rate {
+        return None;
+    }
+    Some(Figures::Outpaid {
+        rate,
+        most,
+        by: entry.txid(),
+    })
+}
+
+/// The first entry, input by input, that spends what the transaction spends and pays at least this rate.
+fn outpaid<S: BuildHasher + Copy + Drop>(
+    pool: &Pool<S>,
+    inputs: &[TxIn],
+    rate: u128,
+) -> Option<Figures>
+    ensures { result ≡ outpaid pool.now.entries rate inputs.now }
+{
+    for input in inputs {
+        if let Some(found) = outpaid_by(rate, pool.spender(&input.prevout)) {
+            return Some(found);
+        }
+    }
+    None
+}
+
+/// The same at a rate, where there is one.
+#[tactic(auto, unfolding(crate::specs::Figures::outpaid_at))]
+pub(crate) fn outpaid_at<S: BuildHasher + Copy + Drop>(
+    pool: &Pool<S>,
+    inputs: &[TxIn],
+    rate: Option<u128>,
+) -> Option<Figures>
+    ensures { result ≡ outpaid_at pool.now.entries rate inputs.now }
+{
+    outpaid(pool, inputs, rate?)
+}

@@ -1,0 +1,227 @@
+"""`gate run --explain`: the figures behind each denial, and what came of the events, on standard error."""
+
+import os
+import re
+import subprocess
+import tempfile
+import time
+
+from bitcoin import Input, Output, Transaction, coin, number_hash, padded, payment, printed
+from gate import ROOT, SECONDS, as_bytes, lines, same, same_lines, true
+
+TIMES = "times 101 1000 600"
+OPENING = [TIMES, "verdict * ok", "bloom 1"]
+ENTER = "peer 1 enter 192.0.2.1"
+MULTISIG = b"\x51" + 3 * (b"\x21\x02" + b"\x02" * 32) + b"\x53\xae"
+
+
+def sent(tx):
+    return "peer 1 tx 5000 " + tx.hex()
+
+
+def said_of(gate, opening, events):
+    """The lines on standard error but for the last, each with its event's line, and the last line. Standard output is what it is
+    without `--explain`."""
+    text = lines(opening) + "---\n" + lines(events)
+    done, plain = gate.run("run --explain", text), gate.run("run", text)
+    same("standard output and status", (done.stdout, done.status), (plain.stdout, plain.status))
+    same("standard error without --explain", plain.stderr, b"")
+    said = done.stderr.decode().splitlines()
+    before = "gate: line %d: "
+    numbers = {before % (len(opening) + 1 + number): event for number, event in enumerate(events, 1)}
+    told = []
+    for line in said[:-1]:
+        start = next(it for it in numbers if line.startswith(it))
+        told.append((numbers[start], line[len(start):]))
+    return told, said[-1]
+
+
+def explains(gate, opening, events):
+    """Of each pair the event gets the reply that denies it by this rule, with these figures."""
+    told, _ = said_of(gate, opening, [event for event, _ in events])
+    same_lines(["%s: %s" % it for it in told], ["%s: %s" % (event, figures) for event, figures in events if figures])
+
+
+def spending(*spent, value):
+    """A transaction that spends these outputs, to one output."""
+    return Transaction([Input(tx.hash(), index) for tx, index in spent], [Output(value)])
+
+
+def test_fees(gate):
+    """What is paid, and what is asked: 82 virtual bytes at 1,000 satoshi per 1,000 of them, and at a floor of 2,000."""
+    low, floor = payment(1, 99950), payment(2, 99900)
+    explains(gate, OPENING + [coin(1), coin(2), coin(3)], [
+        (ENTER, None),
+        (sent(low), "A35 pays 50, needs 82"),
+        ('user a rpc 5000 {"method":"sendrawtransaction","params":["%s"],"id":1}' % low.hex(), "A35 pays 50, needs 82"),
+        ('user a rpc 5000 {"method":"testmempoolaccept","params":[["%s"]],"id":1}' % low.hex(), "A35 pays 50, needs 82"),
+        ("operator floor 2000", None),
+        (sent(floor), "A34 pays 100, needs 164"),
+        (sent(payment(3, 100001)), "A29 coins of 100000, outputs of 100001"),
+    ])
+
+
+def test_coins(gate):
+    """An outpoint without a coin, and a coinbase that is too young."""
+    both = Transaction([Input(number_hash(1)), Input(number_hash(9), 7)], [Output(1000)])
+    explains(gate, OPENING + [coin(1), coin(2, height=50, kind="cb")], [
+        (ENTER, None),
+        (sent(payment(9, 1000)), "A25 input 0: no coin %s:0" % printed(number_hash(9))),
+        (sent(both), "A25 input 1: no coin %s:7" % printed(number_hash(9))),
+        (sent(payment(2, 1000)), "A27 input 0: a coinbase of height 50, next height 101"),
+    ])
+
+
+def test_sizes_and_locks(gate):
+    """Figures of the transaction by itself; the median time past of height 100 is the time of height 95."""
+    small = Transaction([Input(number_hash(1))], [Output(0, b"\x6a")])
+    explains(gate, OPENING + [coin(1), coin(2, 100000000)], [
+        (ENTER, None),
+        (sent(small), "A19 %d bytes without witnesses, needs 82" % len(small.stripped())),
+        (sent(padded(100001, 2, 1000)), "A13 weight 400004, 400000 allowed"),
+        (sent(payment(1, 99000, locktime=200)), "A20 locktime 200, next height 101, median time past 58000"),
+        (sent(payment(1, 293)), "A17 output 0: value 293, needs 294"),
+        (sent(padded(1000001, 2, 1000)), "A4 1000001 bytes without witnesses, 1000000 allowed"),
+    ])
+
+
+def test_signature_operations(gate):
+    """The script of an output with several keys counts 20 operations, each four times; the witness of the input costs 1."""
+    many = Transaction([Input(number_hash(1))], [Output(2000, MULTISIG)] * 201)
+    explains(gate, OPENING + [coin(1, 100000000)], [(ENTER, None), (sent(many), "A33 cost 16081, 16000 allowed")])
+
+
+def test_families(gate):
+    """The 26th of a chain, and ancestors that take too much."""
+    chain = [payment(1, 99000)]
+    while len(chain) < 26:
+        chain.append(spending((chain[-1], 0), value=chain[-1].outputs[0].value - 1000))
+    large = padded(99000, 2, 1000)
+    child = spending((large, 0), value=300)
+    second = padded(2000, 3, 1000)
+    second.inputs.append(Input(child.hash()))
+    size = large.virtual_size() + child.virtual_size() + second.virtual_size()
+    opening = OPENING + [coin(1), coin(2, 100000000), coin(3, 100000000)]
+    explains(gate, opening, [(ENTER, None)] + [(sent(tx), None) for tx in chain[:-1]] + [
+        (sent(chain[-1]), "A36 26 ancestors, 25 allowed"),
+        (sent(large), None),
+        (sent(child), None),
+        (sent(second), "A36 ancestors of %d virtual bytes, 101000 allowed" % size),
+    ])
+
+
+def test_replacements(gate):
+    """What a replacement pays beside what it replaces."""
+    first, large = payment(1, 99000), padded(500, 2, 300)
+    paid = 100000 - sum(it.value for it in large.outputs)
+    many = [payment(number, 99000) for number in range(10, 111)]
+    all_of_them = Transaction([Input(number_hash(number)) for number in range(10, 111)], [Output(1000)])
+    opening = OPENING + [coin(number) for number in [1, 2] + list(range(10, 111))]
+    size = len(payment(2, 0).stripped())
+    explains(gate, opening, [(ENTER, None), (sent(first), None)] + [(sent(tx), None) for tx in [large] + many] + [
+        (sent(payment(1, 98950)), "A42 1050 - 1000 = 50, needs %d" % size),
+        (sent(payment(2, 100000 - paid + 1)), "A41 pays %d, needs %d" % (paid - 1, paid)),
+        (sent(all_of_them), "A39 101 descendants, 100 allowed"),
+    ])
+
+
+def test_rates_and_signals(gate):
+    """A rate that is no higher than that of what it would replace, and what may not be replaced."""
+    first, again = payment(1, 99000), payment(1, 99000, version=1)
+    firm, rival = Transaction([Input(number_hash(2), sequence=0xFFFFFFFF)], [Output(99000)]), payment(2, 90000)
+    rate = 1000 * 1000 // first.virtual_size()
+    explains(gate, OPENING + [coin(1), coin(2)], [
+        (ENTER, None),
+        (sent(first), None),
+        (sent(firm), None),
+        (sent(again), "A38 pays %d per 1000 virtual bytes, needs more than the %d of %s" % (rate, rate, first.txid())),
+        (sent(rival), "A23 input 0: %s spends its coin, and does not signal replacement" % firm.txid()),
+    ])
+
+
+def test_verdicts(gate):
+    """The input whose verdict is missing or bad."""
+    two = Transaction([Input(number_hash(1)), Input(number_hash(2))], [Output(1000)])
+    soft = payment(3, 99000)
+    verdicts = ["verdict %s 0 ok" % two.wtxid(), "verdict %s 0 soft" % soft.wtxid()]
+    explains(gate, [TIMES] + [coin(number) for number in (1, 2, 3)] + verdicts, [
+        (ENTER, None),
+        (sent(two), "A43 input 1 of " + two.wtxid()),
+        (sent(soft), "A44 input 0 of " + soft.wtxid()),
+    ])
+
+
+def test_rules_without_figures(gate):
+    """The sentence of the rule."""
+    tx = payment(1, 99000)
+    explains(gate, OPENING + [coin(1), "rpcwhitelist a:getmempoolinfo"], [
+        ("peer 2 leave", "P1 No peer entered with this number"),
+        (ENTER, None),
+        (sent(tx), None),
+        (sent(tx), "P5 The pool has the transaction already, by its wtxid"),
+        ("peer 1 tx 5000 00", "A1 The bytes are not the text of a transaction"),
+        ('user a rpc 5000 {"method":"getrawmempool","id":1}', "U1 The user may not call this method"),
+        ("chain 101 5000", "C6 More blocks are to be disconnected than are connected, or than 100"),
+    ])
+
+
+def test_calls(gate):
+    """What is wrong with a call that is answered by an error."""
+    explains(gate, OPENING, [
+        ("user a rpc 0 {", "the call is no JSON"),
+        ('user a rpc 0 {"method":1}', "a call is an object with a method and a list of params"),
+        ('user a rpc 0 {"method":"getrawmempol"}', "no method is named so"),
+        ('user a rpc 0 {"method":"getrawmempool","params":[true]}', "the method does not take these params"),
+        ('user a rpc 0 {"method":"getmempoolentry","params":["%s"]}' % printed(number_hash(1)), "no transaction of the pool has this txid"),
+    ])
+
+
+def test_replaced_by_a_call(gate):
+    """A user's transaction replaces like a peer's: the summary counts it."""
+    first, second = payment(1, 99000), payment(1, 98000)
+    call = 'user a rpc 5000 {"method":"%s","params":[%s],"id":1}'
+    _, last = said_of(gate, OPENING + [coin(1)], [
+        call % ("sendrawtransaction", '"%s"' % first.hex()), call % ("testmempoolaccept", '["%s"]' % second.hex()), call % ("sendrawtransaction", '"%s"' % second.hex()),
+    ])
+    same("the summary", last, "gate: 3 events: 2 admitted, 1 replaced, 0 denied, 0 refused lines; pool 1 entries, 82 of 300000000 virtual bytes, floor 0")
+
+
+def test_progress(gate):
+    """At a terminal a run that takes more than five seconds says how far it is. It waits here for its replies to be read."""
+    ours, theirs = os.openpty()
+    with tempfile.TemporaryFile() as file:
+        file.write(as_bytes(TIMES + "\n---\n" + 60000 * "operator bloom on\n"))
+        file.seek(0)
+        with subprocess.Popen(gate.words("run --explain"), stdin=file, stdout=subprocess.PIPE, stderr=theirs) as running:
+            os.close(theirs)
+            time.sleep(5.5)
+            replies, _ = running.communicate(timeout=SECONDS)
+    told = os.read(ours, 10000).decode().splitlines()
+    os.close(ours)
+    same("replies", replies, 60000 * b"set\n")
+    true("progress and a summary: %r" % told, len(told) == 2)
+    true("progress: %r" % told[0], re.fullmatch(r"gate: [1-9]\d*00 events, [1-9]\d* a second, [1-9]\d? % of the input", told[0]))
+    same("the summary", told[1].partition(":")[2].partition(":")[0], " 60000 events")
+
+
+def test_the_example(gate):
+    """The example of a replacement, of which one try is a satoshi short."""
+    with open(os.path.join(ROOT, "examples", "replacement.txt"), "rb") as file:
+        done = gate.run("run --explain", file.read())
+    same("standard error", done.stderr.decode().splitlines(), [
+        "gate: line 14: A42 329 - 220 = 109, needs 110",
+        "gate: 6 events: 3 admitted, 2 replaced, 1 denied (A42 1), 0 refused lines; pool 1 entries, 110 of 300000000 virtual bytes, floor 0",
+    ])
+
+
+def test_the_summary(gate):
+    """The last line counts what came of the events."""
+    tx, low = payment(1, 99000), payment(2, 99950)
+    told, last = said_of(gate, OPENING + [coin(1), coin(2)], [
+        ENTER, sent(tx), "nonsense", "# a comment", sent(low), sent(payment(1, 90000)), sent(payment(9, 1000)), sent(payment(8, 1000)),
+    ])
+    same("what is told of the lines", [event for event, _ in told], ["nonsense", sent(low), sent(payment(9, 1000)), sent(payment(8, 1000))])
+    same("the summary", last, "gate: 6 events: 2 admitted, 1 replaced, 3 denied (A25 2, A35 1), 1 refused lines;"
+         " pool 1 entries, 82 of 300000000 virtual bytes, floor 0")
+    _, last = said_of(gate, OPENING, [])
+    same("of nothing", last, "gate: 0 events: 0 admitted, 0 replaced, 0 denied, 0 refused lines; pool 0 entries, 0 of 300000000 virtual bytes, floor 0")
