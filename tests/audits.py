@@ -2,7 +2,7 @@
 
 from bitcoin import coin, payment
 from gate import lines, same
-from streams import UNREAD
+from streams import TOO_LONG, TOO_MANY, past
 
 OPENING = lines(["times 101 1000 600", "verdict * ok", "bloom 1", coin(1)]) + "---\n"
 LONGEST = 16777216
@@ -20,11 +20,11 @@ def says(gate, journal, answer):
     same("status", done.status, 0 if answer.startswith("legal") else 1)
 
 
-def is_unread(gate, journal):
-    """The journal passes a limit of lines: nothing is printed, and standard error says why."""
+def is_unread(gate, journal, line, limit):
+    """The journal passes a limit at this line of it: nothing is printed, and standard error says why."""
     done = gate.run("audit", OPENING + journal)
     same("standard output", done.stdout, b"")
-    same("standard error", done.stderr, UNREAD)
+    same("standard error", done.stderr, past(OPENING.count("\n") + line, limit))
     same("status", done.status, 1)
 
 
@@ -59,7 +59,7 @@ def test_illegal_journals(gate):
         "peer 1 enter 192.0.2.1\nentered none\n", "< entered none\n> peer 1 enter 192.0.2.1\n", "> peer 1 enter 192.0.2.1\n", "> peer 1 enter 192.0.2.1",
         "> peer 1 enter 192.0.2.1\n> peer 1 enter 192.0.2.1\n< entered none\n", "> peer 1 enter 192.0.2.1\n< \n", "> peer 1 enter 192.0.2.1\n<\n",
         "> nonsense\n< refused L1 bad-line\n", "> \n< refused L1 bad-line\n", ">\n< refused L1 bad-line\n", "> # a comment\n< refused L1 bad-line\n",
-        "> peer 1 enter 192.0.2.1\n< fault memory\n", "---\n", "===\n", "lane 1\n", "settled 0\n", "base 1\n", "> peer 1 enter 192.0.2.1\n< denied P3 keep peer-known\n",
+        "> peer 1 enter 192.0.2.1\n< fault memory\n", "---\n", "===\n", "lane 1\n", "settled 0\n", "base 3\n", "base 01\n", "base\n", "base \n", "base x\n", "base 1 \n", "base +1\n", "Base 0\n", "> base 0\n< base 0\n", "> peer 1 enter 192.0.2.1\nbase 0\n< entered none\n", "> peer 1 enter 192.0.2.1\n< denied P3 keep peer-known\n",
     ):
         says(gate, pair, "illegal 1")
         says(gate, LISTED + pair + LISTED, "illegal 2")
@@ -67,6 +67,34 @@ def test_illegal_journals(gate):
     says(gate, ENTERED * 2, "illegal 2")
     says(gate, b"> \xff\n< refused L1 bad-line\n", "illegal 1")
     says(gate, b"> peer 1 enter 192.0.2.1\n< entered \xff\n", "illegal 1")
+
+
+def test_rounds(gate):
+    """A line `base M` stands anywhere but behind the line of an event, any number of times, M the number of entries before it."""
+    says(gate, "base 0", "legal 0")
+    says(gate, "base 0\n# none\n\nbase 0\n" + ENTERED + "base 1\nbase 1\n" + LISTED + "base 2\n", "legal 2")
+    says(gate, LISTED * 10 + "base 10\n" + LISTED * 2 + "base 12\n" + ENTERED, "legal 13")
+    says(gate, "base 0\n" * 999998 + ENTERED, "legal 1")
+    is_unread(gate, "base 0\n" * 999999 + ENTERED)
+    for wrong in ("0", "2", "01", "1 ", " 1", "1\r", "", "-1", "1.0", "18446744073709551617", "9007199254740993", "x"):
+        says(gate, ENTERED + "base %s\n" % wrong + LISTED, "illegal 2")
+        says(gate, ENTERED + "base 1\n" + LISTED + "base 2\n" + LISTED * 9 + "base %s" % wrong, "illegal 12")
+    says(gate, ENTERED + "base 1\n" + ENTERED, "illegal 2")
+    says(gate, LISTED + "> peer 1 enter 192.0.2.1\nbase 1\n< entered none\n", "illegal 2")
+    says(gate, LISTED + "base 2\n" + "#" * (LONGEST + 1), "illegal 2")
+    is_unread(gate, LISTED + "base " + "1" * (LONGEST - 4))
+
+
+def test_the_bound_is_that_of_a_round(gate):
+    """Each round has at most 100,000 entries, and their number is that of all rounds."""
+    pairs = "> peer 1 leave\n< denied P1 keep peer-unknown\n" * 100000
+    says(gate, pairs + "base 100000\n" + pairs + "base 200000\n", "legal 200000")
+    says(gate, pairs + "base 100000\n" + pairs + ENTERED, "illegal 200001")
+    says(gate, ENTERED + "base 1\n" + pairs.replace("peer 1", "peer 2") + LISTED, "illegal 100002")
+    says(gate, pairs + "base 99999\n", "illegal 100001")
+    most = "".join(pairs + "base %d\n" % (100000 * number) for number in (1, 2, 3, 4)) + pairs[:len(pairs) // 100000 * 99998]
+    says(gate, most, "legal 499998")
+    is_unread(gate, most + ENTERED)
 
 
 def test_a_journal_of_the_most_entries(gate):
@@ -83,16 +111,16 @@ def test_lines_at_the_limits(gate):
     longest = "> " + "user a rpc 0 ".ljust(LONGEST, "x") + "\n"
     says(gate, longest + PARSE_ERROR, "legal 1")
     says(gate, longest + PARSE_ERROR.replace("Parse", "parse"), "illegal 1")
-    is_unread(gate, longest.replace("x\n", "xx\n") + PARSE_ERROR)
-    is_unread(gate, ENTERED + "> peer 1 leave\n< " + "x" * (LONGEST + 1))
+    is_unread(gate, longest.replace("x\n", "xx\n") + PARSE_ERROR, 1, TOO_LONG)
+    is_unread(gate, ENTERED + "> peer 1 leave\n< " + "x" * (LONGEST + 1), 4, TOO_LONG)
     says(gate, "> nonsense\n< refused L1 bad-line\n" + "#" * (LONGEST + 9), "illegal 1")
 
 
 def test_too_many_lines(gate):
     """1,000,000 lines are read."""
     says(gate, "\n" * 999998 + ENTERED, "legal 1")
-    is_unread(gate, "\n" * 1000000 + "\n")
-    is_unread(gate, "\n" * 999999 + ENTERED)
+    is_unread(gate, "\n" * 1000000 + "\n", 1000000, TOO_MANY)
+    is_unread(gate, "\n" * 999999 + ENTERED, 1000000, TOO_MANY)
     says(gate, "x\n" + "\n" * 1000000, "illegal 1")
 
 
@@ -103,4 +131,5 @@ def test_openings_of_audits(gate):
         ("times 1 0 0\n", "legal 0\n", 0), ("times 1 0 0\n---", "legal 0\n", 0),
     ):
         done = gate.run("audit", opening)
-        same("%r" % opening, (done.stdout.decode(), done.stderr, done.status), (printed, b"", status))
+        same("%r" % opening, (done.stdout.decode(), done.status), (printed, status))
+        same("lines on standard error", len(done.stderr.splitlines()), 1 if status == 2 else 0)

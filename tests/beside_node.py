@@ -90,7 +90,7 @@ def test_a_running_node(gate):
         path = written(folder, recorded)
         command = "%s %s" % (os.path.join(ROOT, "tests", "recorded_node.py"), path)
         again = os.path.join(folder, "again.jsonl")
-        same("opening", ran("opening", "--rpc", command, "--record", again), ran("opening", "--from", path))
+        same("opening", ran("opening", "--cli", command, "--record", again), ran("opening", "--from", path))
         same("compare with what was written down", compared(gate, "--from", again), (["3 compared: 3 alike, 0 known differences, 0 others"], "", 0))
 
 
@@ -208,8 +208,8 @@ def test_nodes_that_fail(gate):
         lacking = os.path.join(folder, "lacking.jsonl")
         os.rename(written(folder, without), lacking)
         for words, wanted in (
-            (("--rpc", "/no/such/command"), "opening: /no/such/command does not start: No such file or directory\n"),
-            (("--rpc", "echo"), "opening: an answer of the node does not read: Expecting value: line 1 column 1 (char 0)\n"),
+            (("--cli", "/no/such/command"), "opening: /no/such/command does not start: No such file or directory\n"),
+            (("--cli", "echo"), "opening: an answer of the node does not read: Expecting value: line 1 column 1 (char 0)\n"),
             (("--from", "/no/such/file"), "opening: [Errno 2] No such file or directory: '/no/such/file'\n"),
             (("--from", lacking), "opening: an answer of the node has no field 'mempoolminfee'\n"),
             (("--rpc", "false"), "opening: false getblockchaininfo: status 1\n"),

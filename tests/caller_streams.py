@@ -7,7 +7,7 @@ from dataclasses import asdict
 from bitcoin import Input, Output, Transaction, printed
 from callers import METHODS, CallerModel, Settings
 from gate import same, true
-from random_streams import Stream, compared
+from random_streams import Stream, compared, filter_rate
 
 STREAMS = 300
 EVENTS = 80
@@ -20,7 +20,7 @@ IDS = (None, 0, 1, 18446744073709551615, -1, -9223372036854775808, "", "x", "\u0
 # how often all streams together have to meet each of these
 FLOORS = {
     "P1": 50, "P2": 300, "P3": 500, "P4": 100, "P5": 30, "P6": 50, "P7": 40, "P8": 50, "P9": 200, "P10": 10, "U1": 300,
-    "relay": 5, "close": 200, "admitted": 100, "block": 100, "headers": 100, "listing": 100, "entered": 300, "set": 500,
+    "relay": 5, "close": 200, "admitted": 100, "block": 100, "headers": 100, "listing": 100, "filter": 300, "entered": 300, "set": 500,
     "200": 1000, "404": 50, "500": 500, "-22": 20, "-25": 20, "-26": 100, "-5": 200,
 }
 
@@ -74,7 +74,7 @@ class Callers(Stream):
     # --- events
 
     def event(self, model):
-        kind = self.random.choice(("enter", "peer", "submit", "submit", "block", "headers", "mempool", "operator", "call", "call", "call"))
+        kind = self.random.choice(("enter", "peer", "submit", "submit", "block", "headers", "mempool", "fee_filter", "operator", "call", "call", "call"))
         return getattr(self, kind)(model, self.caller(model))
 
     def caller(self, model):
@@ -104,6 +104,10 @@ class Callers(Stream):
 
     def mempool(self, model, peer):
         return "peer %d mempool" % peer, model.mempool(peer)
+
+    def fee_filter(self, model, peer):
+        rate = filter_rate(self.random, model.pool)
+        return "peer %d feefilter %d" % (peer, rate), model.fee_filter(peer, rate)
 
     def operator(self, model, peer):
         name, is_on = self.random.choice(SWITCHES), self.random.random() < 0.4

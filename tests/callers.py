@@ -110,7 +110,7 @@ class CallerModel(Model):
         flags = self.flags(peer)
         return (
             self.refused(peer, ("P6", not flags & {"mempool", "bloomfilter"} and not self.switches["bloom"]), ("P7", "mempool" not in flags and self.switches["upload"]))
-            or " ".join(["listing", str(len(self.pool))] + [entry.tx.txid() for entry in self.pool])
+            or self.listing(peer)
         )
 
     def headers(self, peer, height):

@@ -5,11 +5,10 @@ from dataclasses import dataclass
 from typing import List
 
 from bitcoin import Transaction, counted
-from model import NULL, TWO_WEEKS, Coin, Entry, Limits, Model, carries_data, outpoints, size_of
+from model import NULL, TWO_WEEKS, Coin, Entry, Model, carries_data, outpoints, size_of
 
 GREATEST_DEPTH = 100
 GREATEST_HEIGHT = 10000000
-FAMILY = Limits(25, 101000, 26, 111000)
 FAULTS = {
     "C1": "block-decode", "C2": "block-coinbase", "C3": "block-inputs", "C4": "block-txid-repeated",
     "C5": "time-too-old", "C6": "no-undo", "C7": "chain-full",
@@ -176,8 +175,8 @@ class ChainModel(Model):
     def is_beyond(self, entry):
         above, below = self.above(entry.tx) | {entry}, self.below([entry])
         return (
-            len(above) > FAMILY.ancestors or size_of(above) > FAMILY.ancestors_size
-            or len(below) > FAMILY.descendants or size_of(below) > FAMILY.descendants_size
+            len(above) > max(self.opening.ancestors, 2) or size_of(above) > 101000
+            or len(below) > self.opening.descendants + 1 or size_of(below) > 111000
         )
 
     def is_premature(self, tx):

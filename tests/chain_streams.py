@@ -6,9 +6,9 @@ from bitcoin import Input, Output, Transaction, number_hash
 from chain_model import Block, ChainModel
 from family_streams import Families, opening_lines
 from gate import Differs, same
-from model import NULL, TWO_WEEKS, Coin
+from model import NULL, TWO_WEEKS, Coin, draw_policy
 
-STREAMS = 40
+STREAMS = 48
 EVENTS = 90
 SEED = 1000
 SUBSIDY = 10**10
@@ -29,6 +29,8 @@ class Reorganisations(Families):
         super().__init__(seed, "full")
         self.kinds = KINDS
         self.opening.budget = self.random.choice((1500, 4000, 10**9, 10**9))
+        if seed % 4 == 0:
+            draw_policy(self.random, self.opening)
         for number in range(200, 240):
             self.opening.coins[number_hash(number), 0] = Coin(10**13, self.random.choice((1, 2, 3)), True)
         self.model = ChainModel(self.opening)

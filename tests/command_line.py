@@ -23,11 +23,11 @@ UNDECODABLE = b"denied A1 tx-decode\n"
 COIN = b"\x11" * 32
 
 
-def ends(gate, words, stdin, status, stdout):
-    """The program prints this, nothing on standard error, and ends with this status."""
+def ends(gate, words, stdin, status, stdout, stderr=b""):
+    """The program prints this, and this on standard error, and ends with this status."""
     done = gate.run(words, stdin)
     same("standard output", done.stdout, stdout.encode() if isinstance(stdout, str) else stdout)
-    same("standard error", done.stderr, b"")
+    same("standard error", done.stderr, stderr)
     same("status", done.status, status)
 
 
@@ -66,9 +66,10 @@ def test_gate_alone(gate):
 def test_words_that_ask_for_nothing(gate):
     """Unknown commands, missing words, words too many and unknown options are faults of usage."""
     for words in ("check", "check 00 00", "check - -", "run -", "run x", "run run", "admit", "--nothing", "run --nothing", "check --nothing", "RUN",
-                  "lanes x", "lanes -", "lanes --workers", "lanes --workers 2", "lanes --journal x", "lanes --journal=1", "lanes --journal --journal", "lanes -j",
+                  "lanes x", "lanes -", "lanes --workers", "lanes --workers 0", "lanes --workers 65", "lanes --workers 02", "lanes --workers +2", "lanes --workers -1", "lanes --workers two",
+                  "lanes --workers 2 --workers 2", "run --workers 2", "--workers 2 lanes", "lanes --journal x", "lanes --journal=1", "lanes --journal --journal", "lanes -j",
                   "run --journal", "--journal lanes", "audit x", "audit -", "audit --journal", "audit lanes", "rules x", "rules A1", "explain", "explain A1 A2",
-                  "explain -x"):
+                  "explain -x", "--explain run", "run --explain --explain", "run --explain x", "audit --explain=1", "rules --explain", "check --explain 00"):
         is_usage(gate, words)
 
 
@@ -99,10 +100,12 @@ def test_examples_in_the_help(gate):
     wanted = {
         "gate run < examples/first-path.txt": 0,
         "gate run < examples/permissions.txt": 0,
+        "gate run < examples/policies.txt": 0,
         "gate run < examples/rpc.txt": 0,
         "gate check - < examples/payment.hex": 0,
         "gate check 01000000000000000000": 1,
         "gate lanes --journal < examples/lanes.txt": 0,
+        "gate lanes --workers 4 < examples/lanes.txt": 0,
         "gate audit < examples/journal.txt": 0,
         "gate rules": 0,
         "gate explain A36": 0,
@@ -162,9 +165,13 @@ def test_example_of_a_replacement(gate):
 
 
 def test_check_of_other_digits(gate):
-    """What is no hexadecimal text of a transaction prints the denial A1 alone."""
-    for word in ("0x" + GENESIS, GENESIS[:-1], GENESIS + "g", GENESIS[:-2], GENESIS + "00", "0", "zz", "\u00e9"):
+    """What is no hexadecimal text of a transaction prints the denial A1 alone; standard error says where it is none of digits."""
+    for word in (GENESIS[:-2], GENESIS + "00"):
         ends(gate, "check " + word, b"", 1, UNDECODABLE)
+    for word in ("0x" + GENESIS, GENESIS[:-1], GENESIS + "g", "0", "zz", "\u00e9", "examples/payment.hex"):
+        shown = word if len(word.encode()) <= 40 else word[:40] + ".."
+        told = 'gate: "%s" is no even number of hexadecimal digits; gate check - reads standard input\n' % shown
+        ends(gate, "check " + word, b"", 1, UNDECODABLE, told.encode())
 
 
 def test_check_takes_either_case(gate):

@@ -1,4 +1,4 @@
-"""The files of examples/ on permissions, RPC and lanes stand as they are made here, and each event gets the reply that is told."""
+"""The files of examples/ on permissions, policies, RPC and lanes stand as they are made here, and each event gets the reply that is told."""
 
 import os
 
@@ -42,6 +42,8 @@ def permissions():
         ("and again: it is denied, and relayed", "peer 2 tx 5000 " + PARENT.hex(), "denied P5 relay txn-already-in-mempool"),
         ("the same network, as an IPv4 address mapped into IPv6", "peer 3 enter ::ffff:a00:1", "entered noban,mempool,download"),
         ("it may list the pool", "peer 3 mempool", "listing 1 " + PARENT.txid()),
+        ("it asks not to be told of what pays less than 2,000 satoshi per 1,000 virtual bytes", "peer 3 feefilter 2000", "filter 2000"),
+        ("so it isn't told of this", "peer 3 mempool", "listing 0"),
         ("another network", "peer 4 enter 2001:db8::1", "entered noban,mempool,download"),
         ("the node makes its initial download", "operator ibd on", "set"),
         ("download serves headers all the same, those above height 0", "peer 4 headers 0", "headers 1 100"),
@@ -49,6 +51,26 @@ def permissions():
         ("is not served", "peer 5 headers 0", "denied P8 keep headers-during-download"),
         ("blocks are", "peer 5 getblock 100", "block 100 61000"),
         ("a listing is for flags alone while bloom filters are off", "peer 5 mempool", "denied P6 close mempool-no-bloom"),
+    ]
+
+
+def policies():
+    """An opening with limits of its own and full replacement."""
+    opening = ["# what an operator asks of families and of replacements: two transactions in a row, and nothing has to signal that it may be replaced"] + CHAIN + [
+        "bloom 1", "limitancestorcount 2", "limitdescendantcount 2", "mempoolfullrbf 1",
+    ]
+    firm = Transaction([Input(COIN, sequence=0xFFFFFFFF, witness=[b"\x30" * 72, b"\x02" * 33])], [Output(99890)])
+    child, grandchild = spending(firm.hash(), 99780), spending(spending(firm.hash(), 99780).hash(), 99670)
+    instead = spending(COIN, 99000)
+    return opening, [
+        ("a peer", "peer 1 enter 192.0.2.1", "entered none"),
+        ("it asks not to be told of what pays less than 2,000 satoshi per 1,000 virtual bytes", "peer 1 feefilter 2000", "filter 2000"),
+        ("its transaction doesn't signal that it may be replaced", "peer 1 tx 5000 " + firm.hex(), admitted(firm)),
+        ("a child of it", "peer 1 tx 5001 " + child.hex(), admitted(child)),
+        ("no child of the child: it would be the third in a row", "peer 1 tx 5002 " + grandchild.hex(), "denied A36 keep too-long-mempool-chain"),
+        ("both pay 1,000 satoshi per 1,000 virtual bytes", "peer 1 mempool", "listing 0"),
+        ("a payment that pays more than both takes their place", "peer 1 tx 5003 " + instead.hex(), "admitted %s fee 1000 vsize 110 replaced 2" % instead.txid()),
+        ("the peer is told of it", "peer 1 mempool", "listing 1 " + instead.txid()),
     ]
 
 
@@ -135,6 +157,11 @@ def test_example_of_permissions(gate):
     holds(gate, "permissions.txt", permissions())
 
 
+def test_example_of_policies(gate):
+    """examples/policies.txt."""
+    holds(gate, "policies.txt", policies())
+
+
 def test_example_of_rpc(gate):
     """examples/rpc.txt."""
     holds(gate, "rpc.txt", rpc())
@@ -158,3 +185,23 @@ def test_example_of_a_journal(gate):
     same("the example", text, lines(["# what the lanes of lanes.txt were answered, in the order of their calls"] + CHAIN + ["---"] + race_output(1)[1]))
     done = gate.run("audit", text)
     same("the audit", (done.stdout, done.stderr, done.status), (b"legal 2\n", b"", 0))
+
+
+def two_rounds():
+    """A journal of two rounds: what is sent in the first is listed in the second."""
+    return lines(["# the journal of a gate that went on from a new base: two rounds, and between them the number of entries so far"] + CHAIN + [
+        "---",
+        "> " + call("alice", 5000, "sendrawtransaction", PARENT.hex()), "< " + answer(PARENT.txid()),
+        "base 1",
+        "> " + call("bob", 5001, "getrawmempool"), "< " + answer([PARENT.txid()]),
+    ])
+
+
+def test_example_of_a_journal_of_two_rounds(gate):
+    """examples/rounds-journal.txt: with another number in its base line the second entry is wrong."""
+    with open(os.path.join(ROOT, "examples", "rounds-journal.txt")) as file:
+        text = file.read()
+    same("the example", text, two_rounds())
+    for journal, printed, status in ((text, b"legal 2\n", 0), (text.replace("base 1", "base 2"), b"illegal 2\n", 1)):
+        done = gate.run("audit", journal)
+        same("the audit", (done.stdout, done.stderr, done.status), (printed, b"", status))

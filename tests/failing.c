@@ -1,7 +1,7 @@
 /* Loaded before a program, this library refuses it memory, and lets its reads and writes fail. tests/failing.py says how
    it is told what to do. It needs no header, since the toolchain has none.
 
-   A growth is a call of malloc or realloc. Growths are counted while the window is open. */
+   A growth is a call of malloc or realloc. Growths are counted while the window is open, in the threads that are asked for. */
 
 typedef unsigned long size_t;
 typedef long ssize_t;
@@ -12,13 +12,15 @@ extern long syscall(long, ...);
 extern char *getenv(const char *);
 extern int *__errno_location(void);
 extern void *dlsym(void *, const char *);
+extern unsigned long pthread_self(void);
 
 enum { READ = 0, WRITE = 1, EIO = 5, EAGAIN = 11, ENOMEM = 12, ALWAYS = -1 };
 
 #define NEXT ((void *)-1L)
 
-static long growth, window_line, failing_read, read_error, failing_write, write_error, most_read, most_written, tell, failing_thread, failing_entropy;
+static long growth, window_line, failing_read, read_error, failing_write, write_error, most_read, most_written, tell, failing_thread, failing_entropy, in_others;
 static const char *window_mark;
+static unsigned long first_thread;
 
 static long growths, is_open, lines, reads, writes, threads;
 
@@ -49,11 +51,15 @@ __attribute__((constructor)) static void begin(void) {
     tell = number("FAILING_TELL");
     failing_thread = number("FAILING_THREAD");
     failing_entropy = number("FAILING_ENTROPY");
+    in_others = number("FAILING_OTHERS");
+    first_thread = pthread_self();
     __atomic_store_n(&is_open, !window_line && !window_mark, __ATOMIC_SEQ_CST);
 }
 
 static int is_refused(void) {
     if (!growth || !__atomic_load_n(&is_open, __ATOMIC_SEQ_CST))
+        return 0;
+    if (in_others && pthread_self() == first_thread)
         return 0;
     if (__atomic_add_fetch(&growths, 1, __ATOMIC_SEQ_CST) != growth)
         return 0;

@@ -40,10 +40,10 @@ def failing(program, words, text, **how):
 
     growth=K refuses the Kth growth of memory (a call of malloc or realloc) that is counted: with line=N those from when
     line N of the input was read up to the next read, with mark=NAME those between the lines `> NAME` and `< NAME` that the
-    program writes, else all. With line=N a read gives a line at most. read=K fails the Kth read of the input, and
-    write=K the Kth write of the output, once, with the error read_error or write_error; ALWAYS fails each of them.
-    reads_most=N and writes_most=N are the most bytes that a read gives and a write takes. thread=K keeps the Kth thread from
-    being made, ALWAYS each of them; entropy=1 gives no random numbers.
+    program writes, else all; with others=1 none of the first thread. With line=N a read gives a line at most. read=K fails
+    the Kth read of the input, and write=K the Kth write of the output, once, with the error read_error or write_error; ALWAYS
+    fails each of them. reads_most=N and writes_most=N are the most bytes that a read gives and a write takes. thread=K keeps
+    the Kth thread from being made, ALWAYS each of them; entropy=1 gives no random numbers.
     """
     with tempfile.TemporaryFile() as file, tempfile.TemporaryFile() as told:
         file.write(as_bytes(text))

@@ -4,12 +4,16 @@ from bitcoin import coin, payment
 from failing import ALWAYS, EINTR, EIO, ENOSPC, failing
 from gate import lines, same, true
 from lanes import ENTER, admitted, opening, submitted
-from streams import SECONDS, UNREAD, UNWRITTEN, Talk
+from streams import SECONDS, TOO_LONG, TOO_MANY, TOO_MANY_LANES, UNREAD, UNWRITTEN, Talk, past
 
 BUFFER = 65536
 LONGEST = 16777216
 MOST_LINES = 1000000
+MOST_DIGITS = 67108864
+UNDECODABLE = "denied A1 tx-decode\n"
 HEAD = lines(opening(coin(1))) + "---\n"
+HEAD_LINES = HEAD.count("\n")
+FORM = past(1, '"2" is unknown')
 TX = payment(1, 99000)
 TALK = [
     ENTER,
@@ -67,8 +71,10 @@ def test_a_failed_read_of_lanes_and_audits(gate):
 
 
 def test_a_failed_read_of_a_check(gate):
-    for what, done in each_read(gate, "check -", 5, EIO):
-        same(what, done.stdout, b"")
+    """An interrupted read is a failed read here too."""
+    for most, error in ((5, EIO), (7, EINTR)):
+        for what, done in each_read(gate, "check -", most, error):
+            same(what, done.stdout, b"")
 
 
 def test_a_few_bytes_at_a_time(gate):
@@ -150,18 +156,20 @@ def reads_no_further(gate, words, text, limit, status, stdout, stderr=b""):
 def test_files_are_read_to_the_limit(gate):
     """An input that goes on behind a limit is left unread."""
     long = "x" * (LONGEST + 1)
-    reads_no_further(gate, "run", "bloom 2\n", 0, 2, "opening 1 bad-line\n")
-    reads_no_further(gate, "run", long, LONGEST, 2, "opening 1 bad-line\n")
-    reads_no_further(gate, "run", "\n" * MOST_LINES, MOST_LINES, 2, "opening 1000001 bad-line\n")
+    reads_no_further(gate, "run", "bloom 2\n", 0, 2, "opening 1 bad-line\n", FORM)
+    reads_no_further(gate, "run", long, LONGEST, 2, "opening 1 bad-line\n", past(1, TOO_LONG))
+    reads_no_further(gate, "run", "\n" * MOST_LINES, MOST_LINES, 2, "opening 1000001 bad-line\n", past(MOST_LINES + 1, TOO_MANY))
     reads_no_further(gate, "run", HEAD + long, len(HEAD) + LONGEST, 0, "refused L2 line-too-long\n")
     reads_no_further(gate, "run", HEAD + "\n" * MOST_LINES, len(HEAD) + MOST_LINES, 0, "refused L3 too-many-lines\n")
-    reads_no_further(gate, "lanes", HEAD + long, len(HEAD) + LONGEST, 1, "", UNREAD)
-    reads_no_further(gate, "lanes", HEAD + "\n" * MOST_LINES, len(HEAD) + MOST_LINES, 1, "", UNREAD)
-    reads_no_further(gate, "lanes", HEAD + "---\n" * 64, len(HEAD), 1, "", UNREAD)
+    reads_no_further(gate, "lanes", HEAD + long, len(HEAD) + LONGEST, 1, "", past(HEAD_LINES + 1, TOO_LONG))
+    reads_no_further(gate, "lanes", HEAD + "\n" * MOST_LINES, len(HEAD) + MOST_LINES, 1, "", past(HEAD_LINES + MOST_LINES, TOO_MANY))
+    reads_no_further(gate, "lanes", HEAD + "---\n" * 64, len(HEAD), 1, "", past(HEAD_LINES + 64, TOO_MANY_LANES))
     reads_no_further(gate, "audit", HEAD + "> peer 1 leave\n< left\n", len(HEAD), 1, "illegal 1\n")
-    reads_no_further(gate, "audit", HEAD + "> " + long, len(HEAD) + LONGEST, 1, "", UNREAD)
-    reads_no_further(gate, "audit", HEAD + "\n" * MOST_LINES, len(HEAD) + MOST_LINES, 1, "", UNREAD)
+    reads_no_further(gate, "audit", HEAD + "> " + long, len(HEAD) + LONGEST, 1, "", past(HEAD_LINES + 1, TOO_LONG))
+    reads_no_further(gate, "audit", HEAD + "\n" * MOST_LINES, len(HEAD) + MOST_LINES, 1, "", past(HEAD_LINES + MOST_LINES, TOO_MANY))
     reads_no_further(gate, "check " + TX.hex(), "", 0, 0, RIGHT["check -"][1])
+    for text in ("0" * MOST_DIGITS, "\n" * MOST_DIGITS, "ab\n" * (MOST_DIGITS // 3) + "ab"):
+        reads_no_further(gate, "check -", text, MOST_DIGITS, 1, UNDECODABLE)
 
 
 def ends_while_open(gate, words, text, status, stdout, stderr=b""):
@@ -178,15 +186,27 @@ def ends_while_open(gate, words, text, status, stdout, stderr=b""):
 def test_the_program_ends_at_a_limit(gate):
     """At a limit the program ends, though its input is held open."""
     many, long = "\n" * MOST_LINES + "x", "x" * (LONGEST + 1)
-    ends_while_open(gate, "run", long, 2, "opening 1 bad-line\n")
-    ends_while_open(gate, "run", many, 2, "opening 1000001 bad-line\n")
+    ends_while_open(gate, "run", long, 2, "opening 1 bad-line\n", past(1, TOO_LONG))
+    ends_while_open(gate, "run", many, 2, "opening 1000001 bad-line\n", past(MOST_LINES + 1, TOO_MANY))
     ends_while_open(gate, "run", HEAD + many, 0, "refused L3 too-many-lines\n")
-    ends_while_open(gate, "lanes", HEAD + many, 1, "", UNREAD)
-    ends_while_open(gate, "lanes", HEAD + long, 1, "", UNREAD)
-    ends_while_open(gate, "lanes", "bloom 2\n", 2, "opening 1 bad-line\n")
-    ends_while_open(gate, "audit", HEAD + many, 1, "", UNREAD)
-    ends_while_open(gate, "audit", HEAD + "> " + long, 1, "", UNREAD)
+    ends_while_open(gate, "lanes", HEAD + many, 1, "", past(HEAD_LINES + MOST_LINES, TOO_MANY))
+    ends_while_open(gate, "lanes", HEAD + long, 1, "", past(HEAD_LINES + 1, TOO_LONG))
+    ends_while_open(gate, "lanes", "bloom 2\n", 2, "opening 1 bad-line\n", FORM)
+    ends_while_open(gate, "audit", HEAD + many, 1, "", past(HEAD_LINES + MOST_LINES, TOO_MANY))
+    ends_while_open(gate, "audit", HEAD + "> " + long, 1, "", past(HEAD_LINES + 1, TOO_LONG))
     ends_while_open(gate, "audit", HEAD + "> peer 1 leave\n< left\n", 1, "illegal 1\n")
     ends_while_open(gate, "audit", HEAD + "> nonsense\n", 1, "illegal 1\n")
     ends_while_open(gate, "audit", "bloom 2\n", 2, "opening 1 bad-line\n")
     ends_while_open(gate, "check " + TX.hex(), "x", 0, RIGHT["check -"][1])
+    ends_while_open(gate, "check -", "0" * (MOST_DIGITS + 1), 1, UNDECODABLE)
+    ends_while_open(gate, "check -", "\n" * (MOST_DIGITS + 1), 1, UNDECODABLE)
+
+
+def test_a_check_to_the_limit(gate):
+    """What stands before the limit is read: a transaction with white space around it, up to the last byte that is read."""
+    room = MOST_DIGITS - len(TX.hex())
+    for text in (TX.hex() + "\n" * room, " " * room + TX.hex(), " " * (room // 2) + TX.hex() + "\n" * (room - room // 2)):
+        done = gate.run("check -", text)
+        same("a transaction in %d bytes" % len(text), (done.status, done.stdout.decode(), done.stderr), (0, RIGHT["check -"][1], b""))
+    done = gate.run("check -", TX.hex() + "\n" * (room + 1))
+    same("a byte more", (done.status, done.stdout.decode(), done.stderr), (1, UNDECODABLE, b""))

@@ -8,7 +8,8 @@ from collections import Counter
 
 from bitcoin import Input, Output, Transaction, WITNESS_KEY_HASH, number_hash, printed
 from gate import Differs, same, true
-from model import MULTISIG, RETURN, SMALL, TWO_WEEKS, Coin, Limits, Model, Opening, carries_data, fee_at, fees_of, rate_of, size_of
+from model import MULTISIG, RETURN, SMALL, TWO_WEEKS, Coin, Limits, Model, Opening, carries_data, draw_policy, fee_at, fees_of, policy_lines, rate_of, size_of
+from random_streams import filter_rate
 
 STREAMS = 20
 EVENTS = 110
@@ -34,6 +35,11 @@ BUDGETS = (0, 110, 500, 900, 1500, 1500, 2500, 4000)
 FULL_FLOORS = {
     "A34": 200, "A35": 50, "A46": 700, "set": 300, "replaced 0": 1200, "replaced 1": 100, "expired": 500, "trimmed": 1200, "trimmed as a family": 150, "at the floor": 500, "at two weeks": 80,
 }
+POLICY_STREAMS = 10
+POLICY_FLOORS = {
+    "A23": 60, "A36": 800, "A37": 60, "A36 by ancestors": 200, "A36 by descendants": 400, "by the carve-out": 40, "by the growth": 30,
+    "replaced what doesn't signal": 20,
+}
 MANY = 5000
 HOLES = {"fresh": 6, "longer": 10, "wider": 10, "instead": 60, "beside_another": 2}
 
@@ -51,10 +57,12 @@ FLOORS = {
 class Families:
     """An opening, and transactions for a pool that grows, of one seed."""
 
-    def __init__(self, seed, shape):
+    def __init__(self, seed, shape, of_policy=False):
         self.random = random.Random(seed)
         self.shape, self.kinds = shape, {"holes": HOLES, "full": FULL, **SHAPES}[shape]
         self.opening = opened(self.random.choice(BUDGETS) if shape == "full" else 1000000000)
+        if of_policy:
+            draw_policy(self.random, self.opening)
         self.model = Model(self.opening)
         self.peer = 0
         self.now = 0
@@ -70,17 +78,25 @@ class Families:
             self.peer += 1
             return "peer %d enter 192.0.2.1" % self.peer, self.model.enter(self.peer)
         if self.random.random() < 0.04:
-            return "peer %d mempool" % self.peer, self.model.mempool(self.peer)
+            return self.listing_event()
         if self.shape == "full" and self.random.random() < 0.1:
             return self.operator_event()
         tx = self.transaction()
         self.judge_scripts(tx)
         self.told[tx.wtxid()] = tx
         about = [] if closed else self.about(tx)
+        about += ["replaced what doesn't signal"] * any(not entry.signals() for entry in self.model.conflicts(tx))
         now = self.time()
         reply = self.model.submit(self.peer, now, tx)
         self.count(reply, about)
         return "peer %d tx %d %s" % (self.peer, now, tx.hex()), reply
+
+    def listing_event(self):
+        """A listing, or the rate that the next ones have to pay."""
+        if self.random.random() < 0.5:
+            rate = filter_rate(self.random, self.model.pool)
+            return "peer %d feefilter %d" % (self.peer, rate), self.model.fee_filter(self.peer, rate)
+        return "peer %d mempool" % self.peer, self.model.mempool(self.peer)
 
     def operator_event(self):
         """A floor, which is 0 again more often than not."""
@@ -313,14 +329,14 @@ def opened(budget):
 
 def opening_lines(opening):
     """The opening as it stands when all transactions are made, since some have a verdict of their own."""
-    told = ["times 101 1000 600", "bloom 1", "budget %d" % opening.budget]
+    told = ["times 101 1000 600", "bloom 1", "budget %d" % opening.budget] + policy_lines(opening, bool)
     told += ["coin %s %d %d %d %s %s" % (printed(hash), index, coin.value, coin.height, "cb" if coin.is_coinbase else "plain", WITNESS_KEY_HASH.hex()) for (hash, index), coin in opening.coins.items()]
     return told + ["verdict %s %s" % ("*" if pair == "*" else "%s %d" % pair, verdict) for pair, verdict in opening.verdicts.items()]
 
 
-def stream(gate, seed, shape, count):
+def stream(gate, seed, shape, count, of_policy=False):
     """Runs one stream, and counts what it met."""
-    made = Families(seed, shape)
+    made = Families(seed, shape, of_policy)
     events = [made.event() for _ in range(count)]
     try:
         gate.answers(opening_lines(made.opening), events)
@@ -333,6 +349,12 @@ def test_families(gate):
     """Each reply is that of the model, and each limit is met from both sides."""
     met = sum((stream(gate, seed, shape, EVENTS) for shape in SHAPES for seed in range(STREAMS)), Counter())
     same("met too seldom", {kind: met[kind] for kind, floor in FLOORS.items() if met[kind] < floor}, {})
+
+
+def test_policies(gate):
+    """The same under limits from 1 to 40 and under full replacement: A36 is met by counts, and what doesn't signal is replaced."""
+    met = sum((stream(gate, seed, shape, EVENTS, True) for shape in SHAPES for seed in range(POLICY_STREAMS)), Counter())
+    same("met too seldom", {kind: met[kind] for kind, floor in POLICY_FLOORS.items() if met[kind] < floor}, {})
 
 
 def test_full_pools(gate):

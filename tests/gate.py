@@ -20,10 +20,10 @@ class NotTried(Exception):
 
 
 class Gate:
-    """The program under test."""
+    """The program under test, and beside it the one that makes calls of the crates, where it is there."""
 
-    def __init__(self, program):
-        self.program = program
+    def __init__(self, program, calls=None):
+        self.program, self.calls = program, calls
 
     def words(self, words):
         return [self.program] + words.split()

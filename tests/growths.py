@@ -1,18 +1,20 @@
 """Each growth of memory refused in turn, on the built program: nothing has changed, and what comes after is answered."""
 
 import os
+from collections import namedtuple
 
-from bitcoin import Input, Output, Transaction, coin, payment
+from bitcoin import Input, Output, Transaction, coin, number_hash, payment
 from chain_model import Block
-from failing import each_growth
-from gate import ROOT, lines, same, same_lines, true
+from failing import each_growth, failing
+from gate import ROOT, NotTried, lines, same, same_lines, true
 from lanes import ENTER, opening, submitted
 from kinds import long
 from model import NULL
-from streams import NO_MEMORY
+from streams import NO_MEMORY, past
 
 FAULT = "fault memory"
-NEED_NO_MEMORY = ("x", "peer 1 getblock", "peer 1 headers", "peer 1 leave", "operator")
+UNKNOWN = "unsettled memory"
+NEED_NO_MEMORY = ("x", "peer 1 getblock", "peer 1 headers", "peer 1 feefilter", "peer 1 leave", "operator")
 ASKED = 'user a rpc 5000 {"method":"%s","params":[%s],"id":1}'
 
 
@@ -97,13 +99,19 @@ def test_a_question_about_an_entry(gate):
     refused(gate, "reorganisation-returns-a-parent", 6, 4)
 
 
-def test_a_listing(gate):
-    """A peer's, of 50 entries."""
+def listed():
+    """A pool of 50 entries, which a peer lists, with the replies."""
     made = [payment(number, 99000) for number in range(1, 51)]
     head = opening(*[coin(number) for number in range(1, 51)])
     events = [ENTER[0]] + [submitted(tx) for tx in made] + ["peer 1 mempool"]
     wanted = [ENTER[1]] + ["admitted %s fee 1000 vsize %d replaced 0" % (tx.txid(), tx.virtual_size(1)) for tx in made]
     wanted.append("listing 50 " + " ".join(tx.txid() for tx in made))
+    return head, events, wanted
+
+
+def test_a_listing(gate):
+    """A peer's, of 50 entries."""
+    head, events, wanted = listed()
     true("no listing was refused", refuse_each(gate, head, events, len(events) - 1, wanted) >= 1)
 
 
@@ -209,11 +217,16 @@ def test_each_growth_of_lanes(gate):
     head, first, wanted, second = laned()
     user = 'rpc 404 {"error":{"code":-32601,"message":"Method not found"},"id":1,"result":null}'
     without = {at: gate.run("run", head + "---\n" + lines(first[:at] + first[at + 1 :])).stdout.decode().splitlines() for at in range(len(wanted) - 2)}
-    met, stopped, unprinted = set(), 0, 0
+    met, stopped, unprinted, unknown = set(), 0, 0, 0
     for growth, done in each_growth(gate.program, "lanes --journal", head + "---\n" + second):
         what = "growth %d" % growth
         same(what, (done.status, done.stderr), (1, NO_MEMORY) if done.status else (0, b""))
-        found, settled, journal = parts_of(done.stdout.decode().splitlines())
+        printed = done.stdout.decode().splitlines()
+        if UNKNOWN in printed:
+            same(what, (printed.index(UNKNOWN), done.status), (len(wanted) + 3, 1))
+            printed.pop()
+            unknown += 1
+        found, settled, journal = parts_of(printed)
         replies = (found + [[], []])[:2]
         if FAULT in replies[0]:
             at = replies[0].index(FAULT)
@@ -232,6 +245,7 @@ def test_each_growth_of_lanes(gate):
         stopped += done.status
     same("events that were answered by `fault memory`", met, {0, 1, 2, 3, 4, "user"})
     true("no lane was stopped, or everything was printed", stopped and unprinted)
+    true("memory never ran out while the calls were settled", unknown)
 
 
 def test_each_growth_of_an_audit(gate):
@@ -252,7 +266,10 @@ def test_each_growth_of_a_check(gate):
     """A check of a word, and of the input, and of an opening with a fault: the right text, or none."""
     tx = payment(1, 1000)
     right = ("%s %s %d\nstandard\n" % (tx.txid(), tx.wtxid(), tx.weight())).encode()
-    for words, text, answer, status in (("check " + tx.hex(), "", right, 0), ("check -", tx.hex(), right, 0), ("run", "bloom 2\n", b"opening 1 bad-line\n", 2)):
+    fault = b"opening 1 bad-line\n"
+    for words, text, answer, status, said in (
+        ("check " + tx.hex(), "", right, 0, b""), ("check -", tx.hex(), right, 0, b""), ("run", "bloom 2\n", fault, 2, past(1, '"2" is unknown')),
+    ):
         ended = 0
         for growth, done in each_growth(gate.program, words, text):
             what = "growth %d of gate %s" % (growth, words)
@@ -260,5 +277,135 @@ def test_each_growth_of_a_check(gate):
                 same(what, (done.stdout, done.stderr), (b"", NO_MEMORY))
                 ended += 1
             else:
-                same(what, (done.status, done.stdout, done.stderr), (status, answer, b""))
+                same(what, (done.status, done.stdout), (status, answer))
+                true("%s says %r" % (what, done.stderr), done.stderr in (b"", said))
         true("no refusal ended gate " + words, ended)
+
+
+# the calls that are made, with the word that asks for each
+CALLS = {"step": "step", "enroll": "calls", "look": "calls", "call": "calls", "settle": "settle", "finish": "finish"}
+
+
+def upto(name, at):
+    """The opening of a row, its events up to that place, and their replies."""
+    head, events, wanted = row(name)
+    count = at % len(events) + 1
+    return head, events[:count], wanted[:count]
+
+
+def attempt(call, *told):
+    """The lines of one attempt at a call."""
+    return ["> " + call, "< " + call, *told]
+
+
+# what the last of the events comes to: how many inputs the last submission has, each of which has a coin; whether the event
+# changes the state; and how many entries the pool has after it
+Last = namedtuple("Last", "inputs changes left")
+
+
+class Made:
+    """The calls that the program of `crates/gate_growth` makes over the last of some events, and what it tells of each."""
+
+    def __init__(self, program, made, last):
+        head, events, wanted = made
+        self.program, self.count = program, len(events)
+        self.text = lines(head) + "---\n" + lines(events) + "---\n" + lines(questions(wanted))
+        self.told = {
+            "step": (wanted[-1], "changed" if last.changes else "unchanged"),
+            "enroll": ("pass %d" % self.count, "changed"),
+            "look": ("coins %d of %d" % (last.inputs, last.inputs), "unchanged"),
+            "call": ("%d %s" % (self.count, wanted[-1]), "changed"),
+            "settle": ("settled %d" % self.count, "changed"),
+            "finish": ("finished %d %d" % (self.count, last.left),),
+        }
+
+    def lines(self, word, refused=None):
+        """What it writes for a word, where memory ran out once in that call."""
+        found = []
+        for call in [call for call in CALLS if word in ("", CALLS[call])]:
+            if call == refused:
+                found += attempt(call, FAULT, "unchanged")
+            found += attempt(call, *self.told[call])
+        return found
+
+    def refuse_each(self, call):
+        """Refuses each growth of a call in turn, and gives how many there were."""
+        growths, right = 0, self.lines(CALLS[call], call)
+        for growth, done in each_growth(self.program, CALLS[call], self.text, mark=call):
+            what = "growth %d of %s" % (growth, call)
+            same(what, (done.status, done.stderr), (0, b""))
+            same_lines([what] + done.stdout.decode().splitlines(), [what] + right)
+            growths = growth
+        return growths
+
+
+def refuse_calls(gate, made, last, **least):
+    """Each growth of each call of a gate, over the last of some events: a step, a pass, a look, a call, settling, the end.
+
+    So many growths are met at least: of a step what is given, and of a pass and a look 0 and 1 unless it is given.
+    """
+    if not gate.calls:
+        raise NotTried("tests/run --calls names the program of crates/gate_growth")
+    calls = Made(gate.calls, made, last)
+    plain = failing(gate.calls, "", calls.text)
+    same("without a refusal", (plain.status, plain.stderr), (0, b""))
+    same_lines(plain.stdout.decode().splitlines(), calls.lines(""))
+    found = {call: calls.refuse_each(call) for call in CALLS}
+    least = {"enroll": 0, "look": 1, "call": least["step"] + 1, "settle": calls.count, "finish": calls.count, **least}
+    same("calls with fewer growths than %s" % least, {call: found[call] for call in CALLS if found[call] < least[call]}, {})
+
+
+def test_calls_of_a_replacement(gate):
+    refuse_calls(gate, upto("replacement-fees", 4), Last(1, True, 1), step=6)
+
+
+def test_calls_of_a_replacement_of_ninety_nine(gate):
+    refuse_calls(gate, upto("replacement-of-ninety-nine", -2), Last(4, True, 1), step=20)
+
+
+def test_calls_of_a_submission_that_trims(gate):
+    refuse_calls(gate, upto("trim-and-floor", 3), Last(1, True, 2), step=3)
+
+
+def test_calls_of_a_reorganisation(gate):
+    """The last submission spends outputs of two entries."""
+    refuse_calls(gate, upto("reorganisation-returns-a-parent", 5), Last(2, True, 4), step=40)
+
+
+def test_calls_of_a_question_about_an_entry(gate):
+    refuse_calls(gate, upto("reorganisation-returns-a-parent", 6), Last(2, False, 4), step=4, enroll=1)
+
+
+def test_calls_of_a_listing(gate):
+    refuse_calls(gate, listed(), Last(1, False, 50), step=1)
+
+
+def test_ids_that_collide(gate):
+    """Every reply of the short rows of `gate run`, over hash tables in which all ids have one hash."""
+    if not gate.calls:
+        raise NotTried("tests/run --calls names the program of crates/gate_growth")
+    tried = 0
+    for name in sorted(os.listdir(os.path.join(ROOT, "rows"))):
+        if not os.path.exists(os.path.join(ROOT, "rows", name, "stdin")) or args_of(name) != "run" or not is_short(name):
+            continue
+        head, events, wanted = row(name)
+        events = [event for event in events if event and not event.startswith("#")]
+        for at, (event, reply) in enumerate(zip(events, wanted)):
+            if not reply.startswith("refused "):
+                done = failing(gate.calls, "step", lines(head) + "---\n" + lines(events[: at + 1]))
+                same("%s: %s" % (name, event[:60]), (done.stdout.decode().splitlines()[:3], done.stderr), (attempt("step", reply), b""))
+                tried += 1
+    true("%d replies were tried, of 400 at least" % tried, tried >= 400)
+
+
+def test_each_growth_of_a_worker(gate):
+    """Memory that is refused to a thread that checks inputs beside the lane's own: every reply is as ever."""
+    tx = Transaction([Input(number_hash(number), witness=[b"\x30" * 71, b"\x02" * 33]) for number in range(1, 101)], [Output(9900000)])
+    head, events = opening(*[coin(number) for number in range(1, 101)]), [ENTER[0]] + [submitted(tx)] * 20
+    wanted = "lane 1\n" + lines(gate.replies(head, events)) + "settled 21\n"
+    met = 0
+    for growth in range(1, 61):
+        done = failing(gate.program, "lanes", lines(head) + "---\n" + lines(events), growth=growth, others=1)
+        same("growth %d" % growth, (done.status, done.stdout.decode(), done.stderr), (0, wanted, b""))
+        met += done.refused
+    true("memory was refused to a worker in %d runs, of 30 at least" % met, met >= 30)

@@ -16,7 +16,7 @@ EXCHANGES = 4
 BAD, WRONG = "refused L1 bad-line", "fault wrong-caller"
 BAD_LINES = ("peer", "x", "peer 1 Leave", "operator", "user a rpc 0", "---\r", " ", "chain", "> peer 1 leave")
 # what the events of the streams ask of a model
-ASKED = ("enter", "leave", "mempool", "headers", "block", "submit", "switch", "set_floor", "call", "chain")
+ASKED = ("enter", "leave", "mempool", "headers", "fee_filter", "block", "submit", "switch", "set_floor", "call", "chain")
 
 
 class Recorded:
@@ -212,10 +212,10 @@ def races(gate, kind):
 def test_random_callers_at_once(gate):
     """Peers, users and the operator."""
     met = races(gate, Callers)
-    same("replies that no stream met", {"entered", "left", "admitted", "listing", "block", "headers", "rpc", "set", "denied"} - met, set())
+    same("replies that no stream met", {"entered", "left", "admitted", "listing", "block", "headers", "filter", "rpc", "set", "denied"} - met, set())
 
 
 def test_random_chains_at_once(gate):
     """Peers and the chain: what a peer is told depends on the blocks that came before."""
     met = races(gate, Chains)
-    same("replies that no stream met", {"entered", "admitted", "listing", "set", "denied", "chain", "refused"} - met, set())
+    same("replies that no stream met", {"entered", "admitted", "listing", "filter", "set", "denied", "chain", "refused"} - met, set())

@@ -82,7 +82,7 @@ def test_lines_without_form(gate):
     """Words are parted by single spaces, and nothing stands before or behind them."""
     forms = (" peer 1 leave", "peer 1 leave ", "peer  1 leave", "peer 1  leave", "peer 1", "peer", "peer 1 Leave", "Peer 1 leave",
              "peer 1 leave now", "peer 1 enter", "peer 1 enter 192.0.2", "peer 1 enter 192.0.2.256", "peer 1 enter 192.0.2.01",
-             "peer 1 enter 192.0.2.1.1", "peer 1 enter 1::2::3", "peer 1 enter ::192.0.2.1", "peer 1 getblock", "peer 1 getblock 4294967296", "peer 1 headers -1", "peer 1 tx", "peer 1 tx 5000", "peer 1 tx 5000 ", "peer 1 tx 00", "peer 1 tx 5000 00 00",
+             "peer 1 enter 192.0.2.1.1", "peer 1 enter 1::2::3", "peer 1 enter ::192.0.2.1", "peer 1 getblock", "peer 1 getblock 4294967296", "peer 1 headers -1", "peer 1 feefilter", "peer 1 feefilter 01", "peer 1 feefilter 9007199254740992", "peer 1 feefilter 1 2", "peer 1 tx", "peer 1 tx 5000", "peer 1 tx 5000 ", "peer 1 tx 00", "peer 1 tx 5000 00 00",
              "peer 1 mempool ", "peer 1 leave\r", "\tpeer 1 leave", "---", "times 1 1 1", " ", "peer\t1 leave", "\u00a0")
     gate.answers(opening(), [(form, BAD) for form in forms] + [ENTER, LEAVE])
 

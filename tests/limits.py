@@ -8,7 +8,7 @@ from gate import lines, same, same_lines
 from heights import MOST_TIMES, block
 from journals import audited, raced
 from lanes import ENTER, admitted, opening, submitted
-from streams import SECONDS, UNREAD, Talk
+from streams import SECONDS, TOO_MANY_LANES, Talk, past
 
 MEGABYTE = 1 << 20
 
@@ -149,4 +149,4 @@ def test_lanes_past_their_number(gate):
     with Talk(gate, "lanes") as talk:
         talk.say("times 1 0 0\n" + "---\n" * 65)
         status = talk.process.wait(SECONDS)
-        same("what is printed, and the status", (talk.process.stdout.read(), talk.process.stderr.read(), status), (b"", UNREAD, 1))
+        same("what is printed, and the status", (talk.process.stdout.read(), talk.process.stderr.read(), status), (b"", past(66, TOO_MANY_LANES), 1))

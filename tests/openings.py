@@ -1,7 +1,7 @@
 """Openings: their first fault, with its line, ends the program with status 2."""
 
 from bitcoin import coin, number_hash, payment, printed
-from gate import lines, same
+from gate import lines, same, true
 
 LIMIT = 16777216
 TIMES = "times 101 1000 600"
@@ -16,7 +16,9 @@ def fails(gate, opening, line, token):
     done = gate.run("run", text + EVENTS.encode())
     about = repr(text[-200:])
     same("standard output for " + about, done.stdout, b"opening %d %s\n" % (line, token.encode()))
-    same("standard error", done.stderr, b"")
+    said = done.stderr.decode().splitlines()
+    true("one line on standard error: %r" % said, len(said) == 1 and said[0].startswith("gate: "))
+    true("no line %d in %r" % (line, said), ("gate: line %d: " % line if line else "gate: the opening: ") in said[0])
     same("status", done.status, 2)
 
 
@@ -93,6 +95,19 @@ def test_each_fault(gate):
     fails(gate, ["bloom 1", high], 0, "no-times")
     opens(gate, ["times 1000000 0 4294"])
     opens(gate, [TIMES, coin(1, 2100000000000000, 100), coin(1, index=1), "coin %s 0 1 0 plain %s" % (printed(number_hash(3)), "00" * 10000)])
+
+
+def test_limits_of_families(gate):
+    """From 1 to 1,000, each at most once; full replacement is 0 or 1."""
+    for name in ("limitancestorcount", "limitdescendantcount"):
+        for number in ("1", "25", "1000"):
+            opens(gate, [TIMES, "%s %s" % (name, number)])
+        for number in ("0", "1001", "01", "-1", "9007199254740992", "", "1 1"):
+            fails(gate, [TIMES, "%s %s" % (name, number)], 2, "bad-line")
+        fails(gate, [TIMES, name + " 25", name + " 25"], 3, "bad-line")
+    opens(gate, ["limitdescendantcount 3", "limitancestorcount 2", "mempoolfullrbf 0", TIMES])
+    fails(gate, [TIMES, "mempoolfullrbf 2"], 2, "bad-line")
+    fails(gate, [TIMES, "mempoolfullrbf 1", "mempoolfullrbf 0"], 3, "bad-line")
 
 
 def test_an_opening_alone(gate):

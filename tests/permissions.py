@@ -142,6 +142,39 @@ def test_listings_and_targets(gate):
     ])
 
 
+def test_fee_filters(gate):
+    """A peer's own filter hides what pays less from its own listings, at the fee exactly, and from nobody else's; it stays
+    until the next one that is money, and is asked for under P1 and P2 alone."""
+    opening = OPEN + ["bloom 1"]
+    cheap, dear = payment(1, 99890), payment(2, 99000)
+    both = "listing 2 %s %s" % (cheap.txid(), dear.txid())
+    gate.answers(opening, [
+        ("peer 1 feefilter 0", "denied P1 keep peer-unknown"),
+        ("peer 1 enter 10.0.0.1", "entered none"),
+        ("peer 2 enter 10.0.0.2", "entered none"),
+        ("peer 1 tx 5000 " + cheap.hex(), "admitted %s fee 110 vsize 82 replaced 0" % cheap.txid()),
+        ("peer 1 tx 5000 " + dear.hex(), "admitted %s fee 1000 vsize 82 replaced 0" % dear.txid()),
+        ("peer 1 mempool", both),
+        ("peer 1 feefilter 1353", "filter 1353"),
+        ("peer 1 mempool", both),
+        ("peer 1 feefilter 1354", "filter 1354"),
+        ("peer 1 mempool", "listing 1 " + dear.txid()),
+        ("peer 2 mempool", both),
+        ('user a rpc 0 {"method":"getrawmempool","id":1}', 'rpc 200 {"error":null,"id":1,"result":["%s","%s"]}' % (cheap.txid(), dear.txid())),
+        ("peer 1 feefilter 2100000000000000", "filter 2100000000000000"),
+        ("peer 1 mempool", "listing 0"),
+        ("peer 1 feefilter 9007199254740991", "filter 2100000000000000"),
+        ("peer 1 feefilter 9007199254740992", "refused L1 bad-line"),
+        ("peer 1 feefilter 0", "filter 0"),
+        ("peer 1 mempool", both),
+        ("peer 2 feefilter 2100000000000001", "filter 0"),
+        ("operator bloom off", "set"),
+        ("peer 2 feefilter 5", "filter 5"),
+        ("peer 2 leave", "left"),
+        ("peer 2 feefilter 6", "denied P2 keep peer-closed"),
+    ])
+
+
 def test_headers_and_blocks(gate):
     """Headers go up to 2,000; old blocks are those more than a week older than the tip."""
     week = 604800

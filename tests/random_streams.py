@@ -4,7 +4,7 @@ import random
 
 from bitcoin import Input, Output, Transaction, WITNESS_KEY_HASH, number_hash, printed
 from gate import Differs, same, same_lines
-from model import GREATEST_AMOUNT, NULL, TOKENS, TWO_WEEKS, Coin, Model, Opening
+from model import GREATEST_AMOUNT, NULL, TOKENS, TWO_WEEKS, Coin, Model, Opening, draw_policy, policy_lines, rate_of
 
 STREAMS = 400
 EVENTS = 60
@@ -13,7 +13,17 @@ VERDICTS = ("ok", "soft", "hard")
 LOCKTIMES = (0, 0, 0, 0, 1, 19, 20, 21, 99, 100, 499999999, 500000000, 500003000, 500010000, 4294967295)
 SEQUENCES = (0xFFFFFFFF, 0xFFFFFFFF, 0xFFFFFFFE, 0xFFFFFFFD, 0xFFFFFFFD, 0x80000000, 0, 1, 2, 10, 19, 20, 21, 22, 100, 0x10001)
 FLOORS = (0, 0, 1, 999, 1000, 1001, 5000, 2**53 - 1)
+# fee filters, which say something up to the greatest amount
+RATES = (0, 0, 1, 1000, 5000, GREATEST_AMOUNT, GREATEST_AMOUNT + 1, 2**53 - 1)
 AMOUNTS = (0, 1, 293, 294, 1000, 5000, 99000, 99889, 99890, 99891, 100000, GREATEST_AMOUNT // 2, GREATEST_AMOUNT)
+
+
+def filter_rate(random, pool):
+    """A rate for a fee filter: most often one round that of an entry."""
+    if not pool or random.random() < 0.3:
+        return random.choice(RATES)
+    entry = random.choice(pool)
+    return min(2**53 - 1, max(0, rate_of(entry.fee, entry.size) + random.choice((-1, 0, 1, 2, 9, 10))))
 
 
 class Stream:
@@ -84,6 +94,8 @@ class Stream:
     def opened(self):
         told, times = self.times()
         opening = Opening(times, bloom=self.random.random() < 0.8)
+        if self.random.random() < 0.3:
+            draw_policy(self.random, opening)
         if self.random.random() < 0.4:
             opening.budget = self.random.choice((0, 109, 110, 200, 300, 500, 1000, 1000000000))
         for outpoint in self.outpoints[:6]:
@@ -109,6 +121,7 @@ class Stream:
             told.append("bloom %d" % self.opening.bloom)
         if self.opening.budget != Opening.budget or self.random.random() < 0.5:
             told.append("budget %d" % self.opening.budget)
+        told += policy_lines(self.opening, lambda: self.random.random() < 0.3)
         told += ["", "# a comment"]
         self.random.shuffle(told)
         place = self.random.randint(0, len(told))
@@ -137,6 +150,9 @@ class Stream:
         if draw < 0.36:
             rate = self.random.choice(FLOORS)
             return "operator floor %d" % rate, model.set_floor(rate)
+        if draw > 0.95:
+            rate = filter_rate(self.random, model.pool)
+            return "peer %d feefilter %d" % (peer, rate), model.fee_filter(peer, rate)
         tx = self.random.choice(self.transactions)
         digits = tx.hex()
         if draw < 0.4:
@@ -171,6 +187,6 @@ def test_random_streams(gate):
     for seed in range(STREAMS):
         met |= {line.split()[1] if line.startswith("denied") else line.split()[0] for line in stream(gate, seed)}
     rules = ["A%d" % number for number in (1, 2, 3, 5, 6, 7, 8, 9, 10, 11, 12, 17, 20, 22, 23, 24, 25, 26, 27, 28, 29, 34, 35, 43, 44, 45, 46)]
-    never = [word for word in rules + ["P1", "P2", "P3", "P5", "P6", "admitted", "listing", "entered", "left", "set", "refused"] if word not in met]
+    never = [word for word in rules + ["P1", "P2", "P3", "P5", "P6", "admitted", "listing", "filter", "entered", "left", "set", "refused"] if word not in met]
     same("rules that no stream met", never, [])
     same("rules that the policy does not name", [rule for rule in met if rule[0] in "AP" and rule not in TOKENS], [])

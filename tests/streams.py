@@ -16,7 +16,13 @@ SECONDS = 20
 OPENING = "times 101 1000 600\nverdict * ok\nbloom 1\n---\n"
 UNWRITTEN = b"gate: the output could not be written\n"
 UNREAD = b"gate: the input could not be read\n"
+TOO_LONG, TOO_MANY, TOO_MANY_LANES = "more than 16,777,216 bytes", "1,000,000 lines are the most", "a 65th lane; 64 are the most"
 NO_MEMORY = b"gate: out of memory\n"
+
+
+def past(line, limit):
+    """What is said of an input that goes past a limit at this line."""
+    return ("gate: line %d: %s\n" % (line, limit)).encode()
 
 
 def said(done, status, line):

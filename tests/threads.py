@@ -8,7 +8,7 @@ import time
 from bitcoin import coin, payment
 from gate import ROOT, SECONDS, Differs, lines, same, true
 from journals import raced
-from streams import UNREAD, UNWRITTEN, goes_with_its_caller
+from streams import TOO_LONG, TOO_MANY, TOO_MANY_LANES, UNREAD, UNWRITTEN, goes_with_its_caller, past
 
 OPENING = lines(["times 101 1000 600", "verdict * ok", "bloom 1", coin(1)])
 TRIES = 5
@@ -134,9 +134,10 @@ def test_the_journal_is_asked_for(gate):
 def test_lanes_past_a_limit(gate):
     """65 lanes, a line too long and too many lines: nothing is printed, since no lane was run."""
     prints(gate, laned([""] * 64), lines("lane %d" % number for number in range(1, 65)) + "settled 0\n")
-    fails(gate, laned([""] * 65), UNREAD)
-    fails(gate, laned(["peer 1 leave\n", "x" * 16777217]), UNREAD)
-    fails(gate, laned(["peer 1 leave\n", "\n" * 999999]), UNREAD)
+    before = OPENING.count("\n")
+    fails(gate, laned([""] * 65), past(before + 65, TOO_MANY_LANES))
+    fails(gate, laned(["peer 1 leave\n", "x" * 16777217]), past(before + 4, TOO_LONG))
+    fails(gate, laned(["peer 1 leave\n", "\n" * 999999]), past(before + 1000001, TOO_MANY))
     prints(gate, laned(["peer 1 leave\n", "\n" * 999998]), "lane 1\ndenied P1 keep peer-unknown\nlane 2\nsettled 1\n")
     prints(gate, laned(["#".ljust(16777216, "x") + "\n"]), "lane 1\nsettled 0\n")
 

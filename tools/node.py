@@ -215,6 +215,7 @@ def satoshi(amount):
 
 
 def progress(what, count, whole):
+    """Says on standard error how far the node was asked, after each thousand questions."""
     if count % SHOWN_EACH == 0 and count:
         print("%s: %d of %d" % (what, count, whole), file=sys.stderr, flush=True)
 
@@ -324,7 +325,8 @@ def times_of(view, heights):
     ends = {view.tip} | {max(it - 1, 0) for it in heights}
     known = sorted({height for end in ends for height in range(max(0, end - MEDIAN_OF + 1), end + 1)})
     lines, below = [], 0
-    for height in known:
+    for number, height in enumerate(known):
+        progress("block times", number, len(known))
         time = view.time(height)
         lines.append("times %d %d 0" % (height - below + 1, time))
         below = height + 1
@@ -367,7 +369,7 @@ def opening(view, entries, candidates):
 def add_words(words):
     """The words of the command line that say which node, and which transactions."""
     which = words.add_mutually_exclusive_group(required=True)
-    which.add_argument("--rpc", metavar="COMMAND", help='the command that asks the node: bitcoin-cli, or "bitcoin-cli -regtest"')
+    which.add_argument("--cli", "--rpc", dest="cli", metavar="COMMAND", help='the command that asks the node: bitcoin-cli, or "bitcoin-cli -regtest"')
     which.add_argument("--from", metavar="PATH", dest="path", help="a recording of a node's answers, or a folder of them")
     words.add_argument("--record", metavar="FILE", help="writes the answers down as a recording")
     words.add_argument("--try", metavar="FILE", dest="tried", help="transactions to be tried, a line of hexadecimal each; - is standard input")
@@ -375,9 +377,18 @@ def add_words(words):
 
 def asked(words):
     """The node's view, its pool and the candidates that the words ask for."""
-    node = RunningNode(words.rpc) if words.rpc else RecordedNode(words.path)
+    node = RunningNode(words.cli) if words.cli else RecordedNode(words.path)
     view = View(Recorder(node, words.record) if words.record else node)
-    return view, view.entries(), [view.candidate(it) for it in digits_in(words.tried)]
+    return view, view.entries(), candidates_of(view, digits_in(words.tried))
+
+
+def candidates_of(view, digits):
+    """What the node says of each of these transactions."""
+    found = []
+    for number, it in enumerate(digits):
+        progress("transactions to be tried", number, len(digits))
+        found.append(view.candidate(it))
+    return found
 
 
 def run(name, tool, words):

@@ -3,10 +3,11 @@
 //! Where it stops before its work is done, standard error has one line that says why.
 #![tactic(auto)]
 
+use gate_causes::{Behind, Heard, Limit, Place, Watched, digits_told, refusal_told};
 use gate_prog::{ArgsFault, Job, LaneFault, read_args, run_job};
 use std::alloc::{AllocError, AllocFailed};
 use std::hash::RandomState;
-use std::io::{BufReader, BufWriter, ErrorKind};
+use std::io::{BufReader, BufWriter, ErrorKind, IsTerminal};
 use std::process::ExitCode;
 use std::random::RandomSource;
 use std::rt::Env;
@@ -24,13 +25,15 @@ enum Fault {
     Random,
     #[error("{0}")]
     Lane(LaneFault),
+    #[error("line {0}: {1}")]
+    Limit(u64, Limit),
 }
 
 impl Fault {
     fn status(self) -> u8 {
         match self {
             Fault::Words => 2,
-            Fault::Random | Fault::Lane(_) => 1,
+            Fault::Random | Fault::Lane(_) | Fault::Limit(..) => 1,
         }
     }
 }
@@ -57,7 +60,7 @@ impl<T: Drop> From<AllocFailed<T>> for Fault {
 const BUFFER: usize = 65_536;
 
 fn main(rt: HostRuntime) -> ExitCode {
-    match status(&rt) {
+    match status(&rt, rt.stdin().is_terminal()) {
         Ok(status) => ExitCode::from(status),
         Err(fault) => {
             // Where standard error takes nothing either, the status alone says it.
@@ -78,8 +81,50 @@ fn words(rt: &(impl Env + AllocGlobal)) -> Result<Vec<String>, Fault> {
     }
 }
 
+/// Whether the words ask how to ask for help, which is told by the help.
+fn asks_for_help(args: &[String]) -> bool {
+    match args {
+        [first, second] => {
+            first.as_str() == "help" && (second.as_str() == "--help" || second.as_str() == "-h")
+        }
+        _ => false,
+    }
+}
+
+/// What stands behind the opening that a job reads.
+fn behind(job: &Job) -> Behind {
+    match job {
+        Job::Lanes { .. } => Behind::Lanes,
+        Job::Audit { .. } => Behind::Journal,
+        _ => Behind::Events,
+    }
+}
+
+/// Whether a job says on standard error why lines have no form.
+fn explains(job: &Job) -> bool {
+    match job {
+        Job::Run { explain } | Job::Lanes { explain, .. } | Job::Audit { explain } => *explain,
+        _ => false,
+    }
+}
+
+fn reads_input(job: &Job) -> bool {
+    match job {
+        Job::CheckInput | Job::Run { .. } | Job::Lanes { .. } | Job::Audit { .. } => true,
+        Job::Check(_) | Job::Rules | Job::Explain(_) => false,
+    }
+}
+
+/// What a job that failed stops for: what could not be read is named where it is past a limit.
+fn fault_at(fault: LaneFault, place: &Place) -> Fault {
+    match (fault, place.limit()) {
+        (LaneFault::Read, Some(limit)) => Fault::Limit(place.line(), limit),
+        _ => Fault::Lane(fault),
+    }
+}
+
 /// The status of a job, over the standard streams.
-fn run<R: AllocGlobal + Input + Print + RandomSource + Threads + Wait + Sync>(
+fn run<R: AllocGlobal + Input + Print + Eprint + RandomSource + Threads + Wait + Sync>(
     rt: &R,
     job: &Job,
 ) -> Result<u8, Fault> {
@@ -88,27 +133,82 @@ fn run<R: AllocGlobal + Input + Print + RandomSource + Threads + Wait + Sync>(
     let Ok(hasher) = RandomState::new(rt) else {
         return Err(Fault::Random);
     };
-    let Ok(mut reader) = BufReader::with_capacity(alloc, BUFFER, rt.reader()) else {
+    let Ok(reader) = BufReader::with_capacity(alloc, BUFFER, rt.reader()) else {
         return Err(Fault::Lane(LaneFault::Memory));
     };
-    let Ok(mut writer) = BufWriter::with_capacity(alloc, BUFFER, io::writer(rt)) else {
+    let Ok(writer) = BufWriter::with_capacity(alloc, BUFFER, io::writer(rt)) else {
         return Err(Fault::Lane(LaneFault::Memory));
     };
-    Ok(run_job(rt, alloc, hasher, job, &mut reader, &mut writer)?)
+    let place = Place::new();
+    let mut watched = Watched::new(alloc, rt, reader, behind(job), explains(job), &place);
+    let mut heard = Heard::new(alloc, writer);
+    let ended = run_job(rt, alloc, hasher, job, &mut watched, &mut heard);
+    if let Some(refusal) = heard.first() {
+        tell_refusal(rt, refusal, &place, watched.last());
+    }
+    match ended {
+        Ok(status) => Ok(status),
+        Err(fault) => Err(fault_at(fault, &place)),
+    }
+}
+
+/// Says on standard error what is wrong with an opening, where the first text that was written refuses one.
+fn tell_refusal<R: AllocGlobal + Eprint>(rt: &R, refusal: &[u8], place: &Place, last: &[u8]) {
+    let Ok(text) = std::str::from_utf8(refusal) else {
+        return;
+    };
+    // Without memory for it, or where standard error takes nothing, standard output alone says it.
+    if let Ok(Some(told)) = refusal_told(rt.alloc(), text.trim_end(), place, last) {
+        let _written = eprintln!(rt; "gate: {told}");
+    }
+}
+
+/// Says on standard error what is wrong with a word that stands for a transaction.
+fn tell_digits<R: AllocGlobal + Eprint>(rt: &R, word: &str) {
+    if let Ok(Some(told)) = digits_told(rt.alloc(), word) {
+        let _written = eprintln!(rt; "gate: {told}; gate check - reads standard input");
+    }
+}
+
+/// The same. Standard error says that input is read from a terminal, and what is wrong with a word.
+fn run_told<R: AllocGlobal + Input + Print + Eprint + RandomSource + Threads + Wait + Sync>(
+    rt: &R,
+    job: &Job,
+    is_terminal: bool,
+) -> Result<u8, Fault> {
+    if is_terminal && reads_input(job) {
+        let _written = eprintln!(rt; "gate: reads standard input, to its end");
+    }
+    let status = run(rt, job)?;
+    match job {
+        Job::Explain(word) if status != 0 => {
+            let word = word.as_str();
+            let _written = eprintln!(rt;
+                "gate: no rule and no token is named {word}; gate rules lists them"
+            );
+        }
+        Job::Check(word) if status != 0 => tell_digits(rt, word.as_str()),
+        _ => {}
+    }
+    Ok(status)
 }
 
 /// The status of what these words ask for.
 fn answer<R: AllocGlobal + Input + Print + Eprint + RandomSource + Threads + Wait + Sync>(
     rt: &R,
     args: &[String],
+    is_terminal: bool,
 ) -> Result<u8, Fault> {
     let alloc = rt.alloc();
     let mut words = Vec::new(alloc);
     for word in args {
         words.push(word.as_str())?;
     }
+    if asks_for_help(args) {
+        words.truncate(1);
+    }
     match read_args(alloc, words.as_slice()) {
-        Ok(job) => run(rt, &job),
+        Ok(job) => run_told(rt, &job, is_terminal),
         Err(ArgsFault::Help(text)) => printed(rt.print(text), 0),
         Err(ArgsFault::Usage(text)) => printed(rt.eprint(text), 2),
         Err(ArgsFault::Memory) => Err(Fault::Lane(LaneFault::Memory)),
@@ -118,9 +218,10 @@ fn answer<R: AllocGlobal + Input + Print + Eprint + RandomSource + Threads + Wai
 /// The status of what the words behind the program's name ask for.
 fn status<R: AllocGlobal + Env + Input + Print + Eprint + RandomSource + Threads + Wait + Sync>(
     rt: &R,
+    is_terminal: bool,
 ) -> Result<u8, Fault> {
     let args = words(rt)?;
-    let status = answer(rt, args.as_slice());
+    let status = answer(rt, args.as_slice(), is_terminal);
     drop(args);
     status
 }

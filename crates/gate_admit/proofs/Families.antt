@@ -18,6 +18,7 @@ use Rattle.gate_pool.proofs.Ids.{descendants_of_one}
 use Rattle.gate_pool.proofs.Walking.{Contains-from_filter}
 use Rattle.gate_admit.specs.declared.attempt.Attempt.TheVariants.{First}
 use Rattle.gate_admit.specs.declared.limits.FamilyLimits.{FamilyLimits}
+use Rattle.gate_admit.specs.Policies.{Policy, most_ancestors}
 use Rattle.gate_admit.specs.Limits.{grown, usual_limits, carved_out, has_room, has_room_below, is_within, fits_families, limit_rules}
 
 -- what passes a test weighs no more than what passes a wider one
@@ -100,11 +101,11 @@ too_many_above limits entries above vsize h =
     too_many : (n m : ℕ) → m < n + 1 → nat_le (n + 1) m ≡ false
     too_many n m h = grind (arith, nat_tests)
 
-pub no_try : (entries : List Admitted) (tx : Tx) (vsize : ℕ) → 25 < length (ancestors_above entries tx.inputs) → fits_families entries tx vsize ≡ false
-no_try entries tx vsize many =
+pub no_try : (policy : Policy) (entries : List Admitted) (tx : Tx) (vsize : ℕ) → most_ancestors policy < length (ancestors_above entries tx.inputs) → fits_families policy entries tx vsize ≡ false
+no_try policy entries tx vsize many =
     let above = ancestors_above entries tx.inputs in
-    let limits = grown entries (conflicts_of entries tx) usual_limits in
-    let first : is_within limits entries above vsize ≡ false = too_many_above limits entries above vsize (omega (arith, many, grown_ancestors entries (conflicts_of entries tx) usual_limits)) in
+    let limits = grown entries (conflicts_of entries tx) (usual_limits policy) in
+    let first : is_within limits entries above vsize ≡ false = too_many_above limits entries above vsize (omega (arith, many, grown_ancestors entries (conflicts_of entries tx) (usual_limits policy))) in
     let second : is_within (carved_out limits) entries above vsize ≡ false = too_many_above (carved_out limits) entries above vsize (omega (arith, many)) in
     ap (λ b. b || (nat_le vsize 10000 && is_within (carved_out limits) entries above vsize)) first ∙ ap (λ b. nat_le vsize 10000 && b) second ∙ and-false (nat_le vsize 10000)
   where
@@ -112,11 +113,14 @@ no_try entries tx vsize many =
     and-false true = refl
     and-false false = refl
 
+one_is : (n : ℕ) → 1 ≤ n → nat_le 1 n ≡ true
+one_is n h = grind (arith, nat_tests)
+
 -- a transaction without ancestors in the pool
-pub alone_fits : (entries : List Admitted) (tx : Tx) (vsize : ℕ) → ancestors_above entries tx.inputs ≡ [] → fits_families entries tx vsize ≡ true
-alone_fits entries tx vsize none =
-    let limits = grown entries (conflicts_of entries tx) usual_limits in
-    let within : is_within limits entries [] vsize ≡ true = ap (λ n. nat_le 1 n && true) (grown_ancestors entries (conflicts_of entries tx) usual_limits) in
+pub alone_fits : (policy : Policy) (entries : List Admitted) (tx : Tx) (vsize : ℕ) → 1 ≤ policy.ancestors → ancestors_above entries tx.inputs ≡ [] → fits_families policy entries tx vsize ≡ true
+alone_fits policy entries tx vsize least none =
+    let limits = grown entries (conflicts_of entries tx) (usual_limits policy) in
+    let within : is_within limits entries [] vsize ≡ true = ap (λ n. nat_le 1 n && true) (grown_ancestors entries (conflicts_of entries tx) (usual_limits policy)) ∙ ap (λ b. b && true) (one_is policy.ancestors least) in
     ap (λ l. is_within limits entries l vsize || (nat_le vsize 10000 && is_within (carved_out limits) entries l vsize)) none
     ∙ ap (λ b. b || (nat_le vsize 10000 && is_within (carved_out limits) entries [] vsize)) within
 
@@ -129,8 +133,8 @@ pub second_try : (first small second : Bool) → first ≡ false → small ≡ t
 second_try first small second h k = sym (ap (λ b. b || (small && second)) h ∙ ap (λ b. b && second) k)
 
 -- no rule on families fails of a transaction without ancestors in the pool
-pub alone_passes : (entries : List Admitted) (tx : Tx) (vsize : ℕ) → ancestors_above entries tx.inputs ≡ [] → first_failing (limit_rules First entries tx vsize) ≡ None
+pub alone_passes : (policy : Policy) (entries : List Admitted) (tx : Tx) (vsize : ℕ) → 1 ≤ policy.ancestors → ancestors_above entries tx.inputs ≡ [] → first_failing (limit_rules First policy entries tx vsize) ≡ None
 unfolding limit_rules
-alone_passes entries tx vsize none =
-    ap (λ b. first_failing ((TooLongChain, not b) ∷ (SpendsConflicting, list_any (is_conflict tx) (ancestors_above entries tx.inputs)) ∷ [])) (alone_fits entries tx vsize none)
+alone_passes policy entries tx vsize least none =
+    ap (λ b. first_failing ((TooLongChain, not b) ∷ (SpendsConflicting, list_any (is_conflict tx) (ancestors_above entries tx.inputs)) ∷ [])) (alone_fits policy entries tx vsize least none)
     ∙ ap (λ l. first_failing ((SpendsConflicting, list_any (is_conflict tx) l) ∷ [])) none

@@ -10,6 +10,7 @@ ghost use Rattle.gate_admit.specs.declared.attempt.Attempt.TheVariants.{First, A
 
 use crate::again::fits_again;
 use crate::attempt::Attempt;
+use crate::policy::Policy;
 use gate_bytes::{Counted, Memory};
 use gate_pool::{Pool, add_up, ancestors, descendants};
 use gate_rbf::DirectConflicts;
@@ -27,35 +28,47 @@ struct FamilyLimits {
     descendants_size: u128,
 }
 
-/// Bitcoin Core's `DEFAULT_ANCESTOR_LIMIT`, `DEFAULT_DESCENDANT_LIMIT`, and the limits of their sizes.
-const USUAL: FamilyLimits = FamilyLimits {
-    ancestors: 25,
-    ancestors_size: 101_000,
-    descendants: 25,
-    descendants_size: 101_000,
-};
+/// How many virtual bytes a transaction's ancestors may have, and its descendants, itself among each (Bitcoin Core's
+/// `DEFAULT_ANCESTOR_SIZE_LIMIT` and `DEFAULT_DESCENDANT_SIZE_LIMIT`).
+const FAMILY_SIZE: u128 = 101_000;
 
 /// How large a transaction may be for the second try (Bitcoin Core's `EXTRA_DESCENDANT_TX_SIZE_LIMIT`).
 const CARVE_OUT_VSIZE: u64 = 10_000;
 
+/// The limits of a first try without a replacement.
+fn usual_limits(policy: &Policy) -> FamilyLimits
+    ensures { result ≡ usual_limits policy.now }
+{
+    FamilyLimits {
+        ancestors: policy.ancestors(),
+        ancestors_size: FAMILY_SIZE,
+        descendants: policy.descendants(),
+        descendants_size: FAMILY_SIZE,
+    }
+}
+
 /// The limits of the first try: more descendants where the transaction replaces exactly one entry directly.
 fn first_limits<S: BuildHasher + Copy + Drop>(
     alloc: Global,
+    policy: &Policy,
     direct: &DirectConflicts<'_, S>,
 ) -> Result<FamilyLimits, Memory>
-    ensures limits { IfOk result (λ limits. limits ≡ grown direct.now.entries (conflicts_of direct.now.entries direct.now.tx) usual_limits) }
+    ensures limits { IfOk result (λ limits. limits ≡ grown direct.now.entries (conflicts_of direct.now.entries direct.now.tx) (usual_limits policy.now)) }
     ensures small { IfOk result (λ limits. limits.descendants_size < 2 ^ 101) }
+    ensures few { IfOk result (λ limits. limits.descendants ≤ 1001) }
 {
+    policy.tells_bounds();
+    let usual = usual_limits(policy);
     let Some(conflict) = direct.only() else {
-        return Ok(USUAL);
+        return Ok(usual);
     };
     let pool = direct.pool();
     let found = descendants(alloc, pool, &[conflict], pool.count())?;
     let family = found.unwrap();
     Ok(FamilyLimits {
-        descendants: USUAL.descendants + 1,
-        descendants_size: USUAL.descendants_size + add_up(pool, &family).size,
-        ..USUAL
+        descendants: usual.descendants + 1,
+        descendants_size: usual.descendants_size + add_up(pool, &family).size,
+        ..usual
     })
 }
 
@@ -149,15 +162,16 @@ fn is_within<S: BuildHasher + Copy + Drop>(
 /// Whether one of the two tries succeeds.
 fn fits_families<S: BuildHasher + Copy + Drop>(
     alloc: Global,
+    policy: &Policy,
     direct: &DirectConflicts<'_, S>,
     above: &[Txid],
     vsize: u64,
 ) -> Result<bool, Memory>
     requires { AreIdsOf above.now (ancestors_above direct.now.entries direct.now.tx.inputs) }
-    ensures { IfOk result (λ fits. fits ≡ fits_families direct.now.entries direct.now.tx vsize) }
+    ensures { IfOk result (λ fits. fits ≡ fits_families policy.now direct.now.entries direct.now.tx vsize) }
 {
     let pool = direct.pool();
-    let limits = first_limits(alloc, direct)?;
+    let limits = first_limits(alloc, policy, direct)?;
     if is_within(alloc, pool, above, vsize, limits)? {
         return Ok(true);
     }
@@ -166,7 +180,7 @@ fn fits_families<S: BuildHasher + Copy + Drop>(
     }
     let carved_out = FamilyLimits {
         ancestors: 2,
-        ancestors_size: USUAL.ancestors_size,
+        ancestors_size: FAMILY_SIZE,
         descendants: limits.descendants + 1,
         descendants_size: limits.descendants_size + u128::from(CARVE_OUT_VSIZE),
     };
@@ -191,18 +205,20 @@ fn ancestors_of<S: BuildHasher + Copy + Drop>(
 #[tactic(auto, unfolding(crate::specs::Limits::limit_rules))]
 fn check_first<S: BuildHasher + Copy + Drop>(
     alloc: Global,
+    policy: &Policy,
     direct: &DirectConflicts<'_, S>,
     vsize: u64,
 ) -> Result<Option<Denial>, Memory>
-    ensures { IfOk result (λ found. found ≡ first_failing (limit_rules First direct.now.entries direct.now.tx vsize)) }
+    ensures { IfOk result (λ found. found ≡ first_failing (limit_rules First policy.now direct.now.entries direct.now.tx vsize)) }
 {
-    let Some(above) = ancestors_of(alloc, direct, USUAL.ancestors)? else {
+    policy.tells_bounds();
+    let Some(above) = ancestors_of(alloc, direct, policy.most_ancestors())? else {
         return Ok(Some(Denial::TooLongChain));
     };
     if above.is_empty() {
         return Ok(None);
     }
-    if !fits_families(alloc, direct, &above, vsize)? {
+    if !fits_families(alloc, policy, direct, &above, vsize)? {
         return Ok(Some(Denial::TooLongChain));
     }
     if direct.has_one_of(&above) {
@@ -215,6 +231,7 @@ fn check_first<S: BuildHasher + Copy + Drop>(
 #[tactic(auto, unfolding(crate::specs::Limits::limit_rules))]
 fn check_again<S: BuildHasher + Copy + Drop>(
     alloc: Global,
+    policy: &Policy,
     direct: &DirectConflicts<'_, S>,
     identified: &Counted<Identified>,
     vsize: u64,
@@ -223,10 +240,10 @@ fn check_again<S: BuildHasher + Copy + Drop>(
     requires same { direct.now.tx ≡ identified.now }
     requires least { 1 ≤ vsize }
     requires most { vsize ≤ largest_vsize }
-    ensures { IfOk result (λ found. found ≡ first_failing (limit_rules Again direct.now.entries direct.now.tx vsize)) }
+    ensures { IfOk result (λ found. found ≡ first_failing (limit_rules Again policy.now direct.now.entries direct.now.tx vsize)) }
 {
     let pool = direct.pool();
-    if !fits_again(alloc, pool, identified, vsize)? {
+    if !fits_again(alloc, policy, pool, identified, vsize)? {
         return Ok(Some(Denial::TooLongChain));
     }
     let found = ancestors_of(alloc, direct, pool.count())?;
@@ -240,6 +257,7 @@ fn check_again<S: BuildHasher + Copy + Drop>(
 /// The first of A36 and A37 that fails at an attempt. No entry has the transaction's id.
 pub(crate) fn check_families<S: BuildHasher + Copy + Drop>(
     alloc: Global,
+    policy: &Policy,
     attempt: Attempt,
     direct: &DirectConflicts<'_, S>,
     identified: &Counted<Identified>,
@@ -249,10 +267,10 @@ pub(crate) fn check_families<S: BuildHasher + Copy + Drop>(
     requires same { direct.now.tx ≡ identified.now }
     requires least { 1 ≤ vsize }
     requires most { vsize ≤ largest_vsize }
-    ensures { IfOk result (λ found. found ≡ first_failing (limit_rules attempt direct.now.entries direct.now.tx vsize)) }
+    ensures { IfOk result (λ found. found ≡ first_failing (limit_rules attempt policy.now direct.now.entries direct.now.tx vsize)) }
 {
     match attempt {
-        Attempt::First => check_first(alloc, direct, vsize),
-        Attempt::Again => check_again(alloc, direct, identified, vsize),
+        Attempt::First => check_first(alloc, policy, direct, vsize),
+        Attempt::Again => check_again(alloc, policy, direct, identified, vsize),
     }
 }

@@ -1,5 +1,6 @@
 pub mod LinesTaken
 pub mod AskingTaken
+pub mod Bases
 pub mod EntryTaken
 pub mod Journals
 pub mod SoFar

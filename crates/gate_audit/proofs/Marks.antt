@@ -1,21 +1,29 @@
 -- Lines with the mark of an event or of a reply.
-use Rattle.std.proofs.Common.{◌≡◌, ℕ, ◌==◌, ◌&&◌, if◌then◌else◌, cond, not, Bool, true, false, List, [], ◌∷◌, ◌++◌, drop, length, map, Option, Some, None, refl, sym, ap, ◌∙◌, arith}
+use Rattle.std.proofs.Common.{◌≡◌, ◌≢◌, ℕ, ◌==◌, ◌&&◌, if◌then◌else◌, cond, not, Bool, true, false, List, [], ◌∷◌, ◌++◌, drop, length, map, Option, Some, None, refl, sym, ap, ◌∙◌, arith, append_assoc}
 use Rattle.std.proofs.lemmas.Bool.{true≢false}
 use Rattle.std.proofs.lemmas.Bool.Decides.{nat_tests}
 use Rattle.std.specs.Option.{option_to_list}
 use Rattle.gate_message.specs.declared.event.Event.{Event}
 use Rattle.gate_message.specs.declared.reply.Reply.{Reply}
-use Rattle.gate_core.specs.Runs.{run_of}
-use Rattle.gate_core.specs.Steps.{step_of}
 use Rattle.gate_message.specs.Texts.{reply_text}
-use Rattle.gate_core.specs.World.{World}
 use Rattle.gate_events.specs.EventLines.{line_event}
 use Rattle.gate_lines.specs.Lines.{is_skipped}
 use Rattle.gate_audit.specs.Audits.{Spells}
-use Rattle.gate_audit.specs.Journals.{asking, bears, entry_lines, event_line, reply_line}
+use Rattle.gate_audit.specs.Journals.{asking, base_line, bears, entry_lines, event_line, reply_line}
 use Rattle.gate_audit.specs.Laws.{events_among, marked_event, replies_among}
 
 -- ---- the event that a line spells
+
+abbrev head_of : List ℕ → ℕ
+head_of [] = 0
+head_of (x ∷ xs) = x
+
+-- no event's line is that of a base
+pub event_no_base : (text : List ℕ) (count : ℕ) → event_line text ≢ base_line count
+event_no_base text count = λ same. other (ap head_of same)
+  where
+    other : ◌≡◌ {A = ℕ} 62 98 → ⊥
+    other h = omega (arith, h)
 
 pub marked_spells : (line : List ℕ) (event : Event) → Spells line event → marked_event line ≡ Some event
 marked_spells line event (text, is, spells) = ap marked_event is ∙ spells
@@ -74,18 +82,34 @@ asking-entry_lines (t ∷ ts) (r ∷ rs) = ap (λ ls. event_line t ∷ reply_lin
 pub some_head : (a : Option Event) (e : Event) (others : List (Option Event)) (es : List Event) → a ∷ others ≡ map Some (e ∷ es) → (a ≡ Some e) × (others ≡ map Some es)
 some_head a e others es h = (cc, cc)
 
-pub events-entry_lines : (w : World) (texts : List (List ℕ)) (events : List Event) → map line_event texts ≡ map Some events → events_among (entry_lines texts (run_of w events).0) ≡ events
-events-entry_lines w [] [] spelled = refl
-events-entry_lines w [] (e ∷ es) spelled = cc
-events-entry_lines w (t ∷ ts) [] spelled = cc
-events-entry_lines w (t ∷ ts) (e ∷ es) spelled =
+pub events-entry_lines : (texts : List (List ℕ)) (events : List Event) (replies : List Reply) → map line_event texts ≡ map Some events → length texts ≡ length replies
+    → events_among (entry_lines texts replies) ≡ events
+events-entry_lines [] [] replies spelled same = refl
+events-entry_lines [] (e ∷ es) replies spelled same = cc
+events-entry_lines (t ∷ ts) [] replies spelled same = cc
+events-entry_lines (t ∷ ts) (e ∷ es) [] spelled same = absurd (omega (arith, same))
+events-entry_lines (t ∷ ts) (e ∷ es) (r ∷ rs) spelled same =
     let heads = some_head (line_event t) e (map line_event ts) es spelled in
-    let first = step_of w e in
-    let rest = entry_lines ts (run_of first.1 es).0 in
-    ap (λ a. option_to_list a ++ events_among rest) heads.0 ∙ ap (λ l. e ∷ l) (events-entry_lines first.1 ts es heads.1)
+    ap (λ a. option_to_list a ++ events_among (entry_lines ts rs)) heads.0 ∙ ap (λ l. e ∷ l) (events-entry_lines ts es rs heads.1 (omega (arith, same)))
 
 pub replies-entry_lines : (texts : List (List ℕ)) (replies : List Reply) → length texts ≡ length replies → replies_among (entry_lines texts replies) ≡ map reply_text replies
 replies-entry_lines [] [] same = refl
 replies-entry_lines [] (r ∷ rs) same = absurd (omega (arith, same))
 replies-entry_lines (t ∷ ts) [] same = absurd (omega (arith, same))
 replies-entry_lines (t ∷ ts) (r ∷ rs) same = ap (λ ls. reply_text r ∷ ls) (replies-entry_lines ts rs (omega (arith, same)))
+
+-- ---- lines behind lines
+
+pub events-append : (xs ys : List (List ℕ)) → events_among (xs ++ ys) ≡ events_among xs ++ events_among ys
+events-append [] ys = refl
+events-append (line ∷ xs) ys =
+    ap (λ es. option_to_list (marked_event line) ++ es) (events-append xs ys) ∙ sym (append_assoc (option_to_list (marked_event line)) (events_among xs) (events_among ys))
+
+either_reply : (b : Bool) (line : List ℕ) (xs ys : List (List ℕ)) → (if b then line ∷ (xs ++ ys) else xs ++ ys) ≡ (if b then line ∷ xs else xs) ++ ys
+either_reply true line xs ys = refl
+either_reply false line xs ys = refl
+
+pub replies-append : (xs ys : List (List ℕ)) → replies_among (xs ++ ys) ≡ replies_among xs ++ replies_among ys
+replies-append [] ys = refl
+replies-append (line ∷ xs) ys =
+    ap (λ rs. if bears 60 line then drop 2 line ∷ rs else rs) (replies-append xs ys) ∙ either_reply (bears 60 line) (drop 2 line) (replies_among xs) (replies_among ys)

@@ -1,21 +1,20 @@
 -- What an audit finds in the lines of a journal.
-use Rattle.std.specs.Prelude.{◌≡◌, ◌≢◌, ℕ, ◌+◌, ◌<◌, ◌≤◌, List, [], ◌∷◌, ◌++◌, length, ◌⊎◌, Option, Some, None}
+use Rattle.std.specs.Prelude.{◌≡◌, ◌≢◌, ℕ, ◌+◌, ◌<◌, List, [], ◌∷◌, ◌++◌, length, ◌⊎◌, Option, Some, None}
 use Rattle.gate_lines.specs.Lines.{count_limit, line_limit}
 use Rattle.gate_message.specs.declared.event.Event.{Event}
-use Rattle.gate_core.specs.Runs.{run_of}
 use Rattle.gate_core.specs.Steps.{step_of}
 use Rattle.gate_core.specs.World.{World}
 use Rattle.gate_events.specs.EventLines.{line_event}
 use Rattle.gate_audit.specs.declared.answer.Audit.{Audit}
 use Rattle.gate_audit.specs.declared.answer.Audit.TheVariants.{Legal, Illegal}
-use Rattle.gate_audit.specs.Journals.{AreWithin, IsJournal, asking, counted, entry_limit, event_line, reply_line}
+use Rattle.gate_audit.specs.Journals.{AreBounded, AreWithin, IsJournal, Rounds, asking, base_line, count_of, counted, entry_limit, event_line, reply_line, state_behind}
 
--- all of the lines are a journal of so many events
+-- all of the lines are a journal of so many entries, whose rounds are legal from this state
 pub record IsLegal (w : World) (lines : List (List ℕ)) (count : ℕ) : Type 0 where
-  pub events : List Event
-  pub journal : IsJournal w lines events
-  pub number : count ≡ length events
-  pub few : count ≤ entry_limit
+  pub rounds : Rounds
+  pub journal : IsJournal w lines rounds
+  pub number : count ≡ count_of rounds
+  pub bounded : AreBounded rounds
   pub within : AreWithin lines
 
 -- ---- an entry that is wrong
@@ -24,18 +23,20 @@ pub record IsLegal (w : World) (lines : List (List ℕ)) (count : ℕ) : Type 0 
 abbrev pub Spells : List ℕ → Event → Type 0
 Spells line event = (text : List ℕ) × (line ≡ event_line text) × (line_event text ≡ Some event)
 
--- The lines of an entry, behind so many others and in this state, are wrong: the entry is one too many, or its first line
--- spells no event, or the input ends behind that line, or the second line is not that of the event's reply.
-abbrev pub IsWrong : ℕ → World → List (List ℕ) → List (List ℕ) → Type 0
-IsWrong count w [] rest = ⊥
-IsWrong count w (first ∷ []) rest = (count ≡ entry_limit) ⊎ (((event : Event) → Spells first event → ⊥) ⊎ (rest ≡ []))
-IsWrong count w (first ∷ second ∷ []) rest = (event : Event) × Spells first event × (second ≢ reply_line (step_of w event).0)
-IsWrong count w (first ∷ second ∷ third ∷ lines) rest = ⊥
+-- The lines of an entry are wrong, behind so many entries, of which so many are of its round, and in this state: the first line
+-- is not that of the base, and the entry is one too many of its round, or that line spells no event, or the input ends behind it;
+-- or the second line is not that of the event's reply.
+abbrev pub IsWrong : ℕ → ℕ → World → List (List ℕ) → List (List ℕ) → Type 0
+IsWrong count size w [] rest = ⊥
+IsWrong count size w (first ∷ []) rest = (first ≢ base_line count)
+    × ((size ≡ entry_limit) ⊎ (((event : Event) → Spells first event → ⊥) ⊎ (rest ≡ [])))
+IsWrong count size w (first ∷ second ∷ []) rest = (event : Event) × Spells first event × (second ≢ reply_line (step_of w event).0)
+IsWrong count size w (first ∷ second ∷ third ∷ lines) rest = ⊥
 
--- so much was read: a journal of these events, and then lines of the next entry
-pub record IsFront (w : World) (before entry : List (List ℕ)) (events : List Event) : Type 0 where
-  pub journal : IsJournal w before events
-  pub few : length events ≤ entry_limit
+-- so much was read: a journal of these rounds, and then lines of the next entry of the last
+pub record IsFront (w : World) (before entry : List (List ℕ)) (rounds : Rounds) : Type 0 where
+  pub journal : IsJournal w before rounds
+  pub bounded : AreBounded rounds
   pub within : AreWithin (before ++ entry)
 
 -- the entry of this number, from 1, is wrong, and those before it are a journal
@@ -43,19 +44,19 @@ pub record FailsFirst (w : World) (lines : List (List ℕ)) (number : ℕ) : Typ
   pub before : List (List ℕ)
   pub entry : List (List ℕ)
   pub rest : List (List ℕ)
-  pub events : List Event
+  pub rounds : Rounds
   pub parted : lines ≡ (before ++ entry) ++ rest
-  pub front : IsFront w before entry events
-  pub wrong : IsWrong (length events) (run_of w events).1 (asking entry) rest
-  pub place : number ≡ length events + 1
+  pub front : IsFront w before entry rounds
+  pub wrong : IsWrong (count_of rounds) (length rounds.last.entries) (state_behind w rounds) (asking entry) rest
+  pub place : number ≡ count_of rounds + 1
 
 -- ---- a line past a limit
 
--- the entry of which these lines were read, behind so many others, is not wrong so far
+-- the entry of which these lines were read, behind so many others of its round, is not wrong so far
 abbrev pub IsBegun : ℕ → List (List ℕ) → Type 0
-IsBegun count [] = Unit {0}
-IsBegun count (first ∷ []) = (count < entry_limit) × ((event : Event) × Spells first event)
-IsBegun count (first ∷ second ∷ lines) = ⊥
+IsBegun size [] = Unit {0}
+IsBegun size (first ∷ []) = (size < entry_limit) × ((event : Event) × Spells first event)
+IsBegun size (first ∷ second ∷ lines) = ⊥
 
 -- the line behind so many others is one too many, or too long
 abbrev pub IsPast : ℕ → List ℕ → Type 0
@@ -67,10 +68,10 @@ pub record PassesLimit (w : World) (lines : List (List ℕ)) : Type 0 where
   pub entry : List (List ℕ)
   pub line : List ℕ
   pub rest : List (List ℕ)
-  pub events : List Event
+  pub rounds : Rounds
   pub parted : lines ≡ (before ++ entry) ++ (line ∷ rest)
-  pub front : IsFront w before entry events
-  pub begun : IsBegun (length events) (asking entry)
+  pub front : IsFront w before entry rounds
+  pub begun : IsBegun (length rounds.last.entries) (asking entry)
   pub past : IsPast (length (before ++ entry)) line
 
 -- ---- what is found

@@ -8,7 +8,8 @@ use Rattle.gate_core.specs.World.{World}
 use Rattle.gate_events.specs.EventLines.{line_event}
 use Rattle.gate_audit.specs.declared.answer.Audit.{Audit}
 use Rattle.gate_audit.specs.Audits.{Audited, IsLegal}
-use Rattle.gate_audit.specs.Journals.{AreWithin, bears, entry_limit, entry_lines}
+use Rattle.gate_audit.specs.Journals.{AreBounded, AreWithin, Rounds, bears, count_of, entries_of, entry_limit, entry_lines, rounds_lines}
+use Rattle.gate_journal.specs.Legal.{AreLegalRounds}
 
 -- any lines have one answer, and no two
 abbrev pub AuditsAreExact : Type 0
@@ -40,3 +41,10 @@ abbrev pub RunsHaveLegalJournals : Type 0
 RunsHaveLegalJournals =
     (w : World) (events : List Event) (texts : List (List ℕ)) → map line_event texts ≡ map Some events → length events ≤ entry_limit
     → AreWithin (entry_lines texts (run_of w events).0) → IsLegal w (entry_lines texts (run_of w events).0) (length events)
+
+-- rounds that are legal, by whatever spelling of their events, have legal journals, where none has too many entries and their
+-- lines are within the limits
+abbrev pub RoundsHaveLegalJournals : Type 0
+RoundsHaveLegalJournals =
+    (w : World) (rounds : Rounds) → AreLegalRounds w (entries_of rounds) → AreBounded rounds → AreWithin (rounds_lines rounds)
+    → IsLegal w (rounds_lines rounds) (count_of rounds)

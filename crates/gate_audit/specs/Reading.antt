@@ -11,7 +11,8 @@ use Rattle.gate_audit.specs.declared.entry.Taken.{Taken}
 use Rattle.gate_audit.specs.declared.entry.Taken.TheVariants as taken
 use Rattle.gate_audit.specs.declared.lines.JournalLines.{JournalLines}
 use Rattle.gate_audit.specs.Audits.{IsBegun, IsPast, IsWrong, Spells}
-use Rattle.gate_audit.specs.Journals.{asking, counted, entry_limit, reply_line}
+use Rattle.gate_audit.specs.declared.counts.EntryCounts.{EntryCounts}
+use Rattle.gate_audit.specs.Journals.{asking, base_line, counted, entry_limit, reply_line}
 
 -- what is left is what stands behind these lines
 abbrev pub Leads : Option (List ℕ) → Option (List ℕ) → List (List ℕ) → Type 0
@@ -72,9 +73,10 @@ IsNoReply (line ∷ other ∷ lines) more reply = ⊥
 abbrev pub LacksReply : Option (List ℕ) → List (List ℕ) → List (List ℕ) → List ℕ → Type 0
 LacksReply input lines asked reply = IfSome input (λ bytes. (more : List (List ℕ)) × (lines_of bytes ≡ lines ++ more) × IsNoReply asked more reply)
 
--- these lines of the input, which ask this, are a wrong entry, with any number of entries before them
-abbrev pub IsWrongIn : World → Option (List ℕ) → List (List ℕ) → List (List ℕ) → Type 0
-IsWrongIn w input lines asked = IfSome input (λ bytes. (more : List (List ℕ)) × (lines_of bytes ≡ lines ++ more) × ((count : ℕ) → IsWrong count w asked more))
+-- these lines of the input, which ask this, are a wrong entry, behind so many others
+abbrev pub IsWrongIn : EntryCounts → World → Option (List ℕ) → List (List ℕ) → List (List ℕ) → Type 0
+IsWrongIn counts w input lines asked = IfSome input (λ bytes. (more : List (List ℕ)) × (lines_of bytes ≡ lines ++ more)
+    × IsWrong counts.all counts.in_round w asked more)
 
 -- the line of this reply follows, or another line, or none
 abbrev pub ReplyTaken : Option (List ℕ) → Option (List ℕ) → JournalLines → JournalLines → List ℕ → Bool → Type 0
@@ -83,14 +85,17 @@ ReplyTaken input rest old new reply true = (lines : List (List ℕ)) × AreTaken
 ReplyTaken input rest old new reply false = (lines : List (List ℕ)) × (asked : List (List ℕ)) × AreTaken old.lines.count lines asked
     × (TellsEnd old.has_ended input → LacksReply input lines asked reply)
 
--- what the lines of one entry came to
-abbrev pub EntryTaken : Option (List ℕ) → Option (List ℕ) → JournalLines → JournalLines → World → World → Taken → Type 0
-EntryTaken input rest old new w w' taken.Legal = (lines : List (List ℕ)) × (first : List ℕ) × (event : Event)
+-- what the lines up to the end of an entry came to, or up to a base
+abbrev pub EntryTaken : Option (List ℕ) → Option (List ℕ) → JournalLines → JournalLines → World → World → EntryCounts → Taken → Type 0
+EntryTaken input rest old new w w' counts taken.Legal = (lines : List (List ℕ)) × (first : List ℕ) × (event : Event) × (counts.in_round < entry_limit)
     × Spells first event × AreTaken old.lines.count lines (first ∷ reply_line (step_of w event).0 ∷ [])
     × Leads input rest lines × (new.lines.count ≡ old.lines.count + length lines) × TellsRest new.has_ended input rest × (w' ≡ (step_of w event).1)
-EntryTaken input rest old new w w' taken.Wrong = (lines : List (List ℕ)) × (asked : List (List ℕ)) × AreTaken old.lines.count lines asked
-    × (TellsEnd old.has_ended input → IsWrongIn w input lines asked)
-EntryTaken input rest old new w w' taken.End = (lines : List (List ℕ)) × AreTaken old.lines.count lines [] × (TellsEnd old.has_ended input → AreAll input lines)
+EntryTaken input rest old new w w' counts taken.Base = (lines : List (List ℕ)) × AreTaken old.lines.count lines (base_line counts.all ∷ [])
+    × Leads input rest lines × (new.lines.count ≡ old.lines.count + length lines) × TellsRest new.has_ended input rest × (w' ≡ w)
+EntryTaken input rest old new w w' counts taken.Wrong = (lines : List (List ℕ)) × (asked : List (List ℕ)) × AreTaken old.lines.count lines asked
+    × (TellsEnd old.has_ended input → IsWrongIn counts w input lines asked)
+EntryTaken input rest old new w w' counts taken.End = (lines : List (List ℕ)) × AreTaken old.lines.count lines [] × (TellsEnd old.has_ended input → AreAll input lines)
 
-abbrev pub EntryIsPast : Option (List ℕ) → ℕ → Type 0
-EntryIsPast input number = (lines : List (List ℕ)) × (asked : List (List ℕ)) × AreTaken number lines asked × ((count : ℕ) → count < entry_limit → IsBegun count asked) × NextIsPast input number lines
+-- a line is past a limit, and the entry before it is not wrong
+abbrev pub EntryIsPast : Option (List ℕ) → ℕ → ℕ → Type 0
+EntryIsPast input number size = (lines : List (List ℕ)) × (asked : List (List ℕ)) × AreTaken number lines asked × IsBegun size asked × NextIsPast input number lines

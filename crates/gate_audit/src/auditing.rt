@@ -4,6 +4,7 @@ ghost use Rattle.gate_lines.specs.Lines.{lines_of};
 ghost use Rattle.gate_audit.specs.Audits.{Audited};
 
 use crate::answer::Audit;
+use crate::counts::EntryCounts;
 use crate::entry::{Taken, take_entry};
 use crate::lines::JournalLines;
 use gate_core::State;
@@ -11,14 +12,14 @@ use gate_lines::{LaneFault, Source};
 use std::alloc::Global;
 use std::hash::BuildHasher;
 
-/// The most entries that a journal may have.
-pub const MAX_ENTRIES: u64 = 100_000;
-
 /// Audits the journal that an input says, from the state that its first event met.
 ///
-/// A journal is pairs of lines, `> EVENT` and `< REPLY`, with empty lines and comments anywhere. A line is past the limits
-/// where it is the 1,000,001st, or has more than `MAX_LINE` bytes, its mark not counted. Such a line is `Read` unless an
-/// entry before it is wrong, and so is a reader that fails. No more than a line and a reply is held at a time.
+/// A journal is pairs of lines, `> EVENT` and `< REPLY`, with empty lines and comments anywhere. Where a pair may begin or the
+/// journal end, a line `base M` may stand, any number of times, M the number of entries before it: a new round begins there,
+/// and each round has at most 100,000 entries. A base line with another number, and an entry past that bound, are wrong
+/// as the next entry. A line is past the limits where it is the 1,000,001st, or has more than `MAX_LINE` bytes, its mark not
+/// counted. Such a line is `Read` unless an entry before it is wrong, and so is a reader that fails. No more than a line and a
+/// reply is held at a time.
 pub fn audit<S: BuildHasher + Copy + Drop, R: Source>(
     alloc: Global,
     mut state: State<S>,
@@ -44,15 +45,13 @@ fn audit_entries<S: BuildHasher + Copy + Drop, R: Source>(
     ensures kind { IfErr result (λ fault. fault ≢ LaneFault.Write) }
 {
     let mut lines = JournalLines::new(alloc);
-    for before in 0..MAX_ENTRIES {
-        match take_entry(alloc, state, reader, &mut lines)? {
-            Taken::Legal => {}
-            Taken::Wrong => return Ok(Audit::Illegal(before + 1)),
-            Taken::End => return Ok(Audit::Legal(before)),
-        }
+    let mut counts = EntryCounts::new();
+    loop {
+        counts = match take_entry(alloc, state, reader, &mut lines, counts)? {
+            Taken::Legal => counts.with_entry(),
+            Taken::Base => counts.with_base(),
+            Taken::Wrong => return Ok(Audit::Illegal(counts.all + 1)),
+            Taken::End => return Ok(Audit::Legal(counts.all)),
+        };
     }
-    if lines.next_asking(reader)? {
-        return Ok(Audit::Illegal(MAX_ENTRIES + 1));
-    }
-    Ok(Audit::Legal(MAX_ENTRIES))
 }

@@ -1,29 +1,56 @@
-//! One entry of a journal: the line of an event, and the line of its reply.
-ghost use Rattle.std.specs.Prelude.{◌≡◌, ◌≢◌, ◌++◌, MatchOption, ℕ, List, ◌↔◌, IsTrue, codes, true, IfErr, IfOk, IsErrOf, string_bytes};
+//! One entry of a journal: the line of an event, and the line of its reply. A line of a base stands between two rounds.
+ghost use Rattle.std.specs.Prelude.{◌≡◌, ◌≢◌, ◌++◌, ◌≤◌, MatchOption, ℕ, List, ◌↔◌, IsTrue, codes, true, IfErr, IfOk, IsErrOf, string_bytes};
+ghost use Rattle.std.specs.Fmt.{decimal};
 ghost use Rattle.std.specs.Option.{option_map};
 ghost use Rattle.gate_core.specs.Steps.{step_of};
+ghost use Rattle.gate_lines.specs.Numbers.{max_number};
 ghost use Rattle.gate_message.specs.Texts.{reply_text};
-ghost use Rattle.gate_audit.specs.Journals.{event_line};
+ghost use Rattle.gate_audit.specs.Journals.{base_line, event_line};
 ghost use Rattle.gate_audit.specs.Reading.{AskingIsPast, EntryIsPast, EntryTaken, Replied, ReplyTaken};
 
+use crate::counts::EntryCounts;
 use crate::lines::JournalLines;
 use gate_bytes::Memory;
 use gate_core::State;
 use gate_events::event_on;
-use gate_lines::{LaneFault, Source};
+use gate_lines::{LaneFault, Source, read_number};
 use gate_message::Event;
 use std::alloc::Global;
 use std::hash::BuildHasher;
 
-/// What the lines of an entry came to.
+/// What the lines up to the end of an entry came to.
 #[derive(Clone, Copy, Debug, PartialEq, Eq)]
 pub(crate) enum Taken {
     /// They spell an event, and say its reply.
     Legal,
-    /// They don't.
+    /// They are the line of a base, with the number of entries before it.
+    Base,
+    /// They are neither.
     Wrong,
     /// There are none: the journal ends here.
     End,
+}
+
+/// Whether a text is this number.
+fn is_number(text: &[u8], number: u64) -> bool
+    requires { number ≤ max_number }
+    ensures { IsTrue result ↔ (text.now ≡ decimal number) }
+{
+    match std::str::from_utf8(text) {
+        Ok(text) => read_number(text) == Some(number),
+        Err(_) => false,
+    }
+}
+
+/// Whether a line is that of a base behind so many entries.
+fn is_base(line: &[u8], count: u64) -> bool
+    requires { count ≤ max_number }
+    ensures { IsTrue result ↔ (line.now ≡ base_line count) }
+{
+    match line.strip_prefix(b"base ") {
+        Some(number) => is_number(number, count),
+        None => false,
+    }
 }
 
 /// What an event line spells: the text behind its mark.
@@ -92,19 +119,26 @@ fn reply_follows<R: Source>(
     Ok(says(lines.as_slice(), reply))
 }
 
-/// Reads the lines of the next entry, and makes its step.
+/// Reads the lines of the next entry, and makes its step; or reads the line of a base.
 pub(crate) fn take_entry<S: BuildHasher + Copy + Drop, R: Source>(
     alloc: Global,
     state: &mut State<S>,
     reader: &mut R,
     lines: &mut JournalLines,
+    counts: EntryCounts,
 ) -> Result<Taken, LaneFault>
-    ensures taken { IfOk result (λ taken. EntryTaken (R.remaining reader.old) (R.remaining reader.new) lines.old lines.new state.old state.new taken) }
-    ensures past { R.steady ≡ true → IsErrOf result LaneFault.Read → EntryIsPast (R.remaining reader.old) lines.old.lines.count }
+    ensures taken { IfOk result (λ taken. EntryTaken (R.remaining reader.old) (R.remaining reader.new) lines.old lines.new state.old state.new counts taken) }
+    ensures past { R.steady ≡ true → IsErrOf result LaneFault.Read → EntryIsPast (R.remaining reader.old) lines.old.lines.count counts.in_round }
     ensures kind { IfErr result (λ fault. fault ≢ LaneFault.Write) }
 {
     if !lines.next_asking(reader)? {
         return Ok(Taken::End);
+    }
+    if is_base(lines.as_slice(), counts.all) {
+        return Ok(Taken::Base);
+    }
+    if counts.is_full() {
+        return Ok(Taken::Wrong);
     }
     let Some(reply) = reply_to(alloc, state, lines.as_slice())? else {
         return Ok(Taken::Wrong);

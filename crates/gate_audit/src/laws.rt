@@ -1,5 +1,5 @@
 //! What an answer of an audit says.
-ghost use Rattle.gate_audit.specs.Laws.{AuditsAreExact, LegalJournalsAreRuns, RunsHaveLegalJournals};
+ghost use Rattle.gate_audit.specs.Laws.{AuditsAreExact, LegalJournalsAreRuns, RoundsHaveLegalJournals, RunsHaveLegalJournals};
 
 /// Any lines have one answer, and no two: they are a journal, or an entry is wrong before any line past a limit, or a line
 /// past a limit comes first.
@@ -15,4 +15,9 @@ pub fn legal_journals_are_runs()
 /// The journal that a run makes is legal.
 pub fn runs_have_legal_journals()
     ensures { RunsHaveLegalJournals }
+{}
+
+/// Rounds that are legal have a legal journal, whose bases say the number of entries before them.
+pub fn rounds_have_legal_journals()
+    ensures { RoundsHaveLegalJournals }
 {}

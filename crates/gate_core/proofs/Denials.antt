@@ -14,12 +14,12 @@ use Rattle.gate_chain.specs.declared.ChainDenial.{ChainDenial}
 use Rattle.gate_reorg.specs.Events.{Happened, event_rules, event_of}
 use Rattle.gate_submission.specs.Blocks.{present}
 use Rattle.gate_message.specs.declared.event.Event.{Event}
-use Rattle.gate_message.specs.declared.event.Event.TheVariants.{Enter, Leave, Tx as Submit, Mempool, GetBlock, Headers, Rpc, SetFloor, Set as Turn, Chain as Extend}
+use Rattle.gate_message.specs.declared.event.Event.TheVariants.{Enter, Leave, Tx as Submit, Mempool, GetBlock, Headers, FeeFilter, Rpc, SetFloor, Set as Turn, Chain as Extend}
 use Rattle.gate_message.specs.declared.refusal.Refusal.{Refusal}
 use Rattle.gate_message.specs.declared.reply.Reply.{Reply}
 use Rattle.gate_core.specs.World.{World, standing_of}
 use Rattle.gate_core.specs.Access.{entering_rules, session_rules, submission_rules, listing_rules, block_rules, headers_rules}
-use Rattle.gate_core.specs.PeerSteps.{concluded, decided, answered, entered, left, submitted, listed, block_given, headers_given}
+use Rattle.gate_core.specs.PeerSteps.{concluded, decided, answered, entered, left, submitted, listed, block_given, headers_given, filter_set}
 use Rattle.gate_core.specs.ChainSteps.{chained_as}
 use Rattle.gate_core.specs.Steps.{step_of}
 use Rattle.gate_core.specs.Runs.{run_of}
@@ -87,9 +87,10 @@ step_denied w (Enter peer address) h = answered_denied w peer (entered w peer ad
 step_denied w (Leave peer) h = answered_denied w peer (left w peer) (first_failing (session_rules w.sessions peer)) (λ k. absurd k) h
 step_denied w (Submit peer now transaction) h =
     answered_denied w peer (submitted w peer now transaction) (first_failing (submission_rules w peer transaction)) (submitted_denied w peer now transaction) h
-step_denied w (Mempool peer) h = answered_denied w peer (listed w) (first_failing (listing_rules w peer)) (λ k. absurd k) h
+step_denied w (Mempool peer) h = answered_denied w peer (listed w peer) (first_failing (listing_rules w peer)) (λ k. absurd k) h
 step_denied w (GetBlock peer height) h = answered_denied w peer (block_given w height) (first_failing (block_rules w peer height)) (λ k. absurd k) h
 step_denied w (Headers peer height) h = answered_denied w peer (headers_given w height) (first_failing (headers_rules w peer height)) (λ k. absurd k) h
+step_denied w (FeeFilter peer rate) h = answered_denied w peer (filter_set w peer rate) (first_failing (session_rules w.sessions peer)) (λ k. absurd k) h
 step_denied w (Rpc call) h =
     call_gives (λ p. IsDenied p.0 → IsAsIn w p.1) w call.time call.user (request_of call.json) (λ answer k. (refl, refl, refl)) (λ id transaction is k. sent_denied w id call.time transaction k) h
 step_denied w (SetFloor rate) h = absurd h

@@ -8,6 +8,7 @@ use Rattle.gate_pool.specs.Pool.{Admitted as Entry, size_of}
 use Rattle.gate_pool.specs.Family.{entered as entered_with}
 use Rattle.gate_trim.specs.Expiry.{expired}
 use Rattle.gate_trim.proofs.Trimmings.{trim_within}
+use Rattle.gate_admit.specs.Good.{Limits}
 use Rattle.gate_admit.specs.declared.Attempt.TheVariants.{First}
 use Rattle.gate_admit.specs.Rules.{decision_of}
 use Rattle.gate_admit.specs.Standing.{Standing}
@@ -22,21 +23,21 @@ use Rattle.gate_reorg.proofs.Origins.{floors_never_fall}
 use Rattle.gate_reorg.proofs.Spending.{events_keep_the_budget}
 use Rattle.gate_message.specs.declared.caller.Caller.TheVariants.{Operator}
 use Rattle.gate_message.specs.declared.event.Event.{Event}
-use Rattle.gate_message.specs.declared.event.Event.TheVariants.{Enter, Leave, Tx as Submit, Mempool, GetBlock, Headers, Rpc, SetFloor, Set as Turn, Chain as Extend}
+use Rattle.gate_message.specs.declared.event.Event.TheVariants.{Enter, Leave, Tx as Submit, Mempool, GetBlock, Headers, FeeFilter, Rpc, SetFloor, Set as Turn, Chain as Extend}
 use Rattle.gate_message.specs.declared.refusal.Refusal.{Refusal}
 use Rattle.gate_message.specs.declared.reply.Reply.{Reply}
 use Rattle.gate_message.specs.declared.reply.Reply.TheVariants.{Admitted}
 use Rattle.gate_core.specs.Access.{entering_rules, session_rules, submission_rules, listing_rules, block_rules, headers_rules}
 use Rattle.gate_message.specs.Callers.{caller_of}
 use Rattle.gate_core.specs.Opening.{Start}
-use Rattle.gate_core.specs.PeerSteps.{decided, answered, entered, left, submitted, listed, block_given, headers_given}
+use Rattle.gate_core.specs.PeerSteps.{decided, answered, entered, left, submitted, listed, block_given, headers_given, filter_set}
 use Rattle.gate_core.specs.Runs.{run_of}
 use Rattle.gate_core.specs.ChainSteps.{chained_as}
 use Rattle.gate_core.specs.Steps.{step_of}
 use Rattle.gate_core.specs.World.{World, opened_world, standing_of}
 use Rattle.gate_rpc.specs.Calls.{request_of}
 use Rattle.gate_core.proofs.Calls.{call_gives}
-use Rattle.gate_core.proofs.Running.{run_same_budget}
+use Rattle.gate_core.proofs.Running.{run_same_limits}
 
 -- ---- the budget
 
@@ -78,9 +79,10 @@ step_within w (Submit peer now transaction) h =
     let s = submit_of (standing_of w) transaction now w.budget in
     answered_within w peer (submitted w peer now transaction) (first_failing (submission_rules w peer transaction)) h
     (decided_within (record w { pool = s.entries; floor = s.floor }) peer transaction s.decision (after_within w now transaction h))
-step_within w (Mempool peer) h = answered_within w peer (listed w) (first_failing (listing_rules w peer)) h h
+step_within w (Mempool peer) h = answered_within w peer (listed w peer) (first_failing (listing_rules w peer)) h h
 step_within w (GetBlock peer height) h = answered_within w peer (block_given w height) (first_failing (block_rules w peer height)) h h
 step_within w (Headers peer height) h = answered_within w peer (headers_given w height) (first_failing (headers_rules w peer height)) h h
+step_within w (FeeFilter peer rate) h = answered_within w peer (filter_set w peer rate) (first_failing (session_rules w.sessions peer)) h h
 step_within w (Rpc call) h = call_gives (λ p. IsWithin p.1) w call.time call.user (request_of call.json) (λ answer. h) (λ id transaction is. after_within w call.time transaction h)
 step_within w (SetFloor rate) h = h
 step_within w (Turn switch on) h = h
@@ -91,7 +93,7 @@ run_within [] w h = h
 run_within (event ∷ events) w h = run_within events (step_of w event).1 (step_within w event h)
 
 pub run_budget : (o : Start) (events : List Event) → size_of (run_of (opened_world o) events).1.pool ≤ o.budget
-run_budget o events = subst (λ (n : ℕ). size_of (run_of (opened_world o) events).1.pool ≤ n) (run_same_budget events (opened_world o)) (run_within events (opened_world o) (omega arith))
+run_budget o events = subst (λ (n : ℕ). size_of (run_of (opened_world o) events).1.pool ≤ n) (ap (λ (l : Limits). l.budget) (run_same_limits events (opened_world o))) (run_within events (opened_world o) (omega arith))
 
 -- ---- the floor
 
@@ -119,9 +121,10 @@ unfolding step_of
 step_floor w (Enter peer address) h = answered_floor w peer (entered w peer address) (first_failing (entering_rules w.sessions peer)) (omega arith)
 step_floor w (Leave peer) h = answered_floor w peer (left w peer) (first_failing (session_rules w.sessions peer)) (omega arith)
 step_floor w (Submit peer now transaction) h = answered_floor w peer (submitted w peer now transaction) (first_failing (submission_rules w peer transaction)) (submitted_floor w peer now transaction)
-step_floor w (Mempool peer) h = answered_floor w peer (listed w) (first_failing (listing_rules w peer)) (omega arith)
+step_floor w (Mempool peer) h = answered_floor w peer (listed w peer) (first_failing (listing_rules w peer)) (omega arith)
 step_floor w (GetBlock peer height) h = answered_floor w peer (block_given w height) (first_failing (block_rules w peer height)) (omega arith)
 step_floor w (Headers peer height) h = answered_floor w peer (headers_given w height) (first_failing (headers_rules w peer height)) (omega arith)
+step_floor w (FeeFilter peer rate) h = answered_floor w peer (filter_set w peer rate) (first_failing (session_rules w.sessions peer)) (omega arith)
 step_floor w (Rpc call) h =
     call_gives (λ p. w.floor ≤ p.1.floor) w call.time call.user (request_of call.json) (λ answer. omega arith) (λ id transaction is. submission_floor (standing_of w) transaction call.time w.budget)
 step_floor w (SetFloor rate) h = absurd (h refl)

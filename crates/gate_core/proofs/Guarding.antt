@@ -97,9 +97,9 @@ flags_guard w peer =
       relay = λ on lacks now transaction.
           refuses w peer (submitted w peer now transaction) _ (session_first known closed _ (one_fails (lacks_relay w flags) BlocksOnly _ blocks_only (both w.blocksonly flags.relay on lacks)));
       bloom = λ off lacks more.
-          refuses w peer (listed w) _ (session_first known closed _ (one_fails (lacks_bloom w flags) MempoolNoBloom _ no_bloom (none_of flags.mempool flags.bloomfilter w.switches.bloom more lacks off)));
+          refuses w peer (listed w peer) _ (session_first known closed _ (one_fails (lacks_bloom w flags) MempoolNoBloom _ no_bloom (none_of flags.mempool flags.bloomfilter w.switches.bloom more lacks off)));
       upload = λ on lacks.
-          refuses w peer (listed w) _ (session_first known closed _ (two_fail (lacks_bloom w flags) (lacks_upload w flags) MempoolNoBloom MempoolUploadTarget _ no_bloom upload_target (both w.switches.upload flags.mempool on lacks)));
+          refuses w peer (listed w peer) _ (session_first known closed _ (two_fail (lacks_bloom w flags) (lacks_upload w flags) MempoolNoBloom MempoolUploadTarget _ no_bloom upload_target (both w.switches.upload flags.mempool on lacks)));
       headers = λ on lacks height.
           refuses w peer (headers_given w height) _ (session_first known closed _ (one_fails (lacks_headers w flags) HeadersDuringDownload _ during_download (both w.switches.download flags.download on lacks)));
       blocks = λ on lacks height old.

@@ -7,6 +7,7 @@ pub mod Keeping
 mod Guarding
 mod Listings
 mod Peers
+mod Rates
 mod Settling
 pub mod Running
 mod Sending

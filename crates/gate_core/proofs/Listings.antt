@@ -1,5 +1,5 @@
 -- What the listings of a run are.
-use Rattle.std.proofs.Common.{◌≡◌, ℕ, zero, suc, Bool, true, false, if◌then◌else◌, List, [], ◌∷◌, Option, Some, None, Result, Ok, Err, sym, subst}
+use Rattle.std.proofs.Common.{◌≡◌, ℕ, zero, suc, Bool, true, false, if◌then◌else◌, List, [], ◌∷◌, Option, Some, None, Result, Ok, Err, refl, sym, ap, subst}
 use Rattle.gate_bytes.specs.Order.{first_failing}
 use Rattle.gate_tx.specs.Tx.{Tx}
 use Rattle.gate_standard.specs.declared.Denial.{Denial}
@@ -10,7 +10,7 @@ use Rattle.gate_chain.specs.declared.ChainDenial.{ChainDenial}
 use Rattle.gate_reorg.specs.Events.{Happened, event_rules, event_of}
 use Rattle.gate_submission.specs.Blocks.{present}
 use Rattle.gate_message.specs.declared.event.Event.{Event}
-use Rattle.gate_message.specs.declared.event.Event.TheVariants.{Enter, Leave, Tx as Submit, Mempool, GetBlock, Headers, Rpc, SetFloor, Set as Turn, Chain as Extend}
+use Rattle.gate_message.specs.declared.event.Event.TheVariants.{Enter, Leave, Tx as Submit, Mempool, GetBlock, Headers, FeeFilter, Rpc, SetFloor, Set as Turn, Chain as Extend}
 use Rattle.gate_message.specs.declared.refusal.Refusal.{Refusal}
 use Rattle.gate_message.specs.declared.reply.Reply.{Reply}
 use Rattle.gate_message.specs.declared.reply.Reply.TheVariants.{Listing, Rpc as Answered}
@@ -27,24 +27,28 @@ use Rattle.gate_rpc.specs.Calls.{request_of}
 use Rattle.gate_core.proofs.Calls.{call_gives}
 use Rattle.gate_core.specs.World.{World, standing_of}
 use Rattle.gate_core.specs.Access.{entering_rules, session_rules, submission_rules, listing_rules, block_rules, headers_rules}
-use Rattle.gate_core.specs.PeerSteps.{decided, answered, entered, left, submitted, listed, block_given, headers_given}
+use Rattle.gate_core.specs.PeerSteps.{decided, answered, entered, left, submitted, listed, block_given, headers_given, filter_set}
 use Rattle.gate_core.specs.ChainSteps.{chained_as}
 use Rattle.gate_core.specs.Steps.{step_of}
 use Rattle.gate_core.specs.RpcSteps.{is_barred, commanded, called_by, rpc_step}
-use Rattle.gate_core.specs.Runs.{ListsThePool, AnswersThePool}
+use Rattle.gate_core.specs.Runs.{ListsThePool, AnswersThePool, told_to}
 
-decided_lists : (w : World) (peer : ℕ) (transaction : Option Tx) (decision : Result Grant Denial) (txids : List (List ℕ)) → (decided w peer transaction decision).0 ≡ Listing txids → ⊥
+-- the event that a listing answers, and what it has
+abbrev Told : World → Event → List (List ℕ) → Type 0
+Told w event txids = (peer : ℕ) × (event ≡ Mempool peer) × (txids ≡ told_to peer w)
+
+decided_lists : {X : Type 0} (w : World) (peer : ℕ) (transaction : Option Tx) (decision : Result Grant Denial) (txids : List (List ℕ)) → (decided w peer transaction decision).0 ≡ Listing txids → X
 decided_lists w peer None decision txids h = cc
 decided_lists w peer (Some tx) (Ok grant) txids h = cc
 decided_lists w peer (Some tx) (Err denial) txids h = cc
 
-submitted_lists : (w : World) (peer now : ℕ) (transaction : Option Tx) (txids : List (List ℕ)) → (submitted w peer now transaction).0 ≡ Listing txids → txids ≡ listing_of w.pool
+submitted_lists : {X : Type 0} (w : World) (peer now : ℕ) (transaction : Option Tx) (txids : List (List ℕ)) → (submitted w peer now transaction).0 ≡ Listing txids → X
 submitted_lists w peer now transaction txids h =
     let s = submit_of (standing_of w) transaction now w.budget in
-    absurd (decided_lists (record w { pool = s.entries; floor = s.floor }) peer transaction s.decision txids h)
+    decided_lists (record w { pool = s.entries; floor = s.floor }) peer transaction s.decision txids h
 
-answered_lists : (w : World) (peer : ℕ) (served : Reply × World) (refusal : Option Refusal) (txids : List (List ℕ))
-    → (served.0 ≡ Listing txids → txids ≡ listing_of w.pool) → (answered w peer served refusal).0 ≡ Listing txids → txids ≡ listing_of w.pool
+answered_lists : {X : Type 0} (w : World) (peer : ℕ) (served : Reply × World) (refusal : Option Refusal) (txids : List (List ℕ))
+    → (served.0 ≡ Listing txids → X) → (answered w peer served refusal).0 ≡ Listing txids → X
 answered_lists w peer served (Some refusal) txids done h = cc
 answered_lists w peer served None txids done h = done h
 
@@ -55,17 +59,22 @@ chained_lists w after None txids h = cc
 no_answer : {X : Type 0} (answer : RpcReply) (txids : List (List ℕ)) → Answered answer ≡ Listing txids → X
 no_answer answer txids h = cc
 
-step_lists : (w : World) (event : Event) (txids : List (List ℕ)) → (step_of w event).0 ≡ Listing txids → txids ≡ listing_of w.pool
+same_list : (a b : List (List ℕ)) → Listing a ≡ Listing b → b ≡ a
+same_list a b h = cc
+
+step_lists : (w : World) (event : Event) (txids : List (List ℕ)) → (step_of w event).0 ≡ Listing txids → Told w event txids
 unfolding step_of
 step_lists w (Enter peer address) txids h = answered_lists w peer (entered w peer address) (first_failing (entering_rules w.sessions peer)) txids (λ k. cc) h
 step_lists w (Leave peer) txids h = answered_lists w peer (left w peer) (first_failing (session_rules w.sessions peer)) txids (λ k. cc) h
 step_lists w (Submit peer now transaction) txids h =
     answered_lists w peer (submitted w peer now transaction) (first_failing (submission_rules w peer transaction)) txids (submitted_lists w peer now transaction txids) h
-step_lists w (Mempool peer) txids h = answered_lists w peer (listed w) (first_failing (listing_rules w peer)) txids (λ k. cc) h
+step_lists w (Mempool peer) txids h =
+    answered_lists w peer (listed w peer) (first_failing (listing_rules w peer)) txids (λ k. (peer, refl, same_list (told_to peer w) txids k)) h
 step_lists w (GetBlock peer height) txids h = answered_lists w peer (block_given w height) (first_failing (block_rules w peer height)) txids (λ k. cc) h
 step_lists w (Headers peer height) txids h = answered_lists w peer (headers_given w height) (first_failing (headers_rules w peer height)) txids (λ k. cc) h
+step_lists w (FeeFilter peer rate) txids h = answered_lists w peer (filter_set w peer rate) (first_failing (session_rules w.sessions peer)) txids (λ k. cc) h
 step_lists w (Rpc call) txids h =
-    call_gives (λ p. p.0 ≡ Listing txids → txids ≡ listing_of w.pool) w call.time call.user (request_of call.json) (λ answer k. no_answer answer txids k)
+    call_gives (λ p. p.0 ≡ Listing txids → Told w (Rpc call) txids) w call.time call.user (request_of call.json) (λ answer k. no_answer answer txids k)
     (λ id transaction is k. no_answer _ txids k) h
 step_lists w (SetFloor rate) txids h = cc
 step_lists w (Turn switch on) txids h = cc
@@ -76,7 +85,9 @@ some_is reply other h = cc
 
 pub lists_the_pool : (events : List Event) (w : World) → ListsThePool w events
 lists_the_pool [] w k txids h = cc
-lists_the_pool (event ∷ events) w zero txids h = step_lists w event txids (some_is _ _ h)
+lists_the_pool (event ∷ events) w zero txids h =
+    let told = step_lists w event txids (some_is _ _ h) in
+    (told.0, ap Some told.1, told.2)
 lists_the_pool (event ∷ events) w (suc k) txids h = lists_the_pool events (step_of w event).1 k txids h
 
 -- ---- answers to users

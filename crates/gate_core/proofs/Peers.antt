@@ -9,10 +9,10 @@ use Rattle.gate_message.specs.declared.refusal.Refusal.TheVariants.{PeerUnknown,
 use Rattle.gate_core.specs.declared.session.Session.{Session as Status}
 use Rattle.gate_net.specs.Permissions.{Permissions, no_permissions}
 use Rattle.gate_core.specs.Access.{is_known, session_rules}
-use Rattle.gate_core.specs.Sessions.{Session, session, session_of, status_of, flags_in, closed}
+use Rattle.gate_core.specs.Sessions.{Session, session, session_of, status_of, flags_in, rate_in, closed, rated}
 
 abbrev pub shown : ℕ × Status → Session
-shown p = session p.0 p.1.is_open p.1.flags
+shown p = session p.0 p.1.is_open p.1.flags p.1.rate
 
 pub session_of-shown : (es : List (ℕ × Status)) (peer : ℕ) → option_map status_of (session_of (map shown es) peer) ≡ lookup (nat_eq peer) es
 session_of-shown [] peer = refl
@@ -53,6 +53,18 @@ flags_by_session (Some s) = refl
 pub flags-shown : (es : List (ℕ × Status)) (peer : ℕ) (found : Option Status) → found ≡ lookup (nat_eq peer) es → flags_by found ≡ flags_in (map shown es) peer
 flags-shown es peer found is = ap flags_by (is ∙ sym (session_of-shown es peer)) ∙ flags_by_session (session_of (map shown es) peer)
 
+-- the rate where a peer has a session, or 0
+abbrev pub rate_by : Option Status → ℕ
+rate_by None = 0
+rate_by (Some status) = status.rate
+
+rate_by_session : (o : Option Session) → rate_by (option_map status_of o) ≡ option_map_or (λ (s : Session). s.rate) o 0
+rate_by_session None = refl
+rate_by_session (Some s) = refl
+
+pub rate-shown : (es : List (ℕ × Status)) (peer : ℕ) (found : Option Status) → found ≡ lookup (nat_eq peer) es → rate_by found ≡ rate_in (map shown es) peer
+rate-shown es peer found is = ap rate_by (is ∙ sym (session_of-shown es peer)) ∙ rate_by_session (session_of (map shown es) peer)
+
 -- a peer without a session comes last
 pub entered-shown : (es : List (ℕ × Status)) (peer : ℕ) (status : Status) → session_of (map shown es) peer ≡ None → map shown (insert_entry nat_eq es peer status) ≡ map shown es ++ shown (peer, status) ∷ []
 entered-shown [] peer status none = refl
@@ -76,8 +88,8 @@ closed-shown (e ∷ es) peer status found = by (nat_eq peer e.0) (closed-shown e
     by : (b : Bool) → (lookup (nat_eq peer) es ≡ Some status → map shown (set_value (nat_eq peer) es (record status { is_open = false })) ≡ closed (map shown es) peer)
         → (if b then Some e.1 else lookup (nat_eq peer) es) ≡ Some status
         → map shown (if b then (e.0, record status { is_open = false }) ∷ es else e ∷ set_value (nat_eq peer) es (record status { is_open = false }))
-        ≡ (if b then session e.0 false e.1.flags ∷ map shown es else shown e ∷ closed (map shown es) peer)
-    by true rest h = ap (λ (s : Status). session e.0 false s.flags ∷ map shown es) (sym (some_is e.1 status h))
+        ≡ (if b then session e.0 false e.1.flags e.1.rate ∷ map shown es else shown e ∷ closed (map shown es) peer)
+    by true rest h = ap (λ (s : Status). session e.0 false s.flags s.rate ∷ map shown es) (sym (some_is e.1 status h))
     by false rest h = ap (λ l. shown e ∷ l) (rest h)
 
 -- a peer without a session has none to close
@@ -86,6 +98,29 @@ closed-absent [] peer none = refl
 closed-absent (e ∷ es) peer none = by (nat_eq peer e.0) (closed-absent es peer) none
   where
     by : (b : Bool) → (lookup (nat_eq peer) es ≡ None → closed (map shown es) peer ≡ map shown es) → (if b then Some e.1 else lookup (nat_eq peer) es) ≡ None
-        → (if b then session e.0 false e.1.flags ∷ map shown es else shown e ∷ closed (map shown es) peer) ≡ shown e ∷ map shown es
+        → (if b then session e.0 false e.1.flags e.1.rate ∷ map shown es else shown e ∷ closed (map shown es) peer) ≡ shown e ∷ map shown es
+    by true rest h = cc
+    by false rest h = ap (λ l. shown e ∷ l) (rest h)
+
+-- a peer's session with its status at another rate
+pub rated-shown : (es : List (ℕ × Status)) (peer rate : ℕ) (status : Status) → lookup (nat_eq peer) es ≡ Some status
+    → map shown (set_value (nat_eq peer) es (record status { rate = rate })) ≡ rated (map shown es) peer rate
+rated-shown [] peer rate status found = cc
+rated-shown (e ∷ es) peer rate status found = by (nat_eq peer e.0) (rated-shown es peer rate status) found
+  where
+    by : (b : Bool) → (lookup (nat_eq peer) es ≡ Some status → map shown (set_value (nat_eq peer) es (record status { rate = rate })) ≡ rated (map shown es) peer rate)
+        → (if b then Some e.1 else lookup (nat_eq peer) es) ≡ Some status
+        → map shown (if b then (e.0, record status { rate = rate }) ∷ es else e ∷ set_value (nat_eq peer) es (record status { rate = rate }))
+        ≡ (if b then session e.0 e.1.is_open e.1.flags rate ∷ map shown es else shown e ∷ rated (map shown es) peer rate)
+    by true rest h = ap (λ (s : Status). session e.0 s.is_open s.flags rate ∷ map shown es) (sym (some_is e.1 status h))
+    by false rest h = ap (λ l. shown e ∷ l) (rest h)
+
+-- a peer without a session has no rate to set
+pub rated-absent : (es : List (ℕ × Status)) (peer rate : ℕ) → lookup (nat_eq peer) es ≡ None → rated (map shown es) peer rate ≡ map shown es
+rated-absent [] peer rate none = refl
+rated-absent (e ∷ es) peer rate none = by (nat_eq peer e.0) (rated-absent es peer rate) none
+  where
+    by : (b : Bool) → (lookup (nat_eq peer) es ≡ None → rated (map shown es) peer rate ≡ map shown es) → (if b then Some e.1 else lookup (nat_eq peer) es) ≡ None
+        → (if b then session e.0 e.1.is_open e.1.flags rate ∷ map shown es else shown e ∷ rated (map shown es) peer rate) ≡ shown e ∷ map shown es
     by true rest h = cc
     by false rest h = ap (λ l. shown e ∷ l) (rest h)

@@ -13,7 +13,7 @@ use Rattle.gate_reorg.specs.Events.{Happened, event_rules, event_of}
 use Rattle.gate_submission.specs.Blocks.{present}
 use Rattle.gate_message.specs.declared.caller.Caller.TheVariants.{Peer}
 use Rattle.gate_message.specs.declared.event.Event.{Event}
-use Rattle.gate_message.specs.declared.event.Event.TheVariants.{Enter, Leave, Tx as Submit, Mempool, GetBlock, Headers, Rpc, SetFloor, Set as Turn, Chain as Extend}
+use Rattle.gate_message.specs.declared.event.Event.TheVariants.{Enter, Leave, Tx as Submit, Mempool, GetBlock, Headers, FeeFilter, Rpc, SetFloor, Set as Turn, Chain as Extend}
 use Rattle.gate_message.specs.declared.refusal.Refusal.{Refusal}
 use Rattle.gate_message.specs.declared.refusal.Refusal.TheVariants.{Admission}
 use Rattle.gate_message.specs.declared.refusal.Then.{Then}
@@ -22,10 +22,10 @@ use Rattle.gate_message.specs.declared.reply.Reply.{Reply}
 use Rattle.gate_net.specs.Permissions.{Permissions}
 use Rattle.gate_message.specs.Callers.{caller_of}
 use Rattle.gate_message.specs.Refusals.{then_of}
-use Rattle.gate_core.specs.Sessions.{Session, session, session_of, flags_in, closed}
+use Rattle.gate_core.specs.Sessions.{Session, session, session_of, flags_in, rate_after, closed, rated}
 use Rattle.gate_core.specs.World.{World, flags_at, standing_of}
 use Rattle.gate_core.specs.Access.{entering_rules, session_rules, submission_rules, listing_rules, block_rules, headers_rules}
-use Rattle.gate_core.specs.PeerSteps.{sessions_after, decided, answered, entered, left, submitted, listed, block_given, headers_given}
+use Rattle.gate_core.specs.PeerSteps.{sessions_after, decided, answered, entered, left, submitted, listed, block_given, headers_given, filter_set}
 use Rattle.gate_core.specs.ChainSteps.{chained_as}
 use Rattle.gate_core.specs.Steps.{step_of}
 use Rattle.gate_core.specs.Runs.{run_of}
@@ -35,8 +35,8 @@ use Rattle.gate_core.proofs.Calls.{call_gives}
 differs : (a b : ℕ) → a ≢ b → nat_eq a b ≡ false
 differs a b h = false_from_ne_true (nat_eq a b) (λ k. h (eqb-true a b k))
 
-entering_leaves : (sessions : List Session) (peer other : ℕ) (flags : Permissions) → other ≢ peer → session_of (sessions ++ session peer true flags ∷ []) other ≡ session_of sessions other
-entering_leaves [] peer other flags h = ap (λ (b : Bool). if b then Some (session peer true flags) else None) (differs other peer h)
+entering_leaves : (sessions : List Session) (peer other : ℕ) (flags : Permissions) → other ≢ peer → session_of (sessions ++ session peer true flags 0 ∷ []) other ≡ session_of sessions other
+entering_leaves [] peer other flags h = ap (λ (b : Bool). if b then Some (session peer true flags 0) else None) (differs other peer h)
 entering_leaves (s ∷ sessions) peer other flags h = ap (λ o. if nat_eq other s.peer then Some s else o) (entering_leaves sessions peer other flags h)
 
 pub closing_leaves : (sessions : List Session) (peer other : ℕ) → other ≢ peer → session_of (closed sessions peer) other ≡ session_of sessions other
@@ -49,6 +49,18 @@ closing_leaves (s ∷ sessions) peer other h = by (nat_eq peer s.peer) (λ k. eq
     by : (b : Bool) → (b ≡ true → peer ≡ s.peer) → session_of (closed sessions peer) other ≡ session_of sessions other
         → session_of (if b then record s { is_open = false } ∷ sessions else s ∷ closed sessions peer) other ≡ (if nat_eq other s.peer then Some s else session_of sessions other)
     by true is rest = let others = differs other s.peer (λ k. h (k ∙ sym (is refl))) in skipped (record s { is_open = false }) others ∙ sym (skipped s others)
+    by false is rest = ap (λ o. if nat_eq other s.peer then Some s else o) rest
+
+rating_leaves : (sessions : List Session) (peer other rate : ℕ) → other ≢ peer → session_of (rated sessions peer rate) other ≡ session_of sessions other
+rating_leaves [] peer other rate h = refl
+rating_leaves (s ∷ sessions) peer other rate h = by (nat_eq peer s.peer) (λ k. eqb-true peer s.peer k) (rating_leaves sessions peer other rate h)
+  where
+    skipped : (t : Session) → nat_eq other t.peer ≡ false → (if nat_eq other t.peer then Some t else session_of sessions other) ≡ session_of sessions other
+    skipped t others = ap (λ (b : Bool). if b then Some t else session_of sessions other) others
+
+    by : (b : Bool) → (b ≡ true → peer ≡ s.peer) → session_of (rated sessions peer rate) other ≡ session_of sessions other
+        → session_of (if b then record s { rate = rate } ∷ sessions else s ∷ rated sessions peer rate) other ≡ (if nat_eq other s.peer then Some s else session_of sessions other)
+    by true is rest = let others = differs other s.peer (λ k. h (k ∙ sym (is refl))) in skipped (record s { rate = rate }) others ∙ sym (skipped s others)
     by false is rest = ap (λ o. if nat_eq other s.peer then Some s else o) rest
 
 after_leaves : (next : Then) (sessions : List Session) (peer other : ℕ) → other ≢ peer → session_of (sessions_after next sessions peer) other ≡ session_of sessions other
@@ -90,9 +102,12 @@ step_leaves w (Leave peer) other h =
 step_leaves w (Submit peer now transaction) other h =
     let apart = another peer other h in
     answered_leaves w peer other (submitted w peer now transaction) (first_failing (submission_rules w peer transaction)) apart (submitted_leaves w peer other now transaction apart)
-step_leaves w (Mempool peer) other h = answered_leaves w peer other (listed w) (first_failing (listing_rules w peer)) (another peer other h) refl
+step_leaves w (Mempool peer) other h = answered_leaves w peer other (listed w peer) (first_failing (listing_rules w peer)) (another peer other h) refl
 step_leaves w (GetBlock peer height) other h = answered_leaves w peer other (block_given w height) (first_failing (block_rules w peer height)) (another peer other h) refl
 step_leaves w (Headers peer height) other h = answered_leaves w peer other (headers_given w height) (first_failing (headers_rules w peer height)) (another peer other h) refl
+step_leaves w (FeeFilter peer rate) other h =
+    let apart = another peer other h in
+    answered_leaves w peer other (filter_set w peer rate) (first_failing (session_rules w.sessions peer)) apart (rating_leaves w.sessions peer other (rate_after w.sessions peer rate) apart)
 step_leaves w (Rpc call) other h =
     call_gives (λ p. session_of p.1.sessions other ≡ session_of w.sessions other) w call.time call.user (request_of call.json) (λ answer. refl) (λ id transaction is. refl)
 step_leaves w (SetFloor rate) other h = refl

@@ -21,12 +21,12 @@ use Rattle.gate_reorg.specs.Events.{event_rules, event_of}
 use Rattle.gate_submission.specs.Blocks.{present}
 use Rattle.gate_reorg.proofs.Spending.{SpendOnce, below_once, entered_once, events_spend_once, part_once}
 use Rattle.gate_message.specs.declared.event.Event.{Event}
-use Rattle.gate_message.specs.declared.event.Event.TheVariants.{Enter, Leave, Tx as Submit, Mempool, GetBlock, Headers, Rpc, SetFloor, Set as Turn, Chain as Extend}
+use Rattle.gate_message.specs.declared.event.Event.TheVariants.{Enter, Leave, Tx as Submit, Mempool, GetBlock, Headers, FeeFilter, Rpc, SetFloor, Set as Turn, Chain as Extend}
 use Rattle.gate_message.specs.declared.refusal.Refusal.{Refusal}
 use Rattle.gate_message.specs.declared.reply.Reply.{Reply}
 use Rattle.gate_core.specs.Access.{entering_rules, session_rules, submission_rules, listing_rules, block_rules, headers_rules}
 use Rattle.gate_core.specs.ChainSteps.{chained_as}
-use Rattle.gate_core.specs.PeerSteps.{decided, answered, entered, left, submitted, listed, block_given, headers_given}
+use Rattle.gate_core.specs.PeerSteps.{decided, answered, entered, left, submitted, listed, block_given, headers_given, filter_set}
 use Rattle.gate_core.specs.Runs.{run_of}
 use Rattle.gate_core.specs.Steps.{step_of}
 use Rattle.gate_core.specs.World.{World, standing_of}
@@ -71,9 +71,10 @@ step_once w (Submit peer now transaction) h =
     let s = submit_of (standing_of w) transaction now w.budget in
     answered_once w peer (submitted w peer now transaction) (first_failing (submission_rules w peer transaction)) h
     (decided_once (record w { pool = s.entries; floor = s.floor }) peer transaction s.decision (after_once w now transaction h))
-step_once w (Mempool peer) h = answered_once w peer (listed w) (first_failing (listing_rules w peer)) h h
+step_once w (Mempool peer) h = answered_once w peer (listed w peer) (first_failing (listing_rules w peer)) h h
 step_once w (GetBlock peer height) h = answered_once w peer (block_given w height) (first_failing (block_rules w peer height)) h h
 step_once w (Headers peer height) h = answered_once w peer (headers_given w height) (first_failing (headers_rules w peer height)) h h
+step_once w (FeeFilter peer rate) h = answered_once w peer (filter_set w peer rate) (first_failing (session_rules w.sessions peer)) h h
 step_once w (Rpc call) h = call_gives (λ p. SpendOnce p.1.pool) w call.time call.user (request_of call.json) (λ answer. h) (λ id transaction is. after_once w call.time transaction h)
 step_once w (SetFloor rate) h = h
 step_once w (Turn switch on) h = h

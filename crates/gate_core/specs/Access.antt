@@ -10,7 +10,7 @@ use Rattle.gate_chain.specs.Times.{tip_of, time_of}
 use Rattle.gate_pool.specs.Pool.{Admitted, entry_by_wtxid}
 use Rattle.gate_net.specs.Permissions.{Permissions}
 use Rattle.gate_message.specs.declared.event.Event.{Event}
-use Rattle.gate_message.specs.declared.event.Event.TheVariants.{Enter, Leave, Tx as Submit, Mempool, GetBlock, Headers, Rpc, SetFloor, Set, Chain as Extend}
+use Rattle.gate_message.specs.declared.event.Event.TheVariants.{Enter, Leave, Tx as Submit, Mempool, GetBlock, Headers, FeeFilter, Rpc, SetFloor, Set, Chain as Extend}
 use Rattle.gate_message.specs.declared.refusal.Refusal.{Refusal}
 use Rattle.gate_message.specs.declared.refusal.Refusal.TheVariants.{PeerUnknown, PeerClosed, PeerKnown, BlocksOnly, AlreadyInMempool, MempoolNoBloom, MempoolUploadTarget, HeadersDuringDownload, UnknownBlock, HistoricalUploadTarget, Admission}
 use Rattle.gate_core.specs.Sessions.{Session, session_of, flags_in}
@@ -106,6 +106,7 @@ caller_rules w (Submit peer now transaction) = submission_rules w peer transacti
 caller_rules w (Mempool peer) = listing_rules w peer
 caller_rules w (GetBlock peer height) = block_rules w peer height
 caller_rules w (Headers peer height) = headers_rules w peer height
+caller_rules w (FeeFilter peer rate) = session_rules w.sessions peer
 caller_rules w (Rpc call) = []
 caller_rules w (SetFloor rate) = []
 caller_rules w (Set switch on) = []

@@ -1,11 +1,12 @@
 -- The step and what it rests on at small values, by computation.
 use Rattle.std.specs.Prelude.{◌≡◌, ℕ, Bool, true, false, List, [], ◌∷◌, None, Some, Result, Ok, Err, codes}
 use Rattle.gate_standard.specs.declared.Denial.TheVariants.{Decode, VinEmpty}
-use Rattle.gate_message.specs.declared.event.Event.TheVariants.{Enter, Leave, Tx as Submit, Mempool, GetBlock, Headers as AskHeaders, SetFloor, Set as Turn}
+use Rattle.gate_message.specs.declared.event.Event.TheVariants.{Enter, Leave, Tx as Submit, Mempool, GetBlock, Headers as AskHeaders, FeeFilter, SetFloor, Set as Turn}
 use Rattle.gate_message.specs.declared.switch.Switch.TheVariants.{Download}
 use Rattle.gate_message.specs.declared.refusal.Then.TheVariants.{Keep, Close, Relay}
 use Rattle.gate_message.specs.declared.refusal.Refusal.TheVariants.{PeerUnknown, PeerClosed, PeerKnown, BlocksOnly, AlreadyInMempool, MempoolNoBloom, MempoolUploadTarget, HeadersDuringDownload, UnknownBlock, HistoricalUploadTarget, Admission}
-use Rattle.gate_message.specs.declared.reply.Reply.TheVariants.{Entered, Left, Listing, Block, Headers, Rpc, Denied, Set}
+use Rattle.gate_message.specs.declared.reply.Reply.TheVariants.{Entered, Left, Listing, Block, Headers, Filter, Rpc, Denied, Set}
+use Rattle.gate_admit.specs.Policies.{usual_policy}
 use Rattle.gate_net.specs.Addresses.{V4}
 use Rattle.gate_net.specs.Permissions.{Permissions, no_permissions, permissions_text}
 use Rattle.gate_core.specs.Switching.{unswitched}
@@ -33,6 +34,7 @@ with_sessions bloom sessions = record {
   floor = 0;
   sessions = sessions;
   budget = 0;
+  policy = usual_policy;
   verdicts = record { rows = []; other = None };
   whitelist = record { entries = []; relay = true; forcerelay = false };
   rpcwhitelist = record { entries = []; is_default_on = false };
@@ -42,11 +44,15 @@ with_sessions bloom sessions = record {
 
 -- peer 7 is there and peer 8 has left
 abbrev pub two_peers : Bool → Bool → World
-two_peers bloom is_open = with_sessions bloom (session 7 is_open no_permissions ∷ session 8 false no_permissions ∷ [])
+two_peers bloom is_open = with_sessions bloom (session 7 is_open no_permissions 0 ∷ session 8 false no_permissions 0 ∷ [])
+
+-- peer 7 alone, with this rate
+abbrev pub with_rate : ℕ → World
+with_rate rate = with_sessions true (session 7 true no_permissions rate ∷ [])
 
 -- peer 7 alone, with these flags
 abbrev pub one_peer : Permissions → Bool → World
-one_peer flags is_open = with_sessions false (session 7 is_open flags ∷ [])
+one_peer flags is_open = with_sessions false (session 7 is_open flags 0 ∷ [])
 
 abbrev pub noban : Permissions
 noban = record no_permissions { noban = true; download = true }
@@ -84,13 +90,16 @@ abbrev pub request : Command → Result Request CallError
 request command = Ok (record { id = Unsigned 7; command = command })
 
 pub record SmallSteps : Type 0 where
-  pub enters : step_of (with_sessions true []) (Enter 7 (V4 (192 ∷ 0 ∷ 2 ∷ 1 ∷ []))) ≡ (Entered no_permissions, with_sessions true (session 7 true no_permissions ∷ []))
+  pub enters : step_of (with_sessions true []) (Enter 7 (V4 (192 ∷ 0 ∷ 2 ∷ 1 ∷ []))) ≡ (Entered no_permissions, with_sessions true (session 7 true no_permissions 0 ∷ []))
   pub enters_again : step_of (two_peers true true) (Enter 8 (V4 (192 ∷ 0 ∷ 2 ∷ 1 ∷ []))) ≡ (Denied PeerKnown Keep, two_peers true true)
   pub leaves : step_of (two_peers true true) (Leave 7) ≡ (Left, two_peers true false)
   pub unknown : step_of (two_peers true true) (Leave 9) ≡ (Denied PeerUnknown Keep, two_peers true true)
   pub closed : step_of (two_peers true true) (Mempool 8) ≡ (Denied PeerClosed Keep, two_peers true true)
   pub lists : step_of (two_peers true true) (Mempool 7) ≡ (Listing [], two_peers true true)
   pub no_bloom : step_of (two_peers false true) (Mempool 7) ≡ (Denied MempoolNoBloom Close, two_peers false false)
+  pub filters : step_of (with_rate 5) (FeeFilter 7 2_100_000_000_000_000) ≡ (Filter 2_100_000_000_000_000, with_rate 2_100_000_000_000_000)
+  pub filters_no_more : step_of (with_rate 5) (FeeFilter 7 2_100_000_000_000_001) ≡ (Filter 5, with_rate 5)
+  pub closed_filters_nothing : step_of (two_peers true true) (FeeFilter 8 5) ≡ (Denied PeerClosed Keep, two_peers true true)
   pub sets_the_floor : step_of (two_peers true true) (SetFloor 5000) ≡ (Set, record (two_peers true true) { floor = 5000 })
   pub undecodable : step_of (two_peers true true) (Submit 7 5000 None) ≡ (Denied (Admission Decode) Keep, two_peers true true)
 

@@ -6,17 +6,17 @@ use Rattle.gate_tx.specs.Ids.{txid_of}
 use Rattle.gate_standard.specs.declared.Denial.{Denial}
 use Rattle.gate_standard.specs.declared.Denial.TheVariants.{Decode}
 use Rattle.gate_admit.specs.declared.Grant.{Grant}
-use Rattle.gate_pool.specs.Pool.{listing_of}
 use Rattle.gate_admit.specs.Submission.{Submitted, submit_of}
+use Rattle.gate_query.specs.Answers.{listing_at}
 use Rattle.gate_message.specs.declared.refusal.Then.{Then}
 use Rattle.gate_message.specs.declared.refusal.Then.TheVariants.{Keep, Close, Relay}
 use Rattle.gate_message.specs.declared.refusal.Refusal.{Refusal}
 use Rattle.gate_message.specs.declared.refusal.Refusal.TheVariants.{Admission}
 use Rattle.gate_message.specs.declared.reply.Reply.{Reply}
-use Rattle.gate_message.specs.declared.reply.Reply.TheVariants.{Entered, Left, Admitted, Listing, Block, Headers, Denied}
+use Rattle.gate_message.specs.declared.reply.Reply.TheVariants.{Entered, Left, Admitted, Listing, Block, Headers, Filter, Denied}
 use Rattle.gate_net.specs.Permissions.{Permissions}
 use Rattle.gate_message.specs.Refusals.{then_of}
-use Rattle.gate_core.specs.Sessions.{Session, session, flags_in, closed}
+use Rattle.gate_core.specs.Sessions.{Session, session, flags_in, rate_in, rate_after, closed, rated}
 use Rattle.gate_core.specs.World.{World, flags_at, standing_of}
 use Rattle.gate_core.specs.Access.{seconds_at}
 use Rattle.gate_net.specs.Addresses.{Address}
@@ -43,7 +43,7 @@ abbrev pub peer_step : World → ℕ → List (Rule Refusal) → Reply × World 
 peer_step w peer rules served = answered w peer served (first_failing rules)
 
 abbrev pub seated : World → ℕ → Permissions → Reply × World
-seated w peer flags = (Entered flags, record w { sessions = w.sessions ++ session peer true flags ∷ [] })
+seated w peer flags = (Entered flags, record w { sessions = w.sessions ++ session peer true flags 0 ∷ [] })
 
 abbrev pub entered : World → ℕ → Address → Reply × World
 entered w peer address = seated w peer (flags_at w address)
@@ -64,8 +64,15 @@ concluded w peer transaction s = decided (record w { pool = s.entries; floor = s
 abbrev pub submitted : World → ℕ → ℕ → Option Tx → Reply × World
 submitted w peer now transaction = concluded w peer transaction (submit_of (standing_of w) transaction now w.budget)
 
-abbrev pub listed : World → Reply × World
-listed w = (Listing (listing_of w.pool), w)
+-- what the peer's own rate hides is left out
+abbrev pub listed : World → ℕ → Reply × World
+listed w peer = (Listing (listing_at (rate_in w.sessions peer) w.pool), w)
+
+abbrev pub filter_with : World → ℕ → ℕ → Reply × World
+filter_with w peer rate = (Filter rate, record w { sessions = rated w.sessions peer rate })
+
+abbrev pub filter_set : World → ℕ → ℕ → Reply × World
+filter_set w peer rate = filter_with w peer (rate_after w.sessions peer rate)
 
 abbrev pub block_given : World → ℕ → Reply × World
 block_given w height = (Block height (seconds_at w.chain height), w)

@@ -8,9 +8,10 @@ use Rattle.gate_pool.specs.Pool.{Admitted as Entry, spent_by, listing_of, size_o
 use Rattle.gate_trim.specs.Laws.{IsYoung}
 use Rattle.gate_admit.specs.Coins.{view_coin}
 use Rattle.gate_admit.specs.Good.{AreApart, IsLimited}
+use Rattle.gate_admit.specs.Policies.{Policy}
 use Rattle.gate_message.specs.declared.caller.Caller.TheVariants.{Operator}
 use Rattle.gate_message.specs.declared.event.Event.{Event}
-use Rattle.gate_message.specs.declared.event.Event.TheVariants.{Tx as Submit, Rpc as Calls}
+use Rattle.gate_message.specs.declared.event.Event.TheVariants.{Tx as Submit, Mempool, Rpc as Calls}
 use Rattle.gate_message.specs.Callers.{caller_of}
 use Rattle.gate_core.specs.Opening.{Start}
 use Rattle.gate_message.specs.declared.reply.Reply.{Reply}
@@ -22,6 +23,8 @@ use Rattle.gate_rpc.specs.declared.request.Request.{Request}
 use Rattle.gate_rpc.specs.declared.result.RpcResult.TheVariants.{Sent, Txids}
 use Rattle.gate_rpc.specs.Calls.{request_of}
 use Rattle.gate_message.specs.UserCalls.{UserCall}
+use Rattle.gate_query.specs.Answers.{listing_at}
+use Rattle.gate_core.specs.Sessions.{rate_in}
 use Rattle.gate_core.specs.World.{World, opened_world}
 use Rattle.gate_core.specs.Steps.{step_of}
 use Rattle.gate_message.specs.Spelled.{IsSpelled, transactions_of}
@@ -60,12 +63,17 @@ RunsEndGood = (w : World) (events : List Event) → IsGoodWorld w → All IsSpel
 abbrev pub SpendsOnce : List Entry → Type 0
 SpendsOnce pool = AllPairs (λ (p : OutPoint) (q : OutPoint). p ≢ q) (spent_by pool)
 
--- each reply that is a listing has the txids of the pool at that point, in order of admission
+-- what a peer is told of a state: the txids of the entries that its own rate doesn't hide, in order of admission
+abbrev pub told_to : ℕ → World → List (List ℕ)
+told_to peer w = listing_at (rate_in w.sessions peer) w.pool
+
+-- each reply that is a listing answers a peer, and has what that peer is told of the state at that point
 abbrev pub ListsThePool : World → List Event → Type 0
 ListsThePool w events =
-    (k : ℕ) (txids : List (List ℕ)) → slice_get (run_of w events).0 k ≡ Some (Listing txids) → txids ≡ listing_of (run_of w (take k events)).1.pool
+    (k : ℕ) (txids : List (List ℕ)) → slice_get (run_of w events).0 k ≡ Some (Listing txids)
+    → (peer : ℕ) × (slice_get events k ≡ Some (Mempool peer)) × (txids ≡ told_to peer (run_of w (take k events)).1)
 
--- so has each answer with txids to a user's `getrawmempool`
+-- each answer with txids to a user's `getrawmempool` has those of the whole pool at that point, in order of admission
 abbrev pub AnswersThePool : World → List Event → Type 0
 AnswersThePool w events =
     (k : ℕ) (call : UserCall) (request : Request) (id : Id) (txids : List (List ℕ))
@@ -77,14 +85,14 @@ abbrev pub RunsKeepThePoolSound : Type 0
 RunsKeepThePoolSound = (o : Start) (events : List Event)
     → SpendsOnce (run_of (opened_world o) events).1.pool × ListsThePool (opened_world o) events × AnswersThePool (opened_world o) events
 
--- each outpoint that an entry spends has a coin, and the ancestors and descendants of each entry are within the limits
-pub record KeepsFamilies (w : World) : Type 0 where
+-- each outpoint that an entry spends has a coin, and the ancestors and descendants of each entry are within the limits of a policy
+pub record KeepsFamilies (policy : Policy) (w : World) : Type 0 where
   pub coins : All (λ (p : OutPoint). IsSome (view_coin w.chain w.pool p)) (spent_by w.pool)
-  pub limited : All (λ (e : Entry). IsLimited w.pool (txid_of e.tx)) w.pool
+  pub limited : All (λ (e : Entry). IsLimited policy w.pool (txid_of e.tx)) w.pool
 
--- so it is after any events, from any opening, where their transactions are told apart by their ids
+-- so it is after any events, from any opening, by the opening's policy, where their transactions are told apart by their ids
 abbrev pub RunsKeepFamilies : Type 0
-RunsKeepFamilies = (o : Start) (events : List Event) → All IsSpelled events → IsRunApart (opened_world o) events → KeepsFamilies (run_of (opened_world o) events).1
+RunsKeepFamilies = (o : Start) (events : List Event) → All IsSpelled events → IsRunApart (opened_world o) events → KeepsFamilies o.policy (run_of (opened_world o) events).1
 
 -- after any events, from any opening, the entries are within the opening's budget
 abbrev pub RunsKeepTheBudget : Type 0

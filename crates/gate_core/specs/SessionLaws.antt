@@ -1,14 +1,15 @@
 -- What holds of sessions over runs, in plain words.
-use Rattle.std.specs.Prelude.{◌≡◌, ◌≢◌, ℕ, false, List, slice_get, Option, Some, None}
+use Rattle.std.specs.Prelude.{◌≡◌, ◌≢◌, ◌<◌, ℕ, false, List, slice_get, Option, Some, None}
 use Rattle.std.specs.List.{All}
+use Rattle.gate_tx.specs.Money.{max_money}
 use Rattle.gate_standard.specs.declared.Denial.TheVariants.{MempoolFull}
 use Rattle.gate_message.specs.declared.caller.Caller.TheVariants.{Peer}
 use Rattle.gate_message.specs.declared.event.Event.{Event}
-use Rattle.gate_message.specs.declared.event.Event.TheVariants.{Enter, Leave, Tx as Submit, Mempool, GetBlock, Headers, Rpc, SetFloor, Set as Turn, Chain as Extend}
+use Rattle.gate_message.specs.declared.event.Event.TheVariants.{Enter, Leave, Tx as Submit, Mempool, GetBlock, Headers, FeeFilter, Rpc, SetFloor, Set as Turn, Chain as Extend}
 use Rattle.gate_message.specs.declared.refusal.Refusal.TheVariants.{PeerClosed, PeerKnown, Admission}
 use Rattle.gate_message.specs.declared.refusal.Then.TheVariants.{Keep}
 use Rattle.gate_message.specs.declared.reply.Reply.{Reply}
-use Rattle.gate_message.specs.declared.reply.Reply.TheVariants.{Entered, Left, Admitted, Listing, Block, Headers, Rpc as Answered, Denied, Set, Moved, Refused}
+use Rattle.gate_message.specs.declared.reply.Reply.TheVariants.{Entered, Left, Admitted, Listing, Block, Headers, Filter, Rpc as Answered, Denied, Set, Moved, Refused}
 use Rattle.gate_rpc.specs.declared.error.RpcError.{RpcError}
 use Rattle.gate_rpc.specs.declared.error.RpcError.TheVariants as errors
 use Rattle.gate_rpc.specs.declared.reply.RpcReply.{RpcReply}
@@ -16,6 +17,7 @@ use Rattle.gate_rpc.specs.declared.reply.RpcReply.TheVariants.{NotAllowed, Answe
 use Rattle.gate_message.specs.Callers.{caller_of}
 use Rattle.gate_core.specs.Sessions.{Session, session_of}
 use Rattle.gate_core.specs.World.{World}
+use Rattle.gate_core.specs.Steps.{step_of}
 use Rattle.gate_core.specs.Runs.{run_of}
 
 -- the reply to an event of a peer whose session is closed; none to the events of users, the operator and the chain, which
@@ -27,6 +29,7 @@ closed_reply (Submit peer now transaction) = Some (Denied PeerClosed Keep)
 closed_reply (Mempool peer) = Some (Denied PeerClosed Keep)
 closed_reply (GetBlock peer height) = Some (Denied PeerClosed Keep)
 closed_reply (Headers peer height) = Some (Denied PeerClosed Keep)
+closed_reply (FeeFilter peer rate) = Some (Denied PeerClosed Keep)
 closed_reply (Rpc call) = None
 closed_reply (SetFloor rate) = None
 closed_reply (Turn switch on) = None
@@ -38,6 +41,10 @@ ClosedStaysClosed =
     (w : World) (events : List Event) (peer : ℕ) (s : Session) → session_of w.sessions peer ≡ Some s → s.is_open ≡ false
     → (session_of (run_of w events).1.sessions peer ≡ Some s)
     × ((k : ℕ) (event : Event) → slice_get events k ≡ Some event → caller_of event ≡ Peer peer → slice_get (run_of w events).0 k ≡ closed_reply event)
+
+-- a rate above all money changes nothing
+abbrev pub GreatRatesChangeNothing : Type 0
+GreatRatesChangeNothing = (w : World) (peer rate : ℕ) → max_money < rate → (step_of w (FeeFilter peer rate)).1 ≡ w
 
 -- events of other callers leave a peer's session, or that it has none
 abbrev pub PeersAreSeparate : Type 0
@@ -63,6 +70,7 @@ IsDenied (Admitted txid fee vsize replaced) = ⊥
 IsDenied (Listing txids) = ⊥
 IsDenied (Block height time) = ⊥
 IsDenied (Headers first count) = ⊥
+IsDenied (Filter rate) = ⊥
 IsDenied (Answered answer) = IsFailed answer
 IsDenied (Denied refusal then) = refusal ≢ Admission MempoolFull
 IsDenied Set = ⊥

@@ -10,7 +10,7 @@ use Rattle.gate_rpc.specs.declared.request.Request.{Request}
 use Rattle.gate_rpc.specs.declared.fault.CallError.{CallError}
 use Rattle.gate_rpc.specs.Calls.{request_of}
 use Rattle.gate_message.specs.declared.event.Event.{Event}
-use Rattle.gate_message.specs.declared.event.Event.TheVariants.{Enter, Leave, Tx as Submit, Mempool, GetBlock, Headers, Rpc, SetFloor, Set, Chain as Extend}
+use Rattle.gate_message.specs.declared.event.Event.TheVariants.{Enter, Leave, Tx as Submit, Mempool, GetBlock, Headers, FeeFilter, Rpc, SetFloor, Set, Chain as Extend}
 use Rattle.gate_core.specs.World.{World}
 
 -- what a command submits, to let it enter or to ask whether it would: a transaction, or what spells none
@@ -35,6 +35,7 @@ submission_of (Submit peer now submission) = Some submission
 submission_of (Mempool peer) = None
 submission_of (GetBlock peer height) = None
 submission_of (Headers peer height) = None
+submission_of (FeeFilter peer rate) = None
 submission_of (Rpc call) = submitted_in (request_of call.json)
 submission_of (SetFloor rate) = None
 submission_of (Set switch on) = None

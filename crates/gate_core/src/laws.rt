@@ -2,7 +2,7 @@
 ghost use Rattle.gate_core.specs.Access.{AccessFollowsTheOrder};
 ghost use Rattle.gate_core.specs.AccessLaws.{ClosedSessionsChangeNothing, FlagsGuard, ListsBar, NobanIsKept, OnlySendersChange, QuestionsChangeNothing};
 ghost use Rattle.gate_core.specs.Runs.{AdmissionsLeaveNothingStale, CallsLeaveNothingStale, OnlyOperatorsLowerTheFloor, RunsEndGood, RunsKeepFamilies, RunsKeepTheBudget, RunsKeepThePoolSound, StepsGiveTheRun};
-ghost use Rattle.gate_core.specs.SessionLaws.{ClosedStaysClosed, DenialsLeaveThePool, PeersAreSeparate};
+ghost use Rattle.gate_core.specs.SessionLaws.{ClosedStaysClosed, DenialsLeaveThePool, GreatRatesChangeNothing, PeersAreSeparate};
 
 /// The refusal of an event names a rule on its caller that fails, with none failing before it in the written order, and an
 /// event that is not refused fails none.
@@ -55,7 +55,12 @@ pub fn closed_stays_closed()
     ensures { ClosedStaysClosed }
 {}
 
-/// No event of a peer changes another peer's session, or makes one.
+/// A fee filter above all money there can be changes nothing.
+pub fn great_rates_change_nothing()
+    ensures { GreatRatesChangeNothing }
+{}
+
+/// No event of a peer changes another peer's session, with its rate, or makes one.
 pub fn peers_are_separate()
     ensures { PeersAreSeparate }
 {}
@@ -65,14 +70,16 @@ pub fn denials_leave_the_pool()
     ensures { DenialsLeaveThePool }
 {}
 
-/// After any events, from any opening, no outpoint is spent by two entries of the pool. Every listing among the replies,
-/// a peer's or the answer to `getrawmempool`, has exactly the txids of the pool at that point, in order of admission.
+/// After any events, from any opening, no outpoint is spent by two entries of the pool. Every listing among the replies
+/// has, in order of admission, exactly the txids of the entries at that point that the rate of the peer which asked doesn't
+/// hide; every answer to `getrawmempool` has those of the whole pool.
 pub fn runs_keep_the_pool_sound()
     ensures { RunsKeepThePoolSound }
 {}
 
 /// After any events whose transactions are told apart by their ids, from any opening: each input of each entry has a coin,
-/// and each entry has at most 25 ancestors of 101,000 virtual bytes and 26 descendants of 111,000, itself among each.
+/// and each entry has at most as many ancestors as the opening's policy says, or 2, of 101,000 virtual bytes, and one
+/// descendant more than it says, of 111,000, itself among each.
 pub fn runs_keep_families()
     ensures { RunsKeepFamilies }
 {}

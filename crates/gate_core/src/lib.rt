@@ -20,9 +20,10 @@ mod switches;
 pub use gate_message::{Call, Caller, Event, Refusal, Replies, Reply, Switch, Then};
 pub use laws::{
     access_follows_the_order, admissions_leave_nothing_stale, closed_sessions_change_nothing,
-    closed_stays_closed, denials_leave_the_pool, flags_guard, lists_bar, noban_is_kept,
-    only_operators_lower_the_floor, peers_are_separate, questions_change_nothing, runs_end_good,
-    runs_keep_families, runs_keep_the_budget, runs_keep_the_pool_sound, steps_give_the_run,
+    closed_stays_closed, denials_leave_the_pool, flags_guard, great_rates_change_nothing,
+    lists_bar, noban_is_kept, only_operators_lower_the_floor, peers_are_separate,
+    questions_change_nothing, runs_end_good, runs_keep_families, runs_keep_the_budget,
+    runs_keep_the_pool_sound, steps_give_the_run,
 };
 pub use opening::Opening;
 pub use session::Session;

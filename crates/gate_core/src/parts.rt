@@ -14,7 +14,7 @@ use crate::planning::{Change, Plan};
 use crate::session::Sessions;
 use crate::submitting::standing_for;
 use crate::switches::Switches;
-use gate_admit::{Chain, Coming, Floor, Pool, Prepared, Verdicts, commit_submission};
+use gate_admit::{Chain, Coming, Floor, Policy, Pool, Prepared, Verdicts, commit_submission};
 use gate_bytes::{Copied, Counted, Memory};
 use gate_message::{Event, Reply};
 use gate_net::Whitelist;
@@ -31,6 +31,7 @@ pub(crate) struct Parts<S: BuildHasher + Copy + Drop> {
     pub(crate) floor: Floor,
     pub(crate) sessions: Sessions,
     pub(crate) budget: u64,
+    pub(crate) policy: Policy,
     /// They never change, so copies share them.
     pub(crate) verdicts: Counted<Verdicts<S>>,
     pub(crate) whitelist: Whitelist,
@@ -66,6 +67,7 @@ impl<S: BuildHasher + Copy + Drop> Parts<S> {
             Event::Mempool { peer } => self.listing(alloc, *peer),
             Event::GetBlock { peer, height } => Ok(self.giving_block(*peer, *height)),
             Event::Headers { peer, height } => Ok(self.giving_headers(*peer, *height)),
+            Event::FeeFilter { peer, rate } => Ok(self.filtering(*peer, *rate)),
             Event::Rpc(call) => self.calling(alloc, call.get(), prepared),
             Event::SetFloor { rate } => Ok(Plan {
                 reply: Reply::Set,
@@ -92,6 +94,7 @@ impl<S: BuildHasher + Copy + Drop> Parts<S> {
             Change::Nothing => (),
             Change::Enter { peer, flags } => self.sessions.enter(peer, flags),
             Change::Close { peer } => self.sessions.close(peer),
+            Change::SetFilter { peer, rate } => self.sessions.set_rate(peer, rate),
             Change::SetFloor { rate } => self.floor = Floor::new(rate),
             Change::Turn { switch, on } => self.switches = self.switches.set(switch, on),
             Change::Admit { coming } => return self.admit(coming.into_inner()),
@@ -172,6 +175,7 @@ impl<S: BuildHasher + Copy + Drop> Parts<S> {
                 floor: self.floor,
                 sessions,
                 budget: self.budget,
+                policy: self.policy,
                 verdicts,
                 whitelist,
                 rpcwhitelist,

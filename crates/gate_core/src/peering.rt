@@ -4,9 +4,9 @@ ghost use Rattle.gate_chain.specs.Times.{tip_of};
 ghost use Rattle.gate_bytes.specs.Order.{first_failing};
 ghost use Rattle.gate_core.specs.World.{flags_at};
 ghost use Rattle.gate_core.specs.Access.{entering_rules, listing_rules, session_rules, submission_rules, block_rules, headers_rules, is_historical, seconds_at};
-ghost use Rattle.gate_core.specs.PeerSteps.{entered, left, listed, peer_step, refused, submitted, block_given, headers_given};
+ghost use Rattle.gate_core.specs.PeerSteps.{entered, left, listed, peer_step, refused, submitted, block_given, headers_given, filter_set};
 ghost use Rattle.gate_pool.specs.Pool.{Pooled};
-ghost use Rattle.gate_core.specs.Sessions.{Seated};
+ghost use Rattle.gate_core.specs.Sessions.{Seated, rate_after};
 ghost use Rattle.gate_core.specs.Planning.{Fits, Plans, world_of};
 
 use crate::parts::Parts;
@@ -15,7 +15,8 @@ use gate_admit::{Conditions, Prepared, plan_submission};
 use gate_bytes::{Boxed, Memory};
 use gate_message::{Refusal, Reply, Then};
 use gate_net::{Address, Permissions};
-use gate_standard::Denial;
+use gate_query::listing_at;
+use gate_standard::{Denial, MAX_MONEY};
 use std::alloc::Global;
 use std::hash::BuildHasher;
 
@@ -82,12 +83,40 @@ impl<S: BuildHasher + Copy + Drop> Parts<S> {
     }
 
     pub(crate) fn listing(&self, alloc: Global, peer: u64) -> Result<Plan, Memory>
-        ensures ok { IfOk result (Plans (world_of self.now) (peer_step (world_of self.now) peer (listing_rules (world_of self.now) peer) (listed (world_of self.now)))) }
+        ensures ok { IfOk result (Plans (world_of self.now) (peer_step (world_of self.now) peer (listing_rules (world_of self.now) peer) (listed (world_of self.now) peer))) }
         ensures fits { IfOk result (λ plan. (sessions : Seated) (pool : Pooled) → Fits plan.change sessions pool) }
     {
         match self.refusal_of_listing(peer) {
             Some(refusal) => Ok(self.refusing(peer, refusal)),
-            None => Ok(Plan::telling(Reply::Listing(self.pool.listing(alloc)?))),
+            None => {
+                let rate = self.sessions.rate(peer);
+                Ok(Plan::telling(Reply::Listing(listing_at(alloc, &self.pool, rate)?)))
+            }
+        }
+    }
+
+    /// The rate in force for a peer that asks for one.
+    fn rate_after(&self, peer: u64, rate: u64) -> u64
+        ensures { result ≡ rate_after self.now.sessions.all peer rate }
+    {
+        if rate <= MAX_MONEY {
+            rate
+        } else {
+            self.sessions.rate(peer)
+        }
+    }
+
+    pub(crate) fn filtering(&self, peer: u64, rate: u64) -> Plan
+        ensures plans { Plans (world_of self.now) (peer_step (world_of self.now) peer (session_rules self.now.sessions.all peer) (filter_set (world_of self.now) peer rate)) result }
+        ensures fits { (sessions : Seated) (pool : Pooled) → Fits result.change sessions pool }
+    {
+        let rate = self.rate_after(peer, rate);
+        match self.sessions.refusal(peer) {
+            Some(refusal) => self.refusing(peer, refusal),
+            None => Plan {
+                reply: Reply::Filter { rate },
+                change: Change::SetFilter { peer, rate },
+            },
         }
     }
 
@@ -162,6 +191,7 @@ impl<S: BuildHasher + Copy + Drop> Parts<S> {
             chain: &self.chain,
             floor: &self.floor,
             verdicts: self.verdicts.get(),
+            policy: &self.policy,
             second: now,
             budget: self.budget,
         };

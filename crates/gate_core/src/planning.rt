@@ -10,6 +10,7 @@ pub(crate) enum Change {
     Nothing,
     Enter { peer: u64, flags: Permissions },
     Close { peer: u64 },
+    SetFilter { peer: u64, rate: u64 },
     SetFloor { rate: u64 },
     Turn { switch: Switch, on: bool },
     Admit { coming: Boxed<Coming> },

@@ -5,12 +5,13 @@ use Rattle.std.specs.Option.{option_map, option_and_then}
 use Rattle.std.specs.Str.{bytes_eq}
 use Rattle.std.proofs.lemmas.Option.{option_and_then_some}
 use Rattle.gate_tx.specs.Tx.{Tx}
-use Rattle.gate_lines.specs.Numbers.{max_number, small_number_of}
+use Rattle.gate_lines.proofs.Decimals.{number_decimal}
+use Rattle.gate_lines.specs.Numbers.{max_number, number_of, small_number_of}
 use Rattle.gate_lines.specs.Words.{part_of, is_word}
 use Rattle.gate_net.specs.Addresses.{Address, address_of, address_text}
 use Rattle.gate_net.proofs.Printed.{read_back}
 use Rattle.gate_message.specs.declared.event.Event.{Event}
-use Rattle.gate_message.specs.declared.event.Event.TheVariants.{Enter, Leave, Tx as Submit, Mempool, GetBlock, Headers}
+use Rattle.gate_message.specs.declared.event.Event.TheVariants.{Enter, Leave, Tx as Submit, Mempool, GetBlock, Headers, FeeFilter}
 use Rattle.gate_events.specs.EventLines.{numbered_of, prepared_of, enter_event_of, tx_event_of, worded_event, peer_event, peer_event_of}
 use Rattle.gate_events.specs.EventTexts.{transaction_word}
 use Rattle.gate_events.proofs.Again.{IsAgainIn, again_behind, either, option_map_is, some_is, same_word}
@@ -105,15 +106,24 @@ headers_again peer rest event h =
     let number : rest ≡ decimal found.0 = small_decimal rest found.0 found.1 in
     subst (Worded peer (codes "headers") rest) found.2 (codes "headers " ++ decimal found.0, refl, inl (ap (λ r. codes "headers " ++ r) (sym number)))
 
--- the word is one of the four
+feefilter_again : (peer : ℕ) (rest : List ℕ) (event : Event) → option_map (FeeFilter peer) (number_of rest) ≡ Some event → Worded peer (codes "feefilter") rest event
+feefilter_again peer rest event h =
+    let found = option_map_is (FeeFilter peer) (number_of rest) event h in
+    let number : rest ≡ decimal found.0 = (number_decimal rest found.0 found.1).0 in
+    subst (Worded peer (codes "feefilter") rest) found.2 (codes "feefilter " ++ decimal found.0, refl, inl (ap (λ r. codes "feefilter " ++ r) (sym number)))
+
+-- the word is one of the five
 as_word : (peer : ℕ) (word literal rest : List ℕ) (event : Event) → bytes_eq word literal ≡ true → Worded peer literal rest event → Worded peer word rest event
 as_word peer word literal rest event is again = subst (λ w. Worded peer w rest event) (sym (same_word word literal is)) again
 
 worded_again : (peer : ℕ) (word rest : List ℕ) (event : Event) → peer ≤ max_number → worded_event peer (word, rest) ≡ Some event → Worded peer word rest event
 worded_again peer word rest event small h = first (either (bytes_eq word (codes "enter")) (enter_event_of peer rest) behind_enter event h)
   where
+    behind_headers : Option Event
+    behind_headers = if bytes_eq word (codes "feefilter") then option_map (FeeFilter peer) (number_of rest) else None
+
     behind_getblock : Option Event
-    behind_getblock = if bytes_eq word (codes "headers") then option_map (Headers peer) (small_number_of rest) else None
+    behind_getblock = if bytes_eq word (codes "headers") then option_map (Headers peer) (small_number_of rest) else behind_headers
 
     behind_tx : Option Event
     behind_tx = if bytes_eq word (codes "getblock") then option_map (GetBlock peer) (small_number_of rest) else behind_getblock
@@ -121,13 +131,17 @@ worded_again peer word rest event small h = first (either (bytes_eq word (codes 
     behind_enter : Option Event
     behind_enter = if bytes_eq word (codes "tx") then tx_event_of peer rest else behind_tx
 
-    fourth : ((bytes_eq word (codes "headers") ≡ true) × (option_map (Headers peer) (small_number_of rest) ≡ Some event)) ⊎ ((bytes_eq word (codes "headers") ≡ false) × (◌≡◌ {A = Option Event} None (Some event))) → Worded peer word rest event
+    fifth : ((bytes_eq word (codes "feefilter") ≡ true) × (option_map (FeeFilter peer) (number_of rest) ≡ Some event)) ⊎ ((bytes_eq word (codes "feefilter") ≡ false) × (◌≡◌ {A = Option Event} None (Some event))) → Worded peer word rest event
+    fifth (inl is) = as_word peer word (codes "feefilter") rest event is.0 (feefilter_again peer rest event is.1)
+    fifth (inr other) = absurd (let none = other.1 in cc)
+
+    fourth : ((bytes_eq word (codes "headers") ≡ true) × (option_map (Headers peer) (small_number_of rest) ≡ Some event)) ⊎ ((bytes_eq word (codes "headers") ≡ false) × (behind_headers ≡ Some event)) → Worded peer word rest event
     fourth (inl is) = as_word peer word (codes "headers") rest event is.0 (headers_again peer rest event is.1)
-    fourth (inr other) = absurd (let none = other.1 in cc)
+    fourth (inr other) = fifth (either (bytes_eq word (codes "feefilter")) (option_map (FeeFilter peer) (number_of rest)) None event other.1)
 
     third : ((bytes_eq word (codes "getblock") ≡ true) × (option_map (GetBlock peer) (small_number_of rest) ≡ Some event)) ⊎ ((bytes_eq word (codes "getblock") ≡ false) × (behind_getblock ≡ Some event)) → Worded peer word rest event
     third (inl is) = as_word peer word (codes "getblock") rest event is.0 (getblock_again peer rest event is.1)
-    third (inr other) = fourth (either (bytes_eq word (codes "headers")) (option_map (Headers peer) (small_number_of rest)) None event other.1)
+    third (inr other) = fourth (either (bytes_eq word (codes "headers")) (option_map (Headers peer) (small_number_of rest)) behind_headers event other.1)
 
     second : ((bytes_eq word (codes "tx") ≡ true) × (tx_event_of peer rest ≡ Some event)) ⊎ ((bytes_eq word (codes "tx") ≡ false) × (behind_tx ≡ Some event)) → Worded peer word rest event
     second (inl is) = as_word peer word (codes "tx") rest event is.0 (tx_again peer rest event is.1)

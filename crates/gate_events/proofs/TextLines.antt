@@ -9,7 +9,7 @@ use Rattle.gate_lines.specs.Numbers.{max_number}
 use Rattle.gate_net.specs.Addresses.{Address, V4, V6, address_text}
 use Rattle.gate_net.specs.Spelling.{IsAddress}
 use Rattle.gate_message.specs.declared.event.Event.{Event}
-use Rattle.gate_message.specs.declared.event.Event.TheVariants.{Enter, Leave, Tx as Submit, Mempool, GetBlock, Headers, Rpc, SetFloor, Set, Chain}
+use Rattle.gate_message.specs.declared.event.Event.TheVariants.{Enter, Leave, Tx as Submit, Mempool, GetBlock, Headers, FeeFilter, Rpc, SetFloor, Set, Chain}
 use Rattle.gate_events.specs.EventLines.{event_of}
 use Rattle.gate_events.specs.EventTexts.{text_of}
 use Rattle.gate_events.specs.TextLaws.{TextsAreLines}
@@ -75,6 +75,7 @@ entering_few (Submit peer now transaction) is = absurd is
 entering_few (Mempool peer) is = absurd is
 entering_few (GetBlock peer height) is = absurd is
 entering_few (Headers peer height) is = absurd is
+entering_few (FeeFilter peer rate) is = absurd is
 entering_few (Rpc call) is = absurd is
 entering_few (SetFloor rate) is = absurd is
 entering_few (Set switch on) is = absurd is
@@ -89,6 +90,7 @@ never_skipped (Submit peer now transaction) = refl
 never_skipped (Mempool peer) = refl
 never_skipped (GetBlock peer height) = refl
 never_skipped (Headers peer height) = refl
+never_skipped (FeeFilter peer rate) = refl
 never_skipped (Rpc call) = refl
 never_skipped (SetFloor rate) = refl
 never_skipped (Set switch on) = refl

@@ -53,6 +53,7 @@ worded_event peer p =
     else if bytes_eq p.0 (codes "tx") then tx_event_of peer p.1
     else if bytes_eq p.0 (codes "getblock") then option_map (events.GetBlock peer) (small_number_of p.1)
     else if bytes_eq p.0 (codes "headers") then option_map (events.Headers peer) (small_number_of p.1)
+    else if bytes_eq p.0 (codes "feefilter") then option_map (events.FeeFilter peer) (number_of p.1)
     else None
 
 abbrev pub peer_event : ℕ × List ℕ → Option Event
@@ -61,7 +62,7 @@ peer_event p =
     else if bytes_eq p.1 (codes "mempool") then Some (events.Mempool p.0)
     else option_and_then (worded_event p.0) (part_of p.1)
 
--- `P leave`, `P mempool`, `P enter ADDRESS`, `P tx NOW HEX`, `P getblock H` or `P headers H`
+-- `P leave`, `P mempool`, `P enter ADDRESS`, `P tx NOW HEX`, `P getblock H`, `P headers H` or `P feefilter RATE`
 abbrev pub peer_event_of : List ℕ → Option Event
 peer_event_of text = option_and_then peer_event (numbered_of text)
 

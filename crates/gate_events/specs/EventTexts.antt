@@ -10,7 +10,7 @@ use Rattle.gate_chain.specs.declared.Block.{Block}
 use Rattle.gate_block.specs.Text.{block_text}
 use Rattle.gate_message.specs.UserCalls.{UserCall}
 use Rattle.gate_message.specs.declared.event.Event.{Event}
-use Rattle.gate_message.specs.declared.event.Event.TheVariants.{Enter, Leave, Tx as Submit, Mempool, GetBlock, Headers, Rpc, SetFloor, Set, Chain}
+use Rattle.gate_message.specs.declared.event.Event.TheVariants.{Enter, Leave, Tx as Submit, Mempool, GetBlock, Headers, FeeFilter, Rpc, SetFloor, Set, Chain}
 use Rattle.gate_message.specs.declared.switch.Switch.{Switch}
 use Rattle.gate_message.specs.declared.switch.Switch.TheVariants.{Bloom, Upload, Historic, Download}
 
@@ -61,6 +61,7 @@ text_of (Submit peer now transaction) = tx_text peer now transaction
 text_of (Mempool peer) = codes "peer " ++ (decimal peer ++ codes " mempool")
 text_of (GetBlock peer height) = codes "peer " ++ (decimal peer ++ (codes " getblock " ++ decimal height))
 text_of (Headers peer height) = codes "peer " ++ (decimal peer ++ (codes " headers " ++ decimal height))
+text_of (FeeFilter peer rate) = codes "peer " ++ (decimal peer ++ (codes " feefilter " ++ decimal rate))
 text_of (Rpc call) = call_text call
 text_of (SetFloor rate) = codes "operator floor " ++ decimal rate
 text_of (Set switch on) = switch_text switch on

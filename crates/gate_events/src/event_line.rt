@@ -42,7 +42,7 @@ pub fn read_event(alloc: Global, line: &str) -> Result<Option<Event>, Memory>
     }
 }
 
-/// `P leave`, `P mempool`, `P enter ADDRESS`, `P tx NOW HEX`, `P getblock H` or `P headers H`.
+/// `P leave`, `P mempool`, `P enter ADDRESS`, `P tx NOW HEX`, `P getblock H`, `P headers H` or `P feefilter RATE`.
 fn peer_event(alloc: Global, rest: &str) -> Result<Option<Event>, Memory>
     ensures { IfOk result (λ event. event ≡ peer_event_of rest.now) }
 {
@@ -76,6 +76,9 @@ fn worded_event(alloc: Global, peer: u64, word: &str, rest: &str) -> Result<Opti
     }
     if word == "headers" {
         return Ok(read_small_number(rest).map(|height| Event::Headers { peer, height }));
+    }
+    if word == "feefilter" {
+        return Ok(read_number(rest).map(|rate| Event::FeeFilter { peer, rate }));
     }
     Ok(None)
 }

@@ -24,6 +24,7 @@ pub fn event_text(alloc: Global, event: &Event) -> Result<String, Memory>
         Event::Mempool { peer } => Ok(format!(in alloc; "peer {peer} mempool")?),
         Event::GetBlock { peer, height } => Ok(format!(in alloc; "peer {peer} getblock {height}")?),
         Event::Headers { peer, height } => Ok(format!(in alloc; "peer {peer} headers {height}")?),
+        Event::FeeFilter { peer, rate } => Ok(format!(in alloc; "peer {peer} feefilter {rate}")?),
         Event::Rpc(call) => call_text(alloc, call.get()),
         Event::SetFloor { rate } => Ok(format!(in alloc; "operator floor {rate}")?),
         Event::Set { switch, on } => switch_text(alloc, *switch, *on),

@@ -13,7 +13,7 @@ fn prints(alloc: Global, line: &str, text: &str) -> Result<bool, Fail> {
     Ok(printed?.as_str() == text)
 }
 
-const PEERS: [(&str, &str); 9] = [
+const PEERS: [(&str, &str); 10] = [
     ("peer 1 enter 192.0.2.1", "peer 1 enter 192.0.2.1"),
     (
         "peer 1 enter 2001:DB8::1",
@@ -29,6 +29,7 @@ const PEERS: [(&str, &str); 9] = [
     ("peer 7 mempool", "peer 7 mempool"),
     ("peer 7 getblock 3", "peer 7 getblock 3"),
     ("peer 7 headers 0", "peer 7 headers 0"),
+    ("peer 7 feefilter 2000", "peer 7 feefilter 2000"),
 ];
 
 const OTHERS: [&str; 7] = [

@@ -6,6 +6,7 @@ use gate_lanes::{Lane, LaneEnd, run_lanes};
 use gate_lines::LaneFault;
 use gate_opening::read_opening;
 use gate_shared::{Base, Gate, Pass};
+use gate_verify::{PolicyCheck, Workers};
 use std::alloc::{AllocError, Global};
 use std::hash::{BuildHasherDefault, FoldHasher};
 use std::io::{BufReader, BufWriter, ErrorKind, Read, Write};
@@ -82,7 +83,7 @@ fn lanes_answer<N: Base + Send + Sync, T: Threads + Wait + Abort + Sync>(
     gate: &Gate<N, Hasher>,
 ) -> Result<(), Fail> {
     let lanes = three_lanes(alloc)?;
-    let (ends, passes) = run_lanes(rt, alloc, gate, lanes)?;
+    let (ends, passes) = run_lanes(rt, alloc, gate, &PolicyCheck, lanes, Workers::default())?;
     assert!(rt; three_wrote(&ends));
     assert!(rt; settles(rt, alloc, gate, passes, 3));
     Ok(())
@@ -115,7 +116,7 @@ struct Waits<'a> {
 }
 
 /// Whether the flag was set within so many turns.
-fn was_set(flag: &AtomicU64) -> bool {
+pub(crate) fn was_set(flag: &AtomicU64) -> bool {
     for _ in 0..10_000_000u64 {
         if flag.load(Ordering::SeqCst) == 1 {
             return true;
@@ -138,7 +139,7 @@ impl Read for Waits<'_> {
 
 /// A writer that sets a flag.
 #[derive(Drop)]
-struct Tells<'a>(&'a AtomicU64);
+pub(crate) struct Tells<'a>(pub(crate) &'a AtomicU64);
 
 impl Write for Tells<'_> {
     fn write(&mut self, buf: &[u8]) -> io::Result<usize> {
@@ -207,7 +208,7 @@ fn lanes_run_at_once<N: Base + Send + Sync, T: Threads + Wait + Abort + Sync>(
         gave_up: AtomicU64::new(0),
     };
     let lanes = two_lanes(alloc, &flags)?;
-    let (ends, passes) = run_lanes(rt, alloc, gate, lanes)?;
+    let (ends, passes) = run_lanes(rt, alloc, gate, &PolicyCheck, lanes, Workers::default())?;
     assert!(rt; both_ended(&ends, &passes, &flags));
     Ok(())
 }
@@ -300,7 +301,7 @@ fn reader_breaks<N: Base + Send + Sync, T: Threads + Wait + Abort + Sync>(
         writer: Vec::new(alloc),
     };
     let lanes = Vec::from_array(alloc, [broken])?;
-    let (ends, passes) = run_lanes(rt, alloc, gate, lanes)?;
+    let (ends, passes) = run_lanes(rt, alloc, gate, &PolicyCheck, lanes, Workers::default())?;
     assert!(rt; failed(&ends, LaneFault::Read) && answered(&ends) && one_pass(&passes, 2));
     Ok(())
 }
@@ -316,7 +317,7 @@ fn writer_fills<N: Base + Send + Sync, T: Threads + Wait + Abort + Sync>(
         writer: BufWriter::with_capacity(alloc, 0, Drops { left: 6 })?,
     };
     let lanes = Vec::from_array(alloc, [full])?;
-    let (ends, passes) = run_lanes(rt, alloc, gate, lanes)?;
+    let (ends, passes) = run_lanes(rt, alloc, gate, &PolicyCheck, lanes, Workers::default())?;
     assert!(rt; failed(&ends, LaneFault::Write) && one_pass(&passes, 2));
     Ok(())
 }

@@ -1,6 +1,5 @@
 //! Inputs parted into lanes, with readers in memory and one that breaks.
-use gate_lanes::{MAX_LANES, split_lanes};
-use gate_lines::LaneFault;
+use gate_lanes::{MAX_LANES, SplitFault, split_lanes};
 use std::alloc::Global;
 use std::io;
 use std::io::{BufReader, ErrorKind, Read};
@@ -61,13 +60,13 @@ fn partings(alloc: Global, count: usize) -> Result<String, Fail> {
     Ok(text)
 }
 
-/// How many lanes a text of so many lines `---` has; `None` where it goes past a limit.
+/// How many lanes a text of so many lines `---` has; `None` where they are too many.
 fn lanes_of_partings(alloc: Global, count: usize) -> Result<Option<usize>, Fail> {
     let text = partings(alloc, count)?;
     let mut reader = text.as_bytes();
     match split_lanes(alloc, &mut reader) {
         Ok(lanes) => Ok(Some(lanes.len())),
-        Err(LaneFault::Read) => Ok(None),
+        Err(SplitFault::TooManyLanes) => Ok(None),
         Err(fault) => Err(Fail::from(fault)),
     }
 }
@@ -84,6 +83,6 @@ fn lanes_are_limited(rt: HostRuntime) -> Result<(), Fail> {
 fn readers_that_break(rt: HostRuntime) -> Result<(), Fail> {
     let alloc = rt.alloc();
     let mut reader = BufReader::new(alloc, Interrupted(b"a\n---\nb"))?;
-    assert!(rt; matches!(&split_lanes(alloc, &mut reader), Err(LaneFault::Read)));
+    assert!(rt; matches!(&split_lanes(alloc, &mut reader), Err(SplitFault::Read)));
     Ok(())
 }

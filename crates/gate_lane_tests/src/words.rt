@@ -1,5 +1,6 @@
 //! The words in which faults of steps, calls and openings are told.
 use gate_core::{Reply, StepFault};
+use gate_lanes::SplitFault;
 use gate_opening::{OpeningFault, OpeningToken};
 use gate_shared::{CallFault, Receipt};
 use std::alloc::Global;
@@ -48,5 +49,18 @@ fn faults_of_openings_are_told(rt: HostRuntime) -> Result<(), Fail> {
         assert!(rt; prints(rt.alloc(), fault, wanted)?, "{wanted}");
     }
     assert!(rt; prints(rt.alloc(), &StepFault::Memory, "out of memory")?);
+    Ok(())
+}
+
+#[test]
+fn faults_of_splitting_are_told(rt: HostRuntime) -> Result<(), Fail> {
+    let faults = [
+        (SplitFault::Read, "the input could not be read"),
+        (SplitFault::TooManyLanes, "more than 64 lanes"),
+        (SplitFault::Memory, "out of memory"),
+    ];
+    for (fault, wanted) in &faults {
+        assert!(rt; prints(rt.alloc(), fault, wanted)?, "{wanted}");
+    }
     Ok(())
 }

@@ -3,7 +3,7 @@ use Rattle.std.specs.Prelude.{ℕ, Option, Some, None}
 use Rattle.gate_message.specs.declared.caller.Caller.{Caller}
 use Rattle.gate_message.specs.declared.caller.Caller.TheVariants.{Chain, Operator, Peer, User}
 use Rattle.gate_message.specs.declared.event.Event.{Event}
-use Rattle.gate_message.specs.declared.event.Event.TheVariants.{Enter, Leave, Tx as Submit, Mempool, GetBlock, Headers, Rpc, SetFloor, Set, Chain as Extend}
+use Rattle.gate_message.specs.declared.event.Event.TheVariants.{Enter, Leave, Tx as Submit, Mempool, GetBlock, Headers, FeeFilter, Rpc, SetFloor, Set, Chain as Extend}
 
 abbrev pub caller_of : Event → Caller
 caller_of (Enter peer address) = Peer peer
@@ -12,6 +12,7 @@ caller_of (Submit peer now transaction) = Peer peer
 caller_of (Mempool peer) = Peer peer
 caller_of (GetBlock peer height) = Peer peer
 caller_of (Headers peer height) = Peer peer
+caller_of (FeeFilter peer rate) = Peer peer
 caller_of (Rpc call) = User call.user
 caller_of (SetFloor rate) = Operator
 caller_of (Set switch on) = Operator

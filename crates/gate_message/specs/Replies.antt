@@ -8,7 +8,7 @@ use Rattle.gate_rpc.specs.declared.reply.RpcReply.TheVariants.{NotAllowed, Answe
 use Rattle.gate_message.specs.declared.refusal.Refusal.TheVariants.{Admission}
 use Rattle.gate_message.specs.declared.refusal.Then.TheVariants.{Keep}
 use Rattle.gate_message.specs.declared.reply.Reply.{Reply}
-use Rattle.gate_message.specs.declared.reply.Reply.TheVariants.{Entered, Left, Admitted, Listing, Block, Headers, Rpc, Denied, Set, Moved, Refused}
+use Rattle.gate_message.specs.declared.reply.Reply.TheVariants.{Entered, Left, Admitted, Listing, Block, Headers, Filter, Rpc, Denied, Set, Moved, Refused}
 
 -- what is told of an event that came to this
 abbrev pub chain_reply : Result Move ChainDenial → Reply
@@ -23,6 +23,7 @@ denied_instead (Admitted txid fee vsize replaced) denial = Denied (Admission den
 denied_instead (Listing txids) denial = Denied (Admission denial) Keep
 denied_instead (Block height time) denial = Denied (Admission denial) Keep
 denied_instead (Headers first count) denial = Denied (Admission denial) Keep
+denied_instead (Filter rate) denial = Denied (Admission denial) Keep
 denied_instead (Rpc NotAllowed) denial = Denied (Admission denial) Keep
 denied_instead (Rpc (Answer id result)) denial = Rpc (Failure id (errors.Denied denial))
 denied_instead (Rpc (Failure id error)) denial = Denied (Admission denial) Keep

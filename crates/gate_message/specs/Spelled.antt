@@ -11,7 +11,7 @@ use Rattle.gate_rpc.specs.declared.request.Request.{Request}
 use Rattle.gate_rpc.specs.declared.fault.CallError.{CallError}
 use Rattle.gate_rpc.specs.Calls.{request_of}
 use Rattle.gate_message.specs.declared.event.Event.{Event}
-use Rattle.gate_message.specs.declared.event.Event.TheVariants.{Enter, Leave, Tx as Submit, Mempool, GetBlock, Headers, Rpc, SetFloor, Set, Chain as Extend}
+use Rattle.gate_message.specs.declared.event.Event.TheVariants.{Enter, Leave, Tx as Submit, Mempool, GetBlock, Headers, FeeFilter, Rpc, SetFloor, Set, Chain as Extend}
 
 -- what a command offers the pool
 abbrev pub offered_by : Command → Option Tx
@@ -35,6 +35,7 @@ transactions_of (Submit peer now transaction) = option_to_list transaction
 transactions_of (Mempool peer) = []
 transactions_of (GetBlock peer height) = []
 transactions_of (Headers peer height) = []
+transactions_of (FeeFilter peer rate) = []
 transactions_of (Rpc call) = option_to_list (offered (request_of call.json))
 transactions_of (SetFloor rate) = []
 transactions_of (Set switch on) = []
@@ -48,6 +49,7 @@ IsSpelled (Submit peer now transaction) = IfSome transaction IsTx
 IsSpelled (Mempool peer) = Unit {0}
 IsSpelled (GetBlock peer height) = Unit {0}
 IsSpelled (Headers peer height) = Unit {0}
+IsSpelled (FeeFilter peer rate) = Unit {0}
 IsSpelled (Rpc call) = IfSome (offered (request_of call.json)) IsTx
 IsSpelled (SetFloor rate) = Unit {0}
 IsSpelled (Set switch on) = Unit {0}

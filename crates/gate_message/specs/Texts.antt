@@ -8,7 +8,7 @@ use Rattle.gate_chain.specs.Denials.{rule_of as chain_rule, token_of}
 use Rattle.gate_submission.specs.declared.Moved.{Moved as Change}
 use Rattle.gate_message.specs.declared.refusal.Refusal.{Refusal}
 use Rattle.gate_message.specs.declared.reply.Reply.{Reply}
-use Rattle.gate_message.specs.declared.reply.Reply.TheVariants.{Entered, Left, Admitted, Listing, Block, Headers, Rpc, Denied, Set, Moved, Refused}
+use Rattle.gate_message.specs.declared.reply.Reply.TheVariants.{Entered, Left, Admitted, Listing, Block, Headers, Filter, Rpc, Denied, Set, Moved, Refused}
 use Rattle.gate_rpc.specs.declared.reply.RpcReply.{RpcReply}
 use Rattle.gate_rpc.specs.Replies.{reply_status, reply_text as answer_text}
 use Rattle.gate_net.specs.Permissions.{Permissions, permissions_text}
@@ -33,6 +33,10 @@ block_text height time = codes "block " ++ (decimal height ++ (codes " " ++ deci
 abbrev pub headers_text : ℕ → ℕ → List ℕ
 headers_text first count = codes "headers " ++ (decimal first ++ (codes " " ++ decimal count))
 
+-- the rate under which entries are hidden from a peer
+abbrev pub filter_text : ℕ → List ℕ
+filter_text rate = codes "filter " ++ decimal rate
+
 abbrev pub rpc_text : RpcReply → List ℕ
 rpc_text answer = codes "rpc " ++ (decimal (reply_status answer) ++ codes " ") ++ answer_text answer
 
@@ -54,6 +58,7 @@ reply_text (Admitted txid fee vsize replaced) = admitted_text txid fee vsize rep
 reply_text (Listing txids) = listing_text txids
 reply_text (Block height time) = block_text height time
 reply_text (Headers first count) = headers_text first count
+reply_text (Filter rate) = filter_text rate
 reply_text (Rpc answer) = rpc_text answer
 reply_text (Denied refusal then) = denied_text refusal (then_text then)
 reply_text Set = codes "set"

@@ -42,6 +42,11 @@ pub enum Event {
         peer: u64,
         height: u32,
     },
+    /// A peer asks that its listings leave out what pays less, in satoshi per 1,000 virtual bytes (BIP 133).
+    FeeFilter {
+        peer: u64,
+        rate: u64,
+    },
     /// A user calls by RPC.
     Rpc(Counted<Call>),
     /// The operator sets the pool's floor, in satoshi per 1,000 virtual bytes.
@@ -76,6 +81,7 @@ impl Event {
             Event::Mempool { peer } => Ok(Caller::Peer(*peer)),
             Event::GetBlock { peer, .. } => Ok(Caller::Peer(*peer)),
             Event::Headers { peer, .. } => Ok(Caller::Peer(*peer)),
+            Event::FeeFilter { peer, .. } => Ok(Caller::Peer(*peer)),
             Event::Rpc(call) => {
                 let user = String::from_str(alloc, call.get().user())?;
                 Ok(Caller::User(Text::from_string(user)))
@@ -101,6 +107,7 @@ impl Event {
             Event::Mempool { peer } => Some(*peer),
             Event::GetBlock { peer, .. } => Some(*peer),
             Event::Headers { peer, .. } => Some(*peer),
+            Event::FeeFilter { peer, .. } => Some(*peer),
             Event::Rpc(_) => None,
             Event::SetFloor { .. } => None,
             Event::Set { .. } => None,
@@ -172,6 +179,10 @@ impl Copied for Event {
             Event::Headers { peer, height } => Ok(Event::Headers {
                 peer: *peer,
                 height: *height,
+            }),
+            Event::FeeFilter { peer, rate } => Ok(Event::FeeFilter {
+                peer: *peer,
+                rate: *rate,
             }),
             Event::Rpc(call) => Ok(Event::Rpc(call.copy(alloc)?)),
             Event::SetFloor { rate } => Ok(Event::SetFloor { rate: *rate }),

@@ -69,6 +69,13 @@ pub fn is_same_event(a: &Event, b: &Event) -> bool
                 height: at,
             },
         ) => peer == other && height == at,
+        (
+            Event::FeeFilter { peer, rate },
+            Event::FeeFilter {
+                peer: other,
+                rate: asked,
+            },
+        ) => peer == other && rate == asked,
         (Event::Rpc(call), Event::Rpc(other)) => is_same(call, other),
         (Event::SetFloor { rate }, Event::SetFloor { rate: other }) => rate == other,
         (
@@ -151,6 +158,7 @@ pub fn is_same_reply(a: &Reply, b: &Reply) -> bool
                 count: other_count,
             },
         ) => first == other_first && count == other_count,
+        (Reply::Filter { rate }, Reply::Filter { rate: other }) => rate == other,
         (Reply::Rpc(answer), Reply::Rpc(other)) => is_same_answer(answer.get(), other.get()),
         (
             Reply::Denied { refusal, then },

@@ -163,13 +163,16 @@ told_head texts settled =
     ap (λ (l : List ℕ). lanes_text 1 texts ++ l) (sym (append_assoc (settled_line settled.count) (10 ∷ []) (unlines (journal_lines settled.journal.entries))))
     ∙ sym (append_assoc (lanes_text 1 texts) (settled_line settled.count ++ 10 ∷ []) (unlines (journal_lines settled.journal.entries)))
 
+not_one : ◌≡◌ {A = ℕ} 0 1 → ⊥
+not_one e = omega arith
+
 audited : (w : World) (lanes : List (List ℕ)) (ends : List Left) (printed before after : List ℕ)
-    → LanesTell true w lanes ends printed 0 → All (λ (end : Left). IsOk end.result) ends → after ≡ before ++ printed
+    → LanesTell true w lanes ends printed (Some 0) → All (λ (end : Left). IsOk end.result) ends → after ≡ before ++ printed
     → (head : List ℕ) × (entries : List Entry) × (after ≡ before ++ (head ++ unlines (journal_lines entries)))
     × (AreWithin (journal_lines entries) → IsLegal w (journal_lines entries) (length entries))
 audited w lanes ends printed before after tells ended wrote = concluded tells.concluded
   where
-    concluded : Concludes true w tells.passes tells.lines 0
+    concluded : Concludes true w tells.passes tells.lines (Some 0)
         → (head : List ℕ) × (entries : List Entry) × (after ≡ before ++ (head ++ unlines (journal_lines entries)))
         × (AreWithin (journal_lines entries) → IsLegal w (journal_lines entries) (length entries))
     concluded (inl (settled, few, settles, lines, status)) =
@@ -178,9 +181,10 @@ audited w lanes ends printed before after tells ended wrote = concluded tells.co
         let text : printed ≡ (lanes_text 1 tells.texts ++ (settled_line settled.count ++ 10 ∷ [])) ++ unlines (journal_lines entries) =
         tells.told ∙ ap (λ (l : List (List ℕ)). lanes_text 1 tells.texts ++ unlines l) lines ∙ told_head tells.texts settled in
         (lanes_text 1 tells.texts ++ (settled_line settled.count ++ 10 ∷ []), entries, wrote ∙ ap (λ (l : List ℕ). before ++ l) text, journal_legal w entries settles.0 spelled few)
-    concluded (inr (none, lines, status)) = absurd (omega arith)
+    concluded (inr (inl (none, lines, status))) = absurd (not_one (same_Some _ _ status))
+    concluded (inr (inr (lines, status))) = absurd (none-some 0 (sym status))
 
 pub lanes_are_audited : LanesAreAudited
-lanes_are_audited text rest before after w is parted done =
+lanes_are_audited text rest before after w workers explain is parted done =
     let d : LanesDone true text (Ok w) (Some before) (Some after) 0 = subst (λ (r : Result World OpeningFault). LanesDone true text r (Some before) (Some after) 0) is done in
     audited w (lanes_of d.0) d.1 d.2 before after d.5 d.6 d.7

@@ -1,9 +1,10 @@
 -- What is answered about the pool, over the plain list of its entries.
-use Rattle.std.specs.Prelude.{ℕ, Bool, not, max, List, length, filter, Option, Some, None, option_map, Result, Ok, Err}
+use Rattle.std.specs.Prelude.{ℕ, nat_le, Bool, not, max, List, length, filter, Option, Some, None, option_map, Result, Ok, Err}
 use Rattle.std.specs.List.{list_any}
 use Rattle.gate_tx.specs.Tx.{Tx}
 use Rattle.gate_tx.specs.Ids.{txid_of, wtxid_of}
 use Rattle.gate_tx.specs.Sizes.{weight_of}
+use Rattle.gate_standard.specs.Amounts.{required_fee}
 use Rattle.gate_standard.specs.declared.Denial.{Denial}
 use Rattle.gate_standard.specs.declared.Denial.TheVariants.{Decode}
 use Rattle.gate_pool.specs.Pool.{Admitted, entry_by_txid, has_txid, listing_of, size_of}
@@ -68,6 +69,16 @@ info_from entries txid e =
 
 abbrev pub info_of : List Admitted → List ℕ → Option EntryInfo
 info_of entries txid = option_map (info_from entries txid) (entry_by_txid entries txid)
+
+-- ---- what pays a rate
+
+-- its fee is at least that of its size at the rate
+abbrev pub pays : ℕ → Admitted → Bool
+pays rate e = nat_le (required_fee rate e.vsize) e.fee
+
+-- the txids of the entries that pay a rate, in order of admission
+abbrev pub listing_at : ℕ → List Admitted → List (List ℕ)
+listing_at rate entries = listing_of (filter (pays rate) entries)
 
 -- ---- the pool
 

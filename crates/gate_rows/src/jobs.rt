@@ -1,7 +1,7 @@
 //! Openings and lanes over readers and writers in memory, and over some that break.
 use gate_prog::{
-    ArgsFault, Job, LaneFault, OpeningFault, OpeningToken, read_args, read_opening, run_audit,
-    run_check, run_gate, run_lanes_job,
+    ArgsFault, Job, LaneFault, LanesOptions, OpeningFault, OpeningToken, Workers, read_args,
+    read_opening, run_audit, run_check, run_gate, run_lanes_job,
 };
 use std::alloc::Global;
 use std::hash::{BuildHasherDefault, FoldHasher};
@@ -272,17 +272,55 @@ fn asks_for_help(alloc: Global, words: &[&str]) -> bool {
     matches!(read_args(alloc, words), Err(ArgsFault::Help(_)))
 }
 
+/// How many workers, whether the journal, and whether the causes, where the words ask for lanes.
+fn lanes_asked_for(alloc: Global, words: &[&str]) -> Option<(usize, bool, bool)> {
+    match read_args(alloc, words) {
+        Ok(
+            Job::Lanes {
+                workers,
+                journal,
+                explain,
+            },
+        ) => Some((workers.count(), journal, explain)),
+        _ => None,
+    }
+}
+
+#[test]
+fn words_of_lanes(rt: HostRuntime) -> Result<(), Fail> {
+    let asked: &[(&[&str], (usize, bool, bool))] = &[
+        (&["lanes"], (2, false, false)),
+        (&["lanes", "--journal"], (2, true, false)),
+        (&["lanes", "--explain"], (2, false, true)),
+        (&["lanes", "--workers", "1"], (1, false, false)),
+        (
+            &["lanes", "--explain", "--workers=64", "--journal"],
+            (64, true, true),
+        ),
+    ];
+    for (words, found) in asked {
+        assert!(rt; lanes_asked_for(rt.alloc(), words) == Some(*found));
+    }
+    for number in ["0", "65", "01", "+2", "-1", "two", "18446744073709551617"] {
+        assert!(rt; is_usage_fault(rt.alloc(), &["lanes", "--workers", number]));
+    }
+    assert!(rt; is_usage_fault(rt.alloc(), &["lanes", "--workers"]));
+    assert!(rt; is_usage_fault(rt.alloc(), &["run", "--workers", "2"]));
+    Ok(())
+}
+
 #[test]
 fn words_of_the_command_line(rt: HostRuntime) -> Result<(), Fail> {
-    assert!(rt; read_args(rt.alloc(), &["run"])? == Job::Run);
-    assert!(rt; read_args(rt.alloc(), &["lanes"])? == Job::Lanes { journal: false });
-    assert!(rt; read_args(rt.alloc(), &["lanes", "--journal"])? == Job::Lanes { journal: true });
-    assert!(rt; read_args(rt.alloc(), &["audit"])? == Job::Audit);
+    assert!(rt; read_args(rt.alloc(), &["run"])? == Job::Run { explain: false });
+    assert!(rt; read_args(rt.alloc(), &["run", "--explain"])? == Job::Run { explain: true });
+    assert!(rt; read_args(rt.alloc(), &["audit"])? == Job::Audit { explain: false });
+    assert!(rt; read_args(rt.alloc(), &["audit", "--explain"])? == Job::Audit { explain: true });
     assert!(rt; asks_for_help(rt.alloc(), &["--help"]));
     assert!(rt; asks_for_help(rt.alloc(), &["help", "run"]));
     assert!(rt; is_usage_fault(rt.alloc(), &["run", "more"]));
     assert!(rt; is_usage_fault(rt.alloc(), &["check"]));
-    assert!(rt; is_usage_fault(rt.alloc(), &["lanes", "--workers", "2"]));
+    assert!(rt; is_usage_fault(rt.alloc(), &["rules", "--explain"]));
+    assert!(rt; is_usage_fault(rt.alloc(), &["check", "--explain", "00"]));
     assert!(rt; is_usage_fault(rt.alloc(), &["nothing"]));
     assert!(rt; is_usage_fault(rt.alloc(), &[]));
     Ok(())
@@ -336,7 +374,18 @@ fn lanes_that_break(rt: HostRuntime) -> Result<(), Fail> {
     let input = Interrupted(b"times 1 0 0\n---\npeer 1 leave\n---\npeer 2");
     let mut reader = BufReader::new(rt.alloc(), input)?;
     let mut written = Vec::new(rt.alloc());
-    let end = run_lanes_job(&rt, rt.alloc(), hasher(), false, &mut reader, &mut written);
+    let options = LanesOptions {
+        workers: Workers::default(),
+        journal: false,
+    };
+    let end = run_lanes_job(
+        &rt,
+        rt.alloc(),
+        hasher(),
+        options,
+        &mut reader,
+        &mut written,
+    );
     assert!(rt; end == Err(LaneFault::Read));
     assert!(rt; written.is_empty());
     Ok(())

@@ -40,6 +40,17 @@ const ROWS: &[Row] = &[
         status: 0,
     },
     Row {
+        name: "journal-spells-events-one-way",
+        words: "lanes --journal",
+        input: Input::Short(
+            b"budget 1000000\ntimes 101 1000 600\ncoin <32*11> 0 100000 1 plain 0014<20*22>\ncoin <32*12> 0 100000 1 plain 0014<20*22>\ncoin <32*13> 0 100000 1 plain 0014<20*22>\ncoin <32*14> 0 100000 1 plain 0014<20*22>\nverdict * ok\n---\npeer 1 enter 192.0.2.1\npeer 1 tx 5000 0200000000010<32*11>1<10*0>FDFFFFFF01328601<10*0>160014<20*22>0248<72*30>21<33*02>00000000\npeer 1 tx 5000 XYZ\npeer 1 feefilter 5\n",
+        ),
+        outputs: &[
+            b"lane 1\nentered none\nadmitted 5ab0eb89aa597c4c79ebb7cd83e361997309eb27e186bc95d794fe37e6453fc2 fee 110 vsize 110 replaced 0\ndenied A1 keep tx-decode\nfilter 5\nsettled 4\n> peer 1 enter 192.0.2.1\n< entered none\n> peer 1 tx 5000 0200000000010111111111111111111111111111111111111111111111111111111111111111110000000000fdffffff013286010000000000160014222222222222222222222222222222222222222202483030303030303030303030303030303030303030303030303030303030303030303030303030303030303030303030303030303030303030303030303030303030303030303030302102020202020202020202020202020202020202020202020202020202020202020200000000\n< admitted 5ab0eb89aa597c4c79ebb7cd83e361997309eb27e186bc95d794fe37e6453fc2 fee 110 vsize 110 replaced 0\n> peer 1 tx 5000 -\n< denied A1 keep tx-decode\n> peer 1 feefilter 5\n< filter 5\n",
+        ],
+        status: 0,
+    },
+    Row {
         name: "journal-that-ends-in-an-event",
         words: "audit",
         input: Input::Plain(
@@ -125,6 +136,42 @@ const ROWS: &[Row] = &[
     Row {
         name: "two-lanes-race-for-a-coin",
         words: "lanes",
+        input: Input::Short(
+            b"budget 1000000\ntimes 101 1000 600\ncoin <32*11> 0 100000 1 plain 0014<20*22>\ncoin <32*12> 0 100000 1 plain 0014<20*22>\ncoin <32*13> 0 100000 1 plain 0014<20*22>\ncoin <32*14> 0 100000 1 plain 0014<20*22>\nverdict * ok\n---\nuser a rpc 5000 {\"method\":\"sendrawtransaction\",\"params\":[\"0200000000010<32*11>1<10*0>ffffffff01328601<10*0>160014<20*22>0248<72*30>21<33*02>00000000\"],\"id\":1}\n---\nuser b rpc 5000 {\"method\":\"sendrawtransaction\",\"params\":[\"0200000000010<32*11>1<10*0>ffffffff01318601<10*0>160014<20*22>0248<72*30>21<33*02>00000000\"],\"id\":1}\n",
+        ),
+        outputs: &[
+            b"lane 1\nrpc 200 {\"error\":null,\"id\":1,\"result\":\"499e3bf177f2eb576435a2ce4e47f56fea77687c1883931cb404bff096c60058\"}\nlane 2\nrpc 500 {\"error\":{\"code\":-26,\"message\":\"txn-mempool-conflict\",\"rule\":\"A23\"},\"id\":1,\"result\":null}\nsettled 2\n",
+            b"lane 1\nrpc 500 {\"error\":{\"code\":-26,\"message\":\"txn-mempool-conflict\",\"rule\":\"A23\"},\"id\":1,\"result\":null}\nlane 2\nrpc 200 {\"error\":null,\"id\":1,\"result\":\"7423f058e55734e3749e8b8f347e6cecd7346f6a8e816f3928756c1a3528eb2e\"}\nsettled 2\n",
+        ],
+        status: 0,
+    },
+    Row {
+        name: "two-lanes-race-with-1-workers",
+        words: "lanes --workers 1",
+        input: Input::Short(
+            b"budget 1000000\ntimes 101 1000 600\ncoin <32*11> 0 100000 1 plain 0014<20*22>\ncoin <32*12> 0 100000 1 plain 0014<20*22>\ncoin <32*13> 0 100000 1 plain 0014<20*22>\ncoin <32*14> 0 100000 1 plain 0014<20*22>\nverdict * ok\n---\nuser a rpc 5000 {\"method\":\"sendrawtransaction\",\"params\":[\"0200000000010<32*11>1<10*0>ffffffff01328601<10*0>160014<20*22>0248<72*30>21<33*02>00000000\"],\"id\":1}\n---\nuser b rpc 5000 {\"method\":\"sendrawtransaction\",\"params\":[\"0200000000010<32*11>1<10*0>ffffffff01318601<10*0>160014<20*22>0248<72*30>21<33*02>00000000\"],\"id\":1}\n",
+        ),
+        outputs: &[
+            b"lane 1\nrpc 200 {\"error\":null,\"id\":1,\"result\":\"499e3bf177f2eb576435a2ce4e47f56fea77687c1883931cb404bff096c60058\"}\nlane 2\nrpc 500 {\"error\":{\"code\":-26,\"message\":\"txn-mempool-conflict\",\"rule\":\"A23\"},\"id\":1,\"result\":null}\nsettled 2\n",
+            b"lane 1\nrpc 500 {\"error\":{\"code\":-26,\"message\":\"txn-mempool-conflict\",\"rule\":\"A23\"},\"id\":1,\"result\":null}\nlane 2\nrpc 200 {\"error\":null,\"id\":1,\"result\":\"7423f058e55734e3749e8b8f347e6cecd7346f6a8e816f3928756c1a3528eb2e\"}\nsettled 2\n",
+        ],
+        status: 0,
+    },
+    Row {
+        name: "two-lanes-race-with-2-workers",
+        words: "lanes --workers 2",
+        input: Input::Short(
+            b"budget 1000000\ntimes 101 1000 600\ncoin <32*11> 0 100000 1 plain 0014<20*22>\ncoin <32*12> 0 100000 1 plain 0014<20*22>\ncoin <32*13> 0 100000 1 plain 0014<20*22>\ncoin <32*14> 0 100000 1 plain 0014<20*22>\nverdict * ok\n---\nuser a rpc 5000 {\"method\":\"sendrawtransaction\",\"params\":[\"0200000000010<32*11>1<10*0>ffffffff01328601<10*0>160014<20*22>0248<72*30>21<33*02>00000000\"],\"id\":1}\n---\nuser b rpc 5000 {\"method\":\"sendrawtransaction\",\"params\":[\"0200000000010<32*11>1<10*0>ffffffff01318601<10*0>160014<20*22>0248<72*30>21<33*02>00000000\"],\"id\":1}\n",
+        ),
+        outputs: &[
+            b"lane 1\nrpc 200 {\"error\":null,\"id\":1,\"result\":\"499e3bf177f2eb576435a2ce4e47f56fea77687c1883931cb404bff096c60058\"}\nlane 2\nrpc 500 {\"error\":{\"code\":-26,\"message\":\"txn-mempool-conflict\",\"rule\":\"A23\"},\"id\":1,\"result\":null}\nsettled 2\n",
+            b"lane 1\nrpc 500 {\"error\":{\"code\":-26,\"message\":\"txn-mempool-conflict\",\"rule\":\"A23\"},\"id\":1,\"result\":null}\nlane 2\nrpc 200 {\"error\":null,\"id\":1,\"result\":\"7423f058e55734e3749e8b8f347e6cecd7346f6a8e816f3928756c1a3528eb2e\"}\nsettled 2\n",
+        ],
+        status: 0,
+    },
+    Row {
+        name: "two-lanes-race-with-64-workers",
+        words: "lanes --workers 64",
         input: Input::Short(
             b"budget 1000000\ntimes 101 1000 600\ncoin <32*11> 0 100000 1 plain 0014<20*22>\ncoin <32*12> 0 100000 1 plain 0014<20*22>\ncoin <32*13> 0 100000 1 plain 0014<20*22>\ncoin <32*14> 0 100000 1 plain 0014<20*22>\nverdict * ok\n---\nuser a rpc 5000 {\"method\":\"sendrawtransaction\",\"params\":[\"0200000000010<32*11>1<10*0>ffffffff01328601<10*0>160014<20*22>0248<72*30>21<33*02>00000000\"],\"id\":1}\n---\nuser b rpc 5000 {\"method\":\"sendrawtransaction\",\"params\":[\"0200000000010<32*11>1<10*0>ffffffff01318601<10*0>160014<20*22>0248<72*30>21<33*02>00000000\"],\"id\":1}\n",
         ),

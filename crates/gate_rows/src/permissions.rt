@@ -88,6 +88,17 @@ const ROWS: &[Row] = &[
         status: 0,
     },
     Row {
+        name: "fee-filter",
+        words: "run",
+        input: Input::Short(
+            b"budget 1000000\ntimes 101 1000 600\ncoin <32*11> 0 100000 1 plain 0014<20*22>\ncoin <32*12> 0 100000 1 plain 0014<20*22>\ncoin <32*13> 0 100000 1 plain 0014<20*22>\ncoin <32*14> 0 100000 1 plain 0014<20*22>\nverdict * ok\nbloom 1\n---\npeer 1 enter 192.0.2.1\npeer 1 tx 5000 0200000000010<32*11>1<10*0>fdffffff01328601<10*0>160014<20*22>0248<72*30>21<33*02>00000000\npeer 1 tx 5000 02000000000101<32*12><10*0>fdffffff01b88201<10*0>160014<20*22>0248<72*30>21<33*02>00000000\npeer 1 feefilter 1001\npeer 1 mempool\npeer 1 feefilter 1010\npeer 1 mempool\npeer 1 feefilter 9091\npeer 1 mempool\npeer 1 feefilter 9100\npeer 1 mempool\npeer 1 feefilter 21<13*0>1\npeer 2 enter 192.0.2.1\npeer 2 mempool\n",
+        ),
+        outputs: &[
+            b"entered none\nadmitted 5ab0eb89aa597c4c79ebb7cd83e361997309eb27e186bc95d794fe37e6453fc2 fee 110 vsize 110 replaced 0\nadmitted 509f92bb4cc72cb9d665d2893faf541e64045dd8d87ce6a763a31ca2fc19f4a0 fee 1000 vsize 110 replaced 0\nfilter 1001\nlisting 2 5ab0eb89aa597c4c79ebb7cd83e361997309eb27e186bc95d794fe37e6453fc2 509f92bb4cc72cb9d665d2893faf541e64045dd8d87ce6a763a31ca2fc19f4a0\nfilter 1010\nlisting 1 509f92bb4cc72cb9d665d2893faf541e64045dd8d87ce6a763a31ca2fc19f4a0\nfilter 9091\nlisting 1 509f92bb4cc72cb9d665d2893faf541e64045dd8d87ce6a763a31ca2fc19f4a0\nfilter 9100\nlisting 0\nfilter 9100\nentered none\nlisting 2 5ab0eb89aa597c4c79ebb7cd83e361997309eb27e186bc95d794fe37e6453fc2 509f92bb4cc72cb9d665d2893faf541e64045dd8d87ce6a763a31ca2fc19f4a0\n",
+        ],
+        status: 0,
+    },
+    Row {
         name: "flags-of-explicit-and-implicit-entries",
         words: "run",
         input: Input::Short(

@@ -138,8 +138,22 @@ const ROWS: &[Row] = &[
         status: 2,
     },
     Row {
+        name: "usage-no-workers",
+        words: "lanes --workers 0",
+        input: Input::Short(b"nothing\n"),
+        outputs: &[b""],
+        status: 2,
+    },
+    Row {
         name: "usage-run-with-a-word-too-many",
         words: "run more",
+        input: Input::Short(b"nothing\n"),
+        outputs: &[b""],
+        status: 2,
+    },
+    Row {
+        name: "usage-sixty-five-workers",
+        words: "lanes --workers 65",
         input: Input::Short(b"nothing\n"),
         outputs: &[b""],
         status: 2,

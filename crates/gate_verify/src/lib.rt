@@ -6,11 +6,13 @@
 #![tactic(auto)]
 
 mod check;
+mod crew;
 mod gathering;
 mod verifying;
 mod workers;
 
 pub use check::{InputCheck, PolicyCheck};
+pub use crew::{Crew, Post, serve};
 pub use gate_inputs::{InputReport, Piece};
-pub use verifying::verify_all;
+pub use verifying::{check_each, verify_all};
 pub use workers::{MAX_WORKERS, Workers};

@@ -21,9 +21,9 @@ struct Task<'a> {
 
 /// What was reported of the piece at a place.
 #[derive(Drop)]
-struct Done {
-    place: usize,
-    report: InputReport,
+pub(crate) struct Done {
+    pub(crate) place: usize,
+    pub(crate) report: InputReport,
 }
 
 /// Checks the pieces that come, until no more can. Where memory runs out for one, no report on it is sent.
@@ -58,7 +58,7 @@ fn send_all<'a, T: Wait>(rt: &T, out: Sender<Task<'a>>, pieces: &'a [Piece]) {
 }
 
 /// The reports that came, each at its place.
-fn arrivals<T: Wait>(
+pub(crate) fn arrivals<T: Wait>(
     rt: &T,
     alloc: Global,
     count: usize,
@@ -99,8 +99,9 @@ fn check_among<T: Threads + Wait + Sync, C: InputCheck + Sync>(
     arrivals(rt, alloc, pieces.len(), reports)
 }
 
-/// The reports of the pieces as this thread makes them, one after another.
-fn check_each<C: InputCheck>(
+/// The reports of the pieces as this thread makes them, one after another. One on which the check gives none, or another, is
+/// made all the same.
+pub fn check_each<C: InputCheck>(
     alloc: Global,
     check: &C,
     pieces: &[Piece],

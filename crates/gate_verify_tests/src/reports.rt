@@ -2,7 +2,7 @@
 use gate_bytes::{Copied, Kept, Memory};
 use gate_inputs::report;
 use gate_tx::{Coin, OutPoint, TxIn, Txid, Wtxid};
-use gate_verify::{InputCheck, InputReport, Piece, PolicyCheck, Workers, verify_all};
+use gate_verify::{Crew, InputCheck, InputReport, Piece, PolicyCheck, Workers, verify_all};
 use std::alloc::Global;
 use std::process::Abort;
 use std::sync::Wait;
@@ -165,6 +165,22 @@ fn each_piece_is_checked_once(rt: HostRuntime) -> Result<(), Fail> {
 fn no_pieces_have_no_reports(rt: HostRuntime) -> Result<(), Fail> {
     let reports = verify_all(&rt, rt.alloc(), &PolicyCheck, &[], Workers::default())?;
     assert!(rt; reports.is_empty());
+    Ok(())
+}
+
+/// Whether a crew without workers gives the reports of the three pieces, which its caller then makes.
+fn gives_all_alone<R: Wait, C: InputCheck>(rt: &R, alloc: Global, check: &C) -> Result<bool, Fail> {
+    let pieces = three_pieces(alloc)?;
+    let (crew, post) = Crew::new(alloc)?;
+    let reports = crew.verify(rt, alloc, check, pieces.as_slice())?;
+    drop(post);
+    Ok(are_of_three(reports.as_slice()))
+}
+
+#[test]
+fn a_crew_without_workers(rt: HostRuntime) -> Result<(), Fail> {
+    assert!(rt; gives_all_alone(&rt, rt.alloc(), &PolicyCheck)?);
+    assert!(rt; gives_all_alone(&rt, rt.alloc(), &Forgets)?);
     Ok(())
 }
 

@@ -20,7 +20,7 @@ member entries test e one = Contains-from_filter test entries e (subst (λ (l : 
 pub returns-in_default-clause-limits : goal.returns-in_default-clause-limits
 returns-in_default-clause-limits g c =
     let direct = c.args.direct.now in
-    sym (grown-other direct.entries (conflicts_of direct.entries direct.tx) usual_limits (c.only.ensures.other c.in_default.is))
+    c.usual_limits-usual.ensures ∙ sym (grown-other direct.entries (conflicts_of direct.entries direct.tx) (usual_limits c.args.policy.now) (c.only.ensures.other c.in_default.is))
 
 pub unwrap-family-requires : goal.unwrap-family-requires
 unwrap-family-requires g c =
@@ -47,6 +47,7 @@ returns-clause-limits g c =
     let size : c.add_up.result.size ≡ size_of (descendants_of entries (txid_of e.tx)) =
     ap (λ (s : Sums). s.size) (c.add_up.ensures.sums (is_below_some test entries) (subst (λ l. AreIdsOf l (all_below test entries)) (sym c.deref.ensures.value) found))
     ∙ ap size_of (below_one entries e id there one.2) in
-    let grows : FamilyLimits = record { ancestors = 25; ancestors_size = 101000; descendants = 26; descendants_size = 101000 + c.add_up.result.size } in
-    subst (λ (l : List Admitted). grows ≡ grown l (conflicts_of l tx) usual_limits) c.pool-pool.ensures
-    (ap (λ (n : ℕ). record grows { descendants_size = 101000 + n }) size ∙ ap (λ l. grown entries l usual_limits) (sym one.1))
+    let usual = usual_limits c.args.policy.now in
+    let grows : FamilyLimits → ℕ → FamilyLimits = λ l n. record l { descendants = l.descendants + 1; descendants_size = l.descendants_size + n } in
+    subst (λ (l : List Admitted). grows c.usual_limits-usual.result c.add_up.result.size ≡ grown l (conflicts_of l tx) usual) c.pool-pool.ensures
+    (ap (λ l. grows l c.add_up.result.size) c.usual_limits-usual.ensures ∙ ap (grows usual) size ∙ ap (λ l. grown entries l usual) (sym one.1))

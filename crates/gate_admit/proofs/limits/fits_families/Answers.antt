@@ -18,12 +18,12 @@ returns g c =
     let entries = c.args.direct.now.entries in
     let test : Admitted → Bool = λ e. list_any (λ (i : TxIn). reaches (steps entries) (txid_of e.tx) i.prevout.txid) c.args.direct.now.tx.inputs in
     let above = ancestors_above entries c.args.direct.now.tx.inputs in
-    let limits = grown entries (conflicts_of entries c.args.direct.now.tx) usual_limits in
+    let limits = grown entries (conflicts_of entries c.args.direct.now.tx) (usual_limits c.args.policy.now) in
     let first : is_within limits entries above c.args.vsize ≡ false =
     ap (λ l. is_within l entries above c.args.vsize) (sym c.in_ok-limits.ensures.limits) ∙ sym ((rw c.pool-pool.ensures at c.in_ok-is_within.ensures) test c.requires) ∙ c.if-branch.false in
     let small : nat_le c.args.vsize 10000 ≡ true = grind (arith, nat_tests, c.if-vsize-gt-CARVE_OUT_VSIZE.false) in
     let asked : ℕ → FamilyLimits = λ n. record { ancestors = 2; ancestors_size = 101000; descendants = c.in_ok-limits.limits.descendants + 1; descendants_size = c.in_ok-limits.limits.descendants_size + n } in
-    IfOk-weaker c.is_within-2.result (λ fits. fits ≡ is_within (asked c.from.result) entries above c.args.vsize) (λ fits. fits ≡ fits_families entries c.args.direct.now.tx c.args.vsize)
+    IfOk-weaker c.is_within-2.result (λ fits. fits ≡ is_within (asked c.from.result) entries above c.args.vsize) (λ fits. fits ≡ fits_families c.args.policy.now entries c.args.direct.now.tx c.args.vsize)
     (λ fits h. h ∙ ap (λ n. is_within (asked n) entries above c.args.vsize) c.from.ensures ∙ ap (λ l. is_within (carved_out l) entries above c.args.vsize) c.in_ok-limits.ensures.limits
     ∙ second_try _ _ (is_within (carved_out limits) entries above c.args.vsize) first small)
     ((rw c.pool-pool.ensures at c.is_within-2.ensures) test c.requires)

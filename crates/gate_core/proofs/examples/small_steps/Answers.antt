@@ -15,6 +15,9 @@ returns-clause-small c = record {
   closed = refl;
   lists = refl;
   no_bloom = refl;
+  filters = refl;
+  filters_no_more = refl;
+  closed_filters_nothing = refl;
   sets_the_floor = refl;
   undecodable = refl;
 }

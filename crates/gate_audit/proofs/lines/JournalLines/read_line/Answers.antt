@@ -1,4 +1,4 @@
-use Rattle.std.proofs.Common.{true, refl, sym, ◌∙◌}
+use Rattle.std.proofs.Common.{refl, sym, ◌∙◌}
 use Rattle.std.proofs.lemmas.Bool.{true≢false}
 use Rattle.gate_audit.proofs.LinesTaken.{Leads-whole, Leads-rest, past_counted, past_either}
 use Rattle.gate_audit.proofs.lines.JournalLines.read_line.Goals as goal

@@ -1,0 +1,126 @@
+//! Why a line has no form.
+use crate::words::nearest;
+use gate_bytes::Memory;
+use std::alloc::Global;
+use std::fmt;
+
+/// Why a line has no form: the first cause from the left.
+#[derive(Clone, Copy)]
+pub(crate) enum Cause<'a> {
+    NotText,
+    ByteOrderMark,
+    CarriageReturn,
+    Tab,
+    SpaceBefore,
+    SpaceBehind,
+    TwoSpaces,
+    EventInOpening,
+    LineOfOpening,
+    LineOfJournal,
+    /// A word that is none of those that are known at its place.
+    Unknown(&'a str, &'static [&'static str]),
+    /// What is missing at the end.
+    Missing(&'static str),
+    TooMuch(&'a str),
+    /// A text where a number stands, and what the number is.
+    NoNumber(&'a str, &'static str),
+    NotWhole(&'a str, &'static str),
+    LeadingZero(&'a str),
+    TooGreat(&'a str, u64),
+    /// A 0 where a number from 1 on stands.
+    Zero,
+    NoId(&'a str),
+    NoHex(&'a str),
+    NoAddress(&'a str),
+    /// Each place has its form: a setting or a verdict is said again.
+    Again,
+    /// No cause was found.
+    NoForm,
+}
+
+/// A text of the line, cut behind 40 characters.
+#[derive(Clone, Copy)]
+struct Shown<'a>(&'a str);
+
+impl fmt::Display for Shown<'_> {
+    fn fmt<W: fmt::Write>(&self, f: &mut fmt::Formatter<W>) -> fmt::Result {
+        let text = self.0;
+        if text.len() <= 40 {
+            return write!(f, "\"{text}\"");
+        }
+        write!(f, "\"")?;
+        for character in text.chars().take(40) {
+            write!(f, "{character}")?;
+        }
+        write!(f, "..\"")
+    }
+}
+
+impl Cause<'_> {
+    /// It in words, as they stand behind the number of the line.
+    pub(crate) fn text(self, alloc: Global) -> Result<String, Memory> {
+        match self {
+            Cause::Unknown(word, known) => unknown_text(alloc, word, known),
+            Cause::Missing(what) => Ok(format!(in alloc; "ends before {what}")?),
+            Cause::TooMuch(word) => {
+                Ok(format!(in alloc; "{} is one word too many", Shown(word))?)
+            }
+            Cause::NoNumber(text, what) => {
+                Ok(format!(in alloc; "{} is no number; {what} stands here", Shown(text))?)
+            }
+            Cause::NotWhole(text, what) => {
+                Ok(format!(in alloc; "{} is no whole number; {what} stands here", Shown(text))?)
+            }
+            Cause::LeadingZero(text) => {
+                Ok(format!(in alloc; "{} begins with a zero", Shown(text))?)
+            }
+            Cause::TooGreat(text, most) => {
+                Ok(format!(in alloc; "{} is above {most}", Shown(text))?)
+            }
+            Cause::NoId(text) => Ok(format!(in alloc;
+                "{} is no id of 64 hexadecimal digits",
+                Shown(text)
+            )?),
+            Cause::NoHex(text) => Ok(format!(in alloc;
+                "{} is no even number of hexadecimal digits",
+                Shown(text)
+            )?),
+            Cause::NoAddress(text) => Ok(format!(in alloc;
+                "{} is no address; ports, brackets and names are none",
+                Shown(text)
+            )?),
+            other => Ok(String::from_str(alloc, other.as_str())?),
+        }
+    }
+
+    /// The words for a cause that names nothing of the line.
+    fn as_str(self) -> &'static str {
+        match self {
+            Cause::NotText => "is not UTF-8",
+            Cause::ByteOrderMark => "begins with a byte order mark",
+            Cause::CarriageReturn => "ends with a carriage return",
+            Cause::Tab => "has a tab; words are parted by single spaces",
+            Cause::SpaceBefore => "begins with a space",
+            Cause::SpaceBehind => "ends with a space",
+            Cause::TwoSpaces => "has two spaces in a row",
+            Cause::EventInOpening => "an event in the opening; is the line --- missing?",
+            Cause::LineOfOpening => "a line of an opening behind the line ---",
+            Cause::LineOfJournal => "a line of a journal, which gate audit reads",
+            Cause::Zero => "0 is below 1",
+            Cause::Again => "says again what was said",
+            _ => "has none of the forms",
+        }
+    }
+}
+
+/// An unknown word, with the nearest known one.
+fn unknown_text(
+    alloc: Global,
+    word: &str,
+    known: &'static [&'static str],
+) -> Result<String, Memory> {
+    match nearest(alloc, word, known)? {
+        Some(near) => Ok(format!(in alloc; "{} is unknown; is it {near}?", Shown(word))?),
+        None => Ok(format!(in alloc; "{} is unknown", Shown(word))?),
+    }
+}

@@ -1,0 +1,75 @@
+//! Where a reader stands.
+use std::cell::Cell;
+use std::fmt;
+
+/// A limit that an input is past.
+#[derive(Clone, Copy, Debug, PartialEq, Eq)]
+pub enum Limit {
+    /// More than 64 lanes.
+    Lanes,
+    /// More than 1,000,000 lines of an opening, or behind it.
+    Lines,
+    /// A line of more than 16,777,216 bytes.
+    Line,
+}
+
+impl fmt::Display for Limit {
+    fn fmt<W: fmt::Write>(&self, f: &mut fmt::Formatter<W>) -> fmt::Result {
+        match self {
+            Limit::Lanes => write!(f, "a 65th lane; 64 are the most"),
+            Limit::Lines => write!(f, "1,000,000 lines are the most"),
+            Limit::Line => write!(f, "more than 16,777,216 bytes"),
+        }
+    }
+}
+
+/// Where a reader stands, for those who tell of what happens there. It may be looked at while the reader is lent.
+#[derive(Drop)]
+pub struct Place {
+    line: Cell<u64>,
+    refused: Cell<u64>,
+    limit: Cell<Option<Limit>>,
+}
+
+impl Place {
+    /// Before the first line.
+    pub fn new() -> Place {
+        Place {
+            line: Cell::new(0),
+            refused: Cell::new(0),
+            limit: Cell::new(None),
+        }
+    }
+
+    /// The number of the line that was read last, from 1.
+    pub fn line(&self) -> u64 {
+        self.line.get()
+    }
+
+    /// How many lines behind the opening were told of.
+    pub fn refused(&self) -> u64 {
+        self.refused.get()
+    }
+
+    /// The first limit that the input came to: where it could not be read, it is past that.
+    pub fn limit(&self) -> Option<Limit> {
+        self.limit.get()
+    }
+
+    /// Goes to the next line, and gives its number.
+    pub(crate) fn advance(&self) -> u64 {
+        let number = self.line.get().saturating_add(1);
+        self.line.set(number);
+        number
+    }
+
+    pub(crate) fn refuse(&self) {
+        self.refused.set(self.refused.get().saturating_add(1));
+    }
+
+    pub(crate) fn pass(&self, limit: Limit) {
+        if self.limit.get().is_none() {
+            self.limit.set(Some(limit));
+        }
+    }
+}

@@ -1,0 +1,57 @@
+//! What is told of an opening that is refused.
+use crate::place::{Limit, Place};
+use crate::told::opening_told;
+use gate_bytes::Memory;
+use gate_lines::{next_word, read_number};
+use gate_rules::rules_named;
+use std::alloc::Global;
+
+/// What a token says, where it is a rule's.
+fn meaning(alloc: Global, token: &str) -> Result<Option<&'static str>, Memory> {
+    let rules = rules_named(alloc, token)?;
+    // The words for openings stand last.
+    Ok(rules.as_slice().last().map(|rule| rule.says))
+}
+
+/// Why the line of this number has no form, of an opening that was read to this place: `last` is its last line.
+fn form_told(alloc: Global, line: &str, place: &Place, last: &[u8]) -> Result<String, Memory> {
+    let number = read_number(line).unwrap_or(0);
+    if number > place.line() {
+        return Ok(format!(in alloc; "line {line}: {}", Limit::Lines)?);
+    }
+    if let Some(limit) = place.limit() {
+        return Ok(format!(in alloc; "line {line}: {limit}")?);
+    }
+    let cause = opening_told(alloc, last)?;
+    Ok(format!(in alloc; "line {line}: {cause}")?)
+}
+
+/// What is told of an opening's refusal, which is `opening LINE TOKEN`, where the opening was read to this place: `last` is
+/// its last line. Nothing is told of another text.
+pub fn refusal_told(
+    alloc: Global,
+    refusal: &str,
+    place: &Place,
+    last: &[u8],
+) -> Result<Option<String>, Memory> {
+    let Some((word, fault)) = next_word(refusal) else {
+        return Ok(None);
+    };
+    if word != "opening" {
+        return Ok(None);
+    }
+    let Some((line, token)) = next_word(fault) else {
+        return Ok(None);
+    };
+    if token == "bad-line" {
+        return Ok(Some(form_told(alloc, line, place, last)?));
+    }
+    let Some(says) = meaning(alloc, token)? else {
+        return Ok(None);
+    };
+    // A fault of no line is told at line 0.
+    if line == "0" {
+        return Ok(Some(format!(in alloc; "the opening: {token}: {says}")?));
+    }
+    Ok(Some(format!(in alloc; "line {line}: {token}: {says}")?))
+}

@@ -1,0 +1,103 @@
+//! What is told of a line.
+ghost use Rattle.std.specs.Prelude.{◌≡◌, IfOk, is_none, is_some};
+ghost use Rattle.std.specs.Result.{is_ok};
+ghost use Rattle.gate_events.specs.EventLines.{line_event};
+ghost use Rattle.hex.specs.Hex.{decode_of};
+
+use crate::cause::Cause;
+use crate::event_places::event_fault;
+use crate::opening_places::opening_fault;
+use gate_bytes::Memory;
+use gate_events::event_on;
+use hex::FromHexError;
+use std::alloc::Global;
+
+/// Two spaces in a row before the JSON of a call.
+fn has_two_spaces(line: &[u8]) -> bool {
+    let mut before = b'x';
+    for byte in line {
+        if *byte == b'{' {
+            return false;
+        }
+        if *byte == b' ' && before == b' ' {
+            return true;
+        }
+        before = *byte;
+    }
+    false
+}
+
+/// What is wrong with the bytes of a line, whatever its words are.
+fn bytes_fault(line: &[u8]) -> Result<(), Cause<'static>> {
+    match line {
+        [0xef, 0xbb, 0xbf, ..] => return Err(Cause::ByteOrderMark),
+        [b'>' | b'<', b' ', ..] => return Err(Cause::LineOfJournal),
+        [b' ', ..] => return Err(Cause::SpaceBefore),
+        _ => {}
+    }
+    match line {
+        [.., b'\r'] => return Err(Cause::CarriageReturn),
+        [.., b' '] => return Err(Cause::SpaceBehind),
+        _ => {}
+    }
+    if line.iter().any(|byte| *byte == b'\t') {
+        return Err(Cause::Tab);
+    }
+    if has_two_spaces(line) {
+        return Err(Cause::TwoSpaces);
+    }
+    Ok(())
+}
+
+fn event_cause(line: &[u8]) -> Result<(), Cause<'_>> {
+    bytes_fault(line)?;
+    match std::str::from_utf8(line) {
+        Ok(text) => event_fault(text),
+        Err(_) => Err(Cause::NotText),
+    }
+}
+
+fn opening_cause(line: &[u8]) -> Result<(), Cause<'_>> {
+    bytes_fault(line)?;
+    match std::str::from_utf8(line) {
+        Ok(text) => opening_fault(text),
+        Err(_) => Err(Cause::NotText),
+    }
+}
+
+/// What is told of an event's line: something exactly where it has no form. An empty line and a comment have none.
+pub fn event_told(alloc: Global, line: &[u8]) -> Result<Option<String>, Memory>
+    ensures { IfOk result (λ told. is_none told ≡ is_some (line_event line.now)) }
+{
+    let event = event_on(alloc, line)?;
+    let has_form = event.is_some();
+    drop(event);
+    if has_form {
+        return Ok(None);
+    }
+    let cause = match event_cause(line) {
+        Ok(()) => Cause::NoForm,
+        Err(cause) => cause,
+    };
+    Ok(Some(cause.text(alloc)?))
+}
+
+/// What is told of a line that an opening refuses for its form.
+pub fn opening_told(alloc: Global, line: &[u8]) -> Result<String, Memory> {
+    let cause = match opening_cause(line) {
+        Ok(()) => Cause::Again,
+        Err(cause) => cause,
+    };
+    cause.text(alloc)
+}
+
+/// What is told of a word that stands for a transaction: something exactly where it is no text of hexadecimal digits.
+pub fn digits_told(alloc: Global, word: &str) -> Result<Option<String>, Memory>
+    ensures { IfOk result (λ told. is_none told ≡ is_ok (decode_of word.now)) }
+{
+    match hex::decode(alloc, word) {
+        Ok(_bytes) => Ok(None),
+        Err(FromHexError::OutOfMemory) => Err(Memory),
+        Err(_) => Ok(Some(Cause::NoHex(word).text(alloc)?)),
+    }
+}

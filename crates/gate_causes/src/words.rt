@@ -1,0 +1,60 @@
+//! The words that lines may have.
+use gate_bytes::Memory;
+use std::alloc::Global;
+use strsim::levenshtein;
+
+/// The words that begin an event's line.
+pub(crate) const CALLERS: [&str; 4] = ["peer", "user", "chain", "operator"];
+
+/// The words that begin a line of an opening.
+pub(crate) const SETTINGS: [&str; 13] = [
+    "budget",
+    "times",
+    "coin",
+    "verdict",
+    "bloom",
+    "whitelist",
+    "whitelistrelay",
+    "whitelistforcerelay",
+    "rpcwhitelist",
+    "blocksonly",
+    "limitancestorcount",
+    "limitdescendantcount",
+    "mempoolfullrbf",
+];
+
+/// The longest word that is compared with the known ones.
+const LONGEST: usize = 40;
+
+/// So many edits lead to a word that is no longer near.
+const FAR: usize = 3;
+
+/// Whether a word is one of these.
+pub(crate) fn is_among(word: &str, known: &[&str]) -> bool {
+    known.iter().any(|name| *name == word)
+}
+
+/// The one of these that a word is nearest to, where it is near one at all.
+pub(crate) fn nearest(
+    alloc: Global,
+    word: &str,
+    known: &'static [&'static str],
+) -> Result<Option<&'static str>, Memory> {
+    let mut found = None;
+    // A word of which nothing would be left is near none.
+    let mut least = FAR.min(word.len());
+    if word.len() > LONGEST {
+        return Ok(None);
+    }
+    for name in known {
+        if name.eq_ignore_ascii_case(word) {
+            return Ok(Some(*name));
+        }
+        let edits = levenshtein(alloc, word, name)?;
+        if edits < least {
+            least = edits;
+            found = Some(*name);
+        }
+    }
+    Ok(found)
+}

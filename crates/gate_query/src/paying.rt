@@ -1,0 +1,58 @@
+//! The entries that pay a rate.
+ghost use Rattle.std.specs.Prelude.{◌≡◌, ◌&&◌, IfOk, filter};
+ghost use Rattle.std.specs.List.{list_any};
+ghost use Rattle.gate_pool.specs.Pool.{Admitted, has_txid};
+ghost use Rattle.gate_query.specs.Answers.{listing_at, pays};
+
+use gate_admit::{Entry, Pool};
+use gate_bytes::{Kept, Memory};
+use gate_standard::fee_at;
+use gate_tx::Txid;
+use std::alloc::Global;
+use std::hash::BuildHasher;
+
+/// Whether an entry's fee is at least that of its size at a rate.
+fn pays(entry: &Entry, rate: u64) -> bool
+    ensures { result ≡ pays rate entry.now }
+{
+    fee_at(rate, entry.vsize()) <= u128::from(entry.fee())
+}
+
+/// Whether the entry of an id does.
+fn is_paying<S: BuildHasher + Copy + Drop>(pool: &Pool<S>, rate: u64, txid: &Txid) -> bool
+    ensures { result ≡ list_any (λ (e : Admitted). has_txid e txid.now && pays rate e) pool.now.entries }
+{
+    pool.tells_distinct();
+    match pool.entry(txid) {
+        Some(entry) => pays(entry, rate),
+        None => false,
+    }
+}
+
+/// Those of the ids whose entries do.
+fn paying_among<S: BuildHasher + Copy + Drop>(
+    mut txids: Vec<Txid>,
+    pool: &Pool<S>,
+    rate: u64,
+) -> Kept<Txid>
+    ensures { result ≡ filter (λ txid. list_any (λ (e : Admitted). has_txid e txid && pays rate e) pool.now.entries) txids.items }
+{
+    txids.retain(move |txid| is_paying(pool, rate, txid));
+    Kept::from_vec(txids)
+}
+
+/// The txids of the entries that pay a rate, in satoshi per 1,000 virtual bytes, in order of admission. All pay a rate of 0.
+pub fn listing_at<S: BuildHasher + Copy + Drop>(
+    alloc: Global,
+    pool: &Pool<S>,
+    rate: u64,
+) -> Result<Kept<Txid>, Memory>
+    ensures { IfOk result (λ txids. txids ≡ listing_at rate pool.now.entries) }
+{
+    pool.tells_distinct();
+    let txids = pool.listing(alloc)?;
+    if rate == 0 {
+        return Ok(txids);
+    }
+    Ok(paying_among(txids.into_vec(), pool, rate))
+}
