@@ -1,6 +1,7 @@
 """Random blocks and reorganisations between random families, each reply next to that of the plain model."""
 
 from collections import Counter
+from copy import deepcopy
 
 from bitcoin import Input, Output, Transaction, number_hash
 from chain_model import Block, ChainModel
@@ -55,7 +56,8 @@ class Reorganisations(Families):
 
     def transaction(self):
         """Some are final, or have a coin that can be spent, from the next block on and no earlier."""
-        tx = super().transaction()
+        # one that stands in the model's pool stays what it is
+        tx = deepcopy(super().transaction())
         draw = self.random.random()
         if draw < 0.08:
             tx.locktime = self.model.tip

@@ -80,8 +80,8 @@ def test_sizes_and_locks(gate):
         (sent(small), "A19 %d bytes without witnesses, needs 82" % len(small.stripped())),
         (sent(padded(100001, 2, 1000)), "A13 weight 400004, 400000 allowed"),
         (sent(payment(1, 99000, locktime=200)), "A20 locktime 200, next height 101, median time past 58000"),
-        (sent(padded(1000001, 2, 1000)), "A4 1000001 bytes without witnesses, 1000000 allowed"),
         (sent(payment(1, 293)), "A17 output 0: value 293, needs 294"),
+        (sent(padded(1000001, 2, 1000)), "A4 1000001 bytes without witnesses, 1000000 allowed"),
     ])
 
 
