@@ -272,35 +272,8 @@ fn asks_for_help(alloc: Global, words: &[&str]) -> bool {
     matches!(read_args(alloc, words), Err(ArgsFault::Help(_)))
 }
 
-/// How many workers, whether the journal, and whether the causes, where the words ask for lanes.
-fn lanes_asked_for(alloc: Global, words: &[&str]) -> Option<(usize, bool, bool)> {
-    match read_args(alloc, words) {
-        Ok(
-            Job::Lanes {
-                workers,
-                journal,
-                explain,
-            },
-        ) => Some((workers.count(), journal, explain)),
-        _ => None,
-    }
-}
-
 #[test]
 fn words_of_lanes(rt: HostRuntime) -> Result<(), Fail> {
-    let asked: &[(&[&str], (usize, bool, bool))] = &[
-        (&["lanes"], (2, false, false)),
-        (&["lanes", "--journal"], (2, true, false)),
-        (&["lanes", "--explain"], (2, false, true)),
-        (&["lanes", "--workers", "1"], (1, false, false)),
-        (
-            &["lanes", "--explain", "--workers=64", "--journal"],
-            (64, true, true),
-        ),
-    ];
-    for (words, found) in asked {
-        assert!(rt; lanes_asked_for(rt.alloc(), words) == Some(*found));
-    }
     for number in ["0", "65", "01", "+2", "-1", "two", "18446744073709551617"] {
         assert!(rt; is_usage_fault(rt.alloc(), &["lanes", "--workers", number]));
     }
