@@ -155,5 +155,5 @@ def test_lines_with_a_form(gate):
         said = [line for line in done.stderr.decode().splitlines() if not SUMMARY.match(line) and not DENIED.match(line)]
         same("standard error of " + name, said, [])
         same("standard output of " + name, done.stdout, gate.run("run", example(name)).stdout)
-    for words, name in (("lanes --explain", "lanes.txt"), ("audit --explain", "journal.txt")):
+    for words, name in (("lanes --explain", "lanes.txt"), ("audit --explain", "journal.txt"), ("audit --explain", "rounds-journal.txt")):
         same("standard error of " + name, gate.run(words, example(name)).stderr, b"")

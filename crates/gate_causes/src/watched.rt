@@ -20,12 +20,28 @@ pub enum Behind {
     Events,
     /// Lanes of events, each behind a line `---`.
     Lanes,
-    /// A journal: events behind `> `, and replies behind `< `.
+    /// A journal: events behind `> `, replies behind `< `, and numbers of entries behind `base `.
     Journal,
 }
 
 /// The most lanes of an input.
 const MAX_LANES: u64 = 64;
+
+/// Whether a line of a journal has the mark of an event or of a reply.
+fn has_mark(line: &[u8]) -> bool {
+    match line {
+        [b'>' | b'<', b' ', ..] => true,
+        _ => false,
+    }
+}
+
+/// Whether a line of a journal is that of a base.
+fn is_base(line: &[u8]) -> bool {
+    match line {
+        [b'b', b'a', b's', b'e', b' ', ..] => true,
+        _ => false,
+    }
+}
 
 /// A reader of an opening and what stands behind it, in front of another reader. It keeps the last line of the opening, tells
 /// of lines behind it that have no form, on standard error and where it is asked to, and keeps the place where it stands.
@@ -115,13 +131,7 @@ impl<'a, R, T: Eprint> Watched<'a, R, T> {
 
     /// Whether the line stands in a journal and is none of its lines.
     fn lacks_mark(&self, line: &[u8]) -> bool {
-        if self.behind != Behind::Journal || asks_nothing(line) {
-            return false;
-        }
-        match line {
-            [b'>' | b'<', b' ', ..] => false,
-            _ => true,
-        }
+        self.behind == Behind::Journal && !asks_nothing(line) && !has_mark(line) && !is_base(line)
     }
 
     /// Whether a line of a lane is an event of another caller than the lane's first is.
@@ -187,13 +197,7 @@ impl<'a, R, T: Eprint> Watched<'a, R, T> {
 
     /// Whether a line without a mark stands in a journal, longer than a line may be: one with a mark may have that besides.
     fn is_too_long(&self, line: &[u8]) -> bool {
-        if self.behind != Behind::Journal || line.len() <= MAX_LINE {
-            return false;
-        }
-        match line {
-            [b'>' | b'<', b' ', ..] => false,
-            _ => true,
-        }
+        self.behind == Behind::Journal && line.len() > MAX_LINE && !has_mark(line)
     }
 
     /// Counts a line behind the opening, and the lane that it begins.
