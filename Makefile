@@ -31,7 +31,8 @@ make test      everything from nothing: proofs, must-fail edits, tests, the prog
                C++, Rust and Python
 make mutants   tries the wrong bodies of mutants/, which takes as long as make test
                make mutants CRATES="gate_net gate_rpc" tries those of these crates
-make try       the rows and the program's own tests alone, on the built program
+make try       the rows and the program's own tests alone, on the built program; the tests of
+               single calls too, if make test has built their program
 make bench     what the program costs, in instructions and time; make bench LONG=1 with larger pools too
                bench/run --beside OTHER PROGRAM compares two programs
 make install   puts the program that make gate built, and the examples, below PREFIX (/usr/local), and

@@ -20,7 +20,7 @@ IDS = (None, 0, 1, 18446744073709551615, -1, -9223372036854775808, "", "x", "\u0
 # how often all streams together have to meet each of these
 FLOORS = {
     "P1": 50, "P2": 300, "P3": 500, "P4": 100, "P5": 30, "P6": 50, "P7": 40, "P8": 50, "P9": 200, "P10": 10, "U1": 300,
-    "relay": 5, "close": 200, "admitted": 100, "block": 100, "headers": 100, "listing": 100, "filter": 300, "entered": 300, "set": 500,
+    "A23": 60, "A36": 5, "relay": 5, "close": 200, "admitted": 100, "block": 100, "headers": 100, "listing": 100, "filter": 300, "entered": 300, "set": 500,
     "200": 1000, "404": 50, "500": 500, "-22": 20, "-25": 20, "-26": 100, "-5": 200,
 }
 

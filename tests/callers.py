@@ -51,7 +51,7 @@ class Error(Exception):
             self.error["rule"] = rule
 
 
-def compact(value):
+def json_text(value):
     return json.dumps(value, separators=(",", ":"), sort_keys=True, ensure_ascii=False)
 
 
@@ -160,9 +160,9 @@ class CallerModel(Model):
             if call["method"] not in METHODS:
                 raise Error(404, -32601, "Method not found")
             found = getattr(self, call["method"])(now, *call.get("params", []))
-            return "rpc 200 " + compact({"error": None, "id": call.get("id"), "result": found})
+            return "rpc 200 " + json_text({"error": None, "id": call.get("id"), "result": found})
         except Error as error:
-            return "rpc %d %s" % (error.status, compact({"error": error.error, "id": call.get("id"), "result": None}))
+            return "rpc %d %s" % (error.status, json_text({"error": error.error, "id": call.get("id"), "result": None}))
 
     def may_call(self, user, method):
         entries, default = self.opening.rpcwhitelist, self.opening.default

@@ -3,7 +3,7 @@
 import json
 
 from bitcoin import Input, Output, Transaction, coin, number_hash, padded, payment
-from callers import compact
+from callers import json_text
 
 TIMES = "times 101 1000 600"
 OPEN = [TIMES, "verdict * ok"] + [coin(number) for number in range(1, 5)]
@@ -14,7 +14,7 @@ UNKNOWN_ID = "ab" * 32
 
 
 def called(method, *params, id=1):
-    return compact({"method": method, "params": list(params), "id": id})
+    return json_text({"method": method, "params": list(params), "id": id})
 
 
 def asked(text, user="a", now=5000):
@@ -22,12 +22,12 @@ def asked(text, user="a", now=5000):
 
 
 def result(value, id=1):
-    return "rpc 200 " + compact({"error": None, "id": id, "result": value})
+    return "rpc 200 " + json_text({"error": None, "id": id, "result": value})
 
 
 def failure(status, code, message, id=1, rule=None):
     error = {"code": code, "message": message, **({"rule": rule} if rule else {})}
-    return "rpc %d %s" % (status, compact({"error": error, "id": id, "result": None}))
+    return "rpc %d %s" % (status, json_text({"error": error, "id": id, "result": None}))
 
 
 INVALID_PARAMS = failure(500, -32602, "Invalid params")

@@ -65,6 +65,12 @@ def test_openings(gate):
     refuses(gate, TIMES + "bloom 1 1\n", 2, '"1" is one word too many')
     refuses(gate, TIMES + "bloom 1\nbloom 1\n", 3, "says again what was said")
     refuses(gate, TIMES + "budget 1000000001\n", 2, '"1000000001" is above 1000000000')
+    refuses(gate, TIMES + "limitancestorcount 0\n", 2, "0 is below 1")
+    refuses(gate, TIMES + "limitancestorcount 1001\n", 2, '"1001" is above 1000')
+    refuses(gate, TIMES + "limitdescendantcount\n", 2, "ends before the most descendants")
+    refuses(gate, TIMES + "limitdescendantcount x\n", 2, '"x" is no number; the most descendants stands here')
+    refuses(gate, TIMES + "limitancestorcounts 1\n", 2, '"limitancestorcounts" is unknown; is it limitancestorcount?')
+    refuses(gate, TIMES + "mempoolfullrbf 2\n", 2, '"2" is unknown')
     refuses(gate, TIMES + "budget 01\n", 2, '"01" begins with a zero')
     refuses(gate, TIMES + "budget 1,000\n", 2, '"1,000" is no number; the budget in virtual bytes stands here')
     refuses(gate, TIMES + "coin %s 0 0.00100000 1 plain %s\n" % (ID, SCRIPT), 2, '"0.00100000" is no whole number; a value in satoshi stands here')
@@ -150,7 +156,7 @@ def test_checks(gate):
 
 def test_lines_with_a_form(gate):
     """Nothing is told of lines that have a form, of comments and of empty lines."""
-    for name in ("first-path.txt", "permissions.txt", "rpc.txt", "replacement.txt", "reorganisation.txt"):
+    for name in ("first-path.txt", "permissions.txt", "policies.txt", "rpc.txt", "replacement.txt", "reorganisation.txt"):
         done = gate.run("run --explain", example(name))
         said = [line for line in done.stderr.decode().splitlines() if not SUMMARY.match(line) and not DENIED.match(line)]
         same("standard error of " + name, said, [])

@@ -5,11 +5,10 @@ from dataclasses import dataclass
 from typing import List
 
 from bitcoin import Transaction, counted
-from model import NULL, TWO_WEEKS, Coin, Entry, Limits, Model, carries_data, outpoints, size_of
+from model import NULL, TWO_WEEKS, Coin, Entry, Model, carries_data, outpoints, size_of
 
 GREATEST_DEPTH = 100
 GREATEST_HEIGHT = 10000000
-FAMILY = Limits(25, 101000, 26, 111000)
 FAULTS = {
     "C1": "block-decode", "C2": "block-coinbase", "C3": "block-inputs", "C4": "block-txid-repeated",
     "C5": "time-too-old", "C6": "no-undo", "C7": "chain-full",
@@ -168,17 +167,23 @@ class ChainModel(Model):
         newcomer = Entry(tx, self.fee(tx), self.size(tx), 0)
         self.pool = pool + [newcomer]
         family = self.below([newcomer]) | self.above(tx)
-        passed = any(self.is_beyond(entry) for entry in family)
-        self.gone["over the limits of what comes back"] += passed
+        found = {limit for entry in family for limit in self.limits_met(entry)}
+        passed = {limit for limit in found if limit.startswith("over")}
+        self.gone["over the limits of what comes back"] += bool(passed)
+        self.gone.update(passed or found)
         self.pool = pool
-        return passed
+        return bool(passed)
 
-    def is_beyond(self, entry):
+    def limits_met(self, entry):
+        """Which limits of what comes back an entry is over, and which counts it just has."""
         above, below = self.above(entry.tx) | {entry}, self.below([entry])
-        return (
-            len(above) > FAMILY.ancestors or size_of(above) > FAMILY.ancestors_size
-            or len(below) > FAMILY.descendants or size_of(below) > FAMILY.descendants_size
-        )
+        most_above, most_below = max(self.opening.ancestors, 2), self.opening.descendants + 1
+        found = {
+            "over the most ancestors": len(above) > most_above, "over the size of ancestors": size_of(above) > 101000,
+            "over the most descendants": len(below) > most_below, "over the size of descendants": size_of(below) > 111000,
+            "back with the most ancestors": len(above) == most_above, "back with the most descendants": len(below) == most_below,
+        }
+        return [limit for limit, holds in found.items() if holds]
 
     def is_premature(self, tx):
         """Whether the next block cannot have it, or it spends a coinbase too early."""

@@ -10,6 +10,7 @@ from gate import Differs, same
 from model import NULL, TWO_WEEKS, Coin
 
 STREAMS = 48
+POLICY_STREAMS = 40
 EVENTS = 90
 SEED = 1000
 SUBSIDY = 10**10
@@ -22,12 +23,19 @@ FLOORS = {
     "below a refused one": 10, "premature": 20, "expired": 100, "trimmed": 50,
 }
 
+# the same under limits from 1 to 40 and under full replacement
+POLICY_FLOORS = {
+    "chain": 350, "came back": 350, "above its children": 35, "refused again": 90, "below a refused one": 20,
+    "back with the most ancestors": 20, "back with the most descendants": 10, "over the most ancestors": 4, "over the most descendants": 3,
+    "replaced what doesn't signal": 3,
+}
+
 
 class Reorganisations(Families):
     """A stream in which blocks come and go."""
 
-    def __init__(self, seed, shape):
-        super().__init__(seed, "full")
+    def __init__(self, seed, of_policy=False):
+        super().__init__(seed, "full", of_policy)
         self.kinds = KINDS
         self.opening.budget = self.random.choice((1500, 4000, 10**9, 10**9))
         for number in range(200, 240):
@@ -53,6 +61,11 @@ class Reorganisations(Families):
         reply = self.model.chain(depth, now, blocks)
         self.met[reply.split()[1] if reply.startswith("refused") else "chain"] += 1
         return " ".join(["chain %d %d" % (depth, now)] + words), reply
+
+    def judge_scripts(self, tx):
+        """No verdict of its own for what a block has had: it may have come back by the others' verdict."""
+        if tx.wtxid() not in {one.wtxid() for one in self.seen}:
+            super().judge_scripts(tx)
 
     def transaction(self):
         """Some are final, or have a coin that can be spent, from the next block on and no earlier."""
@@ -126,9 +139,9 @@ class Reorganisations(Families):
         return block
 
 
-def stream(gate, seed):
+def stream(gate, seed, of_policy=False):
     """Runs one stream, and counts what it met."""
-    made = Reorganisations(seed, "full")
+    made = Reorganisations(seed, of_policy)
     events = [made.event() for _ in range(EVENTS)]
     events.append(("peer %d enter 192.0.2.1" % (made.peer + 1), made.model.enter(made.peer + 1)))
     events.append(("peer %d mempool" % (made.peer + 1), made.model.mempool(made.peer + 1)))
@@ -143,3 +156,9 @@ def test_reorganisations(gate):
     """Each reply is that of the model, and each kind of event is met often enough."""
     met = sum((stream(gate, seed) for seed in range(SEED, SEED + STREAMS)), Counter())
     same("met too seldom", {kind: met[kind] for kind, floor in FLOORS.items() if met[kind] < floor}, {})
+
+
+def test_policies(gate):
+    """The same under limits from 1 to 40 and under full replacement: what comes back has limits that follow from these."""
+    met = sum((stream(gate, seed, True) for seed in range(SEED, SEED + POLICY_STREAMS)), Counter())
+    same("met too seldom", {kind: met[kind] for kind, floor in POLICY_FLOORS.items() if met[kind] < floor}, {})

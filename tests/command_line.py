@@ -109,6 +109,7 @@ def test_examples_in_the_help(gate):
     wanted = {
         "gate run < examples/first-path.txt": 0,
         "gate run < examples/permissions.txt": 0,
+        "gate run < examples/policies.txt": 0,
         "gate run < examples/rpc.txt": 0,
         "gate check - < examples/payment.hex": 0,
         "gate check 01000000000000000000": 1,

@@ -7,7 +7,7 @@ from gate import lines, same, same_lines
 from growths import ASKED, row
 from heights import block
 from kinds import long
-from lanes import ENTER, admitted, opening, submitted
+from sizes import ENTER, admitted, opening, submitted
 
 KILOBYTE = 1 << 10
 DEEPEST = 127

@@ -1,9 +1,9 @@
-"""The files of examples/ on permissions, RPC and lanes stand as they are made here, and each event gets the reply that is told."""
+"""The files of examples/ on permissions, policies, RPC, lanes and rounds stand as they are made here, and each event gets the reply that is told."""
 
 import os
 
 from bitcoin import Input, Output, Transaction, WITNESS_KEY_HASH, printed
-from callers import compact
+from callers import json_text
 from gate import ROOT, lines, same, same_lines, true
 
 COIN = b"\x11" * 32
@@ -54,16 +54,36 @@ def permissions():
     ]
 
 
+def policies():
+    """An opening with limits of its own and full replacement."""
+    opening = ["# what an operator asks of families and of replacements: two transactions in a row, and nothing has to signal that it may be replaced"] + CHAIN + [
+        "bloom 1", "limitancestorcount 2", "limitdescendantcount 2", "mempoolfullrbf 1",
+    ]
+    firm = Transaction([Input(COIN, sequence=0xFFFFFFFF, witness=[b"\x30" * 72, b"\x02" * 33])], [Output(99890)])
+    child, grandchild = spending(firm.hash(), 99780), spending(spending(firm.hash(), 99780).hash(), 99670)
+    instead = spending(COIN, 99000)
+    return opening, [
+        ("a peer", "peer 1 enter 192.0.2.1", "entered none"),
+        ("it asks not to be told of what pays less than 2,000 satoshi per 1,000 virtual bytes", "peer 1 feefilter 2000", "filter 2000"),
+        ("its transaction doesn't signal that it may be replaced", "peer 1 tx 5000 " + firm.hex(), admitted(firm)),
+        ("a child of it", "peer 1 tx 5001 " + child.hex(), admitted(child)),
+        ("no child of the child: it would be the third in a row", "peer 1 tx 5002 " + grandchild.hex(), "denied A36 keep too-long-mempool-chain"),
+        ("both pay 1,000 satoshi per 1,000 virtual bytes", "peer 1 mempool", "listing 0"),
+        ("a payment that pays more than both takes their place", "peer 1 tx 5003 " + instead.hex(), "admitted %s fee 1000 vsize 110 replaced 2" % instead.txid()),
+        ("the peer is told of it", "peer 1 mempool", "listing 1 " + instead.txid()),
+    ]
+
+
 def call(user, now, method, *params):
-    return "user %s rpc %d %s" % (user, now, compact({"method": method, "params": list(params), "id": 1}))
+    return "user %s rpc %d %s" % (user, now, json_text({"method": method, "params": list(params), "id": 1}))
 
 
 def answer(value):
-    return "rpc 200 " + compact({"error": None, "id": 1, "result": value})
+    return "rpc 200 " + json_text({"error": None, "id": 1, "result": value})
 
 
 def error(status, code, message, rule):
-    return "rpc %d %s" % (status, compact({"error": {"code": code, "message": message, "rule": rule}, "id": 1, "result": None}))
+    return "rpc %d %s" % (status, json_text({"error": {"code": code, "message": message, "rule": rule}, "id": 1, "result": None}))
 
 
 def rpc():
@@ -137,6 +157,11 @@ def test_example_of_permissions(gate):
     holds(gate, "permissions.txt", permissions())
 
 
+def test_example_of_policies(gate):
+    """examples/policies.txt."""
+    holds(gate, "policies.txt", policies())
+
+
 def test_example_of_rpc(gate):
     """examples/rpc.txt."""
     holds(gate, "rpc.txt", rpc())
@@ -162,14 +187,39 @@ def test_example_of_a_journal(gate):
     same("the audit", (done.stdout, done.stderr, done.status), (b"legal 2\n", b"", 0))
 
 
+def rounds():
+    """The rounds of examples/rounds.txt: of each what is said of it, and the event and the reply of its one lane."""
+    return [
+        ("the first round: a user sends a transaction", call("alice", 5000, "sendrawtransaction", PARENT.hex()), answer(PARENT.txid())),
+        ("the second: another finds it in the pool", call("bob", 5001, "getrawmempool"), answer([PARENT.txid()])),
+    ]
+
+
+def rounds_text():
+    opening = ["# a gate that goes on: the line === ends a round, and the next begins with the state that this one leaves"] + CHAIN
+    return lines(opening) + "===\n".join("---\n# %s\n%s\n" % (about, line) for about, line, _ in rounds())
+
+
+def rounds_output():
+    """What is printed of these rounds, with their journals."""
+    first, second = [["lane 1", reply, "settled 1", "> " + line, "< " + reply] for _, line, reply in rounds()]
+    return first + ["base 1"] + second
+
+
+def test_example_of_rounds(gate):
+    """examples/rounds.txt: each round prints its journal, and the line of the base stands between them."""
+    with open(os.path.join(ROOT, "examples", "rounds.txt")) as file:
+        text = file.read()
+    same("the example", text, rounds_text())
+    done = gate.run("lanes --journal", text)
+    same_lines(done.stdout.decode().splitlines(), rounds_output())
+    same("status", (done.status, done.stderr), (0, b""))
+
+
 def two_rounds():
-    """A journal of two rounds: what is sent in the first is listed in the second."""
-    return lines(["# the journal of a gate that went on from a new base: two rounds, and between them the number of entries so far"] + CHAIN + [
-        "---",
-        "> " + call("alice", 5000, "sendrawtransaction", PARENT.hex()), "< " + answer(PARENT.txid()),
-        "base 1",
-        "> " + call("bob", 5001, "getrawmempool"), "< " + answer([PARENT.txid()]),
-    ])
+    """The journal of these rounds."""
+    journal = [line for line in rounds_output() if line.startswith(("> ", "< ", "base "))]
+    return lines(["# what the rounds of rounds.txt were answered; between two rounds stands the number of entries so far"] + CHAIN + ["---"] + journal)
 
 
 def test_example_of_a_journal_of_two_rounds(gate):

@@ -13,6 +13,10 @@ TIMES = "times 101 1000 600"
 OPENING = [TIMES, "verdict * ok", "bloom 1"]
 ENTER = "peer 1 enter 192.0.2.1"
 MULTISIG = b"\x51" + 3 * (b"\x21\x02" + b"\x02" * 32) + b"\x53\xae"
+LONG_CHAIN = (
+    "A36 With its ancestors in the pool it would be more transactions than limitancestorcount says (25) or more than 101,000 virtual bytes,"
+    " or an ancestor would get more descendants than limitdescendantcount says (25) or more than 101,000 virtual bytes of them"
+)
 
 
 def sent(tx):
@@ -136,6 +140,48 @@ def test_rates_and_signals(gate):
         (sent(firm), None),
         (sent(again), "A38 pays %d per 1000 virtual bytes, needs more than the %d of %s" % (rate, rate, first.txid())),
         (sent(rival), "A23 input 0: %s spends its coin, and does not signal replacement" % firm.txid()),
+    ])
+
+
+def test_families_under_a_policy(gate):
+    """The number of ancestors is the opening's; where that is 1, a small transaction may have one parent all the same."""
+    chain = [payment(1, 99000)]
+    while len(chain) < 4:
+        chain.append(spending((chain[-1], 0), value=chain[-1].outputs[0].value - 1000))
+    another, large = payment(3, 99000), padded(10001, 2, 300)
+    large.inputs.append(Input(another.hash()))
+    three = [(sent(chain[-1]), "A36 4 ancestors, 3 allowed")]
+    explains(gate, OPENING + [coin(1), "limitancestorcount 3"], [(ENTER, None)] + [(sent(tx), None) for tx in chain[:3]] + three)
+    explains(gate, OPENING + [coin(1), "limitancestorcount 4", "limitdescendantcount 4"], [(ENTER, None)] + [(sent(tx), None) for tx in chain])
+    explains(gate, OPENING + [coin(1), coin(2, 100000000), coin(3), "limitancestorcount 1"], [(ENTER, None)] + [(sent(tx), None) for tx in chain[:2] + [another]] + [
+        (sent(chain[2]), "A36 3 ancestors, 2 allowed"),
+        (sent(large), "A36 2 ancestors, 1 allowed"),
+    ])
+
+
+def test_descendants_under_a_policy(gate):
+    """Where it is the descendants that are too many, the rule's sentence, also if the first try fails by the ancestors alone."""
+    parent = Transaction([Input(number_hash(1))], [Output(30000), Output(30000), Output(30000)])
+    children = [spending((parent, index), value=29000) for index in range(3)]
+    for limits in (["limitdescendantcount 1"], ["limitdescendantcount 1", "limitancestorcount 1"]):
+        explains(gate, OPENING + [coin(1)] + limits, [(ENTER, None), (sent(parent), None), (sent(children[0]), None), (sent(children[1]), LONG_CHAIN)])
+    explains(gate, OPENING + [coin(1), "limitdescendantcount 2"], [(ENTER, None), (sent(parent), None)] + [(sent(tx), None) for tx in children[:2]] + [
+        (sent(children[2]), LONG_CHAIN),
+    ])
+
+
+def test_full_replacement(gate):
+    """What doesn't signal is replaced, and what is asked of its fee is told; without the option it is A23."""
+    firm = Transaction([Input(number_hash(1), sequence=0xFFFFFFFF)], [Output(99000)])
+    same_fee, short, enough = payment(1, 99000), payment(1, 98919), payment(1, 98918)
+    opening, is_firm = OPENING + [coin(1)], "A23 input 0: %s spends its coin, and does not signal replacement" % firm.txid()
+    explains(gate, opening + ["mempoolfullrbf 0"], [(ENTER, None), (sent(firm), None), (sent(enough), is_firm)])
+    explains(gate, opening + ["mempoolfullrbf 1"], [
+        (ENTER, None),
+        (sent(firm), None),
+        (sent(same_fee), "A38 pays 12195 per 1000 virtual bytes, needs more than the 12195 of %s" % firm.txid()),
+        (sent(short), "A42 1081 - 1000 = 81, needs 82"),
+        (sent(enough), None),
     ])
 
 

@@ -3,7 +3,7 @@
 from bitcoin import coin, payment
 from failing import ALWAYS, EINTR, EIO, ENOSPC, failing
 from gate import lines, same, true
-from lanes import ENTER, admitted, opening, submitted
+from sizes import ENTER, admitted, opening, submitted
 from streams import SECONDS, TOO_LONG, TOO_MANY, TOO_MANY_LANES, UNREAD, UNWRITTEN, Talk, past
 
 BUFFER = 65536

@@ -8,7 +8,7 @@ from collections import Counter
 
 from bitcoin import Input, Output, Transaction, WITNESS_KEY_HASH, number_hash, printed
 from gate import Differs, same, true
-from model import MULTISIG, RETURN, SMALL, TWO_WEEKS, Coin, Limits, Model, Opening, carries_data, fee_at, fees_of, rate_of, size_of
+from model import MULTISIG, RETURN, SMALL, TWO_WEEKS, Coin, Limits, Model, Opening, among, carries_data, draw_policy, fee_at, fees_of, policy_lines, rate_of, size_of
 from random_streams import filter_rate
 
 STREAMS = 20
@@ -35,6 +35,14 @@ BUDGETS = (0, 110, 500, 900, 1500, 1500, 2500, 4000)
 FULL_FLOORS = {
     "A34": 200, "A35": 50, "A46": 700, "set": 300, "replaced 0": 1200, "replaced 1": 100, "expired": 500, "trimmed": 1200, "trimmed as a family": 150, "at the floor": 500, "at two weeks": 80,
 }
+POLICY_STREAMS = 10
+POLICY_FLOORS = {
+    "A23": 80, "A36": 1200, "A37": 70,
+    "A36 by ancestors of 1": 400, "A36 by ancestors of 2 or 3": 70, "A36 by ancestors of 4 to 40": 40,
+    "A36 by descendants of 1": 400, "A36 by descendants of 2 or 3": 150, "A36 by descendants of 4 to 40": 100,
+    "at 2 or 3 ancestors": 15, "at 4 to 40 ancestors": 6, "at 2 or 3 descendants": 20, "at 4 to 40 descendants": 15,
+    "with a parent where 1 is allowed": 80, "by the carve-out": 150, "by the growth": 70, "replaced what doesn't signal": 18,
+}
 MANY = 5000
 HOLES = {"fresh": 6, "longer": 10, "wider": 10, "instead": 60, "beside_another": 2}
 
@@ -52,10 +60,12 @@ FLOORS = {
 class Families:
     """An opening, and transactions for a pool that grows, of one seed."""
 
-    def __init__(self, seed, shape):
+    def __init__(self, seed, shape, of_policy=False):
         self.random = random.Random(seed)
         self.shape, self.kinds = shape, {"holes": HOLES, "full": FULL, **SHAPES}[shape]
         self.opening = opened(self.random.choice(BUDGETS) if shape == "full" else 1000000000)
+        if of_policy:
+            draw_policy(self.random, self.opening)
         self.model = Model(self.opening)
         self.peer = 0
         self.now = 0
@@ -78,6 +88,7 @@ class Families:
         self.judge_scripts(tx)
         self.told[tx.wtxid()] = tx
         about = [] if closed else self.about(tx)
+        about += ["replaced what doesn't signal"] * any(not entry.signals() for entry in self.model.conflicts(tx))
         now = self.time()
         reply = self.model.submit(self.peer, now, tx)
         self.count(reply, about)
@@ -118,13 +129,18 @@ class Families:
             return []
         above, size, tries = self.model.above(tx), self.model.size(tx), self.model.tries(tx)
         passed = [self.model.passed(limits, above, size) for limits in tries]
+        counts = {"ancestors": self.opening.ancestors, "descendants": self.opening.descendants}
         if all(passed):
-            return ["by " + limit for limit in passed[0]]
+            return ["by " + limit for limit in passed[0]] + ["by %s of %s" % (limit, among(count)) for limit, count in counts.items() if limit in passed[0]]
         goes = size_of(self.model.below(self.model.conflicts(tx)))
         less = [Limits(one.ancestors, one.ancestors_size, one.descendants - 1, one.descendants_size - goes) for one in tries]
-        families = [size_of(self.model.below([entry])) + size for entry in above]
+        below = [self.model.below([entry]) for entry in above]
+        families = [size_of(entries) + size for entries in below]
         found = {
             "by the carve-out": passed[0],
+            "with a parent where 1 is allowed": "ancestors" in passed[0] and counts["ancestors"] == 1,
+            "at %s ancestors" % among(counts["ancestors"]): above and len(above) + 1 == counts["ancestors"] and not passed[0],
+            "at %s descendants" % among(counts["descendants"]): tries[0].descendants in [len(entries) + 1 for entries in below] and not passed[0],
             "by the growth": len(self.model.conflicts(tx)) == 1 and all(self.model.passed(limits, above, size) for limits in less),
             "at the ancestors' size": above and size_of(above) + size == 101000,
             "at the descendants' size": tries[0].descendants_size in families,
@@ -321,14 +337,14 @@ def opened(budget):
 
 def opening_lines(opening):
     """The opening as it stands when all transactions are made, since some have a verdict of their own."""
-    told = ["times 101 1000 600", "bloom 1", "budget %d" % opening.budget]
+    told = ["times 101 1000 600", "bloom 1", "budget %d" % opening.budget] + policy_lines(opening, bool)
     told += ["coin %s %d %d %d %s %s" % (printed(hash), index, coin.value, coin.height, "cb" if coin.is_coinbase else "plain", WITNESS_KEY_HASH.hex()) for (hash, index), coin in opening.coins.items()]
     return told + ["verdict %s %s" % ("*" if pair == "*" else "%s %d" % pair, verdict) for pair, verdict in opening.verdicts.items()]
 
 
-def stream(gate, seed, shape, count):
+def stream(gate, seed, shape, count, of_policy=False):
     """Runs one stream, and counts what it met."""
-    made = Families(seed, shape)
+    made = Families(seed, shape, of_policy)
     events = [made.event() for _ in range(count)]
     try:
         gate.answers(opening_lines(made.opening), events)
@@ -341,6 +357,14 @@ def test_families(gate):
     """Each reply is that of the model, and each limit is met from both sides."""
     met = sum((stream(gate, seed, shape, EVENTS) for shape in SHAPES for seed in range(STREAMS)), Counter())
     same("met too seldom", {kind: met[kind] for kind, floor in FLOORS.items() if met[kind] < floor}, {})
+
+
+def test_policies(gate):
+    """The same under limits from 1 to 40 and under full replacement: A36 is met by counts, and what doesn't signal is replaced."""
+    # a seed of its own for each, since it draws the policy too
+    seeds = enumerate(shape for shape in SHAPES for _ in range(POLICY_STREAMS))
+    met = sum((stream(gate, seed, shape, EVENTS, True) for seed, shape in seeds), Counter())
+    same("met too seldom", {kind: met[kind] for kind, floor in POLICY_FLOORS.items() if met[kind] < floor}, {})
 
 
 def test_full_pools(gate):

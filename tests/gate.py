@@ -2,6 +2,7 @@
 
 import os
 import subprocess
+import unittest
 from collections import namedtuple
 
 ROOT = os.path.join(os.path.dirname(os.path.abspath(__file__)), "..")
@@ -11,11 +12,11 @@ SHOWN = 20
 Done = namedtuple("Done", "status stdout stderr")
 
 
-class Differs(Exception):
+class Differs(AssertionError):
     """What was found is not what is wanted."""
 
 
-class NotTried(Exception):
+class NotTried(unittest.SkipTest):
     """What a test needs is not on this machine."""
 
 

@@ -7,7 +7,7 @@ from bitcoin import Input, Output, Transaction, coin, number_hash, payment
 from chain_model import Block
 from failing import each_growth, failing
 from gate import ROOT, NotTried, lines, same, same_lines, true
-from lanes import ENTER, opening, submitted
+from sizes import ENTER, opening, submitted
 from kinds import long
 from model import NULL
 from streams import NO_MEMORY, past

@@ -4,7 +4,7 @@ import resource
 
 from bitcoin import WITNESS_KEY_HASH, Input, Output, Transaction, coin, compact, number_hash, payment
 from gate import lines, same, same_lines, true
-from lanes import opening, submitted
+from sizes import opening, submitted
 from model import NULL
 
 MEGABYTE = 1 << 20

@@ -60,7 +60,7 @@ class Chains:
     """Peers, the operator, and the chain, whose blocks come and go."""
 
     def __init__(self, seed):
-        self.made = chain_streams.Reorganisations(seed, "full")
+        self.made = chain_streams.Reorganisations(seed, seed % 2 == 0)
         self.model = self.made.model = Recorded(self.made.model)
 
     def line(self):

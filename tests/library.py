@@ -23,7 +23,7 @@ SECONDS = 600
 WARNINGS = ["-O1", "-Wall", "-Wextra", "-Werror"]
 C = ["-std=c11", "-D_POSIX_C_SOURCE=200809L"]
 WRAPPED = ["-Wl,--wrap=" + it for it in ("malloc", "realloc", "free")]
-EXAMPLES = ("first-path.txt", "permissions.txt", "replacement.txt", "reorganisation.txt", "rpc.txt")
+EXAMPLES = ("first-path.txt", "permissions.txt", "policies.txt", "replacement.txt", "reorganisation.txt", "rpc.txt")
 STREAMS = ("family_streams", "caller_streams", "chain_streams", "permissions", "calls", "heights", "openings", "json_texts", "decoding")
 
 
@@ -218,7 +218,7 @@ def test_streams_in_python(gate):
 
 def test_failing_allocations(gate):
     """Each allocation of an opening and of lines fails in turn: nothing is lost, and no memory is left at the end."""
-    host = with_c("failing", "failing.c", *WRAPPED)
+    host = with_c("failing", "failing_allocations.c", *WRAPPED)
     for name in EXAMPLES:
         told = done_by([host, os.path.join(ROOT, "examples", name)])
         true("few allocations: " + told, int(told.split()[0]) > 20)

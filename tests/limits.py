@@ -7,7 +7,7 @@ from chain_model import Block
 from gate import lines, same, same_lines
 from heights import MOST_TIMES, block
 from journals import audited, raced
-from lanes import ENTER, admitted, opening, submitted
+from sizes import ENTER, admitted, opening, submitted
 from streams import SECONDS, TOO_MANY_LANES, Talk, past
 
 MEGABYTE = 1 << 20

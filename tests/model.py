@@ -43,13 +43,16 @@ class Coin:
 
 @dataclass
 class Opening:
-    """What an opening says: coins by outpoint, and verdicts by wtxid and input, `*` for the rest."""
+    """What an opening says: coins by outpoint, verdicts by wtxid and input, `*` for the rest, and what is asked of families."""
 
     times: list
     coins: dict = field(default_factory=dict)
     verdicts: dict = field(default_factory=dict)
     bloom: bool = False
     budget: int = 300000000
+    ancestors: int = 25
+    descendants: int = 25
+    full_rbf: bool = False
 
 
 @dataclass(eq=False)
@@ -69,6 +72,26 @@ class Entry:
     def signals(self):
         """Whether it says itself that it may be replaced."""
         return any(one.sequence <= LAST_SIGNAL for one in self.tx.inputs)
+
+
+def policy_lines(opening, spoken):
+    """The lines of what is asked of families and of replacements: what is usual stands only where `spoken` says so."""
+    told = {"limitancestorcount": (opening.ancestors, 25), "limitdescendantcount": (opening.descendants, 25), "mempoolfullrbf": (int(opening.full_rbf), 0)}
+    return ["%s %d" % (name, value) for name, (value, usual) in told.items() if value != usual or spoken()]
+
+
+def draw_policy(random, opening):
+    """Limits from 1 to 40, of which the least and the usual one come most often, and full replacement."""
+    for name in ("ancestors", "descendants"):
+        draw = random.random()
+        if draw < 0.7:
+            setattr(opening, name, random.choice((1, 1, 2, 3)) if draw < 0.35 else random.randint(1, 40))
+    opening.full_rbf = random.random() < 0.5
+
+
+def among(limit):
+    """A limit of families by its size, for counts of what is met."""
+    return "1" if limit == 1 else "2 or 3" if limit <= 3 else "4 to 40"
 
 
 @dataclass
@@ -263,7 +286,7 @@ class Model:
         hash = tx.hash()
         if any(entry.hash == hash for entry in self.pool):
             yield "A22"
-        if not all(entry.signals() for entry in self.conflicts(tx)):
+        if not self.opening.full_rbf and not all(entry.signals() for entry in self.conflicts(tx)):
             yield "A23"
         lacks = any(self.coin(one) is None for one in tx.inputs)
         own = any((hash, index) in self.chain_coins() for index in range(len(tx.outputs)))
@@ -373,10 +396,10 @@ class Model:
 
     def tries(self, tx):
         """The limits of its family: the usual ones, and for a small transaction those of the carve-out."""
-        direct, descendants, size = self.conflicts(tx), 25, 101000
+        direct, descendants, size = self.conflicts(tx), self.opening.descendants, 101000
         if len(direct) == 1:
             descendants, size = descendants + 1, size + size_of(self.below(direct))
-        usual = Limits(25, 101000, descendants, size)
+        usual = Limits(self.opening.ancestors, 101000, descendants, size)
         carved_out = Limits(2, 101000, descendants + 1, size + SMALL)
         return [usual, carved_out] if self.size(tx) <= SMALL else [usual]
 

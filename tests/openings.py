@@ -97,6 +97,19 @@ def test_each_fault(gate):
     opens(gate, [TIMES, coin(1, 2100000000000000, 100), coin(1, index=1), "coin %s 0 1 0 plain %s" % (printed(number_hash(3)), "00" * 10000)])
 
 
+def test_limits_of_families(gate):
+    """From 1 to 1,000, each at most once; full replacement is 0 or 1."""
+    for name in ("limitancestorcount", "limitdescendantcount"):
+        for number in ("1", "25", "1000"):
+            opens(gate, [TIMES, "%s %s" % (name, number)])
+        for number in ("0", "1001", "01", "-1", "9007199254740992", "", "1 1"):
+            fails(gate, [TIMES, "%s %s" % (name, number)], 2, "bad-line")
+        fails(gate, [TIMES, name + " 25", name + " 25"], 3, "bad-line")
+    opens(gate, ["limitdescendantcount 3", "limitancestorcount 2", "mempoolfullrbf 0", TIMES])
+    fails(gate, [TIMES, "mempoolfullrbf 2"], 2, "bad-line")
+    fails(gate, [TIMES, "mempoolfullrbf 1", "mempoolfullrbf 0"], 3, "bad-line")
+
+
 def test_an_opening_alone(gate):
     """An opening without a line `---` ends at the end of the input."""
     for text in (TIMES, TIMES + "\n", TIMES + "\n---", TIMES + "\n---\n"):

@@ -4,7 +4,7 @@ import random
 
 from bitcoin import Input, Output, Transaction, WITNESS_KEY_HASH, number_hash, printed
 from gate import Differs, same, same_lines
-from model import GREATEST_AMOUNT, NULL, TOKENS, TWO_WEEKS, Coin, Model, Opening, rate_of
+from model import GREATEST_AMOUNT, NULL, TOKENS, TWO_WEEKS, Coin, Model, Opening, draw_policy, policy_lines, rate_of
 
 STREAMS = 400
 EVENTS = 60
@@ -94,6 +94,8 @@ class Stream:
     def opened(self):
         told, times = self.times()
         opening = Opening(times, bloom=self.random.random() < 0.8)
+        if self.random.random() < 0.3:
+            draw_policy(self.random, opening)
         if self.random.random() < 0.4:
             opening.budget = self.random.choice((0, 109, 110, 200, 300, 500, 1000, 1000000000))
         for outpoint in self.outpoints[:6]:
@@ -119,6 +121,7 @@ class Stream:
             told.append("bloom %d" % self.opening.bloom)
         if self.opening.budget != Opening.budget or self.random.random() < 0.5:
             told.append("budget %d" % self.opening.budget)
+        told += policy_lines(self.opening, lambda: self.random.random() < 0.3)
         told += ["", "# a comment"]
         self.random.shuffle(told)
         place = self.random.randint(0, len(told))

@@ -25,6 +25,7 @@ use Rattle.gate_admit.specs.declared.attempt.Attempt.TheVariants.{First}
 use Rattle.gate_admit.specs.Coins.{view_coin}
 use Rattle.gate_admit.specs.Good.{IsSound, IsLimited, IsSettled, IsUnconnected, AreApart, connected_transactions}
 use Rattle.gate_admit.specs.Granting.{IsGrantable}
+use Rattle.gate_admit.specs.Policies.{Policy}
 use Rattle.gate_admit.specs.Limits.{limit_rules}
 use Rattle.gate_admit.specs.Rules.{admission_rules, grant_of}
 use Rattle.gate_admit.specs.Standing.{Standing}
@@ -53,7 +54,7 @@ unknown chain txid h k = neither (has_txid txid chain.coins) (list_any (has_tran
 
 -- ---- what is granted has no children, and its coins stay
 
-module _ (over : Standing) (e : Admitted) (good : IsSound over.chain over.entries) (k : IsGrantable over e.tx) (fresh : is_known_txid over.chain (txid_of e.tx) ≡ false) where
+module _ (over : Standing) (e : Admitted) (good : IsSound over.policy over.chain over.entries) (k : IsGrantable over e.tx) (fresh : is_known_txid over.chain (txid_of e.tx) ≡ false) where
   new : (a : Admitted) → Contains over.entries a → txid_of a.tx ≢ txid_of e.tx
   new a m = All-contains (λ (x : Admitted). txid_of x.tx ≢ txid_of e.tx) over.entries a k.txid m
 
@@ -98,26 +99,26 @@ module _ (over : Standing) (e : Admitted) (good : IsSound over.chain over.entrie
 
   -- ---- the pool
 
-  families : e.vsize ≤ 100000 → NoneFails (limit_rules First over.entries e.tx e.vsize) → (list_any (is_conflict e.tx) over.entries ≡ true → list_any (adds_parent over.entries (conflicts_of over.entries e.tx)) e.tx.inputs ≡ false)
-      → All (λ (a : Admitted). IsLimited (entered over.entries e) (txid_of a.tx)) (entered over.entries e)
+  families : e.vsize ≤ 100000 → NoneFails (limit_rules First over.policy over.entries e.tx e.vsize) → (list_any (is_conflict e.tx) over.entries ≡ true → list_any (adds_parent over.entries (conflicts_of over.entries e.tx)) e.tx.inputs ≡ false)
+      → All (λ (a : Admitted). IsLimited over.policy (entered over.entries e) (txid_of a.tx)) (entered over.entries e)
   families small room parents =
-      All-append (λ (a : Admitted). IsLimited (entered over.entries e) (txid_of a.tx)) (left_by over.entries e) (e ∷ [])
+      All-append (λ (a : Admitted). IsLimited over.policy (entered over.entries e) (txid_of a.tx)) (left_by over.entries e) (e ∷ [])
       (λ n d l.
       let a = get_or (left_by over.entries e) n d in
       let m : Contains over.entries a = left_within over.entries e a (Contains-get_or (left_by over.entries e) n d l) in
-      limited_old childless_grant (txid_of a.tx) (new a m) (All-contains (λ (x : Admitted). IsLimited over.entries (txid_of x.tx)) over.entries a good.limited m)
-      (λ r. room_at over.entries e room parents a
+      limited_old childless_grant (txid_of a.tx) (new a m) (All-contains (λ (x : Admitted). IsLimited over.policy over.entries (txid_of x.tx)) over.entries a good.limited m)
+      (λ r. room_at over.policy over.entries e room parents a
       (Contains-filter (λ (x : Admitted). list_any (λ (i : TxIn). reaches (steps over.entries) (txid_of x.tx) i.prevout.txid) e.tx.inputs) over.entries a m (above_new childless_grant a m r))))
-      (All-one (λ (a : Admitted). IsLimited (entered over.entries e) (txid_of a.tx)) e (limited_new childless_grant (room_above over.entries e small room)))
+      (All-one (λ (a : Admitted). IsLimited over.policy (entered over.entries e) (txid_of a.tx)) e (limited_new childless_grant (room_above over.policy over.entries e small room)))
 
   -- the entries after it entered
-  pub granted_sound : e.vsize ≤ 100000 → NoneFails (limit_rules First over.entries e.tx e.vsize) → (list_any (is_conflict e.tx) over.entries ≡ true → list_any (adds_parent over.entries (conflicts_of over.entries e.tx)) e.tx.inputs ≡ false)
-      → IsSound over.chain (entered over.entries e)
+  pub granted_sound : e.vsize ≤ 100000 → NoneFails (limit_rules First over.policy over.entries e.tx e.vsize) → (list_any (is_conflict e.tx) over.entries ≡ true → list_any (adds_parent over.entries (conflicts_of over.entries e.tx)) e.tx.inputs ≡ false)
+      → IsSound over.policy over.chain (entered over.entries e)
   granted_sound small room parents =
       let kept = left_by over.entries e in
       let chain = over.chain in
       let stays : Admitted → Bool = λ a. not (is_below_some (is_conflict e.tx) over.entries a) in
-      let h : IsSound chain kept = below_sound chain (is_conflict e.tx) over.entries good in
+      let h : IsSound over.policy chain kept = below_sound over.policy chain (is_conflict e.tx) over.entries good in
       record {
         txids = AllPairs-append DifferByTxid kept (e ∷ []) h.txids (AllPairs-one DifferByTxid e)
             (λ n d l. All-one (λ (b : Admitted). txid_of (get_or kept n d).tx ≢ txid_of b.tx) e (All-filter stays (λ (a : Admitted). txid_of a.tx ≢ txid_of e.tx) over.entries k.txid n d l));
@@ -132,7 +133,7 @@ module _ (over : Standing) (e : Admitted) (good : IsSound over.chain over.entrie
 
 -- ---- submissions
 
-room_granted : (over : Standing) (tx : Tx) → Passes First over tx → NoneFails (limit_rules First over.entries tx (grant_of over tx).vsize)
+room_granted : (over : Standing) (tx : Tx) → Passes First over tx → NoneFails (limit_rules First over.policy over.entries tx (grant_of over tx).vsize)
 unfolding grant_of
 room_granted over tx p = p.limits
 
@@ -145,14 +146,14 @@ StaysUnconnected over None = Unit {0}
 StaysUnconnected over (Some tx) =
     All (λ (e : Admitted). is_known_txid over.chain (txid_of e.tx) ≡ false) over.entries → first_failing (admission_rules First over tx) ≡ None → IsUnconnected over.chain (Some tx)
 
-entered_sound : (over : Standing) (tx : Tx) (now : ℕ) → (IsGrantable over tx × Passes First over tx × IsUnconnected over.chain (Some tx)) → IsSound over.chain over.entries
-    → IsSound over.chain (entered over.entries (admitted tx (grant_of over tx) now))
+entered_sound : (over : Standing) (tx : Tx) (now : ℕ) → (IsGrantable over tx × Passes First over tx × IsUnconnected over.chain (Some tx)) → IsSound over.policy over.chain over.entries
+    → IsSound over.policy over.chain (entered over.entries (admitted tx (grant_of over tx) now))
 entered_sound over tx now all h =
     granted_sound over (admitted tx (grant_of over tx) now) h all.0 (unknown over.chain (txid_of tx) all.0.fresh all.2) (small First over tx all.1) (room_granted over tx all.1) (parents_granted over tx all.1)
 
 -- a granted transaction enters a sound list
-pub grant_sound : (over : Standing) (tx : Tx) (now : ℕ) → StaysUnconnected over (Some tx) → IsSound over.chain over.entries → first_failing (admission_rules First over tx) ≡ None
-    → IsSound over.chain (entered over.entries (admitted tx (grant_of over tx) now))
+pub grant_sound : (over : Standing) (tx : Tx) (now : ℕ) → StaysUnconnected over (Some tx) → IsSound over.policy over.chain over.entries → first_failing (admission_rules First over tx) ≡ None
+    → IsSound over.policy over.chain (entered over.entries (admitted tx (grant_of over tx) now))
 grant_sound over tx now new h granted = entered_sound over tx now (rules_grant First over tx granted, passes First over tx granted, new h.fresh granted) h
 
 -- what is in no connected block
@@ -166,13 +167,13 @@ stays_if_apart over None settled is_tx apart = tt
 stays_if_apart over (Some tx) settled is_tx apart = λ fresh. unconnected First over tx settled fresh is_tx apart
 
 -- no entries are sound
-pub empty_sound : (chain : History) → IsSound chain []
-empty_sound chain =
+pub empty_sound : (policy : Policy) (chain : History) → IsSound policy chain []
+empty_sound policy chain =
     record {
       txids = AllPairs-nil DifferByTxid;
       wtxids = AllPairs-nil DifferByWtxid;
       spends = AllPairs-nil Differ;
       coins = All-nil (λ (p : OutPoint). IsSome (view_coin chain [] p));
       fresh = All-nil (λ (e : Admitted). is_known_txid chain (txid_of e.tx) ≡ false);
-      limited = All-nil (λ (e : Admitted). IsLimited [] (txid_of e.tx));
+      limited = All-nil (λ (e : Admitted). IsLimited policy [] (txid_of e.tx));
     }

@@ -16,6 +16,7 @@ use Rattle.gate_pool.specs.Pool.{Admitted}
 use Rattle.gate_admit.specs.Verdicts.{VerdictTable, verdict_of}
 use Rattle.gate_admit.specs.Coins.{coins_of}
 use Rattle.gate_admit.specs.Reports.{vsize_of, rules_of_verdict, verdict_rules}
+use Rattle.gate_admit.specs.Policies.{policy, usual_policy}
 use Rattle.gate_admit.specs.Rules.{pool_rules, is_immature, coin_value_rules, fee_rules}
 
 -- a script of version 0 with a key hash
@@ -63,7 +64,7 @@ abbrev first_entry : Admitted
 first_entry = record { tx = paying 99000; fee = 1000; vsize = 110; time = 5000 }
 
 -- a second transaction that spends the coin conflicts with an entry that says that it may be replaced
-replaceable : bytes_eq (wtxid_of (paying 99000)) (wtxid_of (paying 98890)) ≡ false → bytes_eq (txid_of (paying 99000)) (txid_of (paying 98890)) ≡ false → first_failing (pool_rules (first_entry ∷ []) (paying 98890)) ≡ None
+replaceable : bytes_eq (wtxid_of (paying 99000)) (wtxid_of (paying 98890)) ≡ false → bytes_eq (txid_of (paying 99000)) (txid_of (paying 98890)) ≡ false → first_failing (pool_rules usual_policy (first_entry ∷ []) (paying 98890)) ≡ None
 unfolding pool_rules
 replaceable h k = rw (h, k) refl
 
@@ -79,9 +80,14 @@ final = record {
 abbrev firm_entry : Admitted
 firm_entry = record { tx = final; fee = 1000; vsize = 110; time = 5000 }
 
-spent_twice : bytes_eq (wtxid_of final) (wtxid_of (paying 98890)) ≡ false → bytes_eq (txid_of final) (txid_of (paying 98890)) ≡ false → first_failing (pool_rules (firm_entry ∷ []) (paying 98890)) ≡ Some MempoolConflict
+spent_twice : bytes_eq (wtxid_of final) (wtxid_of (paying 98890)) ≡ false → bytes_eq (txid_of final) (txid_of (paying 98890)) ≡ false → first_failing (pool_rules usual_policy (firm_entry ∷ []) (paying 98890)) ≡ Some MempoolConflict
 unfolding pool_rules
 spent_twice h k = rw (h, k) refl
+
+-- under full replacement it is not asked
+taken : bytes_eq (wtxid_of final) (wtxid_of (paying 98890)) ≡ false → bytes_eq (txid_of final) (txid_of (paying 98890)) ≡ false → first_failing (pool_rules (policy 25 25 true) (firm_entry ∷ []) (paying 98890)) ≡ None
+unfolding pool_rules
+taken h k = rw (h, k) refl
 
 -- a coinbase's coin at height 1 is old enough for height 101, and one at height 2 isn't
 abbrev coinbase_at : ℕ → Coin

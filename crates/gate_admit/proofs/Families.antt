@@ -1,23 +1,22 @@
 -- Limits of families, over ids and over parts of a pool.
 use Rattle.std.proofs.Common.{not, None, ◌≡◌, ◌≢◌, ℕ, ◌+◌, ◌<◌, ◌≤◌, Bool, true, false, cond, ◌&&◌, ◌||◌, List, [], ◌∷◌, length, refl, sym, ap, ◌∙◌, ◌⊎◌, inl, inr, arith}
-use Rattle.std.specs.Prelude.{Contains, filter, sum_by, nat_le, ◌==◌}
+use Rattle.std.specs.Prelude.{Contains, filter, sum_by, nat_le, nat_lt, ◌==◌}
 use Rattle.std.specs.List.{list_all, list_any}
-use Rattle.std.proofs.lemmas.Bool.{and_from, and_parts, true≢false}
+use Rattle.std.proofs.lemmas.Bool.{and_from, true≢false}
 use Rattle.std.proofs.lemmas.Bool.Decides.{nat_tests}
 use Rattle.std.proofs.lemmas.List.Sums.{sum_by-cons}
 use Rattle.gate_bytes.specs.Order.{first_failing}
 use Rattle.gate_tx.specs.Ids.{txid_of}
 use Rattle.gate_tx.specs.Tx.{Tx}
-use Rattle.gate_graph.proofs.Members.{Contains-cons_cases, Contains-head, Contains-rest, not_in_none, list_any_of}
-use Rattle.gate_graph.specs.Family.{reaches}
+use Rattle.gate_graph.proofs.Members.{Contains-cons_cases, Contains-head, Contains-rest, not_in_none}
 use Rattle.gate_standard.specs.declared.Denial.TheVariants.{TooLongChain, SpendsConflicting}
 use Rattle.gate_pool.specs.Pool.{Admitted, has_txid, size_of}
-use Rattle.gate_pool.specs.Family.{steps, all_below, descendants_of, ancestors_above, conflicts_of, is_below_some, is_conflict, AreIdsOf}
-use Rattle.gate_pool.proofs.Adding.{passed, length-ones}
+use Rattle.gate_pool.specs.Family.{all_below, descendants_of, ancestors_above, conflicts_of, is_conflict, AreIdsOf}
+use Rattle.gate_pool.proofs.Adding.{length-ones}
 use Rattle.gate_pool.proofs.Ids.{descendants_of_one}
-use Rattle.gate_pool.proofs.Walking.{Contains-from_filter}
 use Rattle.gate_admit.specs.declared.attempt.Attempt.TheVariants.{First}
 use Rattle.gate_admit.specs.declared.limits.FamilyLimits.{FamilyLimits}
+use Rattle.gate_admit.specs.Policies.{Policy, most_ancestors}
 use Rattle.gate_admit.specs.Limits.{grown, usual_limits, carved_out, has_room, has_room_below, is_within, fits_families, limit_rules}
 
 -- what passes a test weighs no more than what passes a wider one
@@ -47,33 +46,14 @@ list_all_not {X} p (y ∷ xs) x c h = go (p y) (λ same. ap p same ∙ h) (λ k.
     go true k ih (inr m) = ih m
     go false k ih c = refl
 
--- ---- room below an entry
-
--- fewer entries have room where more do
-pub room_for_fewer : (limits : FamilyLimits) (vsize : ℕ) (p q : Admitted → Bool) (entries : List Admitted) → ((x : Admitted) → Contains entries x → p x ≡ true → q x ≡ true) → has_room limits vsize (filter q entries) ≡ true
-    → has_room limits vsize (filter p entries) ≡ true
-room_for_fewer limits vsize p q entries h room =
-    let parts = and_parts _ _ room in
-    let count = fewer p q entries h in
-    let size : size_of (filter p entries) ≤ size_of (filter q entries) = lighter (λ (e : Admitted). e.vsize) p q entries h in
-    and_from _ _ (le (length (filter p entries) + 1) (length (filter q entries) + 1) limits.descendants (omega (arith, count)) parts.0)
-    (le (size_of (filter p entries) + vsize) (size_of (filter q entries) + vsize) limits.descendants_size (omega (arith, size)) parts.1)
+-- room by totals that are kept
+pub kept_room : (limits : FamilyLimits) (vsize : ℕ) (family : List Admitted) (count size asked : ℕ) → count ≡ length family → size ≡ size_of family → asked ≡ vsize
+    → (nat_lt count limits.descendants && nat_le (size + asked) limits.descendants_size) ≡ has_room limits vsize family
+kept_room limits vsize family count size asked a b d =
+    (λ i. nat_lt (a i) limits.descendants && nat_le (b i + d i) limits.descendants_size) ∙ ap (λ x. x && nat_le (size_of family + vsize) limits.descendants_size) (less (length family) limits.descendants)
   where
-    le : (a b c : ℕ) → a ≤ b → nat_le b c ≡ true → nat_le a c ≡ true
-    le a b c h k = grind (arith, nat_tests)
-
--- where there is room below all, there is room below each
-pub room_for_all : (limits : FamilyLimits) (entries : List Admitted) (vsize : ℕ) (test : Admitted → Bool) → has_room limits vsize (all_below test entries) ≡ true → list_all (has_room_below limits entries vsize) (filter test entries) ≡ true
-room_for_all limits entries vsize test room = list_all_of (has_room_below limits entries vsize) (filter test entries) (λ a c.
-    room_for_fewer limits vsize (λ e. reaches (steps entries) (txid_of a.tx) (txid_of e.tx)) (is_below_some test entries) entries
-    (λ x m r. list_any_of (λ b. test b && reaches (steps entries) (txid_of b.tx) (txid_of x.tx)) entries a (Contains-from_filter test entries a c) (and_from _ _ (passed test entries a c) r)) room)
-
--- more than the limit have no room for one more
-pub no_room : (limits : FamilyLimits) (vsize : ℕ) (family : List Admitted) → limits.descendants < length family → has_room limits vsize family ≡ false
-no_room limits vsize family many = ap (λ b. b && nat_le (size_of family + vsize) limits.descendants_size) (too_many (length family) limits.descendants many)
-  where
-    too_many : (n m : ℕ) → m < n → nat_le (n + 1) m ≡ false
-    too_many n m h = grind (arith, nat_tests)
+    less : (m n : ℕ) → nat_lt m n ≡ nat_le (m + 1) n
+    less m n = grind (arith, nat_tests)
 
 -- what is below an id is what is below its entry
 pub below_one : (entries : List Admitted) (a : Admitted) (txid : List ℕ) → Contains entries a → txid_of a.tx ≡ txid → all_below (λ x. has_txid x txid) entries ≡ descendants_of entries (txid_of a.tx)
@@ -100,11 +80,11 @@ too_many_above limits entries above vsize h =
     too_many : (n m : ℕ) → m < n + 1 → nat_le (n + 1) m ≡ false
     too_many n m h = grind (arith, nat_tests)
 
-pub no_try : (entries : List Admitted) (tx : Tx) (vsize : ℕ) → 25 < length (ancestors_above entries tx.inputs) → fits_families entries tx vsize ≡ false
-no_try entries tx vsize many =
+pub no_try : (policy : Policy) (entries : List Admitted) (tx : Tx) (vsize : ℕ) → most_ancestors policy < length (ancestors_above entries tx.inputs) → fits_families policy entries tx vsize ≡ false
+no_try policy entries tx vsize many =
     let above = ancestors_above entries tx.inputs in
-    let limits = grown entries (conflicts_of entries tx) usual_limits in
-    let first : is_within limits entries above vsize ≡ false = too_many_above limits entries above vsize (omega (arith, many, grown_ancestors entries (conflicts_of entries tx) usual_limits)) in
+    let limits = grown entries (conflicts_of entries tx) (usual_limits policy) in
+    let first : is_within limits entries above vsize ≡ false = too_many_above limits entries above vsize (omega (arith, many, grown_ancestors entries (conflicts_of entries tx) (usual_limits policy))) in
     let second : is_within (carved_out limits) entries above vsize ≡ false = too_many_above (carved_out limits) entries above vsize (omega (arith, many)) in
     ap (λ b. b || (nat_le vsize 10000 && is_within (carved_out limits) entries above vsize)) first ∙ ap (λ b. nat_le vsize 10000 && b) second ∙ and-false (nat_le vsize 10000)
   where
@@ -112,11 +92,14 @@ no_try entries tx vsize many =
     and-false true = refl
     and-false false = refl
 
+one_is : (n : ℕ) → 1 ≤ n → nat_le 1 n ≡ true
+one_is n h = grind (arith, nat_tests)
+
 -- a transaction without ancestors in the pool
-pub alone_fits : (entries : List Admitted) (tx : Tx) (vsize : ℕ) → ancestors_above entries tx.inputs ≡ [] → fits_families entries tx vsize ≡ true
-alone_fits entries tx vsize none =
-    let limits = grown entries (conflicts_of entries tx) usual_limits in
-    let within : is_within limits entries [] vsize ≡ true = ap (λ n. nat_le 1 n && true) (grown_ancestors entries (conflicts_of entries tx) usual_limits) in
+pub alone_fits : (policy : Policy) (entries : List Admitted) (tx : Tx) (vsize : ℕ) → 1 ≤ policy.ancestors → ancestors_above entries tx.inputs ≡ [] → fits_families policy entries tx vsize ≡ true
+alone_fits policy entries tx vsize least none =
+    let limits = grown entries (conflicts_of entries tx) (usual_limits policy) in
+    let within : is_within limits entries [] vsize ≡ true = ap (λ n. nat_le 1 n && true) (grown_ancestors entries (conflicts_of entries tx) (usual_limits policy)) ∙ ap (λ b. b && true) (one_is policy.ancestors least) in
     ap (λ l. is_within limits entries l vsize || (nat_le vsize 10000 && is_within (carved_out limits) entries l vsize)) none
     ∙ ap (λ b. b || (nat_le vsize 10000 && is_within (carved_out limits) entries [] vsize)) within
 
@@ -129,8 +112,8 @@ pub second_try : (first small second : Bool) → first ≡ false → small ≡ t
 second_try first small second h k = sym (ap (λ b. b || (small && second)) h ∙ ap (λ b. b && second) k)
 
 -- no rule on families fails of a transaction without ancestors in the pool
-pub alone_passes : (entries : List Admitted) (tx : Tx) (vsize : ℕ) → ancestors_above entries tx.inputs ≡ [] → first_failing (limit_rules First entries tx vsize) ≡ None
+pub alone_passes : (policy : Policy) (entries : List Admitted) (tx : Tx) (vsize : ℕ) → 1 ≤ policy.ancestors → ancestors_above entries tx.inputs ≡ [] → first_failing (limit_rules First policy entries tx vsize) ≡ None
 unfolding limit_rules
-alone_passes entries tx vsize none =
-    ap (λ b. first_failing ((TooLongChain, not b) ∷ (SpendsConflicting, list_any (is_conflict tx) (ancestors_above entries tx.inputs)) ∷ [])) (alone_fits entries tx vsize none)
+alone_passes policy entries tx vsize least none =
+    ap (λ b. first_failing ((TooLongChain, not b) ∷ (SpendsConflicting, list_any (is_conflict tx) (ancestors_above entries tx.inputs)) ∷ [])) (alone_fits policy entries tx vsize least none)
     ∙ ap (λ l. first_failing ((SpendsConflicting, list_any (is_conflict tx) l) ∷ [])) none

@@ -34,6 +34,7 @@ use Rattle.gate_admit.specs.declared.grant.Grant.{Grant}
 use Rattle.gate_admit.specs.Bounds.{FitsEntry, FitsAnEntry}
 use Rattle.gate_admit.specs.Coins.{view_coin, coins_of}
 use Rattle.gate_admit.specs.Granting.{IsGrantable, Conserves, PaysItsSize}
+use Rattle.gate_admit.specs.Policies.{Policy}
 use Rattle.gate_admit.specs.Limits.{limit_rules}
 use Rattle.gate_admit.specs.Reports.{reported, report_rules, sigop_cost, vsize_of}
 use Rattle.gate_admit.specs.Rules.{final_rules, pool_rules, coin_rules, lock_rules, is_immature, rules_of_coin, coin_value_rules, balance_rules, fee_rules, payment_rules, admission_rules, grant_of, denied_or, decision_of, coins_value, outputs_value, min_relay_rate}
@@ -122,25 +123,30 @@ each_mature next_height sum (coin ∷ coins) h =
     All-cons (λ (c : Coin). is_immature next_height c ≡ false) coin coins parts.0.0 (each_mature next_height (sum + amount_or_zero coin.value) coins parts.1)
 
 -- no entry passes the tests of the pool's rules
-unpooled : (entries : List Admitted) (tx : Tx) → NoneFails (pool_rules entries tx)
-    → (list_any (λ (e : Admitted). bytes_eq (txid_of e.tx) (txid_of tx)) entries ≡ false) × (list_any (λ (e : Admitted). bytes_eq (wtxid_of e.tx) (wtxid_of tx)) entries ≡ false) × (list_any (is_firm_conflict tx) entries ≡ false)
+unpooled : (policy : Policy) (entries : List Admitted) (tx : Tx) → NoneFails (pool_rules policy entries tx)
+    → (list_any (λ (e : Admitted). bytes_eq (txid_of e.tx) (txid_of tx)) entries ≡ false) × (list_any (λ (e : Admitted). bytes_eq (wtxid_of e.tx) (wtxid_of tx)) entries ≡ false) × ((not policy.full_rbf && list_any (is_firm_conflict tx) entries) ≡ false)
 unfolding pool_rules
-unpooled entries tx h = (
+unpooled policy entries tx h = (
   sym (is_some-find (λ (e : Admitted). bytes_eq (txid_of e.tx) (txid_of tx)) entries) ∙ h.1.0,
   sym (is_some-find (λ (e : Admitted). bytes_eq (wtxid_of e.tx) (wtxid_of tx)) entries) ∙ h.0,
   h.1.1.0,
 )
 
+-- where a signal is asked for, no conflict lacks it
+none_firm : (full firm : Bool) → full ≡ false → (not full && firm) ≡ false → firm ≡ false
+none_firm true firm asked h = absurd (true≢false asked)
+none_firm false firm asked h = h
+
 live : (attempt : Attempt) (over : Standing) (tx : Tx) → Passes attempt over tx → IsGrantable over tx
 unfolding final_rules coin_rules lock_rules limit_rules
 live attempt over tx p =
-    let fresh = unpooled over.entries tx p.pool in
+    let fresh = unpooled over.policy over.entries tx p.pool in
     record {
       txid = All-weaker (λ (e : Admitted). bytes_eq (txid_of e.tx) (txid_of tx) ≡ false) (λ (e : Admitted). txid_of e.tx ≢ txid_of tx) (λ e. ids_differ (txid_of e.tx) (txid_of tx)) over.entries
           (none_pass (λ (e : Admitted). bytes_eq (txid_of e.tx) (txid_of tx)) over.entries fresh.0);
       wtxid = All-weaker (λ (e : Admitted). bytes_eq (wtxid_of e.tx) (wtxid_of tx) ≡ false) (λ (e : Admitted). wtxid_of e.tx ≢ wtxid_of tx) (λ e. ids_differ (wtxid_of e.tx) (wtxid_of tx)) over.entries
           (none_pass (λ (e : Admitted). bytes_eq (wtxid_of e.tx) (wtxid_of tx)) over.entries fresh.1);
-      replaceable = all_signal tx over.entries fresh.2;
+      replaceable = λ asked. all_signal tx over.entries (none_firm over.policy.full_rbf (list_any (is_firm_conflict tx) over.entries) asked fresh.2);
       beside = none_pass (is_conflict tx) (ancestors_above over.entries tx.inputs) p.limits.1.0;
       unspent = no_conflicts tx (without_below (is_conflict tx) over.entries)
           (λ k d l. stays_apart (is_conflict tx) over.entries _ (Contains-get_or (without_below (is_conflict tx) over.entries) k d l));
@@ -264,10 +270,10 @@ granted_absent attempt over tx grant h =
     (none_found (entry_by_txid over.entries (txid_of tx)) pool.1.0, none_found (entry_by_wtxid over.entries (wtxid_of tx)) pool.0)
 
 -- where the rules beside the entries pass, none has its txid
-pub unpooled_id : (entries : List Admitted) (tx : Tx) → first_failing (pool_rules entries tx) ≡ None → entry_by_txid entries (txid_of tx) ≡ None
+pub unpooled_id : (policy : Policy) (entries : List Admitted) (tx : Tx) → first_failing (pool_rules policy entries tx) ≡ None → entry_by_txid entries (txid_of tx) ≡ None
 unfolding pool_rules
-unpooled_id entries tx h =
-    let none : NoneFails (pool_rules entries tx) = none_fails (pool_rules entries tx) h in
+unpooled_id policy entries tx h =
+    let none : NoneFails (pool_rules policy entries tx) = none_fails (pool_rules policy entries tx) h in
     none_found (entry_by_txid entries (txid_of tx)) none.1.0
 
 -- where the rules on it alone pass, it is no larger than an entry may be

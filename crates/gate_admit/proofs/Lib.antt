@@ -24,3 +24,4 @@ pub mod Submissions
 pub mod Behind
 pub mod OwnLimits
 pub mod Readmitted
+mod Everyone

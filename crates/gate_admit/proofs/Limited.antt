@@ -8,25 +8,26 @@ use Rattle.gate_pool.specs.Pool.{Admitted, size_of}
 use Rattle.gate_pool.specs.Family.{steps, is_below_some, is_conflict, ancestors_of, descendants_of, ancestors_above, entered}
 use Rattle.gate_pool.proofs.Entries.{Id}
 use Rattle.gate_admit.specs.Good.{IsLimited}
+use Rattle.gate_admit.specs.Policies.{Policy, most_ancestors}
 use Rattle.gate_admit.proofs.Childless.{IsChildless, sum_above_new, sum_below_new, sum_above_old, sum_below_old, sum_below_apart}
 use Rattle.gate_admit.proofs.Filtering.{length_ones}
 
 -- beside the descendants of an id there is room for a transaction, where some of them go
-pub record HasRoom (entries : List Admitted) (e : Admitted) (b : Id) : Type 0 where
+pub record HasRoom (policy : Policy) (entries : List Admitted) (e : Admitted) (b : Id) : Type 0 where
   pub gone : Admitted → Bool
   pub under : (a : Admitted) → Contains entries a → gone a ≡ true → reaches (steps entries) b (txid_of a.tx) ≡ true
   pub goes : (a : Admitted) → Contains entries a → gone a ≡ true → is_below_some (is_conflict e.tx) entries a ≡ true
-  pub count : length (descendants_of entries b) ≤ 25 + length (filter gone entries)
+  pub count : length (descendants_of entries b) ≤ policy.descendants + length (filter gone entries)
   pub size : size_of (descendants_of entries b) + e.vsize ≤ 111000 + size_of (filter gone entries)
 
 -- above a transaction there is room for it
-pub record HasRoomAbove (entries : List Admitted) (e : Admitted) : Type 0 where
-  pub count : length (ancestors_above entries e.tx.inputs) ≤ 24
+pub record HasRoomAbove (policy : Policy) (entries : List Admitted) (e : Admitted) : Type 0 where
+  pub count : length (ancestors_above entries e.tx.inputs) + 1 ≤ most_ancestors policy
   pub size : size_of (ancestors_above entries e.tx.inputs) + e.vsize ≤ 101000
 
 -- the family of what enters
-pub limited_new : {entries : List Admitted} {e : Admitted} → IsChildless entries e → HasRoomAbove entries e → IsLimited (entered entries e) (txid_of e.tx)
-limited_new {entries} {e} h room =
+pub limited_new : {policy : Policy} {entries : List Admitted} {e : Admitted} → IsChildless entries e → HasRoomAbove policy entries e → IsLimited policy (entered entries e) (txid_of e.tx)
+limited_new {policy} {entries} {e} h room =
     let after = entered entries e in
     record {
       ancestors = omega (arith, room.count, sum_above_new h (λ (a : Admitted). 1), length_ones (ancestors_of after (txid_of e.tx)), length_ones (ancestors_above entries e.tx.inputs));
@@ -36,11 +37,11 @@ limited_new {entries} {e} h room =
     }
 
 -- the families of what stays
-pub limited_old : {entries : List Admitted} {e : Admitted} → IsChildless entries e → (b : Id) → b ≢ txid_of e.tx → IsLimited entries b
-    → (reaches (steps (entered entries e)) b (txid_of e.tx) ≡ true → HasRoom entries e b) → IsLimited (entered entries e) b
-limited_old {entries} {e} h b ne old room =
+pub limited_old : {policy : Policy} {entries : List Admitted} {e : Admitted} → IsChildless entries e → (b : Id) → b ≢ txid_of e.tx → IsLimited policy entries b
+    → (reaches (steps (entered entries e)) b (txid_of e.tx) ≡ true → HasRoom policy entries e b) → IsLimited policy (entered entries e) b
+limited_old {policy} {entries} {e} h b ne old room =
     let after = entered entries e in
-    let above_count : length (ancestors_of after b) ≤ 25 = omega (arith, old.ancestors, sum_above_old h (λ (a : Admitted). 1) b ne, length_ones (ancestors_of after b), length_ones (ancestors_of entries b)) in
+    let above_count : length (ancestors_of after b) ≤ most_ancestors policy = omega (arith, old.ancestors, sum_above_old h (λ (a : Admitted). 1) b ne, length_ones (ancestors_of after b), length_ones (ancestors_of entries b)) in
     let above_size : size_of (ancestors_of after b) ≤ 101000 = omega (arith, old.ancestors_size, sum_above_old h (λ (a : Admitted). a.vsize) b ne) in
     ⊎_elim
     (λ (r : reaches (steps after) b (txid_of e.tx) ≡ true).

@@ -22,6 +22,7 @@ use Rattle.gate_pool.proofs.Families.{is_above}
 use Rattle.gate_pool.proofs.OwnAncestors.{own_or_above, above_is, above_few}
 use Rattle.gate_pool.proofs.Searching.{among_ids}
 use Rattle.gate_pool.proofs.Walking.{Contains-filter, Contains-from_filter}
+use Rattle.gate_admit.specs.Policies.{Policy, most_ancestors, most_descendants}
 use Rattle.gate_admit.specs.Limits.{is_limited, is_below_itself, fits_again}
 use Rattle.gate_admit.proofs.Families.{list_all_of, list_all_not}
 
@@ -41,11 +42,11 @@ last_fails true b h = h
 last_fails false b h = refl
 
 -- too many on one side pass the limits
-pub too_many_ascend : (entries : List Admitted) (x : Id) → 25 < length (ancestors_of entries x) → is_limited entries x ≡ false
-too_many_ascend entries x many = first_fails _ _ (no_more (length (ancestors_of entries x)) 25 many)
+pub too_many_ascend : (policy : Policy) (entries : List Admitted) (x : Id) → most_ancestors policy < length (ancestors_of entries x) → is_limited policy entries x ≡ false
+too_many_ascend policy entries x many = first_fails _ _ (no_more (length (ancestors_of entries x)) (most_ancestors policy) many)
 
-pub too_many_descend : (entries : List Admitted) (x : Id) → 26 < length (descendants_of entries x) → is_limited entries x ≡ false
-too_many_descend entries x many = third_fails _ _ _ _ (no_more (length (descendants_of entries x)) 26 many)
+pub too_many_descend : (policy : Policy) (entries : List Admitted) (x : Id) → most_descendants policy < length (descendants_of entries x) → is_limited policy entries x ≡ false
+too_many_descend policy entries x many = third_fails _ _ _ _ (no_more (length (descendants_of entries x)) (most_descendants policy) many)
 
 -- where not all pass, one fails
 some_fails : {X : Type 0} (p : X → Bool) (xs : List X) → list_all p xs ≡ false → (x : X) × Contains xs x × (p x ≡ false)
@@ -60,15 +61,15 @@ all_pass : {X : Type 0} (p : X → Bool) (xs : List X) (x : X) → list_all p xs
 all_pass p xs x h m = elim (cases_Bool (p x)) [ inl t ↦ t | inr f ↦ absurd (true≢false (sym h ∙ list_all_not p xs x m f)) ]
 
 -- what the limits say of an entry among others
-abbrev pub fit_of : List Admitted → Admitted → Bool
-fit_of es n =
+abbrev pub fit_of : Policy → List Admitted → Admitted → Bool
+fit_of policy es n =
     not (is_below_itself es n.tx)
-    && (list_all (λ e. is_limited es (txid_of e.tx)) (ancestors_of es (txid_of n.tx))
-    && list_all (λ e. is_limited es (txid_of e.tx)) (descendants_of es (txid_of n.tx)))
+    && (list_all (λ e. is_limited policy es (txid_of e.tx)) (ancestors_of es (txid_of n.tx))
+    && list_all (λ e. is_limited policy es (txid_of e.tx)) (descendants_of es (txid_of n.tx)))
 
 -- of one that stands behind them
-pub fits_behind : (entries : List Admitted) (tx : Tx) (vsize : ℕ) (es : List Admitted) (n : Admitted) → es ≡ entries ++ n ∷ [] → n ≡ record { tx = tx; fee = 0; vsize = vsize; time = 0 } → fit_of es n ≡ fits_again entries tx vsize
-fits_behind entries tx vsize es n is same = ap (λ l. fit_of l n) is ∙ ap (λ (e : Admitted). fit_of (entries ++ e ∷ []) e) same
+pub fits_behind : (policy : Policy) (entries : List Admitted) (tx : Tx) (vsize : ℕ) (es : List Admitted) (n : Admitted) → es ≡ entries ++ n ∷ [] → n ≡ record { tx = tx; fee = 0; vsize = vsize; time = 0 } → fit_of policy es n ≡ fits_again policy entries tx vsize
+fits_behind policy entries tx vsize es n is same = ap (λ l. fit_of policy l n) is ∙ ap (λ (e : Admitted). fit_of policy (entries ++ e ∷ []) e) same
 
 pub stands_behind : (entries es : List Admitted) (n : Admitted) → es ≡ entries ++ n ∷ [] → Contains es n
 stands_behind entries es n is = subst (λ l. Contains l n) (sym is) (Contains-append_right entries (n ∷ []) n (Contains-head n []))
@@ -81,9 +82,9 @@ ids_entries test es ids are = record {
 }
 
 -- over entries, one of them with its ancestors and its descendants
-module _ (es : List Admitted) (apart : AllPairs DifferById es) (n : Admitted) (m : Contains es n) where
+module _ (policy : Policy) (es : List Admitted) (apart : AllPairs DifferById es) (n : Admitted) (m : Contains es n) where
   abbrev passes : Admitted → Bool
-  passes e = is_limited es (txid_of e.tx)
+  passes e = is_limited policy es (txid_of e.tx)
 
   abbrev leads : Admitted → Bool
   leads e = reaches (steps es) (txid_of e.tx) (txid_of n.tx)
@@ -94,17 +95,17 @@ module _ (es : List Admitted) (apart : AllPairs DifferById es) (n : Admitted) (m
   own_below : Contains (descendants_of es (txid_of n.tx)) n
   own_below = Contains-filter (λ (e : Admitted). reaches (steps es) (txid_of n.tx) (txid_of e.tx)) es n m (reaches-same (steps es) (txid_of n.tx))
 
-  not_own : is_limited es (txid_of n.tx) ≡ false → fit_of es n ≡ false
+  not_own : is_limited policy es (txid_of n.tx) ≡ false → fit_of policy es n ≡ false
   not_own h = last_fails _ _ (last_fails _ _ (list_all_not passes (descendants_of es (txid_of n.tx)) n own_below h))
 
-  pub too_many_above : 25 < length (ancestors_above es n.tx.inputs) → fit_of es n ≡ false
-  too_many_above many = not_own (too_many_ascend es (txid_of n.tx) (omega (arith, many, above_few es apart n m (txid_of n.tx) refl)))
+  pub too_many_above : most_ancestors policy < length (ancestors_above es n.tx.inputs) → fit_of policy es n ≡ false
+  too_many_above many = not_own (too_many_ascend policy es (txid_of n.tx) (omega (arith, many, above_few es apart n m (txid_of n.tx) refl)))
 
-  pub too_many_below : 26 < length (descendants_of es (txid_of n.tx)) → fit_of es n ≡ false
-  too_many_below many = not_own (too_many_descend es (txid_of n.tx) many)
+  pub too_many_below : most_descendants policy < length (descendants_of es (txid_of n.tx)) → fit_of policy es n ≡ false
+  too_many_below many = not_own (too_many_descend policy es (txid_of n.tx) many)
 
   module _ (ids : List Id) (are : AreIdsOf ids (ancestors_above es n.tx.inputs)) where
-    pub below_itself : list_any (λ y. bytes_eq y (txid_of n.tx)) ids ≡ true → fit_of es n ≡ false
+    pub below_itself : list_any (λ y. bytes_eq y (txid_of n.tx)) ids ≡ true → fit_of policy es n ≡ false
     below_itself h =
         let v = are.only (txid_of n.tx) (among_ids ids (txid_of n.tx) h) in
         let is : is_below_itself es n.tx ≡ true = subst (λ z. list_any (λ (i : TxIn). reaches (steps es) z i.prevout.txid) n.tx.inputs ≡ true) v.2 (passed stands es v.0 v.1) in
@@ -116,11 +117,11 @@ module _ (es : List Admitted) (apart : AllPairs DifferById es) (n : Admitted) (m
         true≢false (sym (list_any_of (λ y. bytes_eq y (txid_of n.tx)) ids (txid_of n.tx) own ((bytes_decides (txid_of n.tx) (txid_of n.tx)).1 refl)) ∙ h))
 
     -- where it isn't above itself, and its ancestors pass, its descendants decide
-    pub below_decide : list_any (λ y. bytes_eq y (txid_of n.tx)) ids ≡ false → list_all passes (ancestors_above es n.tx.inputs) ≡ true → list_all passes (descendants_of es (txid_of n.tx)) ≡ fit_of es n
+    pub below_decide : list_any (λ y. bytes_eq y (txid_of n.tx)) ids ≡ false → list_all passes (ancestors_above es n.tx.inputs) ≡ true → list_all passes (descendants_of es (txid_of n.tx)) ≡ fit_of policy es n
     below_decide other above = decide (is_below_itself es n.tx) (list_all passes (ancestors_of es (txid_of n.tx))) (list_all passes (descendants_of es (txid_of n.tx))) (not_below other) (λ below.
         list_all_of passes (ancestors_of es (txid_of n.tx)) (λ a k.
         elim (own_or_above es apart n m (txid_of n.tx) refl (txid_of a.tx) (passed leads es a k)) [
-          | inl same ↦ ap (is_limited es) same ∙ all_pass passes (descendants_of es (txid_of n.tx)) n below own_below
+          | inl same ↦ ap (is_limited policy es) same ∙ all_pass passes (descendants_of es (txid_of n.tx)) n below own_below
           | inr up ↦ all_pass passes (ancestors_above es n.tx.inputs) a above (Contains-filter stands es a (Contains-from_filter leads es a k) up)
         ]))
       where
@@ -128,7 +129,7 @@ module _ (es : List Admitted) (apart : AllPairs DifferById es) (n : Admitted) (m
         decide a b true h k = sym (ap (λ z. not z && (b && true)) h ∙ ap (λ z. z && true) (k refl))
         decide a b false h k = sym (last_fails (not a) (b && false) (last_fails b false refl))
 
-  pub some_above_fails : list_all passes (ancestors_above es n.tx.inputs) ≡ false → fit_of es n ≡ false
+  pub some_above_fails : list_all passes (ancestors_above es n.tx.inputs) ≡ false → fit_of policy es n ≡ false
   some_above_fails h =
       let w = some_fails passes (ancestors_above es n.tx.inputs) h in
       last_fails _ _ (first_fails _ _ (list_all_not passes (ancestors_of es (txid_of n.tx)) w.0

@@ -17,6 +17,7 @@ use Rattle.gate_pool.proofs.Walking.{Contains-filter}
 use Rattle.gate_admit.specs.declared.attempt.Attempt.TheVariants.{Again}
 use Rattle.gate_admit.specs.declared.grant.Grant.{Grant}
 use Rattle.gate_admit.specs.Good.{IsLimited}
+use Rattle.gate_admit.specs.Policies.{Policy, most_ancestors, most_descendants}
 use Rattle.gate_admit.specs.Limits.{is_limited, fits_again, limit_rules}
 use Rattle.gate_admit.specs.Rules.{admission_rules, decision_of, grant_of}
 use Rattle.gate_admit.specs.Standing.{Standing}
@@ -110,8 +111,8 @@ module _ (entries : List Admitted) (e n : Admitted) (alike : AreAlike e n) where
       (λ a r. fewer_reached b (txid_of a.tx) r)
       (λ r. subst (λ (t : Tx). reaches (steps (entries ++ n ∷ [])) b (txid_of t) ≡ true) alike.tx (fewer_reached b (txid_of e.tx) r))
 
-  less_limited : (b : Id) → IsLimited (entries ++ n ∷ []) b → IsLimited (entered entries e) b
-  less_limited b h =
+  less_limited : (policy : Policy) (b : Id) → IsLimited policy (entries ++ n ∷ []) b → IsLimited policy (entered entries e) b
+  less_limited policy b h =
       let one : Admitted → ℕ = λ a. 1 in
       let size : Admitted → ℕ = λ a. a.vsize in
       let all = entries ++ n ∷ [] in
@@ -159,9 +160,9 @@ module _ (entries : List Admitted) (n : Admitted) (b : Id) (above : reaches (ste
       same_part (λ (a : Admitted). reaches (steps (entries ++ n ∷ [])) b (txid_of a.tx)) (λ (a : Admitted). reaches (steps entries) b (txid_of a.tx)) above
       (λ a r. reaches_from_Leads (below_apart entries n (Leads_from_reaches (steps (entries ++ n ∷ [])) b (txid_of a.tx) r) above))
 
-beside_limited : (entries : List Admitted) (n : Admitted) (b : Id) → reaches (steps (entries ++ n ∷ [])) b (txid_of n.tx) ≡ false → reaches (steps (entries ++ n ∷ [])) (txid_of n.tx) b ≡ false
-    → IsLimited entries b → IsLimited (entries ++ n ∷ []) b
-beside_limited entries n b above below h =
+beside_limited : (policy : Policy) (entries : List Admitted) (n : Admitted) (b : Id) → reaches (steps (entries ++ n ∷ [])) b (txid_of n.tx) ≡ false → reaches (steps (entries ++ n ∷ [])) (txid_of n.tx) b ≡ false
+    → IsLimited policy entries b → IsLimited policy (entries ++ n ∷ []) b
+beside_limited policy entries n b above below h =
     let one : Admitted → ℕ = λ a. 1 in
     let size : Admitted → ℕ = λ a. a.vsize in
     let all = entries ++ n ∷ [] in
@@ -173,30 +174,30 @@ beside_limited entries n b above below h =
     }
 
 -- what passes the test is limited
-told_limited : (entries : List Admitted) (b : Id) → is_limited entries b ≡ true → IsLimited entries b
-told_limited entries b h =
-    let first = and_parts (nat_le (length (ancestors_of entries b)) 25) _ h in
+told_limited : (policy : Policy) (entries : List Admitted) (b : Id) → is_limited policy entries b ≡ true → IsLimited policy entries b
+told_limited policy entries b h =
+    let first = and_parts (nat_le (length (ancestors_of entries b)) (most_ancestors policy)) _ h in
     let second = and_parts (nat_le (size_of (ancestors_of entries b)) 101000) _ first.1 in
-    let third = and_parts (nat_le (length (descendants_of entries b)) 26) (nat_le (size_of (descendants_of entries b)) 111000) second.1 in
+    let third = and_parts (nat_le (length (descendants_of entries b)) (most_descendants policy)) (nat_le (size_of (descendants_of entries b)) 111000) second.1 in
     record { ancestors = leb-true _ _ first.0; ancestors_size = leb-true _ _ second.0; descendants = leb-true _ _ third.0; descendants_size = leb-true _ _ third.1 }
 
 -- each entry is limited with the newcomer, and so is the newcomer
-all_limited : (entries : List Admitted) (n : Admitted) → ((a : Admitted) → Contains entries a → IsLimited entries (txid_of a.tx))
-    → list_all (λ (a : Admitted). is_limited (entries ++ n ∷ []) (txid_of a.tx)) (ancestors_of (entries ++ n ∷ []) (txid_of n.tx)) ≡ true
-    → list_all (λ (a : Admitted). is_limited (entries ++ n ∷ []) (txid_of a.tx)) (descendants_of (entries ++ n ∷ []) (txid_of n.tx)) ≡ true
-    → (a : Admitted) → Contains (entries ++ n ∷ []) a → IsLimited (entries ++ n ∷ []) (txid_of a.tx)
-all_limited entries n limited above below a m =
+pub all_limited : (policy : Policy) (entries : List Admitted) (n : Admitted) → ((a : Admitted) → Contains entries a → IsLimited policy entries (txid_of a.tx))
+    → list_all (λ (a : Admitted). is_limited policy (entries ++ n ∷ []) (txid_of a.tx)) (ancestors_of (entries ++ n ∷ []) (txid_of n.tx)) ≡ true
+    → list_all (λ (a : Admitted). is_limited policy (entries ++ n ∷ []) (txid_of a.tx)) (descendants_of (entries ++ n ∷ []) (txid_of n.tx)) ≡ true
+    → (a : Admitted) → Contains (entries ++ n ∷ []) a → IsLimited policy (entries ++ n ∷ []) (txid_of a.tx)
+all_limited policy entries n limited above below a m =
     let all = entries ++ n ∷ [] in
-    let up : reaches (steps all) (txid_of a.tx) (txid_of n.tx) ≡ true → IsLimited all (txid_of a.tx) =
-    λ r. told_limited all (txid_of a.tx) (list_all_of (λ (x : Admitted). is_limited all (txid_of x.tx)) (ancestors_of all (txid_of n.tx)) a above
+    let up : reaches (steps all) (txid_of a.tx) (txid_of n.tx) ≡ true → IsLimited policy all (txid_of a.tx) =
+    λ r. told_limited policy all (txid_of a.tx) (list_all_of (λ (x : Admitted). is_limited policy all (txid_of x.tx)) (ancestors_of all (txid_of n.tx)) a above
     (Contains-filter (λ (x : Admitted). reaches (steps all) (txid_of x.tx) (txid_of n.tx)) all a m r)) in
     ⊎_elim up
     (λ (r : reaches (steps all) (txid_of a.tx) (txid_of n.tx) ≡ false). ⊎_elim
     (λ (d : reaches (steps all) (txid_of n.tx) (txid_of a.tx) ≡ true).
-    told_limited all (txid_of a.tx) (list_all_of (λ (x : Admitted). is_limited all (txid_of x.tx)) (descendants_of all (txid_of n.tx)) a below
+    told_limited policy all (txid_of a.tx) (list_all_of (λ (x : Admitted). is_limited policy all (txid_of x.tx)) (descendants_of all (txid_of n.tx)) a below
     (Contains-filter (λ (x : Admitted). reaches (steps all) (txid_of n.tx) (txid_of x.tx)) all a m d)))
     (λ (d : reaches (steps all) (txid_of n.tx) (txid_of a.tx) ≡ false). ⊎_elim
-    (λ (k : Contains entries a). beside_limited entries n (txid_of a.tx) r d (limited a k))
+    (λ (k : Contains entries a). beside_limited policy entries n (txid_of a.tx) r d (limited a k))
     (λ (e : n ≡ a). up (subst (λ (x : Admitted). reaches (steps all) (txid_of x.tx) (txid_of n.tx) ≡ true) e (reaches-same (steps all) (txid_of n.tx))))
     (Contains-push_cases entries n a m))
     (cases_Bool (reaches (steps all) (txid_of n.tx) (txid_of a.tx))))
@@ -208,28 +209,28 @@ true_from_not : (b : Bool) → not b ≡ false → b ≡ true
 true_from_not true h = λ _. true
 true_from_not false h = sym h
 
-entered_limited : (entries : List Admitted) (e n : Admitted) → AreAlike e n → ((a : Admitted) → Contains (entries ++ n ∷ []) a → IsLimited (entries ++ n ∷ []) (txid_of a.tx))
-    → All (λ (a : Admitted). IsLimited (entered entries e) (txid_of a.tx)) (entered entries e)
-entered_limited entries e n alike limited k d l =
+entered_limited : (policy : Policy) (entries : List Admitted) (e n : Admitted) → AreAlike e n → ((a : Admitted) → Contains (entries ++ n ∷ []) a → IsLimited policy (entries ++ n ∷ []) (txid_of a.tx))
+    → All (λ (a : Admitted). IsLimited policy (entered entries e) (txid_of a.tx)) (entered entries e)
+entered_limited policy entries e n alike limited k d l =
     let a = get_or (entered entries e) k d in
-    less_limited entries e n alike (txid_of a.tx)
+    less_limited entries e n alike policy (txid_of a.tx)
     (⊎_elim
     (λ (m : Contains (without_below (is_conflict e.tx) entries) a). limited a (Contains-append_left entries (n ∷ []) a (stays_within (is_conflict e.tx) entries a m)))
-    (λ (same : e ≡ a). subst (λ (t : Tx). IsLimited (entries ++ n ∷ []) (txid_of t)) (sym alike.tx ∙ ap (λ (x : Admitted). x.tx) same) (limited n (Contains-push entries n)))
+    (λ (same : e ≡ a). subst (λ (t : Tx). IsLimited policy (entries ++ n ∷ []) (txid_of t)) (sym alike.tx ∙ ap (λ (x : Admitted). x.tx) same) (limited n (Contains-push entries n)))
     (Contains-push_cases (without_below (is_conflict e.tx) entries) e a (Contains-get_or (entered entries e) k d l)))
 
-room_again : (over : Standing) (tx : Tx) → Passes Again over tx → fits_again over.entries tx (grant_of over tx).vsize ≡ true
+room_again : (over : Standing) (tx : Tx) → Passes Again over tx → fits_again over.policy over.entries tx (grant_of over tx).vsize ≡ true
 unfolding grant_of limit_rules
 room_again over tx p = true_from_not _ p.limits.0
 
 -- families stay within their limits where a transaction enters that was tried again and granted
-pub again_limited : (over : Standing) (tx : Tx) (grant : Grant) (now : ℕ) → All (λ (e : Admitted). IsLimited over.entries (txid_of e.tx)) over.entries → decision_of Again over (Some tx) ≡ Ok grant
-    → All (λ (e : Admitted). IsLimited (entered over.entries (admitted tx grant now)) (txid_of e.tx)) (entered over.entries (admitted tx grant now))
+pub again_limited : (over : Standing) (tx : Tx) (grant : Grant) (now : ℕ) → All (λ (e : Admitted). IsLimited over.policy over.entries (txid_of e.tx)) over.entries → decision_of Again over (Some tx) ≡ Ok grant
+    → All (λ (e : Admitted). IsLimited over.policy (entered over.entries (admitted tx grant now)) (txid_of e.tx)) (entered over.entries (admitted tx grant now))
 unfolding decision_of
 again_limited over tx grant now limited d =
     let both = granted (first_failing (admission_rules Again over tx)) (grant_of over tx) grant d in
-    let room : fits_again over.entries tx grant.vsize ≡ true = subst (λ (g : Grant). fits_again over.entries tx g.vsize ≡ true) both.1 (room_again over tx (passes Again over tx both.0)) in
+    let room : fits_again over.policy over.entries tx grant.vsize ≡ true = subst (λ (g : Grant). fits_again over.policy over.entries tx g.vsize ≡ true) both.1 (room_again over tx (passes Again over tx both.0)) in
     let n : Admitted = record { tx = tx; fee = 0; vsize = grant.vsize; time = 0 } in
     let parts = (and_parts _ _ (and_parts _ _ room).1) in
-    entered_limited over.entries (admitted tx grant now) n (record { tx = λ _. tx; vsize = λ _. grant.vsize })
-    (all_limited over.entries n (λ a m. All-contains (λ (x : Admitted). IsLimited over.entries (txid_of x.tx)) over.entries a limited m) parts.0 parts.1)
+    entered_limited over.policy over.entries (admitted tx grant now) n (record { tx = λ _. tx; vsize = λ _. grant.vsize })
+    (all_limited over.policy over.entries n (λ a m. All-contains (λ (x : Admitted). IsLimited over.policy over.entries (txid_of x.tx)) over.entries a limited m) parts.0 parts.1)

@@ -18,6 +18,7 @@ use Rattle.gate_pool.proofs.Entries.{Id, entry_step, step_entry, Contains-map, C
 use Rattle.gate_pool.proofs.Removals.{kept, below_closed}
 use Rattle.gate_pool.proofs.Walking.{Contains-from_filter}
 use Rattle.gate_admit.specs.Coins.{view_coin}
+use Rattle.gate_admit.specs.Policies.{Policy}
 use Rattle.gate_admit.specs.Good.{IsSound, IsLimited}
 use Rattle.gate_admit.proofs.Coining.{coin_stays}
 use Rattle.gate_admit.proofs.Filtering.{length_ones, sum_by-fewer, All-flat_map, All-flat_map_at, AllPairs-flat_map_filter}
@@ -58,8 +59,8 @@ module _ (k : Admitted → Bool) (entries : List Admitted) (txid : Id) (f : Admi
       (λ a m r. reaches_within (filter k entries) entries (Contains-from_filter k entries) txid (txid_of a.tx) r)
 
 -- families are within their limits in any part
-pub limited_part : (k : Admitted → Bool) (entries : List Admitted) (txid : Id) → IsLimited entries txid → IsLimited (filter k entries) txid
-limited_part k entries txid h =
+pub limited_part : (policy : Policy) (k : Admitted → Bool) (entries : List Admitted) (txid : Id) → IsLimited policy entries txid → IsLimited policy (filter k entries) txid
+limited_part policy k entries txid h =
     let one : Admitted → ℕ = λ a. 1 in
     let size : Admitted → ℕ = λ a. a.vsize in
     record {
@@ -99,8 +100,8 @@ module _ (chain : History) (D : Id → Bool) (entries : List Admitted) (closed :
   -- ---- the entries
 
   -- ids go, with all that is below them
-  pub kept_sound : IsSound chain entries → IsSound chain (kept D entries)
-  kept_sound h =
+  pub kept_sound : (policy : Policy) → IsSound policy chain entries → IsSound policy chain (kept D entries)
+  kept_sound policy h =
       let k : Admitted → Bool = λ a. not (D (txid_of a.tx)) in
       record {
         txids = AllPairs-filter DifferByTxid k entries h.txids;
@@ -108,14 +109,14 @@ module _ (chain : History) (D : Id → Bool) (entries : List Admitted) (closed :
         spends = AllPairs-flat_map_filter (λ (e : Admitted). spends_of e.tx) Differ k entries h.spends;
         coins = coins_stay h.coins;
         fresh = All-filter k (λ (e : Admitted). is_known_txid chain (txid_of e.tx) ≡ false) entries h.fresh;
-        limited = All-weaker (λ (e : Admitted). IsLimited entries (txid_of e.tx)) (λ (e : Admitted). IsLimited (kept D entries) (txid_of e.tx))
-            (λ e. limited_part k entries (txid_of e.tx)) (kept D entries) (All-filter k (λ (e : Admitted). IsLimited entries (txid_of e.tx)) entries h.limited);
+        limited = All-weaker (λ (e : Admitted). IsLimited policy entries (txid_of e.tx)) (λ (e : Admitted). IsLimited policy (kept D entries) (txid_of e.tx))
+            (λ e. limited_part policy k entries (txid_of e.tx)) (kept D entries) (All-filter k (λ (e : Admitted). IsLimited policy entries (txid_of e.tx)) entries h.limited);
       }
 
 -- entries that pass a test go, with all that is below
-pub below_sound : (chain : History) (test : Admitted → Bool) (entries : List Admitted) → IsSound chain entries → IsSound chain (without_below test entries)
-below_sound chain test entries h = kept_sound chain (is_below test entries) entries (below_some_closed test entries) h
+pub below_sound : (policy : Policy) (chain : History) (test : Admitted → Bool) (entries : List Admitted) → IsSound policy chain entries → IsSound policy chain (without_below test entries)
+below_sound policy chain test entries h = kept_sound chain (is_below test entries) entries (below_some_closed test entries) policy h
 
 -- an id goes, with all that is below it
-pub family_sound : (chain : History) (entries : List Admitted) (txid : Id) → IsSound chain entries → IsSound chain (without_family entries txid)
-family_sound chain entries txid h = kept_sound chain (reaches (steps entries) txid) entries (below_closed entries txid) h
+pub family_sound : (policy : Policy) (chain : History) (entries : List Admitted) (txid : Id) → IsSound policy chain entries → IsSound policy chain (without_family entries txid)
+family_sound policy chain entries txid h = kept_sound chain (reaches (steps entries) txid) entries (below_closed entries txid) policy h

@@ -20,6 +20,7 @@ use Rattle.gate_rbf.specs.Replacing.{adds_parent, rules_beside}
 use Rattle.gate_rbf.proofs.Conflicting.{is_some-find}
 use Rattle.gate_admit.specs.declared.attempt.Attempt.TheVariants.{First}
 use Rattle.gate_admit.specs.declared.limits.FamilyLimits.{FamilyLimits}
+use Rattle.gate_admit.specs.Policies.{Policy}
 use Rattle.gate_admit.specs.Limits.{grown, usual_limits, carved_out, has_room_below, is_within, limit_rules}
 use Rattle.gate_admit.proofs.Filtering.{list_all_of}
 use Rattle.gate_admit.proofs.Limited.{HasRoom, HasRoomAbove}
@@ -51,22 +52,22 @@ within limits entries above vsize h =
     }
 
 -- one of the two tries succeeds
-tried : (entries : List Admitted) (tx : Tx) (vsize : ℕ) → NoneFails (limit_rules First entries tx vsize)
-    → IsWithin (grown entries (conflicts_of entries tx) usual_limits) entries (ancestors_above entries tx.inputs) vsize
-    ⊎ IsWithin (carved_out (grown entries (conflicts_of entries tx) usual_limits)) entries (ancestors_above entries tx.inputs) vsize
+tried : (policy : Policy) (entries : List Admitted) (tx : Tx) (vsize : ℕ) → NoneFails (limit_rules First policy entries tx vsize)
+    → IsWithin (grown entries (conflicts_of entries tx) (usual_limits policy)) entries (ancestors_above entries tx.inputs) vsize
+    ⊎ IsWithin (carved_out (grown entries (conflicts_of entries tx) (usual_limits policy))) entries (ancestors_above entries tx.inputs) vsize
 unfolding limit_rules
-tried entries tx vsize h =
+tried policy entries tx vsize h =
     let above = ancestors_above entries tx.inputs in
-    let limits = grown entries (conflicts_of entries tx) usual_limits in
+    let limits = grown entries (conflicts_of entries tx) (usual_limits policy) in
     ⊎_elim (λ k. inl (within limits entries above vsize k)) (λ k. inr (within (carved_out limits) entries above vsize (and_parts _ _ k).1))
     (or_cases (is_within limits entries above vsize) _ (not-false _ h.0))
 
 -- ---- above
 
-grown_above : (entries conflicts : List Admitted) → ((grown entries conflicts usual_limits).ancestors ≡ 25) × ((grown entries conflicts usual_limits).ancestors_size ≡ 101000)
-grown_above entries [] = (refl, refl)
-grown_above entries (c ∷ []) = (refl, refl)
-grown_above entries (c ∷ d ∷ rest) = (refl, refl)
+grown_above : (policy : Policy) (entries conflicts : List Admitted) → ((grown entries conflicts (usual_limits policy)).ancestors ≡ policy.ancestors) × ((grown entries conflicts (usual_limits policy)).ancestors_size ≡ 101000)
+grown_above policy entries [] = (refl, refl)
+grown_above policy entries (c ∷ []) = (refl, refl)
+grown_above policy entries (c ∷ d ∷ rest) = (refl, refl)
 
 nothing_above : (above : List Admitted) → length above ≡ 0 → size_of above ≡ 0
 nothing_above [] h = refl
@@ -77,30 +78,30 @@ small_above above vsize limit low small h =
     ⊎_elim (λ (e : length above ≡ 0). omega (arith, nothing_above above e, small)) (λ (k : size_of above + vsize ≤ limit). omega (arith, k, low)) h
 
 -- the ancestors of a transaction are few and small
-pub room_above : (entries : List Admitted) (e : Admitted) → e.vsize ≤ 100000 → NoneFails (limit_rules First entries e.tx e.vsize) → HasRoomAbove entries e
-room_above entries e small h =
+pub room_above : (policy : Policy) (entries : List Admitted) (e : Admitted) → e.vsize ≤ 100000 → NoneFails (limit_rules First policy entries e.tx e.vsize) → HasRoomAbove policy entries e
+room_above policy entries e small h =
     let above = ancestors_above entries e.tx.inputs in
-    let limits = grown entries (conflicts_of entries e.tx) usual_limits in
-    let same = grown_above entries (conflicts_of entries e.tx) in
+    let limits = grown entries (conflicts_of entries e.tx) (usual_limits policy) in
+    let same = grown_above policy entries (conflicts_of entries e.tx) in
     ⊎_elim
     (λ (w : IsWithin limits entries above e.vsize). record { count = omega (arith, w.count, same.0); size = small_above above e.vsize limits.ancestors_size (omega (arith, same.1)) small w.size })
     (λ (w : IsWithin (carved_out limits) entries above e.vsize). record { count = omega (arith, w.count); size = small_above above e.vsize 101000 (omega arith) small w.size })
-    (tried entries e.tx e.vsize h)
+    (tried policy entries e.tx e.vsize h)
 
 -- ---- below each of them
 
 -- each ancestor's descendants, with the transaction, are within the limits of one of the tries
-room_below : (entries : List Admitted) (tx : Tx) (vsize : ℕ) → NoneFails (limit_rules First entries tx vsize) → (conflicts : List Admitted) → conflicts_of entries tx ≡ conflicts → (a : Admitted) → Contains (ancestors_above entries tx.inputs) a
-    → (length (descendants_of entries (txid_of a.tx)) ≤ (grown entries conflicts usual_limits).descendants)
-    × (size_of (descendants_of entries (txid_of a.tx)) + vsize ≤ (grown entries conflicts usual_limits).descendants_size + 10000)
-room_below entries tx vsize h conflicts is a m =
+room_below : (policy : Policy) (entries : List Admitted) (tx : Tx) (vsize : ℕ) → NoneFails (limit_rules First policy entries tx vsize) → (conflicts : List Admitted) → conflicts_of entries tx ≡ conflicts → (a : Admitted) → Contains (ancestors_above entries tx.inputs) a
+    → (length (descendants_of entries (txid_of a.tx)) ≤ (grown entries conflicts (usual_limits policy)).descendants)
+    × (size_of (descendants_of entries (txid_of a.tx)) + vsize ≤ (grown entries conflicts (usual_limits policy)).descendants_size + 10000)
+room_below policy entries tx vsize h conflicts is a m =
     let above = ancestors_above entries tx.inputs in
-    let limits = grown entries (conflicts_of entries tx) usual_limits in
-    subst (λ (cs : List Admitted). (length (descendants_of entries (txid_of a.tx)) ≤ (grown entries cs usual_limits).descendants) × (size_of (descendants_of entries (txid_of a.tx)) + vsize ≤ (grown entries cs usual_limits).descendants_size + 10000)) is
+    let limits = grown entries (conflicts_of entries tx) (usual_limits policy) in
+    subst (λ (cs : List Admitted). (length (descendants_of entries (txid_of a.tx)) ≤ (grown entries cs (usual_limits policy)).descendants) × (size_of (descendants_of entries (txid_of a.tx)) + vsize ≤ (grown entries cs (usual_limits policy)).descendants_size + 10000)) is
     (⊎_elim
     (λ (w : IsWithin limits entries above vsize). let r = w.room a m in (omega (arith, r.0), omega (arith, r.1)))
     (λ (w : IsWithin (carved_out limits) entries above vsize). let r = w.room a m in (omega (arith, r.0), omega (arith, r.1)))
-    (tried entries tx vsize h))
+    (tried policy entries tx vsize h))
 
 -- what is reached from an entry is an entry
 reached_entry : (entries : List Admitted) {a b : Id} → Leads (steps entries) a b → (a ≡ b) ⊎ ((w : Admitted) × Contains entries w × (txid_of w.tx ≡ b))
@@ -143,8 +144,8 @@ some_member : {X : Type 0} (xs : List X) (x : X) → Contains xs x → 1 ≤ len
 some_member xs x m = let l = m.1 in omega arith
 
 -- beside no conflict, or several, the usual limits hold
-room_usual : (entries : List Admitted) (e : Admitted) (b : Id) → length (descendants_of entries b) ≤ 25 → size_of (descendants_of entries b) + e.vsize ≤ 101000 + 10000 → HasRoom entries e b
-room_usual entries e b count size = record {
+room_usual : (policy : Policy) (entries : List Admitted) (e : Admitted) (b : Id) → length (descendants_of entries b) ≤ policy.descendants → size_of (descendants_of entries b) + e.vsize ≤ 101000 + 10000 → HasRoom policy entries e b
+room_usual policy entries e b count size = record {
   gone = λ a. false;
   under = λ a m t. absurd (true≢false (sym t));
   goes = λ a m t. absurd (true≢false (sym t));
@@ -153,9 +154,9 @@ room_usual entries e b count size = record {
 }
 
 -- beside one conflict they grow, and it goes with its descendants
-room_grown : (entries : List Admitted) (e c : Admitted) (b : Id) → Contains entries c → is_conflict e.tx c ≡ true → reaches (steps entries) b (txid_of c.tx) ≡ true
-    → length (descendants_of entries b) ≤ 25 + 1 → size_of (descendants_of entries b) + e.vsize ≤ (101000 + size_of (descendants_of entries (txid_of c.tx))) + 10000 → HasRoom entries e b
-room_grown entries e c b m conflicts above count size =
+room_grown : (policy : Policy) (entries : List Admitted) (e c : Admitted) (b : Id) → Contains entries c → is_conflict e.tx c ≡ true → reaches (steps entries) b (txid_of c.tx) ≡ true
+    → length (descendants_of entries b) ≤ policy.descendants + 1 → size_of (descendants_of entries b) + e.vsize ≤ (101000 + size_of (descendants_of entries (txid_of c.tx))) + 10000 → HasRoom policy entries e b
+room_grown policy entries e c b m conflicts above count size =
     let itself = some_member (descendants_of entries (txid_of c.tx)) c (Contains-filter (λ (a : Admitted). reaches (steps entries) (txid_of c.tx) (txid_of a.tx)) entries c m (reaches-same (steps entries) (txid_of c.tx))) in
     record {
       gone = λ a. reaches (steps entries) (txid_of c.tx) (txid_of a.tx);
@@ -166,18 +167,18 @@ room_grown entries e c b m conflicts above count size =
     }
 
 -- each ancestor has room for a transaction
-pub room_at : (entries : List Admitted) (e : Admitted) → NoneFails (limit_rules First entries e.tx e.vsize)
+pub room_at : (policy : Policy) (entries : List Admitted) (e : Admitted) → NoneFails (limit_rules First policy entries e.tx e.vsize)
     → (list_any (is_conflict e.tx) entries ≡ true → list_any (adds_parent entries (conflicts_of entries e.tx)) e.tx.inputs ≡ false)
-    → (a : Admitted) → Contains (ancestors_above entries e.tx.inputs) a → HasRoom entries e (txid_of a.tx)
-room_at entries e limits parents a m = go (conflicts_of entries e.tx) refl
+    → (a : Admitted) → Contains (ancestors_above entries e.tx.inputs) a → HasRoom policy entries e (txid_of a.tx)
+room_at policy entries e limits parents a m = go (conflicts_of entries e.tx) refl
   where
-    go : (conflicts : List Admitted) → conflicts_of entries e.tx ≡ conflicts → HasRoom entries e (txid_of a.tx)
-    go [] is = let r = room_below entries e.tx e.vsize limits [] is a m in room_usual entries e (txid_of a.tx) r.0 r.1
+    go : (conflicts : List Admitted) → conflicts_of entries e.tx ≡ conflicts → HasRoom policy entries e (txid_of a.tx)
+    go [] is = let r = room_below policy entries e.tx e.vsize limits [] is a m in room_usual policy entries e (txid_of a.tx) r.0 r.1
     go (c ∷ []) is =
-        let r = room_below entries e.tx e.vsize limits (c ∷ []) is a m in
+        let r = room_below policy entries e.tx e.vsize limits (c ∷ []) is a m in
         let among : Contains (conflicts_of entries e.tx) c = subst (λ (l : List Admitted). Contains l c) (sym is) (Contains-head c []) in
         let member : Contains entries c = Contains-from_filter (is_conflict e.tx) entries c among in
         let conflicts : is_conflict e.tx c ≡ true = All-contains (λ (x : Admitted). is_conflict e.tx x ≡ true) (conflicts_of entries e.tx) c (filter_passes (is_conflict e.tx) entries) among in
         let none = parents (list_any_of (is_conflict e.tx) entries c member conflicts) in
-        room_grown entries e c (txid_of a.tx) member conflicts (above_conflict entries e.tx c a is none m) r.0 r.1
-    go (c ∷ d ∷ rest) is = let r = room_below entries e.tx e.vsize limits (c ∷ d ∷ rest) is a m in room_usual entries e (txid_of a.tx) r.0 r.1
+        room_grown policy entries e c (txid_of a.tx) member conflicts (above_conflict entries e.tx c a is none m) r.0 r.1
+    go (c ∷ d ∷ rest) is = let r = room_below policy entries e.tx e.vsize limits (c ∷ d ∷ rest) is a m in room_usual policy entries e (txid_of a.tx) r.0 r.1

@@ -21,7 +21,7 @@ use Rattle.gate_trim.proofs.Aging.{one_young}
 use Rattle.gate_trim.proofs.Trimmings.{trim_keeps, trim_rises, trim_within}
 use Rattle.gate_admit.specs.declared.attempt.Attempt.TheVariants.{First}
 use Rattle.gate_admit.specs.declared.grant.Grant.{Grant}
-use Rattle.gate_admit.specs.Good.{AreApart, IsGood, IsSettled, IsSound, IsUnconnected, Limits, connected_transactions}
+use Rattle.gate_admit.specs.Good.{AreApart, IsGood, IsSettled, IsSound, IsUnconnected, Limits, connected_transactions, limits_for}
 use Rattle.gate_admit.specs.Rules.{admission_rules, decision_of, denied_or, grant_of}
 use Rattle.gate_admit.specs.Standing.{Standing}
 use Rattle.gate_admit.specs.Submission.{Submitted, admitted, entry_of, holds, submitted_by, submit_of}
@@ -32,11 +32,11 @@ use Rattle.gate_admit.proofs.Staying.{stays_within}
 -- ---- entries
 
 -- what enters a sound list leaves a good pool
-entry_good : (limits : Limits) (chain : History) (entries : List Admitted) (floor : ℕ) (e : Admitted) → IsSound chain (entered entries e) → IsGood limits chain (entry_of limits.budget entries floor e).entries
+entry_good : (limits : Limits) (chain : History) (entries : List Admitted) (floor : ℕ) (e : Admitted) → IsSound limits.policy chain (entered entries e) → IsGood limits chain (entry_of limits.budget entries floor e).entries
 unfolding entry_of
 entry_good limits chain entries floor e h =
     record {
-      sound = trim_keeps (IsSound chain) (family_sound chain) limits.budget (expired e.time (entered entries e)) floor (below_sound chain (is_stale e.time) (entered entries e) h);
+      sound = trim_keeps (IsSound limits.policy chain) (family_sound limits.policy chain) limits.budget (expired e.time (entered entries e)) floor (below_sound limits.policy chain (is_stale e.time) (entered entries e) h);
       size = trim_within limits.budget (expired e.time (entered entries e)) floor;
     }
 
@@ -67,33 +67,33 @@ entry_within budget entries floor e =
 -- ---- submissions
 
 -- over a good pool what was decided leaves a good pool
-found_good : (limits : Limits) (over : Standing) (tx : Tx) (now : ℕ) (found : Option Denial) → (found ≡ None → IsSound over.chain (entered over.entries (admitted tx (grant_of over tx) now)))
-    → IsGood limits over.chain over.entries → IsGood limits over.chain (submitted_by over (Some tx) now limits.budget (denied_or found (grant_of over tx))).entries
-found_good limits over tx now (Some denial) h good = good
-found_good limits over tx now None h good = entry_good limits over.chain over.entries over.floor (admitted tx (grant_of over tx) now) (h refl)
+found_good : (over : Standing) (tx : Tx) (now budget : ℕ) (found : Option Denial) → (found ≡ None → IsSound over.policy over.chain (entered over.entries (admitted tx (grant_of over tx) now)))
+    → IsGood (limits_for over.policy budget) over.chain over.entries → IsGood (limits_for over.policy budget) over.chain (submitted_by over (Some tx) now budget (denied_or found (grant_of over tx))).entries
+found_good over tx now budget (Some denial) h good = good
+found_good over tx now budget None h good = entry_good (limits_for over.policy budget) over.chain over.entries over.floor (admitted tx (grant_of over tx) now) (h refl)
 
 -- a submission keeps a pool good
-pub submission_good : (limits : Limits) (over : Standing) (tx : Option Tx) (now : ℕ) → StaysUnconnected over tx → IsGood limits over.chain over.entries
-    → IsGood limits over.chain (submit_of over tx now limits.budget).entries
+pub submission_good : (over : Standing) (tx : Option Tx) (now budget : ℕ) → StaysUnconnected over tx → IsGood (limits_for over.policy budget) over.chain over.entries
+    → IsGood (limits_for over.policy budget) over.chain (submit_of over tx now budget).entries
 unfolding submit_of decision_of
-submission_good limits over None now new good = good
-submission_good limits over (Some tx) now new good = found_good limits over tx now (first_failing (admission_rules First over tx)) (grant_sound over tx now new good.sound) good
+submission_good over None now budget new good = good
+submission_good over (Some tx) now budget new good = found_good over tx now budget (first_failing (admission_rules First over tx)) (grant_sound over tx now new good.sound) good
 
 -- a submission of what is in no connected block does
-pub unconnected_good : (limits : Limits) (over : Standing) (tx : Option Tx) (now : ℕ) → IsUnconnected over.chain tx → IsGood limits over.chain over.entries
-    → IsGood limits over.chain (submit_of over tx now limits.budget).entries
-unconnected_good limits over tx now new good = submission_good limits over tx now (stays_if_unconnected over tx new) good
+pub unconnected_good : (over : Standing) (tx : Option Tx) (now budget : ℕ) → IsUnconnected over.chain tx → IsGood (limits_for over.policy budget) over.chain over.entries
+    → IsGood (limits_for over.policy budget) over.chain (submit_of over tx now budget).entries
+unconnected_good over tx now budget new good = submission_good over tx now budget (stays_if_unconnected over tx new) good
 
 -- so does what a submission comes to, where transactions are told apart by their ids
 pub kept_good : (over : Standing) (tx : Option Tx) (now budget : ℕ) (after : Submitted)
     → submit_of over tx now budget ≡ after → IsSettled over.chain → IfSome tx IsTx → AreApart (option_to_list tx ++ connected_transactions over.chain)
-    → IsGood (record { budget = budget }) over.chain over.entries → IsGood (record { budget = budget }) over.chain after.entries
+    → IsGood (limits_for over.policy budget) over.chain over.entries → IsGood (limits_for over.policy budget) over.chain after.entries
 kept_good over tx now budget after is settled is_tx apart good =
-    subst (λ (s : Submitted). IsGood (record { budget = budget }) over.chain s.entries) is (submission_good (record { budget = budget }) over tx now (stays_if_apart over tx settled is_tx apart) good)
+    subst (λ (s : Submitted). IsGood (limits_for over.policy budget) over.chain s.entries) is (submission_good over tx now budget (stays_if_apart over tx settled is_tx apart) good)
 
 -- a pool without entries is good
 pub empty_good : (limits : Limits) (chain : History) → IsGood limits chain []
-empty_good limits chain = record { sound = empty_sound chain; size = omega arith }
+empty_good limits chain = record { sound = empty_sound limits.policy chain; size = omega arith }
 
 -- ---- what a grant says
 

@@ -13,20 +13,25 @@ use Rattle.gate_chain.specs.Coins.{has_transaction, is_known_txid}
 use Rattle.gate_pool.specs.Pool.{Admitted, spent_by, size_of}
 use Rattle.gate_pool.specs.Family.{ancestors_of, descendants_of}
 use Rattle.gate_admit.specs.Coins.{view_coin}
+use Rattle.gate_admit.specs.Policies.{Policy, most_ancestors, most_descendants}
 
--- what a pool may hold, in virtual bytes
+-- what a pool may hold, in virtual bytes, and what is asked of its families
 pub record Limits : Type 0 where
   pub budget : ℕ
+  pub policy : Policy
+
+abbrev pub limits_for : Policy → ℕ → Limits
+limits_for policy budget = record { budget = budget; policy = policy }
 
 -- the ancestors and the descendants of an id, its own entry among each, are few and small
-pub record IsLimited (entries : List Admitted) (txid : List ℕ) : Type 0 where
-  pub ancestors : length (ancestors_of entries txid) ≤ 25
+pub record IsLimited (policy : Policy) (entries : List Admitted) (txid : List ℕ) : Type 0 where
+  pub ancestors : length (ancestors_of entries txid) ≤ most_ancestors policy
   pub ancestors_size : size_of (ancestors_of entries txid) ≤ 101000
-  pub descendants : length (descendants_of entries txid) ≤ 26
+  pub descendants : length (descendants_of entries txid) ≤ most_descendants policy
   pub descendants_size : size_of (descendants_of entries txid) ≤ 111000
 
 -- what holds of entries over a chain, however many they are
-pub record IsSound (chain : History) (entries : List Admitted) : Type 0 where
+pub record IsSound (policy : Policy) (chain : History) (entries : List Admitted) : Type 0 where
   -- no two entries share an id
   pub txids : AllPairs (λ (a : Admitted) (b : Admitted). txid_of a.tx ≢ txid_of b.tx) entries
   pub wtxids : AllPairs (λ (a : Admitted) (b : Admitted). wtxid_of a.tx ≢ wtxid_of b.tx) entries
@@ -37,11 +42,11 @@ pub record IsSound (chain : History) (entries : List Admitted) : Type 0 where
   -- no entry has the txid of a coin that the chain was opened with, or of a connected block's transaction
   pub fresh : All (λ (e : Admitted). is_known_txid chain (txid_of e.tx) ≡ false) entries
   -- the family of each entry is within the limits
-  pub limited : All (λ (e : Admitted). IsLimited entries (txid_of e.tx)) entries
+  pub limited : All (λ (e : Admitted). IsLimited policy entries (txid_of e.tx)) entries
 
 -- a good pool is sound, and within its budget
 pub record IsGood (limits : Limits) (chain : History) (entries : List Admitted) : Type 0 where
-  pub sound : IsSound chain entries
+  pub sound : IsSound limits.policy chain entries
   pub size : size_of entries ≤ limits.budget
 
 -- the transactions of the connected blocks, in their order

@@ -23,8 +23,9 @@ pub record IsGrantable (over : Standing) (tx : Tx) : Type 0 where
   -- no entry has one of its ids
   pub txid : All (λ (e : Admitted). txid_of e.tx ≢ txid_of tx) over.entries
   pub wtxid : All (λ (e : Admitted). wtxid_of e.tx ≢ wtxid_of tx) over.entries
-  -- each entry that spends an outpoint that it spends says that it may be replaced, and none of them is above it
-  pub replaceable : All (λ (e : Admitted). signals e.tx ≡ true) (conflicts_of over.entries tx)
+  -- each entry that spends an outpoint that it spends says that it may be replaced, unless all may be, and none of them is
+  -- above it
+  pub replaceable : over.policy.full_rbf ≡ false → All (λ (e : Admitted). signals e.tx ≡ true) (conflicts_of over.entries tx)
   pub beside : All (λ (e : Admitted). is_conflict tx e ≡ false) (ancestors_above over.entries tx.inputs)
   -- no entry that stays spends an outpoint that it spends, and it spends none twice
   pub unspent : All (λ (p : OutPoint). All (λ (q : OutPoint). p ≢ q) (spends_of tx)) (spent_by (without_below (is_conflict tx) over.entries))

@@ -7,12 +7,15 @@ use Rattle.gate_tx.specs.Ids.{txid_of}
 use Rattle.gate_standard.specs.declared.Denial.{Denial}
 use Rattle.gate_standard.specs.declared.Denial.TheVariants.{MempoolFull}
 use Rattle.gate_chain.specs.History.{History}
+use Rattle.gate_pool.specs.Pool.{Admitted}
 use Rattle.gate_pool.specs.Family.{is_conflict}
 use Rattle.gate_trim.specs.Laws.{IsYoung}
 use Rattle.gate_admit.specs.declared.attempt.Attempt.{Attempt}
 use Rattle.gate_admit.specs.declared.attempt.Attempt.TheVariants.{First}
 use Rattle.gate_admit.specs.declared.grant.Grant.{Grant}
-use Rattle.gate_admit.specs.Good.{Limits, IsGood, IsUnconnected}
+use Rattle.gate_admit.specs.Policies.{Policy}
+use Rattle.gate_admit.specs.Limits.{fits_again, fits_among}
+use Rattle.gate_admit.specs.Good.{Limits, IsGood, IsLimited, IsUnconnected, limits_for}
 use Rattle.gate_admit.specs.Granting.{IsGrantable, Conserves, PaysItsSize, Replaces}
 use Rattle.gate_admit.specs.Rules.{admission_rules, decision_of}
 use Rattle.gate_admit.specs.Standing.{Standing}
@@ -48,12 +51,19 @@ pub record GrantsStand : Type 0 where
   pub gone : (over : Standing) (tx : Tx) (now budget : ℕ) (grant : Grant) → decision_of First over (Some tx) ≡ Ok grant → (submit_of over (Some tx) now budget).decision ≡ Err MempoolFull
       → holds (submit_of over (Some tx) now budget).entries (txid_of tx) ≡ false
 
+-- in a pool whose families are within the limits, asking the family of what comes back is asking every entry
+abbrev pub ReadmissionsAskOfAll : Type 0
+ReadmissionsAskOfAll =
+    (policy : Policy) (entries : List Admitted) (tx : Tx) (vsize : ℕ) → All (λ (e : Admitted). IsLimited policy entries (txid_of e.tx)) entries
+    → fits_again policy entries tx vsize ≡ fits_among policy entries tx vsize
+
 -- no submission lowers the floor
 abbrev pub FloorsNeverFall : Type 0
 FloorsNeverFall = (over : Standing) (tx : Option Tx) (now budget : ℕ) → over.floor ≤ (submit_of over tx now budget).floor
 
--- a pool without entries is good, and each submission of what no block has keeps a pool good
+-- a pool without entries is good, and each submission of what no block has keeps a pool good under its policy
 pub record PoolsStayGood : Type 0 where
   pub empty : (limits : Limits) (chain : History) → IsGood limits chain []
-  pub kept : (limits : Limits) (over : Standing) (tx : Option Tx) (now : ℕ)
-      → IsUnconnected over.chain tx → IsGood limits over.chain over.entries → IsGood limits over.chain (submit_of over tx now limits.budget).entries
+  pub kept : (over : Standing) (tx : Option Tx) (now budget : ℕ)
+      → IsUnconnected over.chain tx → IsGood (limits_for over.policy budget) over.chain over.entries
+      → IsGood (limits_for over.policy budget) over.chain (submit_of over tx now budget).entries

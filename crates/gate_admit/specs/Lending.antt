@@ -1,4 +1,4 @@
--- What stands where chain, pool, floor and verdicts are lent together.
+-- What stands where chain, pool, floor, verdicts and policy are lent together.
 use Rattle.std.specs.Prelude.{List}
 use Rattle.gate_pool.specs.Pool.{Admitted}
 use Rattle.gate_admit.specs.declared.standing.Conditions.{Conditions}
@@ -6,8 +6,8 @@ use Rattle.gate_admit.specs.declared.standing.Standing.{Standing as Lent}
 use Rattle.gate_admit.specs.Standing.{Standing, standing}
 
 abbrev pub lent : {S H : Type 0} → Lent S H → Standing
-lent over = standing over.chain.now over.pool.now.entries over.floor.now over.verdicts.now
+lent over = standing over.chain.now over.pool.now.entries over.floor.now over.verdicts.now over.policy.now
 
 -- what stands under these conditions beside these entries
 abbrev pub lent_with : {S H : Type 0} → Conditions S H → List Admitted → Standing
-lent_with under entries = standing under.chain.now entries under.floor.now under.verdicts.now
+lent_with under entries = standing under.chain.now entries under.floor.now under.verdicts.now under.policy.now

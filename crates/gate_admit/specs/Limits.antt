@@ -13,6 +13,7 @@ use Rattle.gate_pool.specs.Pool.{Admitted, size_of}
 use Rattle.gate_admit.specs.declared.attempt.Attempt.{Attempt}
 use Rattle.gate_admit.specs.declared.attempt.Attempt.TheVariants.{First, Again}
 use Rattle.gate_admit.specs.declared.limits.FamilyLimits.{FamilyLimits}
+use Rattle.gate_admit.specs.Policies.{Policy, most_ancestors, most_descendants}
 use Rattle.gate_pool.specs.Family.{steps, ancestors_of, descendants_of, ancestors_above, is_conflict, conflicts_of}
 
 -- beside exactly one direct conflict there may be one descendant more, and as many bytes as that has with its descendants
@@ -21,8 +22,10 @@ grown entries [] limits = limits
 grown entries (c ∷ []) limits = record limits { descendants = limits.descendants + 1; descendants_size = limits.descendants_size + size_of (descendants_of entries (txid_of c.tx)) }
 grown entries (c ∷ d ∷ rest) limits = limits
 
-abbrev pub usual_limits : FamilyLimits
-usual_limits = record { ancestors = 25; ancestors_size = 101000; descendants = 25; descendants_size = 101000 }
+-- the limits of the first try: the counts are the operator's
+abbrev pub usual_limits : Policy → FamilyLimits
+usual_limits policy =
+    record { ancestors = policy.ancestors; ancestors_size = 101000; descendants = policy.descendants; descendants_size = 101000 }
 
 -- the limits of the second try, for a small transaction with at most one parent, so that each of two parties can raise the
 -- fee of what both can spend (Bitcoin Core's carve-out)
@@ -45,20 +48,20 @@ is_within limits entries above vsize =
     && list_all (has_room_below limits entries vsize) above)
 
 -- one of the two tries succeeds
-abbrev pub fits_families : List Admitted → Tx → ℕ → Bool
-fits_families entries tx vsize =
+abbrev pub fits_families : Policy → List Admitted → Tx → ℕ → Bool
+fits_families policy entries tx vsize =
     let above = ancestors_above entries tx.inputs in
-    let limits = grown entries (conflicts_of entries tx) usual_limits in
+    let limits = grown entries (conflicts_of entries tx) (usual_limits policy) in
     is_within limits entries above vsize || (nat_le vsize 10000 && is_within (carved_out limits) entries above vsize)
 
 -- ---- a transaction that is tried again
 
 -- the ancestors and the descendants of an id, its own entry among each, are few and small
-abbrev pub is_limited : List Admitted → List ℕ → Bool
-is_limited entries txid =
-    nat_le (length (ancestors_of entries txid)) 25
+abbrev pub is_limited : Policy → List Admitted → List ℕ → Bool
+is_limited policy entries txid =
+    nat_le (length (ancestors_of entries txid)) (most_ancestors policy)
     && (nat_le (size_of (ancestors_of entries txid)) 101000
-    && (nat_le (length (descendants_of entries txid)) 26
+    && (nat_le (length (descendants_of entries txid)) (most_descendants policy)
     && nat_le (size_of (descendants_of entries txid)) 111000))
 
 -- the entries with a transaction of this size behind them; what it would replace is still there
@@ -70,22 +73,28 @@ abbrev pub is_below_itself : List Admitted → Tx → Bool
 is_below_itself entries tx = list_any (λ (i : TxIn). reaches (steps entries) (txid_of tx) i.prevout.txid) tx.inputs
 
 -- with it, it doesn't descend from itself, and each of its ancestors and descendants, itself among them, is within the limits
-abbrev pub fits_again : List Admitted → Tx → ℕ → Bool
-fits_again entries tx vsize =
+abbrev pub fits_again : Policy → List Admitted → Tx → ℕ → Bool
+fits_again policy entries tx vsize =
     let all = joined entries tx vsize in
     not (is_below_itself all tx)
-    && (list_all (λ e. is_limited all (txid_of e.tx)) (ancestors_of all (txid_of tx))
-    && list_all (λ e. is_limited all (txid_of e.tx)) (descendants_of all (txid_of tx)))
+    && (list_all (λ e. is_limited policy all (txid_of e.tx)) (ancestors_of all (txid_of tx))
+    && list_all (λ e. is_limited policy all (txid_of e.tx)) (descendants_of all (txid_of tx)))
+
+-- the same of every entry, as a node's operator would say it: with it, none passes the limits
+abbrev pub fits_among : Policy → List Admitted → Tx → ℕ → Bool
+fits_among policy entries tx vsize =
+    let all = joined entries tx vsize in
+    not (is_below_itself all tx) && list_all (λ e. is_limited policy all (txid_of e.tx)) all
 
 -- ---- the rules
 
 -- whether the limits of an attempt are kept
-abbrev pub fits : Attempt → List Admitted → Tx → ℕ → Bool
-fits First entries tx vsize = fits_families entries tx vsize
-fits Again entries tx vsize = fits_again entries tx vsize
+abbrev pub fits : Attempt → Policy → List Admitted → Tx → ℕ → Bool
+fits First policy entries tx vsize = fits_families policy entries tx vsize
+fits Again policy entries tx vsize = fits_again policy entries tx vsize
 
-unfoldable pub limit_rules : Attempt → List Admitted → Tx → ℕ → List (Rule Denial)
-limit_rules attempt entries tx vsize =
-    (TooLongChain, not (fits attempt entries tx vsize))
+unfoldable pub limit_rules : Attempt → Policy → List Admitted → Tx → ℕ → List (Rule Denial)
+limit_rules attempt policy entries tx vsize =
+    (TooLongChain, not (fits attempt policy entries tx vsize))
     ∷ (SpendsConflicting, list_any (is_conflict tx) (ancestors_above entries tx.inputs))
     ∷ []

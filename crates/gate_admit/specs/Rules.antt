@@ -22,6 +22,7 @@ use Rattle.gate_pool.specs.Family.{replaced_of}
 use Rattle.gate_rbf.specs.Replacing.{is_firm_conflict, replacement_rules}
 use Rattle.gate_admit.specs.declared.attempt.Attempt.{Attempt}
 use Rattle.gate_admit.specs.declared.attempt.Attempt.TheVariants.{First, Again}
+use Rattle.gate_admit.specs.Policies.{Policy}
 use Rattle.gate_admit.specs.Standing.{Standing}
 use Rattle.gate_admit.specs.Coins.{misses_coin, coins_of}
 use Rattle.gate_admit.specs.Limits.{limit_rules}
@@ -34,11 +35,12 @@ final_rules chain tx = (NonFinal, not (is_final_at tx (tip_of chain + 1) (median
 
 -- ---- A21 to A23: the transaction beside the entries of the pool
 
-unfoldable pub pool_rules : List Admitted → Tx → List (Rule Denial)
-pool_rules entries tx =
+-- under full replacement no entry is asked for a signal
+unfoldable pub pool_rules : Policy → List Admitted → Tx → List (Rule Denial)
+pool_rules policy entries tx =
     (AlreadyInMempool, is_some (entry_by_wtxid entries (wtxid_of tx)))
     ∷ (SameNonWitnessData, is_some (entry_by_txid entries (txid_of tx)))
-    ∷ (MempoolConflict, list_any (is_firm_conflict tx) entries)
+    ∷ (MempoolConflict, not policy.full_rbf && list_any (is_firm_conflict tx) entries)
     ∷ []
 
 -- ---- A24 and A25: whether each input has a coin
@@ -118,7 +120,7 @@ payment_rules Again floor fee vsize = []
 
 -- ---- the whole
 
--- the rules on a transaction over a chain, a pool, its floor and the verdicts at hand, in the written order
+-- the rules on a transaction over a chain, a pool, its floor, the verdicts at hand and the policy, in the written order
 unfoldable pub admission_rules : Attempt → Standing → Tx → List (Rule Denial)
 admission_rules attempt over tx =
     let coins = coins_of over.chain over.entries tx.inputs in
@@ -127,14 +129,14 @@ admission_rules attempt over tx =
     let vsize = vsize_of (sigop_cost answers tx.outputs) tx in
     alone_rules tx
     ++ (final_rules over.chain tx
-    ++ (pool_rules over.entries tx
+    ++ (pool_rules over.policy over.entries tx
     ++ (coin_rules over.chain over.entries tx
     ++ (lock_rules over.chain coins tx
     ++ (coin_value_rules (tip_of over.chain + 1) 0 coins
     ++ (balance_rules (coins_value coins) (outputs_value tx)
     ++ (report_rules answers tx
     ++ (payment_rules attempt over.floor fee vsize
-    ++ (limit_rules attempt over.entries tx vsize
+    ++ (limit_rules attempt over.policy over.entries tx vsize
     ++ (replacement_rules over.entries tx fee vsize
     ++ verdict_rules over.verdicts (wtxid_of tx) 0 tx.inputs))))))))))
 

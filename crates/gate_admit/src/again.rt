@@ -8,50 +8,56 @@ ghost use Rattle.gate_pool.specs.Family.{AreIdsOf};
 ghost use Rattle.gate_admit.specs.Limits.{is_limited, fits_again};
 
 use crate::joining::Joined;
+use crate::policy::Policy;
 use gate_bytes::{Copied, Counted, Memory};
 use gate_pool::{Entry, FamilyView, add_up, ancestors, ancestors_with, descendants};
 use gate_tx::{Identified, Txid};
 use std::alloc::Global;
 
-/// How many ancestors an entry may have, itself among them.
-const MOST_ANCESTORS: usize = 25;
-
-/// How many virtual bytes these may have.
+/// How many virtual bytes the ancestors of an entry may have, itself among them.
 const MOST_ANCESTORS_SIZE: u128 = 101_000;
 
-/// How many descendants an entry may have, itself among them: one more than at a first try, as its second try allows.
-const MOST_DESCENDANTS: usize = 26;
-
-/// How many virtual bytes these may have.
+/// How many virtual bytes its descendants may have.
 const MOST_DESCENDANTS_SIZE: u128 = 111_000;
 
 /// Whether the family of an entry is within the limits.
-fn is_limited<V: FamilyView>(alloc: Global, pool: &V, txid: &Txid) -> Result<bool, Memory>
+fn is_limited<V: FamilyView>(
+    alloc: Global,
+    policy: &Policy,
+    pool: &V,
+    txid: &Txid,
+) -> Result<bool, Memory>
     requires { IsEntry (V.entries pool.now) txid.now }
-    ensures { IfOk result (λ limited. limited ≡ is_limited (V.entries pool.now) txid.now) }
+    ensures { IfOk result (λ limited. limited ≡ is_limited policy.now (V.entries pool.now) txid.now) }
 {
-    let Some(above) = ancestors_with(alloc, pool, txid, MOST_ANCESTORS)? else {
+    let (most_above, most_below) = (policy.most_ancestors(), policy.most_descendants());
+    let Some(above) = ancestors_with(alloc, pool, txid, most_above)? else {
         return Ok(false);
     };
-    let Some(below) = descendants(alloc, pool, &[*txid], MOST_DESCENDANTS)? else {
+    let Some(below) = descendants(alloc, pool, &[*txid], most_below)? else {
         return Ok(false);
     };
     let (above, below) = (add_up(pool, &above), add_up(pool, &below));
     Ok(
-        (above.count <= MOST_ANCESTORS)
+        (above.count <= most_above)
             & (above.size <= MOST_ANCESTORS_SIZE)
-            & (below.count <= MOST_DESCENDANTS)
+            & (below.count <= most_below)
             & (below.size <= MOST_DESCENDANTS_SIZE),
     )
 }
 
 /// Whether those of some entries are.
-fn all_limited<V: FamilyView>(alloc: Global, pool: &V, txids: &[Txid]) -> Result<bool, Memory>
+fn all_limited<V: FamilyView>(
+    alloc: Global,
+    policy: &Policy,
+    pool: &V,
+    txids: &[Txid],
+) -> Result<bool, Memory>
     requires { AreEntries (V.entries pool.now) txids.now }
-    ensures { (test : Admitted → Bool) → AreIdsOf txids.now (filter test (V.entries pool.now)) → IfOk result (λ limited. limited ≡ list_all (λ e. is_limited (V.entries pool.now) (txid_of e.tx)) (filter test (V.entries pool.now))) }
+    ensures { (test : Admitted → Bool) → AreIdsOf txids.now (filter test (V.entries pool.now)) → IfOk result (λ limited. limited ≡ list_all (λ e. is_limited policy.now (V.entries pool.now) (txid_of e.tx)) (filter test (V.entries pool.now))) }
 {
     for txid in txids {
-        if !is_limited(alloc, pool, txid)? {
+        if !is_limited(alloc, policy, pool, txid)? {
             return Ok(false);
         }
     }
@@ -59,23 +65,28 @@ fn all_limited<V: FamilyView>(alloc: Global, pool: &V, txids: &[Txid]) -> Result
 }
 
 /// Whether the families that an entry would join are within the limits with it, and it isn't among its own ancestors.
-fn fits_with<V: FamilyView>(alloc: Global, pool: &V, newcomer: &Entry) -> Result<bool, Memory>
+fn fits_with<V: FamilyView>(
+    alloc: Global,
+    policy: &Policy,
+    pool: &V,
+    newcomer: &Entry,
+) -> Result<bool, Memory>
     requires new { entry_by_txid (V.entries pool.now) (txid_of newcomer.now.tx) ≡ None }
     requires plain { newcomer.now ≡ record { tx = newcomer.now.tx; fee = 0; vsize = newcomer.now.vsize; time = 0 } }
-    ensures { IfOk result (λ fits. fits ≡ fits_again (V.entries pool.now) newcomer.now.tx newcomer.now.vsize) }
+    ensures { IfOk result (λ fits. fits ≡ fits_again policy.now (V.entries pool.now) newcomer.now.tx newcomer.now.vsize) }
 {
     let joined = Joined::new(pool, newcomer);
     joined.tells_apart();
     let txid = newcomer.txid();
     let inputs = newcomer.transaction().inputs();
-    let Some(above) = ancestors(alloc, &joined, inputs, MOST_ANCESTORS)? else {
+    let Some(above) = ancestors(alloc, &joined, inputs, policy.most_ancestors())? else {
         return Ok(false);
     };
-    if above.contains(&txid) || !all_limited(alloc, &joined, &above)? {
+    if above.contains(&txid) || !all_limited(alloc, policy, &joined, &above)? {
         return Ok(false);
     }
-    match descendants(alloc, &joined, &[txid], MOST_DESCENDANTS)? {
-        Some(below) => all_limited(alloc, &joined, &below),
+    match descendants(alloc, &joined, &[txid], policy.most_descendants())? {
+        Some(below) => all_limited(alloc, policy, &joined, &below),
         None => Ok(false),
     }
 }
@@ -84,6 +95,7 @@ fn fits_with<V: FamilyView>(alloc: Global, pool: &V, newcomer: &Entry) -> Result
 /// ancestors.
 pub(crate) fn fits_again<V: FamilyView>(
     alloc: Global,
+    policy: &Policy,
     pool: &V,
     identified: &Counted<Identified>,
     vsize: u64,
@@ -91,10 +103,10 @@ pub(crate) fn fits_again<V: FamilyView>(
     requires new { entry_by_txid (V.entries pool.now) (txid_of identified.now) ≡ None }
     requires least { 1 ≤ vsize }
     requires most { vsize ≤ largest_vsize }
-    ensures { IfOk result (λ fits. fits ≡ fits_again (V.entries pool.now) identified.now vsize) }
+    ensures { IfOk result (λ fits. fits ≡ fits_again policy.now (V.entries pool.now) identified.now vsize) }
 {
     let newcomer = Entry::new(identified.copy(alloc)?, 0, vsize, 0);
-    let fits = fits_with(alloc, pool, &newcomer);
+    let fits = fits_with(alloc, policy, pool, &newcomer);
     drop(newcomer);
     fits
 }

@@ -1,5 +1,5 @@
 //! Laws of admission, in words apart from its rules.
-ghost use Rattle.gate_admit.specs.Laws.{DecisionsFollow, FloorsNeverFall, GrantsAreSound, GrantsStand, PoolsStayGood, ReplacementsPay};
+ghost use Rattle.gate_admit.specs.Laws.{DecisionsFollow, FloorsNeverFall, GrantsAreSound, GrantsStand, PoolsStayGood, ReadmissionsAskOfAll, ReplacementsPay};
 
 /// Each decision follows the written order: a grant says that no rule fails, and a denial names a rule that fails with
 /// none failing before it.
@@ -25,6 +25,12 @@ pub fn replacements_pay()
 /// passes every rule and is denied all the same (A46) is not in the pool.
 pub fn grants_stand()
     ensures { GrantsStand }
+{}
+
+/// A transaction that comes back to a pool whose families are within the limits is asked whether with it some entry passes
+/// them; that only its own ancestors and descendants are looked at comes to the same.
+pub fn readmissions_ask_of_all()
+    ensures { ReadmissionsAskOfAll }
 {}
 
 /// No submission lowers the pool's floor.

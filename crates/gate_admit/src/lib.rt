@@ -16,6 +16,7 @@ mod law;
 mod limits;
 mod locking;
 mod paying;
+mod policy;
 mod readmission;
 mod reporting;
 mod standing;
@@ -34,8 +35,9 @@ pub use grant::Grant;
 pub use judging::judge;
 pub use law::{
     decisions_follow_the_order, floors_never_fall, grants_are_sound, grants_stand, pools_stay_good,
-    replacements_pay,
+    readmissions_ask_of_all, replacements_pay,
 };
+pub use policy::{LARGEST_LIMIT, Policy};
 pub use readmission::readmit;
 pub use standing::Conditions;
 pub use submission::{Coming, commit_submission, plan_submission, submit};

@@ -10,8 +10,9 @@ ghost use Rattle.gate_admit.specs.declared.attempt.Attempt.TheVariants.{First, A
 
 use crate::again::fits_again;
 use crate::attempt::Attempt;
+use crate::policy::Policy;
 use gate_bytes::{Counted, Memory};
-use gate_pool::{Pool, add_up, ancestors, descendants};
+use gate_pool::{Pool, add_up, ancestors};
 use gate_rbf::DirectConflicts;
 use gate_standard::Denial;
 use gate_tx::{Identified, Txid};
@@ -27,150 +28,128 @@ struct FamilyLimits {
     descendants_size: u128,
 }
 
-/// Bitcoin Core's `DEFAULT_ANCESTOR_LIMIT`, `DEFAULT_DESCENDANT_LIMIT`, and the limits of their sizes.
-const USUAL: FamilyLimits = FamilyLimits {
-    ancestors: 25,
-    ancestors_size: 101_000,
-    descendants: 25,
-    descendants_size: 101_000,
-};
+/// How many virtual bytes a transaction's ancestors may have, and its descendants, itself among each (Bitcoin Core's
+/// `DEFAULT_ANCESTOR_SIZE_LIMIT` and `DEFAULT_DESCENDANT_SIZE_LIMIT`).
+const FAMILY_SIZE: u128 = 101_000;
 
 /// How large a transaction may be for the second try (Bitcoin Core's `EXTRA_DESCENDANT_TX_SIZE_LIMIT`).
 const CARVE_OUT_VSIZE: u64 = 10_000;
 
+/// The limits of a first try without a replacement.
+fn usual_limits(policy: &Policy) -> FamilyLimits
+    ensures { result ≡ usual_limits policy.now }
+{
+    FamilyLimits {
+        ancestors: policy.ancestors(),
+        ancestors_size: FAMILY_SIZE,
+        descendants: policy.descendants(),
+        descendants_size: FAMILY_SIZE,
+    }
+}
+
 /// The limits of the first try: more descendants where the transaction replaces exactly one entry directly.
 fn first_limits<S: BuildHasher + Copy + Drop>(
-    alloc: Global,
+    policy: &Policy,
     direct: &DirectConflicts<'_, S>,
-) -> Result<FamilyLimits, Memory>
-    ensures limits { IfOk result (λ limits. limits ≡ grown direct.now.entries (conflicts_of direct.now.entries direct.now.tx) usual_limits) }
-    ensures small { IfOk result (λ limits. limits.descendants_size < 2 ^ 101) }
+) -> FamilyLimits
+    ensures limits { result ≡ grown direct.now.entries (conflicts_of direct.now.entries direct.now.tx) (usual_limits policy.now) }
+    ensures small { result.descendants_size < 2 ^ 101 }
+    ensures few { result.descendants ≤ 1001 }
 {
+    policy.tells_bounds();
+    let usual = usual_limits(policy);
     let Some(conflict) = direct.only() else {
-        return Ok(USUAL);
+        return usual;
     };
-    let pool = direct.pool();
-    let found = descendants(alloc, pool, &[conflict], pool.count())?;
-    let family = found.unwrap();
-    Ok(FamilyLimits {
-        descendants: USUAL.descendants + 1,
-        descendants_size: USUAL.descendants_size + add_up(pool, &family).size,
-        ..USUAL
-    })
+    match direct.pool().totals(&conflict) {
+        Some(totals) => FamilyLimits {
+            descendants: usual.descendants + 1,
+            descendants_size: usual.descendants_size + totals.below.size,
+            ..usual
+        },
+        None => usual,
+    }
 }
 
-/// Whether a transaction of this size can join some entries.
-fn has_room<S: BuildHasher + Copy + Drop>(
-    pool: &Pool<S>,
-    family: &[Txid],
-    vsize: u64,
-    limits: FamilyLimits,
-) -> bool
-    ensures { (test : Admitted → Bool) → AreIdsOf family.now (filter test pool.now.entries) → result ≡ has_room limits vsize (filter test pool.now.entries) }
-{
-    let sums = add_up(pool, family);
-    let size = sums.size + u128::from(vsize);
-    (sums.count < limits.descendants) & (size <= limits.descendants_size)
-}
-
-/// Whether it can join the descendants of the entry with this id.
+/// Whether a transaction of this size can join the descendants of the entry with this id.
 fn has_room_below<S: BuildHasher + Copy + Drop>(
-    alloc: Global,
     pool: &Pool<S>,
     txid: &Txid,
     vsize: u64,
     limits: FamilyLimits,
-) -> Result<bool, Memory>
-    ensures { (a : Admitted) → Contains pool.now.entries a → txid_of a.tx ≡ txid.now → IfOk result (λ fits. fits ≡ has_room_below limits pool.now.entries vsize a) }
+) -> bool
+    ensures { (a : Admitted) → Contains pool.now.entries a → txid_of a.tx ≡ txid.now → result ≡ has_room_below limits pool.now.entries vsize a }
 {
-    let Some(family) = descendants(alloc, pool, &[*txid], limits.descendants)? else {
-        return Ok(false);
-    };
-    Ok(has_room(pool, &family, vsize, limits))
+    match pool.totals(txid) {
+        Some(totals) => {
+            let size = totals.below.size + u128::from(vsize);
+            (totals.below.count < limits.descendants as u64) & (size <= limits.descendants_size)
+        }
+        None => true,
+    }
 }
 
 /// The same for each of some entries.
 fn each_has_room<S: BuildHasher + Copy + Drop>(
-    alloc: Global,
     pool: &Pool<S>,
     above: &[Txid],
     vsize: u64,
     limits: FamilyLimits,
-) -> Result<bool, Memory>
-    ensures { (test : Admitted → Bool) → AreIdsOf above.now (filter test pool.now.entries) → IfOk result (λ fits. fits ≡ list_all (has_room_below limits pool.now.entries vsize) (filter test pool.now.entries)) }
+) -> bool
+    ensures { (test : Admitted → Bool) → AreIdsOf above.now (filter test pool.now.entries) → result ≡ list_all (has_room_below limits pool.now.entries vsize) (filter test pool.now.entries) }
 {
     for txid in above {
-        if !has_room_below(alloc, pool, txid, vsize, limits)? {
-            return Ok(false);
+        if !has_room_below(pool, txid, vsize, limits) {
+            return false;
         }
     }
-    Ok(true)
-}
-
-/// Whether the transaction could join all that are below some entries together, and so the descendants of each.
-fn all_have_room<S: BuildHasher + Copy + Drop>(
-    alloc: Global,
-    pool: &Pool<S>,
-    above: &[Txid],
-    vsize: u64,
-    limits: FamilyLimits,
-) -> Result<bool, Memory>
-    ensures { (test : Admitted → Bool) → AreIdsOf above.now (filter test pool.now.entries) → IfOk result (λ fits. fits ≡ true → list_all (has_room_below limits pool.now.entries vsize) (filter test pool.now.entries) ≡ true) }
-{
-    let Some(all) = descendants(alloc, pool, above, limits.descendants)? else {
-        return Ok(false);
-    };
-    Ok(has_room(pool, &all, vsize, limits))
+    true
 }
 
 /// Whether a transaction of this size, with these ancestors, is within the limits.
 fn is_within<S: BuildHasher + Copy + Drop>(
-    alloc: Global,
     pool: &Pool<S>,
     above: &[Txid],
     vsize: u64,
     limits: FamilyLimits,
-) -> Result<bool, Memory>
-    ensures { (test : Admitted → Bool) → AreIdsOf above.now (filter test pool.now.entries) → IfOk result (λ fits. fits ≡ is_within limits pool.now.entries (filter test pool.now.entries) vsize) }
+) -> bool
+    ensures { (test : Admitted → Bool) → AreIdsOf above.now (filter test pool.now.entries) → result ≡ is_within limits pool.now.entries (filter test pool.now.entries) vsize }
 {
     let sums = add_up(pool, above);
     if sums.count >= limits.ancestors {
-        return Ok(false);
+        return false;
     }
     if sums.count > 0 && sums.size + u128::from(vsize) > limits.ancestors_size {
-        return Ok(false);
+        return false;
     }
-    if all_have_room(alloc, pool, above, vsize, limits)? {
-        return Ok(true);
-    }
-    each_has_room(alloc, pool, above, vsize, limits)
+    each_has_room(pool, above, vsize, limits)
 }
 
 /// Whether one of the two tries succeeds.
 fn fits_families<S: BuildHasher + Copy + Drop>(
-    alloc: Global,
+    policy: &Policy,
     direct: &DirectConflicts<'_, S>,
     above: &[Txid],
     vsize: u64,
-) -> Result<bool, Memory>
+) -> bool
     requires { AreIdsOf above.now (ancestors_above direct.now.entries direct.now.tx.inputs) }
-    ensures { IfOk result (λ fits. fits ≡ fits_families direct.now.entries direct.now.tx vsize) }
+    ensures { result ≡ fits_families policy.now direct.now.entries direct.now.tx vsize }
 {
     let pool = direct.pool();
-    let limits = first_limits(alloc, direct)?;
-    if is_within(alloc, pool, above, vsize, limits)? {
-        return Ok(true);
+    let limits = first_limits(policy, direct);
+    if is_within(pool, above, vsize, limits) {
+        return true;
     }
     if vsize > CARVE_OUT_VSIZE {
-        return Ok(false);
+        return false;
     }
     let carved_out = FamilyLimits {
         ancestors: 2,
-        ancestors_size: USUAL.ancestors_size,
+        ancestors_size: FAMILY_SIZE,
         descendants: limits.descendants + 1,
         descendants_size: limits.descendants_size + u128::from(CARVE_OUT_VSIZE),
     };
-    is_within(alloc, pool, above, vsize, carved_out)
+    is_within(pool, above, vsize, carved_out)
 }
 
 /// The ids of the transaction's ancestors in the pool. None where there are more than `most`.
@@ -191,18 +170,20 @@ fn ancestors_of<S: BuildHasher + Copy + Drop>(
 #[tactic(auto, unfolding(crate::specs::Limits::limit_rules))]
 fn check_first<S: BuildHasher + Copy + Drop>(
     alloc: Global,
+    policy: &Policy,
     direct: &DirectConflicts<'_, S>,
     vsize: u64,
 ) -> Result<Option<Denial>, Memory>
-    ensures { IfOk result (λ found. found ≡ first_failing (limit_rules First direct.now.entries direct.now.tx vsize)) }
+    ensures { IfOk result (λ found. found ≡ first_failing (limit_rules First policy.now direct.now.entries direct.now.tx vsize)) }
 {
-    let Some(above) = ancestors_of(alloc, direct, USUAL.ancestors)? else {
+    policy.tells_bounds();
+    let Some(above) = ancestors_of(alloc, direct, policy.most_ancestors())? else {
         return Ok(Some(Denial::TooLongChain));
     };
     if above.is_empty() {
         return Ok(None);
     }
-    if !fits_families(alloc, direct, &above, vsize)? {
+    if !fits_families(policy, direct, &above, vsize) {
         return Ok(Some(Denial::TooLongChain));
     }
     if direct.has_one_of(&above) {
@@ -215,6 +196,7 @@ fn check_first<S: BuildHasher + Copy + Drop>(
 #[tactic(auto, unfolding(crate::specs::Limits::limit_rules))]
 fn check_again<S: BuildHasher + Copy + Drop>(
     alloc: Global,
+    policy: &Policy,
     direct: &DirectConflicts<'_, S>,
     identified: &Counted<Identified>,
     vsize: u64,
@@ -223,10 +205,10 @@ fn check_again<S: BuildHasher + Copy + Drop>(
     requires same { direct.now.tx ≡ identified.now }
     requires least { 1 ≤ vsize }
     requires most { vsize ≤ largest_vsize }
-    ensures { IfOk result (λ found. found ≡ first_failing (limit_rules Again direct.now.entries direct.now.tx vsize)) }
+    ensures { IfOk result (λ found. found ≡ first_failing (limit_rules Again policy.now direct.now.entries direct.now.tx vsize)) }
 {
     let pool = direct.pool();
-    if !fits_again(alloc, pool, identified, vsize)? {
+    if !fits_again(alloc, policy, pool, identified, vsize)? {
         return Ok(Some(Denial::TooLongChain));
     }
     let found = ancestors_of(alloc, direct, pool.count())?;
@@ -240,6 +222,7 @@ fn check_again<S: BuildHasher + Copy + Drop>(
 /// The first of A36 and A37 that fails at an attempt. No entry has the transaction's id.
 pub(crate) fn check_families<S: BuildHasher + Copy + Drop>(
     alloc: Global,
+    policy: &Policy,
     attempt: Attempt,
     direct: &DirectConflicts<'_, S>,
     identified: &Counted<Identified>,
@@ -249,10 +232,10 @@ pub(crate) fn check_families<S: BuildHasher + Copy + Drop>(
     requires same { direct.now.tx ≡ identified.now }
     requires least { 1 ≤ vsize }
     requires most { vsize ≤ largest_vsize }
-    ensures { IfOk result (λ found. found ≡ first_failing (limit_rules attempt direct.now.entries direct.now.tx vsize)) }
+    ensures { IfOk result (λ found. found ≡ first_failing (limit_rules attempt policy.now direct.now.entries direct.now.tx vsize)) }
 {
     match attempt {
-        Attempt::First => check_first(alloc, direct, vsize),
-        Attempt::Again => check_again(alloc, direct, identified, vsize),
+        Attempt::First => check_first(alloc, policy, direct, vsize),
+        Attempt::Again => check_again(alloc, policy, direct, identified, vsize),
     }
 }

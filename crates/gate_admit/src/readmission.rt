@@ -8,6 +8,7 @@ ghost use Rattle.gate_admit.specs.declared.attempt.Attempt.TheVariants.{Again};
 use crate::attempt::Attempt;
 use crate::grant::Grant;
 use crate::judging::decide;
+use crate::policy::Policy;
 use crate::standing::Standing;
 use crate::verdicts::Verdicts;
 use gate_bytes::{Copied, Memory};
@@ -27,10 +28,11 @@ pub fn readmit<S: BuildHasher + Copy + Drop>(
     pool: &mut Pool<S>,
     prepared: &Prepared,
     verdicts: &Verdicts<S>,
+    policy: &Policy,
     now: u64,
 ) -> Result<Result<Grant, Denial>, Memory>
     // What it pays is not asked for, so that the pool's floor does not matter.
-    ensures decision { IfOk result (λ decision. decision ≡ decision_of Again (standing chain.now pool.old.entries 0 verdicts.now) prepared.now) }
+    ensures decision { IfOk result (λ decision. decision ≡ decision_of Again (standing chain.now pool.old.entries 0 verdicts.now policy.now) prepared.now) }
     ensures entries { IfOk result (λ decision. pool.new.entries ≡ readmitted pool.old.entries prepared.now now decision) }
     ensures err { OnErr result (pool.new.entries ≡ pool.old.entries) }
 {
@@ -43,6 +45,7 @@ pub fn readmit<S: BuildHasher + Copy + Drop>(
         pool,
         floor: &floor,
         verdicts,
+        policy,
     };
     let decision = decide(alloc, Attempt::Again, &over, &candidate)?;
     if let Ok(grant) = decision {

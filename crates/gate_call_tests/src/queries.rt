@@ -2,7 +2,7 @@ use gate_admit::{Entry, Floor, Pool};
 use gate_bytes::{Counted, Kept};
 use gate_query::*;
 use gate_rpc::RpcResult;
-use gate_tx::{Identified, OutPoint, Transaction, TxIn, TxOut, Txid};
+use gate_tx::{Identified, OutPoint, Transaction, TxIn, TxOut, Txid, Witness};
 use std::alloc::Global;
 use std::hash::{BuildHasher, BuildHasherDefault, DefaultHasher};
 use std::process::Abort;
@@ -13,7 +13,7 @@ fn input(alloc: Global, txid: Txid, index: u32, sequence: u32) -> TxIn {
         prevout: OutPoint { txid, index },
         script: Kept::from_vec(Vec::new(alloc)),
         sequence,
-        witness: Kept::from_vec(Vec::new(alloc)),
+        witness: Witness::new(alloc),
     }
 }
 

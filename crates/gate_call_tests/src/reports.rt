@@ -1,7 +1,7 @@
 //! Reports that were made of a submission's inputs beforehand: no decision depends on them.
 use gate_admit::{
-    Chain, Floor, Grant, InputReport, OpeningCoin, Piece, Pool, Prepared, Verdict, Verdicts, judge,
-    report,
+    Chain, Floor, Grant, InputReport, OpeningCoin, Piece, Policy, Pool, Prepared, Verdict,
+    Verdicts, judge, report,
 };
 use gate_bytes::{Copied, Kept, Memory};
 use gate_standard::Denial;
@@ -184,7 +184,16 @@ fn decision(
     let pool = Pool::new(alloc, BuildHasherDefault::new())?;
     let mut verdicts = Verdicts::new(alloc, BuildHasherDefault::new());
     verdicts.answer_others(Verdict::Good);
-    judge(alloc, chain, &pool, &Floor::new(0), prepared, &verdicts)
+    let policy = Policy::default();
+    judge(
+        alloc,
+        chain,
+        &pool,
+        &Floor::new(0),
+        prepared,
+        &verdicts,
+        &policy,
+    )
 }
 
 /// The decision over a chain with the reports of a case.

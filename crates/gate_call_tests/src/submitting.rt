@@ -1,7 +1,7 @@
 //! Submissions that are judged and entered at once, with and without reports that were made beforehand.
 use gate_admit::{
-    Chain, Floor, Grant, InputReport, OpeningCoin, Piece, Pool, Prepared, Verdict, Verdicts,
-    report, submit,
+    Chain, Floor, Grant, InputReport, OpeningCoin, Piece, Policy, Pool, Prepared, Verdict,
+    Verdicts, report, submit,
 };
 use gate_bytes::{Copied, Kept, Memory};
 use gate_standard::Denial;
@@ -59,8 +59,9 @@ fn answer(
     let mut verdicts = Verdicts::new(alloc, BuildHasherDefault::new());
     verdicts.answer_others(Verdict::Good);
     let mut floor = Floor::new(0);
+    let policy = Policy::default();
     submit(
-        alloc, chain, pool, &mut floor, prepared, &verdicts, 5_000, 1_000_000,
+        alloc, chain, pool, &mut floor, prepared, &verdicts, &policy, 5_000, 1_000_000,
     )
 }
 

@@ -27,6 +27,8 @@ pub(crate) enum Cause<'a> {
     NotWhole(&'a str, &'static str),
     LeadingZero(&'a str),
     TooGreat(&'a str, u64),
+    /// A 0 where a number from 1 on stands.
+    Zero,
     NoId(&'a str),
     NoHex(&'a str),
     NoAddress(&'a str),
@@ -104,6 +106,7 @@ impl Cause<'_> {
             Cause::EventInOpening => "an event in the opening; is the line --- missing?",
             Cause::LineOfOpening => "a line of an opening behind the line ---",
             Cause::LineOfJournal => "a line of a journal, which gate audit reads",
+            Cause::Zero => "0 is below 1",
             Cause::Again => "says again what was said",
             _ => "has none of the forms",
         }

@@ -8,6 +8,8 @@ const NUMBERS: u64 = 4_294_967_295;
 
 const BUDGETS: u64 = 1_000_000_000;
 
+const LIMITS: u64 = 1_000;
+
 const KINDS: [&str; 2] = ["plain", "cb"];
 
 const VERDICTS: [&str; 3] = ["ok", "soft", "hard"];
@@ -66,6 +68,14 @@ pub(crate) fn opening_fault<'a>(line: &'a str) -> Result<(), Cause<'a>> {
     if word == "whitelist" || word == "rpcwhitelist" {
         places.word("an entry")?;
         return Ok(());
+    }
+    if word == "limitancestorcount" {
+        places.count("the most ancestors", LIMITS)?;
+        return places.end();
+    }
+    if word == "limitdescendantcount" {
+        places.count("the most descendants", LIMITS)?;
+        return places.end();
     }
     if is_among(word, &SETTINGS) || word == "rpcwhitelistdefault" {
         places.one_of("0 or 1", &BITS)?;

@@ -2,11 +2,13 @@
 use std::cell::Cell;
 use std::fmt;
 
-/// A limit that an input is past.
+/// Why an input is not read further.
 #[derive(Clone, Copy, Debug, PartialEq, Eq)]
 pub enum Limit {
     /// More than 64 lanes.
     Lanes,
+    /// A round of lanes that does not begin with a line `---`.
+    Round,
     /// More than 1,000,000 lines of an opening, or behind it.
     Lines,
     /// A line of more than 16,777,216 bytes.
@@ -17,6 +19,7 @@ impl fmt::Display for Limit {
     fn fmt<W: fmt::Write>(&self, f: &mut fmt::Formatter<W>) -> fmt::Result {
         match self {
             Limit::Lanes => write!(f, "a 65th lane; 64 are the most"),
+            Limit::Round => write!(f, "a round begins with a line ---"),
             Limit::Lines => write!(f, "1,000,000 lines are the most"),
             Limit::Line => write!(f, "more than 16,777,216 bytes"),
         }

@@ -41,6 +41,15 @@ impl<'a> Places<'a> {
         number(self.word(what)?, what, most)
     }
 
+    /// A number from 1 to this.
+    pub(crate) fn count(&mut self, what: &'static str, most: u64) -> Result<(), Cause<'a>> {
+        let word = self.word(what)?;
+        if word == "0" {
+            return Err(Cause::Zero);
+        }
+        number(word, what, most)
+    }
+
     /// A word that is one of these.
     pub(crate) fn one_of(
         &mut self,

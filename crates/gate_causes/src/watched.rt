@@ -18,7 +18,7 @@ pub enum Behind {
     Nothing,
     /// Events, one a line.
     Events,
-    /// Lanes of events, each behind a line `---`.
+    /// Lanes of events, each behind a line `---`, in rounds, each up to a line `===`.
     Lanes,
     /// A journal: events behind `> `, replies behind `< `, and numbers of entries behind `base `.
     Journal,
@@ -56,6 +56,8 @@ pub struct Watched<'a, R, T> {
     has_opened: bool,
     lines: u64,
     lanes: u64,
+    /// Whether a round ended, and no lane of the next one has begun.
+    awaits_lane: bool,
     caller: Option<Caller>,
     last: Vec<u8>,
     is_kept: bool,
@@ -82,6 +84,7 @@ impl<'a, R, T: Eprint> Watched<'a, R, T> {
             has_opened: false,
             lines: 0,
             lanes: 1,
+            awaits_lane: false,
             caller: None,
             last: Vec::new(alloc),
             is_kept: true,
@@ -117,7 +120,7 @@ impl<'a, R, T: Eprint> Watched<'a, R, T> {
         match self.behind {
             Behind::Nothing => None,
             Behind::Events => Some(line),
-            Behind::Lanes => if line == b"---".as_slice() {
+            Behind::Lanes => if self.awaits_lane || line == b"---".as_slice() {
                 None
             } else {
                 Some(line)
@@ -200,7 +203,28 @@ impl<'a, R, T: Eprint> Watched<'a, R, T> {
         self.behind == Behind::Journal && line.len() > MAX_LINE && !has_mark(line)
     }
 
-    /// Counts a line behind the opening, and the lane that it begins.
+    /// Counts a line of lanes: a lane that it begins, or a round that it ends.
+    fn count_lanes(&mut self, line: &[u8])
+        ensures { self.new.reader ≡ self.old.reader }
+    {
+        if line == b"---".as_slice() {
+            self.caller = None;
+            self.awaits_lane = false;
+            self.lanes = self.lanes.saturating_add(1);
+            if self.lanes > MAX_LANES {
+                self.place.pass(Limit::Lanes);
+            }
+            return;
+        }
+        if self.awaits_lane && !asks_nothing(line) {
+            self.place.pass(Limit::Round);
+        }
+        if line == b"===".as_slice() {
+            self.awaits_lane = true;
+        }
+    }
+
+    /// Counts a line behind the opening.
     fn count(&mut self, number: u64, line: &[u8])
         ensures { self.new.reader ≡ self.old.reader }
     {
@@ -211,12 +235,15 @@ impl<'a, R, T: Eprint> Watched<'a, R, T> {
         if self.is_too_long(line) {
             self.pass(number, Limit::Line);
         }
-        if self.behind == Behind::Lanes && line == b"---".as_slice() {
-            self.caller = None;
-            self.lanes = self.lanes.saturating_add(1);
-            if self.lanes > MAX_LANES {
-                self.place.pass(Limit::Lanes);
-            }
+        if self.behind == Behind::Lanes {
+            self.count_lanes(line);
+        }
+    }
+
+    /// The input ended.
+    fn end(&self) {
+        if self.awaits_lane {
+            self.place.pass(Limit::Round);
         }
     }
 
@@ -299,9 +326,12 @@ impl<R: Source, T: Eprint> Source for Watched<'_, R, T> {
         let part = self.reader.take_part(line, room)?;
         match part {
             Part::Newline => self.watch(line.as_slice()),
-            Part::End => if room > 0 && !line.is_empty() {
-                self.watch(line.as_slice());
-            },
+            Part::End => {
+                if room > 0 && !line.is_empty() {
+                    self.watch(line.as_slice());
+                }
+                self.end();
+            }
             Part::TooLong => self.pass_line(line.as_slice()),
             Part::More => {}
         }

@@ -7,7 +7,7 @@ use strsim::levenshtein;
 pub(crate) const CALLERS: [&str; 4] = ["peer", "user", "chain", "operator"];
 
 /// The words that begin a line of an opening.
-pub(crate) const SETTINGS: [&str; 10] = [
+pub(crate) const SETTINGS: [&str; 13] = [
     "budget",
     "times",
     "coin",
@@ -18,6 +18,9 @@ pub(crate) const SETTINGS: [&str; 10] = [
     "whitelistforcerelay",
     "rpcwhitelist",
     "blocksonly",
+    "limitancestorcount",
+    "limitdescendantcount",
+    "mempoolfullrbf",
 ];
 
 /// The longest word that is compared with the known ones.

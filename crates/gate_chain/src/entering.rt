@@ -71,20 +71,29 @@ fn note<S: BuildHasher + Copy + Drop>(txids: &mut IndexSet<Txid, S>, id: Txid)
     let _ = noted.unwrap();
 }
 
+/// Where a transaction of a block stands.
+#[derive(Clone, Copy, Debug, PartialEq, Eq)]
+struct Position {
+    /// The height of its block.
+    height: u32,
+    /// Whether it is the block's first.
+    coinbase: bool,
+}
+
 /// Enters one more transaction of a block, or leaves the maps as they are.
 fn enter<S: BuildHasher + Copy + Drop>(
     alloc: Global,
     opened: &IndexSet<Txid, S>,
     coins: &mut IndexMap<OutPoint, Marked, S>,
     txids: &mut IndexSet<Txid, S>,
-    height: u32,
-    coinbase: bool,
+    position: Position,
     tx: &Transaction,
 ) -> Result<(), ChainFault>
-    ensures { (h : History) (header : List ℕ) (done : List Tx) → Opens h opened.now.keys height → coinbase ≡ not (is_nonempty done)
+    ensures { (h : History) (header : List ℕ) (done : List Tx) → Opens h opened.now.keys position.height → position.coinbase ≡ not (is_nonempty done)
         → AreMaps (with_part h header done) coins.old.entries txids.old.keys
         → Enters h header done tx.now result coins.new.entries txids.new.keys }
 {
+    let Position { height, coinbase } = position;
     let id = tx.txid(alloc)?;
     if is_repeated(opened, txids, &id) {
         return Err(ChainFault::Denied(ChainDenial::TxidRepeated));
@@ -166,7 +175,11 @@ pub(crate) fn connect<S: BuildHasher + Copy + Drop>(
     let ids_before = txids.len();
     let txs = block.transactions.as_slice();
     for (place, tx) in txs.iter().enumerate() {
-        if let Err(fault) = enter(alloc, opened, coins, txids, height, place == 0, tx) {
+        let position = Position {
+            height,
+            coinbase: place == 0,
+        };
+        if let Err(fault) = enter(alloc, opened, coins, txids, position, tx) {
             leave(coins, txids, coins_before, ids_before, &txs[..place]);
             return Err(fault);
         }

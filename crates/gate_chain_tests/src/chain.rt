@@ -1,6 +1,6 @@
 use gate_bytes::Kept;
 use gate_chain::{Block, Chain, ChainDenial, ChainFault, Header, OpenFault, OpeningCoin};
-use gate_tx::{Coin, OutPoint, Transaction, TxIn, TxOut, Txid};
+use gate_tx::{Coin, OutPoint, Transaction, TxIn, TxOut, Txid, Witness};
 use std::alloc::{AllocError, Global};
 use std::hash::{BuildHasherDefault, FoldHasher};
 use std::process::Abort;
@@ -133,7 +133,7 @@ fn paying(
             prevout: *outpoint,
             script: Kept::from_vec(Vec::new(alloc)),
             sequence: 0xffff_ffff,
-            witness: Kept::from_vec(Vec::new(alloc)),
+            witness: Witness::new(alloc),
         })?;
     }
     let mut outputs = Vec::new(alloc);

@@ -3,7 +3,7 @@
 use gate_block::switch;
 use gate_bytes::{Copied, Kept, Memory};
 use gate_chain::{Block, Chain, Header, OpeningCoin};
-use gate_tx::{Coin, OutPoint, Transaction, TxIn, TxOut, Txid};
+use gate_tx::{Coin, OutPoint, Transaction, TxIn, TxOut, Txid, Witness};
 use std::alloc::{AllocError, Global};
 use std::hash::{BuildHasherDefault, FoldHasher};
 use std::process::Abort;
@@ -33,7 +33,7 @@ fn paying(alloc: Global, prevout: OutPoint, number: u8) -> Result<Transaction, F
         prevout,
         script: script(alloc, number)?,
         sequence: 0xffff_ffff,
-        witness: Kept::from_vec(Vec::new(alloc)),
+        witness: Witness::new(alloc),
     })?;
     let mut outputs = Vec::new(alloc);
     for value in [1, 2] {

@@ -1,7 +1,7 @@
 use gate_bytes::Kept;
 use gate_chain::{Chain, OpenFault};
 use gate_locks::{is_final, sequence_locks_met};
-use gate_tx::{OutPoint, Transaction, TxIn, TxOut, Txid};
+use gate_tx::{OutPoint, Transaction, TxIn, TxOut, Txid, Witness};
 use std::alloc::{AllocError, Global};
 use std::hash::{BuildHasherDefault, FoldHasher};
 use std::process::Abort;
@@ -24,7 +24,7 @@ fn spending(
         },
         script: Kept::from_vec(Vec::new(alloc)),
         sequence,
-        witness: Kept::from_vec(Vec::new(alloc)),
+        witness: Witness::new(alloc),
     })?;
     let mut outputs = Vec::with_capacity(alloc, 1)?;
     outputs.push(TxOut {

@@ -1,5 +1,5 @@
 -- The budget, the floor and the age of entries along a run.
-use Rattle.std.proofs.Common.{◌≡◌, ◌≢◌, ◌≤◌, ℕ, List, [], ◌∷◌, All, Option, Some, None, Result, Ok, Err, refl, sym, subst, arith}
+use Rattle.std.proofs.Common.{◌≡◌, ◌≢◌, ◌≤◌, ℕ, List, [], ◌∷◌, All, Option, Some, None, Result, Ok, Err, refl, sym, ap, subst, arith}
 use Rattle.std.proofs.lemmas.List.Elements.{All-head, All-tail}
 use Rattle.gate_bytes.specs.Order.{first_failing}
 use Rattle.gate_tx.specs.Tx.{Tx}
@@ -8,6 +8,7 @@ use Rattle.gate_pool.specs.Pool.{Admitted as Entry, size_of}
 use Rattle.gate_pool.specs.Family.{entered as entered_with}
 use Rattle.gate_trim.specs.Expiry.{expired}
 use Rattle.gate_trim.proofs.Trimmings.{trim_within}
+use Rattle.gate_admit.specs.Good.{Limits}
 use Rattle.gate_admit.specs.declared.Attempt.TheVariants.{First}
 use Rattle.gate_admit.specs.Rules.{decision_of}
 use Rattle.gate_admit.specs.Standing.{Standing}
@@ -36,7 +37,7 @@ use Rattle.gate_core.specs.Steps.{step_of}
 use Rattle.gate_core.specs.World.{World, opened_world, standing_of}
 use Rattle.gate_rpc.specs.Calls.{request_of}
 use Rattle.gate_core.proofs.Calls.{call_gives}
-use Rattle.gate_core.proofs.Running.{run_same_budget}
+use Rattle.gate_core.proofs.Running.{run_same_limits}
 
 -- ---- the budget
 
@@ -92,7 +93,7 @@ run_within [] w h = h
 run_within (event ∷ events) w h = run_within events (step_of w event).1 (step_within w event h)
 
 pub run_budget : (o : Start) (events : List Event) → size_of (run_of (opened_world o) events).1.pool ≤ o.budget
-run_budget o events = subst (λ (n : ℕ). size_of (run_of (opened_world o) events).1.pool ≤ n) (run_same_budget events (opened_world o)) (run_within events (opened_world o) (omega arith))
+run_budget o events = subst (λ (n : ℕ). size_of (run_of (opened_world o) events).1.pool ≤ n) (ap (λ (l : Limits). l.budget) (run_same_limits events (opened_world o))) (run_within events (opened_world o) (omega arith))
 
 -- ---- the floor
 

@@ -21,7 +21,7 @@ use Rattle.gate_pool.proofs.Entries.{Contains-map, Contains-from_map}
 use Rattle.gate_pool.proofs.Walking.{Contains-from_filter}
 use Rattle.gate_admit.specs.declared.Attempt.TheVariants.{First}
 use Rattle.gate_admit.specs.declared.Grant.{Grant}
-use Rattle.gate_admit.specs.Good.{IsGood, IsSettled, IsUnconnected, AreApart, connected_transactions}
+use Rattle.gate_admit.specs.Good.{Limits, IsGood, IsSettled, IsUnconnected, AreApart, connected_transactions}
 use Rattle.gate_admit.specs.Rules.{decision_of}
 use Rattle.gate_admit.specs.Standing.{Standing}
 use Rattle.gate_admit.specs.Submission.{admitted, entry_of, submitted_by, submit_of}
@@ -47,10 +47,10 @@ use Rattle.gate_core.specs.Good.{IsApartFrom, IsGoodWorld, StepGives, limits_of,
 use Rattle.gate_rpc.specs.Calls.{request_of}
 use Rattle.gate_core.proofs.Calls.{call_gives}
 
-same_good : (w v : World) → v.chain ≡ w.chain → v.pool ≡ w.pool → v.budget ≡ w.budget → IsGoodWorld w → IsGoodWorld v
+same_good : (w v : World) → v.chain ≡ w.chain → v.pool ≡ w.pool → limits_of v ≡ limits_of w → IsGoodWorld w → IsGoodWorld v
 same_good w v c p b good = record {
   chain = subst IsSettled (sym c) good.chain;
-  pool = subst (λ (k : ℕ). IsGood (record { budget = k }) v.chain v.pool) (sym b) (subst (λ (h : History). IsGood (limits_of w) h v.pool) (sym c) (subst (IsGood (limits_of w) w.chain) (sym p) good.pool));
+  pool = subst (λ (l : Limits). IsGood l v.chain v.pool) (sym b) (subst (λ (h : History). IsGood (limits_of w) h v.pool) (sym c) (subst (IsGood (limits_of w) w.chain) (sym p) good.pool));
   spelled = subst (λ (l : List Admitted). (e : Admitted) → Contains l e → IsTx e.tx) (sym p) good.spelled;
 }
 
@@ -141,7 +141,7 @@ after_good : (w : World) (now : ℕ) (transaction : Option Tx) → IfSome transa
     → let s = submit_of (standing_of w) transaction now w.budget in IsGoodWorld (record w { pool = s.entries; floor = s.floor })
 after_good w now transaction told new good = record {
   chain = good.chain;
-  pool = submission_good (limits_of w) (standing_of w) transaction now new good.pool;
+  pool = submission_good (standing_of w) transaction now w.budget new good.pool;
   spelled = λ e m. ⊎_elim (λ k. entry_spelled w.pool good.spelled e.tx k) (λ k. option_spelled transaction told e.tx k)
       (Contains-append_cases (map (λ (a : Admitted). a.tx) w.pool) (option_to_list transaction) e.tx
       (submission_from (standing_of w) transaction now w.budget e.tx (Contains-map (λ (a : Admitted). a.tx) (submit_of (standing_of w) transaction now w.budget).entries e m)));
@@ -244,35 +244,35 @@ apart_stays w (SetFloor rate) settled spelled apart = tt
 apart_stays w (Turn switch on) settled spelled apart = tt
 apart_stays w (Extend disconnect now blocks) settled spelled apart = apart
 
--- no event changes the budget
-decided_budget : (w : World) (peer : ℕ) (transaction : Option Tx) (decision : Result Grant Denial) → (decided w peer transaction decision).1.budget ≡ w.budget
-decided_budget w peer None decision = refl
-decided_budget w peer (Some tx) (Ok grant) = refl
-decided_budget w peer (Some tx) (Err denial) = refl
+-- no event changes the limits
+decided_limits : (w : World) (peer : ℕ) (transaction : Option Tx) (decision : Result Grant Denial) → limits_of (decided w peer transaction decision).1 ≡ limits_of w
+decided_limits w peer None decision = refl
+decided_limits w peer (Some tx) (Ok grant) = refl
+decided_limits w peer (Some tx) (Err denial) = refl
 
-answered_budget : (w : World) (peer : ℕ) (served : Reply × World) (refusal : Option Refusal) → served.1.budget ≡ w.budget → (answered w peer served refusal).1.budget ≡ w.budget
-answered_budget w peer served (Some refusal) h = refl
-answered_budget w peer served None h = h
+answered_limits : (w : World) (peer : ℕ) (served : Reply × World) (refusal : Option Refusal) → limits_of served.1 ≡ limits_of w → limits_of (answered w peer served refusal).1 ≡ limits_of w
+answered_limits w peer served (Some refusal) h = refl
+answered_limits w peer served None h = h
 
-chained_budget : (w : World) (after : Happened) (denial : Option ChainDenial) → (chained_as w after denial).1.budget ≡ w.budget
-chained_budget w after (Some denial) = refl
-chained_budget w after None = refl
+chained_limits : (w : World) (after : Happened) (denial : Option ChainDenial) → limits_of (chained_as w after denial).1 ≡ limits_of w
+chained_limits w after (Some denial) = refl
+chained_limits w after None = refl
 
-pub step_budget : (w : World) (event : Event) → (step_of w event).1.budget ≡ w.budget
+pub step_limits : (w : World) (event : Event) → limits_of (step_of w event).1 ≡ limits_of w
 unfolding step_of
-step_budget w (Enter peer address) = answered_budget w peer (entered w peer address) (first_failing (entering_rules w.sessions peer)) refl
-step_budget w (Leave peer) = answered_budget w peer (left w peer) (first_failing (session_rules w.sessions peer)) refl
-step_budget w (Submit peer now transaction) =
+step_limits w (Enter peer address) = answered_limits w peer (entered w peer address) (first_failing (entering_rules w.sessions peer)) refl
+step_limits w (Leave peer) = answered_limits w peer (left w peer) (first_failing (session_rules w.sessions peer)) refl
+step_limits w (Submit peer now transaction) =
     let s = submit_of (standing_of w) transaction now w.budget in
-    answered_budget w peer (submitted w peer now transaction) (first_failing (submission_rules w peer transaction)) (decided_budget (record w { pool = s.entries; floor = s.floor }) peer transaction s.decision)
-step_budget w (Mempool peer) = answered_budget w peer (listed w peer) (first_failing (listing_rules w peer)) refl
-step_budget w (GetBlock peer height) = answered_budget w peer (block_given w height) (first_failing (block_rules w peer height)) refl
-step_budget w (Headers peer height) = answered_budget w peer (headers_given w height) (first_failing (headers_rules w peer height)) refl
-step_budget w (FeeFilter peer rate) = answered_budget w peer (filter_set w peer rate) (first_failing (session_rules w.sessions peer)) refl
-step_budget w (Rpc call) = call_gives (λ p. p.1.budget ≡ w.budget) w call.time call.user (request_of call.json) (λ answer. refl) (λ id transaction is. refl)
-step_budget w (SetFloor rate) = refl
-step_budget w (Turn switch on) = refl
-step_budget w (Extend disconnect now blocks) = chained_budget w (event_of (standing_of w) disconnect (present blocks) now w.budget) (first_failing (event_rules w.chain disconnect blocks))
+    answered_limits w peer (submitted w peer now transaction) (first_failing (submission_rules w peer transaction)) (decided_limits (record w { pool = s.entries; floor = s.floor }) peer transaction s.decision)
+step_limits w (Mempool peer) = answered_limits w peer (listed w peer) (first_failing (listing_rules w peer)) refl
+step_limits w (GetBlock peer height) = answered_limits w peer (block_given w height) (first_failing (block_rules w peer height)) refl
+step_limits w (Headers peer height) = answered_limits w peer (headers_given w height) (first_failing (headers_rules w peer height)) refl
+step_limits w (FeeFilter peer rate) = answered_limits w peer (filter_set w peer rate) (first_failing (session_rules w.sessions peer)) refl
+step_limits w (Rpc call) = call_gives (λ p. limits_of p.1 ≡ limits_of w) w call.time call.user (request_of call.json) (λ answer. refl) (λ id transaction is. refl)
+step_limits w (SetFloor rate) = refl
+step_limits w (Turn switch on) = refl
+step_limits w (Extend disconnect now blocks) = chained_limits w (event_of (standing_of w) disconnect (present blocks) now w.budget) (first_failing (event_rules w.chain disconnect blocks))
 
 chained_from : (w : World) (disconnect now : ℕ) (blocks : List (Option Block)) (denial : Option ChainDenial) (tx : Tx)
     → Contains (transactions_in (chained_as w (event_of (standing_of w) disconnect (present blocks) now w.budget) denial).1) tx → Contains (transactions_in w ++ block_transactions (present blocks)) tx

@@ -1,12 +1,9 @@
 -- Fee filters above all money.
-use Rattle.std.proofs.Common.{◌≡◌, ◌<◌, ◌≤◌, ℕ, Bool, true, false, not, nat_le, nat_eq, is_some, if◌then◌else◌, List, [], ◌∷◌, Option, Some, None, refl, sym, ap, ◌∙◌, arith}
+use Rattle.std.proofs.Common.{◌≡◌, ◌<◌, ◌≤◌, ℕ, Bool, true, false, not, nat_le, nat_eq, if◌then◌else◌, List, [], ◌∷◌, Some, None, refl, ap, ◌∙◌, arith}
 use Rattle.std.proofs.lemmas.Bool.{false_from_ne_true, leb-true}
 use Rattle.std.specs.Option.{option_map_or}
-use Rattle.gate_bytes.specs.Order.{first_failing}
 use Rattle.gate_tx.specs.Money.{max_money}
-use Rattle.gate_message.specs.declared.refusal.Refusal.{Refusal}
 use Rattle.gate_message.specs.declared.refusal.Refusal.TheVariants.{PeerUnknown, PeerClosed}
-use Rattle.gate_message.specs.declared.event.Event.TheVariants.{FeeFilter}
 use Rattle.gate_message.specs.declared.reply.Reply.{Reply}
 use Rattle.gate_core.specs.Sessions.{Session, session_of, rate_in, rate_after, rated}
 use Rattle.gate_core.specs.SessionLaws.{GreatRatesChangeNothing}

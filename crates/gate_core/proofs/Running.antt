@@ -9,9 +9,9 @@ use Rattle.gate_message.specs.declared.reply.Reply.{Reply}
 use Rattle.gate_core.specs.World.{World}
 use Rattle.gate_core.specs.Steps.{step_of}
 use Rattle.gate_message.specs.Spelled.{IsSpelled, transactions_of}
-use Rattle.gate_core.specs.Good.{IsGoodWorld, IsApartFrom, transactions_in}
+use Rattle.gate_core.specs.Good.{IsGoodWorld, IsApartFrom, limits_of, transactions_in}
 use Rattle.gate_core.specs.Runs.{run_of, IsRunApart, LeadsTo}
-use Rattle.gate_core.proofs.Keeping.{apart_part, apart_stays, step_budget, step_good, step_from}
+use Rattle.gate_core.proofs.Keeping.{apart_part, apart_stays, step_limits, step_good, step_from}
 
 in_first : (a b c : List Tx) (tx : Tx) → Contains (a ++ b) tx → Contains (a ++ (b ++ c)) tx
 in_first a b c tx h = subst (λ l. Contains l tx) (append_assoc a b c) (Contains-append_left (a ++ b) c tx h)
@@ -55,9 +55,9 @@ run_good (event ∷ events) w spelled apart good =
     run_good events (step_of w event).1 (All-tail IsSpelled event events spelled) (apart_rest w event events apart)
     (step_good w event told (apart_stays w event good.chain told (apart_first w event events apart)) good)
 
-pub run_same_budget : (events : List Event) (w : World) → (run_of w events).1.budget ≡ w.budget
-run_same_budget [] w = refl
-run_same_budget (event ∷ events) w = run_same_budget events (step_of w event).1 ∙ step_budget w event
+pub run_same_limits : (events : List Event) (w : World) → limits_of (run_of w events).1 ≡ limits_of w
+run_same_limits [] w = refl
+run_same_limits (event ∷ events) w = run_same_limits events (step_of w event).1 ∙ step_limits w event
 
 pub steps_give_the_run : (w : World) (events : List Event) (replies : List Reply) (end : World) → IsGoodWorld w → IsRunApart w events → LeadsTo w events replies end
     → ((replies, end) ≡ run_of w events) × IsGoodWorld end

@@ -6,6 +6,7 @@ use Rattle.gate_message.specs.declared.switch.Switch.TheVariants.{Download}
 use Rattle.gate_message.specs.declared.refusal.Then.TheVariants.{Keep, Close, Relay}
 use Rattle.gate_message.specs.declared.refusal.Refusal.TheVariants.{PeerUnknown, PeerClosed, PeerKnown, BlocksOnly, AlreadyInMempool, MempoolNoBloom, MempoolUploadTarget, HeadersDuringDownload, UnknownBlock, HistoricalUploadTarget, Admission}
 use Rattle.gate_message.specs.declared.reply.Reply.TheVariants.{Entered, Left, Listing, Block, Headers, Filter, Rpc, Denied, Set}
+use Rattle.gate_admit.specs.Policies.{usual_policy}
 use Rattle.gate_net.specs.Addresses.{V4}
 use Rattle.gate_net.specs.Permissions.{Permissions, no_permissions, permissions_text}
 use Rattle.gate_core.specs.Switching.{unswitched}
@@ -33,6 +34,7 @@ with_sessions bloom sessions = record {
   floor = 0;
   sessions = sessions;
   budget = 0;
+  policy = usual_policy;
   verdicts = record { rows = []; other = None };
   whitelist = record { entries = []; relay = true; forcerelay = false };
   rpcwhitelist = record { entries = []; is_default_on = false };

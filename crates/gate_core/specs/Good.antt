@@ -3,7 +3,7 @@ use Rattle.std.specs.Prelude.{◌≡◌, List, ◌++◌, map, Contains}
 use Rattle.gate_tx.specs.Text.{IsTx}
 use Rattle.gate_tx.specs.Tx.{Tx}
 use Rattle.gate_pool.specs.Pool.{Admitted}
-use Rattle.gate_admit.specs.Good.{Limits, IsGood, IsSettled, AreApart, connected_transactions}
+use Rattle.gate_admit.specs.Good.{Limits, IsGood, IsSettled, AreApart, connected_transactions, limits_for}
 use Rattle.gate_message.specs.declared.event.Event.{Event}
 use Rattle.gate_message.specs.declared.reply.Reply.{Reply}
 use Rattle.gate_message.specs.Spelled.{transactions_of}
@@ -12,7 +12,7 @@ use Rattle.gate_core.specs.Steps.{step_of}
 
 -- what the pool of a state may hold
 abbrev pub limits_of : World → Limits
-limits_of w = record { budget = w.budget }
+limits_of w = limits_for w.policy w.budget
 
 -- the connected blocks are well formed, the pool is good over the chain, and each entry's transaction has a text
 pub record IsGoodWorld (w : World) : Type 0 where

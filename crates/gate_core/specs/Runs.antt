@@ -8,6 +8,7 @@ use Rattle.gate_pool.specs.Pool.{Admitted as Entry, spent_by, listing_of, size_o
 use Rattle.gate_trim.specs.Laws.{IsYoung}
 use Rattle.gate_admit.specs.Coins.{view_coin}
 use Rattle.gate_admit.specs.Good.{AreApart, IsLimited}
+use Rattle.gate_admit.specs.Policies.{Policy}
 use Rattle.gate_message.specs.declared.caller.Caller.TheVariants.{Operator}
 use Rattle.gate_message.specs.declared.event.Event.{Event}
 use Rattle.gate_message.specs.declared.event.Event.TheVariants.{Tx as Submit, Mempool, Rpc as Calls}
@@ -84,14 +85,14 @@ abbrev pub RunsKeepThePoolSound : Type 0
 RunsKeepThePoolSound = (o : Start) (events : List Event)
     → SpendsOnce (run_of (opened_world o) events).1.pool × ListsThePool (opened_world o) events × AnswersThePool (opened_world o) events
 
--- each outpoint that an entry spends has a coin, and the ancestors and descendants of each entry are within the limits
-pub record KeepsFamilies (w : World) : Type 0 where
+-- each outpoint that an entry spends has a coin, and the ancestors and descendants of each entry are within the limits of a policy
+pub record KeepsFamilies (policy : Policy) (w : World) : Type 0 where
   pub coins : All (λ (p : OutPoint). IsSome (view_coin w.chain w.pool p)) (spent_by w.pool)
-  pub limited : All (λ (e : Entry). IsLimited w.pool (txid_of e.tx)) w.pool
+  pub limited : All (λ (e : Entry). IsLimited policy w.pool (txid_of e.tx)) w.pool
 
--- so it is after any events, from any opening, where their transactions are told apart by their ids
+-- so it is after any events, from any opening, by the opening's policy, where their transactions are told apart by their ids
 abbrev pub RunsKeepFamilies : Type 0
-RunsKeepFamilies = (o : Start) (events : List Event) → All IsSpelled events → IsRunApart (opened_world o) events → KeepsFamilies (run_of (opened_world o) events).1
+RunsKeepFamilies = (o : Start) (events : List Event) → All IsSpelled events → IsRunApart (opened_world o) events → KeepsFamilies o.policy (run_of (opened_world o) events).1
 
 -- after any events, from any opening, the entries are within the opening's budget
 abbrev pub RunsKeepTheBudget : Type 0

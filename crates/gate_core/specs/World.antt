@@ -1,6 +1,7 @@
 -- What a state is: the chain, the pool over it with its floor, the sessions of peers, and the settings.
 use Rattle.std.specs.Prelude.{ℕ, Bool, List, []}
 use Rattle.gate_chain.specs.History.{History, opened}
+use Rattle.gate_admit.specs.Policies.{Policy}
 use Rattle.gate_admit.specs.Standing.{Standing, standing}
 use Rattle.gate_admit.specs.Verdicts.{VerdictTable}
 use Rattle.gate_pool.specs.Pool.{Admitted}
@@ -20,6 +21,7 @@ pub record World : Type 0 where
   pub floor : ℕ
   pub sessions : List Session
   pub budget : ℕ
+  pub policy : Policy
   pub verdicts : VerdictTable
   pub whitelist : Whitelist
   pub rpcwhitelist : Lists
@@ -28,7 +30,7 @@ pub record World : Type 0 where
 
 -- what submissions are judged over
 abbrev pub standing_of : World → Standing
-standing_of w = standing w.chain w.pool w.floor w.verdicts
+standing_of w = standing w.chain w.pool w.floor w.verdicts w.policy
 
 -- the flags of a peer that enters from this address
 abbrev pub flags_at : World → Address → Permissions
@@ -42,6 +44,7 @@ opened_world o = record {
   floor = 0;
   sessions = [];
   budget = o.budget;
+  policy = o.policy;
   verdicts = o.verdicts;
   whitelist = o.whitelist;
   rpcwhitelist = o.rpcwhitelist;

@@ -152,6 +152,7 @@ impl<S: BuildHasher + Copy + Drop> Parts<S> {
             &self.pool,
             &self.floor,
             self.verdicts.get(),
+            &self.policy,
             transaction,
         )?;
         telling(alloc, id, outcome)
@@ -178,6 +179,7 @@ impl<S: BuildHasher + Copy + Drop> Parts<S> {
             chain: &self.chain,
             floor: &self.floor,
             verdicts: self.verdicts.get(),
+            policy: &self.policy,
             second: now,
             budget: self.budget,
         };

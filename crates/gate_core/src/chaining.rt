@@ -29,6 +29,7 @@ impl<S: BuildHasher + Copy + Drop> Parts<S> {
             &mut self.pool,
             &mut self.floor,
             self.verdicts.get(),
+            &self.policy,
             disconnect,
             blocks,
             now,

@@ -78,7 +78,8 @@ pub fn runs_keep_the_pool_sound()
 {}
 
 /// After any events whose transactions are told apart by their ids, from any opening: each input of each entry has a coin,
-/// and each entry has at most 25 ancestors of 101,000 virtual bytes and 26 descendants of 111,000, itself among each.
+/// and each entry has at most as many ancestors as the opening's policy says, or 2, of 101,000 virtual bytes, and one
+/// descendant more than it says, of 111,000, itself among each.
 pub fn runs_keep_families()
     ensures { RunsKeepFamilies }
 {}

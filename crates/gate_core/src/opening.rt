@@ -1,5 +1,5 @@
 //! What a gate is opened with.
-use gate_admit::{OpeningCoin, Verdicts};
+use gate_admit::{OpeningCoin, Policy, Verdicts};
 use gate_bytes::Kept;
 use gate_net::Whitelist;
 use gate_rpc::RpcWhitelist;
@@ -11,6 +11,8 @@ use std::marker::Model;
 pub struct Opening<S: BuildHasher + Copy + Drop> {
     /// The most virtual bytes that the pool may hold.
     pub budget: u64,
+    /// What is asked of families and of replacements.
+    pub policy: Policy,
     pub coins: Kept<OpeningCoin>,
     /// The times of the blocks in seconds, from height 0 on.
     pub times: Kept<u32>,
@@ -32,6 +34,7 @@ impl<S: BuildHasher + Copy + Drop> Model for Opening<S> {
 
     ghost view = { λ o. record {
       budget = o.budget;
+      policy = o.policy;
       coins = o.coins;
       times = o.times;
       verdicts = o.verdicts;

@@ -14,7 +14,7 @@ use crate::planning::{Change, Plan};
 use crate::session::Sessions;
 use crate::submitting::standing_for;
 use crate::switches::Switches;
-use gate_admit::{Chain, Coming, Floor, Pool, Prepared, Verdicts, commit_submission};
+use gate_admit::{Chain, Coming, Floor, Policy, Pool, Prepared, Verdicts, commit_submission};
 use gate_bytes::{Copied, Counted, Memory};
 use gate_message::{Event, Reply};
 use gate_net::Whitelist;
@@ -31,6 +31,7 @@ pub(crate) struct Parts<S: BuildHasher + Copy + Drop> {
     pub(crate) floor: Floor,
     pub(crate) sessions: Sessions,
     pub(crate) budget: u64,
+    pub(crate) policy: Policy,
     /// They never change, so copies share them.
     pub(crate) verdicts: Counted<Verdicts<S>>,
     pub(crate) whitelist: Whitelist,
@@ -174,6 +175,7 @@ impl<S: BuildHasher + Copy + Drop> Parts<S> {
                 floor: self.floor,
                 sessions,
                 budget: self.budget,
+                policy: self.policy,
                 verdicts,
                 whitelist,
                 rpcwhitelist,

@@ -191,6 +191,7 @@ impl<S: BuildHasher + Copy + Drop> Parts<S> {
             chain: &self.chain,
             floor: &self.floor,
             verdicts: self.verdicts.get(),
+            policy: &self.policy,
             second: now,
             budget: self.budget,
         };

@@ -20,7 +20,7 @@ use crate::parts::Parts;
 use crate::planning::Plan;
 use crate::session::{Session, Sessions};
 use crate::switches::Switches;
-use gate_admit::{Chain, Floor, OpenFault, OpeningCoin, Pool, Prepared, Verdicts};
+use gate_admit::{Chain, Floor, OpenFault, OpeningCoin, Policy, Pool, Prepared, Verdicts};
 use gate_bytes::{Counted, Kept, Memory};
 use gate_chain::{Block, ChainDenial};
 use gate_message::{Event, Replies, Reply};
@@ -88,6 +88,7 @@ impl<S: BuildHasher + Copy + Drop> State<S> {
     {
         let Opening {
             budget,
+            policy,
             coins,
             times,
             verdicts,
@@ -107,6 +108,7 @@ impl<S: BuildHasher + Copy + Drop> State<S> {
                     floor: Floor::new(0),
                     sessions: Sessions::new(alloc),
                     budget,
+                    policy,
                     verdicts,
                     whitelist,
                     rpcwhitelist,
@@ -284,6 +286,13 @@ impl<S: BuildHasher + Copy + Drop> State<S> {
         ensures { result ≡ self.now.budget }
     {
         self.parts.budget
+    }
+
+    /// What is asked of families and of replacements.
+    pub fn policy(&self) -> &Policy
+        ensures { result.now ≡ self.now.policy }
+    {
+        &self.parts.policy
     }
 
     pub fn verdicts(&self) -> &Verdicts<S>

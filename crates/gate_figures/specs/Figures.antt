@@ -1,5 +1,5 @@
 -- What decides that a transaction is denied, in numbers.
-use Rattle.std.specs.Prelude.{ℕ, ◌+◌, ◌-◌, ◌^◌, nat_lt, Bool, true, false, if◌then◌else◌, List, [], ◌∷◌, length, is_none, Option, Some, None}
+use Rattle.std.specs.Prelude.{ℕ, ◌+◌, ◌-◌, ◌^◌, nat_le, nat_lt, Bool, true, false, if◌then◌else◌, List, [], ◌∷◌, length, is_none, Option, Some, None}
 use Rattle.std.specs.Option.{option_or}
 use Rattle.gate_tx.specs.declared.Coin.{Coin}
 use Rattle.gate_tx.specs.declared.TxIn.{TxIn}
@@ -20,6 +20,7 @@ use Rattle.gate_rbf.specs.Replacing.{descendant_count, incremental_relay_rate, s
 use Rattle.gate_admit.specs.declared.verdicts.Verdict.{Verdict}
 use Rattle.gate_admit.specs.declared.verdicts.Verdict.TheVariants.{Good}
 use Rattle.gate_admit.specs.Coins.{coins_of, view_coin}
+use Rattle.gate_admit.specs.Policies.{Policy, most_ancestors}
 use Rattle.gate_admit.specs.Reports.{reported, sigop_cost, vsize_of}
 use Rattle.gate_admit.specs.Rules.{coins_value, is_immature, min_relay_rate, outputs_value}
 use Rattle.gate_admit.specs.Standing.{Standing}
@@ -120,12 +121,16 @@ pays_above gone fee (Some vsize) = Some (Above fee gone (required_fee incrementa
 
 -- ---- families
 
+-- how many ancestors a transaction of this size may have by one of the two tries, itself among them
+abbrev pub allowed_ancestors : Policy → ℕ → ℕ
+allowed_ancestors policy vsize = if nat_le vsize 10000 then most_ancestors policy else policy.ancestors
+
 -- the transaction's ancestors and itself, where they are too many, or too large
-abbrev pub crowded : List Admitted → Option ℕ → Option Figures
-crowded above None = None
-crowded above (Some vsize) =
-    if nat_lt 25 (length above + 1)
-    then Some (Ancestors (length above + 1))
+abbrev pub crowded : Policy → List Admitted → Option ℕ → Option Figures
+crowded policy above None = None
+crowded policy above (Some vsize) =
+    if nat_lt (allowed_ancestors policy vsize) (length above + 1)
+    then Some (Ancestors (length above + 1) (allowed_ancestors policy vsize))
     else if nat_lt 101000 (size_of above + vsize) then Some (AncestorsSized (size_of above + vsize)) else None
 
 -- ---- verdicts
@@ -148,7 +153,7 @@ paying_figures over tx InBelowOut = Some (Balance (coins_at over.chain over.entr
 paying_figures over tx TooManySigops = Some (Costs (cost_at over.chain over.entries tx))
 paying_figures over tx MempoolMinFee = pays over.floor (fee_at over.chain over.entries tx) (vsize_at over.chain over.entries tx)
 paying_figures over tx MinRelayFee = pays min_relay_rate (fee_at over.chain over.entries tx) (vsize_at over.chain over.entries tx)
-paying_figures over tx TooLongChain = crowded (ancestors_above over.entries tx.inputs) (vsize_at over.chain over.entries tx)
+paying_figures over tx TooLongChain = crowded over.policy (ancestors_above over.entries tx.inputs) (vsize_at over.chain over.entries tx)
 paying_figures over tx LowerFeeRate = outpaid_at over.entries (rate_at (fee_at over.chain over.entries tx) (vsize_at over.chain over.entries tx)) tx.inputs
 paying_figures over tx LowerFee = Some (Pays (fee_at over.chain over.entries tx) (fees_of (replaced_of over.entries tx)))
 paying_figures over tx LowerDifference = pays_above (fees_of (replaced_of over.entries tx)) (fee_at over.chain over.entries tx) (vsize_at over.chain over.entries tx)

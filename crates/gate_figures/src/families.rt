@@ -1,12 +1,13 @@
 //! The families of a transaction: its ancestors, and what it would replace.
-ghost use Rattle.std.specs.Prelude.{◌≡◌, Bool, IfOk, filter};
-ghost use Rattle.gate_pool.specs.Family.{AreIdsOf, ancestors_above, conflicts_of, fees_of, replaced_of};
+ghost use Rattle.std.specs.Prelude.{◌≡◌, Bool, IfOk, filter, length};
+ghost use Rattle.gate_pool.specs.Family.{AreIdsOf, ancestors_above, conflicts_of, descendants_of, fees_of, replaced_of};
 ghost use Rattle.gate_pool.specs.Pool.{Admitted};
+ghost use Rattle.gate_pool.specs.Search.{IsEntry};
 ghost use Rattle.gate_rbf.specs.Replacing.{descendant_count};
-ghost use Rattle.gate_figures.specs.Figures.{crowded};
+ghost use Rattle.gate_figures.specs.Figures.{allowed_ancestors, crowded};
 
 use crate::figures::Figures;
-use gate_admit::Pool;
+use gate_admit::{Policy, Pool};
 use gate_bytes::Memory;
 use gate_pool::{add_up, ancestors, descendants};
 use gate_rbf::conflicts;
@@ -14,20 +15,33 @@ use gate_tx::{Transaction, TxIn, Txid};
 use std::alloc::Global;
 use std::hash::BuildHasher;
 
-/// How many ancestors there may be, with the transaction itself (Bitcoin Core's `DEFAULT_ANCESTOR_LIMIT`).
-const MOST_ANCESTORS: u128 = 25;
-
-/// The most virtual bytes of these (Bitcoin Core's `DEFAULT_ANCESTOR_SIZE_LIMIT`).
+/// The most virtual bytes of ancestors, with the transaction itself (Bitcoin Core's `DEFAULT_ANCESTOR_SIZE_LIMIT`).
 const MOST_ANCESTORS_SIZE: u128 = 101_000;
+
+/// How large a transaction may be for the second try (Bitcoin Core's `EXTRA_DESCENDANT_TX_SIZE_LIMIT`).
+const CARVE_OUT_VSIZE: u64 = 10_000;
+
+/// How many ancestors a transaction of this size may have, itself among them: a small one may have a parent in any case, by
+/// the second try.
+fn allowed_ancestors(policy: &Policy, vsize: u64) -> usize
+    ensures { result ≡ allowed_ancestors policy.now vsize }
+{
+    if vsize <= CARVE_OUT_VSIZE {
+        policy.ancestors().max(2)
+    } else {
+        policy.ancestors()
+    }
+}
 
 /// The ancestors of a transaction with these inputs, and itself, where they are too many or too large.
 pub(crate) fn crowded<S: BuildHasher + Copy + Drop>(
     alloc: Global,
+    policy: &Policy,
     pool: &Pool<S>,
     inputs: &[TxIn],
     vsize: Option<u64>,
 ) -> Result<Option<Figures>, Memory>
-    ensures { IfOk result (λ found. found ≡ crowded (ancestors_above pool.now.entries inputs.now) vsize) }
+    ensures { IfOk result (λ found. found ≡ crowded policy.now (ancestors_above pool.now.entries inputs.now) vsize) }
 {
     let Some(vsize) = vsize else {
         return Ok(None);
@@ -36,8 +50,9 @@ pub(crate) fn crowded<S: BuildHasher + Copy + Drop>(
     let above = found.unwrap();
     let sums = add_up(pool, above.as_slice());
     let count = sums.count as u128 + 1;
-    if count > MOST_ANCESTORS {
-        return Ok(Some(Figures::Ancestors { count }));
+    let most = allowed_ancestors(policy, vsize);
+    if count > most as u128 {
+        return Ok(Some(Figures::Ancestors { count, most }));
     }
     let size = sums.size + u128::from(vsize);
     if size > MOST_ANCESTORS_SIZE {
@@ -60,23 +75,26 @@ pub(crate) fn fees_gone<S: BuildHasher + Copy + Drop>(
     Ok(add_up(pool, gone.as_slice()).fees)
 }
 
-/// How many descendants entries have together, given by their ids, themselves among them.
-fn count_below<S: BuildHasher + Copy + Drop>(
-    alloc: Global,
-    pool: &Pool<S>,
-    ids: &[Txid],
-) -> Result<u128, Memory>
+/// How many are below the entry of an id, itself among them, as the pool keeps it.
+fn count_below<S: BuildHasher + Copy + Drop>(pool: &Pool<S>, id: &Txid) -> u64
+    requires { IsEntry pool.now.entries id.now }
+    ensures { result ≡ length (descendants_of pool.now.entries id.now) }
+{
+    pool.totals(id).unwrap().below.count
+}
+
+/// How many descendants entries have together, given by their ids, themselves among them. An entry below two of them counts
+/// twice.
+fn count_below_all<S: BuildHasher + Copy + Drop>(pool: &Pool<S>, ids: &[Txid]) -> u128
     requires { (test : Admitted → Bool) × AreIdsOf ids.now (filter test pool.now.entries) }
-    ensures { (test : Admitted → Bool) → AreIdsOf ids.now (filter test pool.now.entries) → IfOk result (λ count. count ≡ descendant_count pool.now.entries (filter test pool.now.entries)) }
+    ensures { (test : Admitted → Bool) → AreIdsOf ids.now (filter test pool.now.entries) → result ≡ descendant_count pool.now.entries (filter test pool.now.entries) }
 {
     pool.tells_distinct();
     let mut sum: u128 = 0;
     for id in ids {
-        let found = descendants(alloc, pool, &[*id], pool.count())?;
-        let family = found.unwrap();
-        sum += family.len() as u128;
+        sum += u128::from(count_below(pool, id));
     }
-    Ok(sum)
+    sum
 }
 
 /// How many descendants the entries have that a transaction conflicts with, themselves among them.
@@ -88,5 +106,5 @@ pub(crate) fn descendant_count<S: BuildHasher + Copy + Drop>(
     ensures { IfOk result (λ count. count ≡ descendant_count pool.now.entries (conflicts_of pool.now.entries tx.now)) }
 {
     let ids = conflicts(alloc, pool, tx)?;
-    count_below(alloc, pool, ids.as_slice())
+    Ok(count_below_all(pool, ids.as_slice()))
 }

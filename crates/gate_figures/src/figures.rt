@@ -59,9 +59,10 @@ pub enum Figures {
         fee: u128,
         needs: u128,
     },
-    /// How many ancestors it would have, with itself.
+    /// How many ancestors it would have, and how many a transaction of its size may have, with itself among each.
     Ancestors {
         count: u128,
+        most: usize,
     },
     /// What its ancestors and itself would take, in virtual bytes.
     AncestorsSized {
@@ -132,7 +133,9 @@ impl fmt::Display for Figures {
             }
             Figures::Costs { cost } => write!(f, "cost {cost}, 16000 allowed"),
             Figures::Pays { fee, needs } => write!(f, "pays {fee}, needs {needs}"),
-            Figures::Ancestors { count } => write!(f, "{count} ancestors, 25 allowed"),
+            Figures::Ancestors { count, most } => {
+                write!(f, "{count} ancestors, {most} allowed")
+            },
             Figures::AncestorsSized { size } => write!(
                 f,
                 "ancestors of {size} virtual bytes, 101000 allowed"

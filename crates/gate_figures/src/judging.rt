@@ -17,7 +17,7 @@ use crate::figures::Figures;
 use crate::outputs::dust;
 use crate::rivals::{firm, outpaid_at, rate_at};
 use crate::verdicts::doubted;
-use gate_admit::{Chain, Grant, Prepared, judge};
+use gate_admit::{Chain, Prepared, judge};
 use gate_bytes::Memory;
 use gate_core::{Event, State, submission};
 use gate_standard::Denial;
@@ -57,7 +57,7 @@ fn paying_figures<S: BuildHasher + Copy + Drop>(
         Denial::TooManySigops => Ok(Some(Figures::Costs { cost: price.cost })),
         Denial::MempoolMinFee => Ok(pays(state.floor().rate(), price.fee, price.vsize)),
         Denial::MinRelayFee => Ok(pays(MIN_RELAY_RATE, price.fee, price.vsize)),
-        Denial::TooLongChain => crowded(alloc, pool, inputs, price.vsize),
+        Denial::TooLongChain => crowded(alloc, state.policy(), pool, inputs, price.vsize),
         Denial::LowerFeeRate => Ok(outpaid_at(pool, inputs, rate_at(price.fee, price.vsize))),
         Denial::LowerFee => Ok(Some(Figures::Pays {
             fee: price.fee,
@@ -144,6 +144,7 @@ fn explain_submission<S: BuildHasher + Copy + Drop>(
         state.floor(),
         prepared,
         state.verdicts(),
+        state.policy(),
     )?;
     match decision {
         Ok(grant) => Ok(Ok(grant)),

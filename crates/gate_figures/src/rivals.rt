@@ -1,7 +1,6 @@
 //! The entries that spend what a transaction spends, and don't give way.
 ghost use Rattle.std.specs.Prelude.{◌≡◌, ◌<◌, IfSome};
 ghost use Rattle.std.specs.Option.{option_copied};
-ghost use Rattle.gate_pool.specs.Pool.{spender_of};
 ghost use Rattle.gate_figures.specs.Figures.{firm, firm_by, outpaid, outpaid_at, outpaid_by, rate_at};
 
 use crate::figures::Figures;

@@ -7,8 +7,10 @@ pub mod Between
 pub mod Removal
 pub mod Root
 pub mod Indexing
+pub mod Closing
 pub mod Counting
 pub mod Placing
+pub mod Ranks
 pub mod Finding
 pub mod Marking
 pub mod Holdings
@@ -33,3 +35,6 @@ pub mod Searching
 pub mod Ordering
 pub mod Faultless
 pub mod Joining
+pub mod Childhood
+pub mod Least
+pub mod Copying

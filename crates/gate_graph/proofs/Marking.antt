@@ -3,9 +3,9 @@ use Rattle.std.proofs.Common.{◌≡◌, ◌≢◌, ℕ, zero, suc, ◌<◌, ◌
 use Rattle.std.specs.Prelude.{Contains, slice_set, filter, ◌==◌}
 use Rattle.std.specs.Str.{bytes_eq}
 use Rattle.std.specs.Option.{unwrap_or}
-use Rattle.std.proofs.lemmas.Bool.{eqb-true, eq-eqb, or_parts, and_parts, false_from_ne_true, not-true, cases_eq}
+use Rattle.std.proofs.lemmas.Bool.{eqb-true, eq-eqb, or_parts, and_parts, false_from_ne_true, not-true, cases_eq, cases_lt}
 use Rattle.std.proofs.lemmas.Option.{same_Some}
-use Rattle.std.proofs.lemmas.List.{get_or-set_other, get_or-set_same, length-set, length-map, length-append}
+use Rattle.std.proofs.lemmas.List.{get_or-set_other, get_or-set_same, get_or-take, get_or_past, length-set, length-map, length-append, length-take-le}
 use Rattle.std.proofs.lemmas.List.Elements.{Contains-append_cases, Contains-append_left, Contains-append_right, Contains-get_or}
 use Rattle.gate_graph.specs.Family.{Node}
 use Rattle.gate_graph.specs.Families.{among, has}
@@ -228,3 +228,14 @@ module _ (spots : Spots) (place : ℕ) where
         ap is_some (kept_at p (not-true _ w.1)) ∙ a.stand p w.0;
     once = left_once places a.once;
   }
+
+-- marks of fewer slots
+pub clear_take : (n m : ℕ) (marks : List Bool) → AreClear n marks → m ≤ n → AreClear m (take m marks)
+clear_take n m marks h le = record {
+  len = length-take-le m marks (omega (arith, h.len));
+  clear = λ p. by p (cases_lt p m);
+}
+  where
+    by : (p : ℕ) → (p < m) ⊎ (m ≤ p) → get_or (take m marks) p false ≡ false
+    by p (inl lt) = get_or-take m marks p false lt ∙ h.clear p
+    by p (inr past) = get_or_past (take m marks) p false (omega (arith, length-take-le m marks (omega (arith, h.len))))

@@ -54,7 +54,7 @@ still_found xs [] z c = c
 still_found xs (y ∷ ys) z c = still_found (insert_key bytes_eq xs y) ys z (by_new (λ l. Contains l z) xs y (λ _. c) (λ _. Contains-append_left xs (y ∷ []) z c))
 
 -- what is inserted is found
-inserted_found : (xs ys : List Id) (z : Id) → Contains ys z → Contains (insert_all bytes_eq xs ys) z
+pub inserted_found : (xs ys : List Id) (z : Id) → Contains ys z → Contains (insert_all bytes_eq xs ys) z
 inserted_found xs [] z c = not_in_none z c
 inserted_found xs (y ∷ ys) z c =
     elim (Contains-cons_cases y ys z c) [
@@ -63,7 +63,7 @@ inserted_found xs (y ∷ ys) z c =
     ]
 
 -- what is found afterwards was found, or is inserted
-found_before : (P : Id → Type 0) (xs ys : List Id) → ((z : Id) → Contains xs z → P z) → ((z : Id) → Contains ys z → P z) → (z : Id) → Contains (insert_all bytes_eq xs ys) z → P z
+pub found_before : (P : Id → Type 0) (xs ys : List Id) → ((z : Id) → Contains xs z → P z) → ((z : Id) → Contains ys z → P z) → (z : Id) → Contains (insert_all bytes_eq xs ys) z → P z
 found_before P xs [] h k z c = h z c
 found_before P xs (y ∷ ys) h k z c =
     found_before P (insert_key bytes_eq xs y) ys

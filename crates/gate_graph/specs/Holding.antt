@@ -24,6 +24,13 @@ module _ {T : Type 0} where
   abbrev pub loaded : List (Held T) → List (Node × T)
   loaded hs = map (λ h. (node_of h, h.load)) hs
 
+  -- a node as it is seen: with its totals, and with what it carries
+  abbrev pub seen : Held T → Node × Totals × T
+  seen h = (node_of h, h.totals, h.load)
+
+  abbrev pub seen_of : List (Held T) → List (Node × Totals × T)
+  seen_of hs = map seen hs
+
   -- a node with other totals
   abbrev pub with_totals : Totals → Held T → Held T
   with_totals totals h = record h { totals = totals }
@@ -88,10 +95,11 @@ pub record HasSpot (room spare len capacity : ℕ) : Type 0 where
   pub place : 0 < room → 0 < spare
   pub slot : 0 < room → len < capacity
 
--- a graph: its nodes in the order of adding, each with what it carries, and the room that was taken beforehand: a node that
--- names fewer than `room` is put without memory
+-- a graph: its nodes in the order of adding, each with what it carries, which id stands at each place, and the room that was
+-- taken beforehand: a node that names fewer than `room` is put without memory
 pub record Carried (T : Type 0) : Type 0 where
   pub nodes : List (Node × T)
+  pub places : List (Option (List ℕ))
   pub room : ℕ
 
 -- what a node carries

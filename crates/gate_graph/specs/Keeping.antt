@@ -37,3 +37,9 @@ AreKept slots lists scratch room =
     IsKept slots.held lists (vec_capacity scratch.found) (vec_capacity scratch.above)
     × HasRoom room slots.room lists.room (length slots.held) (vec_capacity scratch.found) (vec_capacity scratch.above)
     × HasMarks room (length slots.spots) scratch.marks.items (vec_capacity scratch.marks)
+
+-- what walks over so many slots write into, of which so many hold a node
+pub record IsScratchFor (slots count : ℕ) (scratch : Scratch) : Type 0 where
+  pub marks : AreClear slots scratch.marks.items
+  pub found : count ≤ vec_capacity scratch.found
+  pub above : count ≤ vec_capacity scratch.above

@@ -1,29 +1,48 @@
 //! The same nodes again, in memory of their own.
-ghost use Rattle.std.specs.Prelude.{◌≡◌, ◌++◌, ◌∷◌, [], false, true, Some, OnOk};
+ghost use Rattle.std.specs.Prelude.{◌≡◌, ◌<◌, ◌+◌, ◌^◌, ◌++◌, ◌∷◌, [], Some, false, true, sum_by, OnOk, IfOk};
 ghost use Rattle.gate_graph.specs.declared.held.Held.{Held as Kept};
 ghost use Rattle.gate_graph.specs.Families.{are_apart, has};
-ghost use Rattle.gate_graph.specs.Holding.{loaded, node_of, nodes_in, nodes_of};
+ghost use Rattle.gate_graph.specs.Holding.{nodes_of, seen, seen_of};
+ghost use Rattle.gate_graph.specs.Keeping.{IsScratchFor};
+ghost use Rattle.gate_graph.specs.Linking.{IsLinked};
 ghost use Rattle.gate_graph.specs.Slots.{entries_of};
+ghost use Rattle.gate_graph.specs.Walking.{AreClear};
 
 use crate::held::Held;
-use crate::nodes::Nodes;
+use crate::links::Links;
+use crate::put::link;
+use crate::slots::Slots;
+use crate::walk::Scratch;
 use gate_bytes::{Copied, Memory};
 use std::alloc::Global;
 use std::hash::BuildHasher;
 
-/// Puts a copy of a node behind others.
+/// Puts a copy of a node behind others, with its totals as they are.
 fn put_copy<T: Copied, S: BuildHasher + Copy + Drop>(
     alloc: Global,
     held: &Held<T>,
-    copy: &mut Nodes<T, S>,
+    slots: &mut Slots<T, S>,
+    links: &mut Links<S>,
 ) -> Result<(), Memory>
-    requires { has (nodes_in copy.old.nodes) held.now.id ≡ false }
-    ensures { OnOk result (copy.new.nodes ≡ copy.old.nodes ++ (node_of held.now, held.now.load) ∷ []) }
+    requires new { has (nodes_of slots.old.held) held.now.id ≡ false }
+    requires fits { sum_by (λ n. n.size) (nodes_of slots.old.held) + held.now.size < 2 ^ 128 }
+    requires linked { IsLinked (nodes_of slots.old.held) links.old }
+    ensures copied { OnOk result (seen_of slots.new.held ≡ seen_of slots.old.held ++ seen held.now ∷ []) }
+    ensures linked { OnOk result (IsLinked (nodes_of slots.new.held) links.new) }
 {
     let parents = Vec::from_slice(alloc, held.parents.as_slice())?;
     let load = held.load.copy(alloc)?;
-    copy.reserve(parents.len())?;
-    copy.put(held.id, parents, held.size, held.fee, load);
+    slots.reserve()?;
+    links.reserve(parents.len())?;
+    link(links, parents.as_slice(), &held.id);
+    let _place = slots.put(Held {
+        id: held.id,
+        size: held.size,
+        fee: held.fee,
+        parents,
+        totals: held.totals,
+        load,
+    });
     Ok(())
 }
 
@@ -31,13 +50,17 @@ fn put_copy<T: Copied, S: BuildHasher + Copy + Drop>(
 fn copy_slot<T: Copied, S: BuildHasher + Copy + Drop>(
     alloc: Global,
     slot: &Option<Held<T>>,
-    copy: &mut Nodes<T, S>,
+    slots: &mut Slots<T, S>,
+    links: &mut Links<S>,
 ) -> Result<(), Memory>
-    requires { (h : Kept T) → slot.now ≡ Some h → has (nodes_in copy.old.nodes) h.id ≡ false }
-    ensures { OnOk result (copy.new.nodes ≡ copy.old.nodes ++ loaded (entries_of (slot.now ∷ []))) }
+    requires new { (h : Kept T) → slot.now ≡ Some h → has (nodes_of slots.old.held) h.id ≡ false }
+    requires fits { (h : Kept T) → slot.now ≡ Some h → sum_by (λ n. n.size) (nodes_of slots.old.held) + h.size < 2 ^ 128 }
+    requires linked { IsLinked (nodes_of slots.old.held) links.old }
+    ensures copied { OnOk result (seen_of slots.new.held ≡ seen_of slots.old.held ++ seen_of (entries_of (slot.now ∷ []))) }
+    ensures linked { OnOk result (IsLinked (nodes_of slots.new.held) links.new) }
 {
     match slot {
-        Some(held) => put_copy(alloc, held, copy),
+        Some(held) => put_copy(alloc, held, slots, links),
         None => Ok(()),
     }
 }
@@ -45,15 +68,43 @@ fn copy_slot<T: Copied, S: BuildHasher + Copy + Drop>(
 /// The same for each slot.
 pub(crate) fn copy_each<T: Copied, S: BuildHasher + Copy + Drop>(
     alloc: Global,
-    slots: &[Option<Held<T>>],
-    copy: &mut Nodes<T, S>,
+    from: &[Option<Held<T>>],
+    slots: &mut Slots<T, S>,
+    links: &mut Links<S>,
 ) -> Result<(), Memory>
-    requires apart { are_apart (nodes_of (entries_of slots.now)) ≡ true }
-    requires empty { copy.old.nodes ≡ [] }
-    ensures { OnOk result (copy.new.nodes ≡ loaded (entries_of slots.now)) }
+    requires apart { are_apart (nodes_of (entries_of from.now)) ≡ true }
+    requires fits { sum_by (λ n. n.size) (nodes_of (entries_of from.now)) < 2 ^ 128 }
+    requires empty { slots.old.held ≡ [] }
+    requires linked { IsLinked (nodes_of slots.old.held) links.old }
+    ensures copied { OnOk result (seen_of slots.new.held ≡ seen_of (entries_of from.now)) }
+    ensures linked { OnOk result (IsLinked (nodes_of slots.new.held) links.new) }
 {
-    for slot in slots {
-        copy_slot(alloc, slot, copy)?;
+    for slot in from {
+        copy_slot(alloc, slot, slots, links)?;
     }
     Ok(())
+}
+
+/// So many marks, none of which is set.
+fn clear_marks(alloc: Global, count: usize) -> Result<Vec<bool>, Memory>
+    ensures { IfOk result (λ marks. AreClear count marks.items) }
+{
+    let mut marks = Vec::with_capacity(alloc, count)?;
+    for _slot in 0..count {
+        marks.push(false)?;
+    }
+    Ok(marks)
+}
+
+/// What walks over so many slots write into, of which so many hold a node.
+pub(crate) fn scratch_for(alloc: Global, slots: usize, count: usize) -> Result<Scratch, Memory>
+    ensures { IfOk result (λ scratch. IsScratchFor slots count scratch) }
+{
+    let found = Vec::with_capacity(alloc, count)?;
+    let above = Vec::with_capacity(alloc, count)?;
+    Ok(Scratch {
+        found,
+        above,
+        marks: clear_marks(alloc, slots)?,
+    })
 }

@@ -3,7 +3,7 @@ ghost use Rattle.std.specs.Prelude.{◌≡◌, ◌↔◌, ℕ, List, true, filte
 ghost use Rattle.std.specs.Str.{bytes_eq};
 ghost use Rattle.std.specs.List.{filter_map, list_any};
 ghost use Rattle.indexmap.specs.IndexSet.{insert_all};
-ghost use Rattle.gate_graph.specs.Families.{among, are_apart, ids_of};
+ghost use Rattle.gate_graph.specs.Families.{among, are_apart, children_of, ids_of};
 ghost use Rattle.gate_graph.specs.Leading.{IsNext, are_led, places_from};
 ghost use Rattle.gate_graph.specs.Holding.{nodes_of};
 ghost use Rattle.gate_graph.specs.Linking.{IsLinked, listing};
@@ -45,6 +45,21 @@ fn insert_listed<S: BuildHasher + Drop>(
         found.insert(*child)?;
     }
     Ok(())
+}
+
+/// The ids of the nodes that name an id, each once.
+pub(crate) fn children<T: Drop, S: BuildHasher + Copy + Drop>(
+    alloc: Global,
+    slots: &Slots<T, S>,
+    links: &Links<S>,
+    id: &NodeId,
+) -> Result<IndexSet<NodeId, S>, Memory>
+    requires linked { IsLinked (nodes_of slots.now.held) links.now }
+    ensures { IfOk result (λ found. (other : List ℕ) → among found.keys other ≡ among (children_of (nodes_of slots.now.held) id.now) other) }
+{
+    let mut found = IndexSet::with_hasher(alloc, slots.hasher());
+    insert_listed(&mut found, links, id)?;
+    Ok(found)
 }
 
 /// The same for what is one step from an id.

@@ -188,6 +188,7 @@ impl<S: BuildHasher + Copy + Drop> Graph<S> {
         let node = NodeId::new(*id);
         let _ = self.nodes.take_one(&node);
         self.nodes.unname(&node);
+        self.nodes.tidy();
     }
 
     /// The ids that a chain leads to one way, without the node's own.
@@ -226,6 +227,7 @@ impl<S: BuildHasher + Copy + Drop> Graph<S> {
         let ids = self.nodes.in_order(alloc, found.as_slice())?;
         let mut gone = Vec::with_capacity(alloc, self.nodes.count())?;
         self.nodes.take_family(&NodeId::new(*id), &mut gone);
+        self.nodes.tidy();
         Ok(ids)
     }
 }

@@ -29,11 +29,13 @@ pub(crate) struct Weight {
 
 /// A node, and what it carries.
 #[derive(Drop)]
-pub(crate) struct Held<T: Drop> {
-    pub(crate) id: NodeId,
-    pub(crate) size: u64,
-    pub(crate) fee: u64,
-    pub(crate) parents: Vec<NodeId>,
-    pub(crate) totals: Totals,
-    pub(crate) load: T,
+pub struct Held<T: Drop> {
+    pub id: NodeId,
+    pub size: u64,
+    pub fee: u64,
+    /// The ids that it names.
+    pub parents: Vec<NodeId>,
+    pub totals: Totals,
+    /// What it carries.
+    pub load: T,
 }

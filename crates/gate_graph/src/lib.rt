@@ -5,7 +5,8 @@
 //! of adding, each with what it carries and with the totals of what is above it and below it. It asks nothing of where
 //! steps lead: a node may name ids that no node has, and steps may lead back. It takes memory in `Nodes::reserve` and
 //! `Nodes::copy` alone, a newcomer costs what is above it, and a family that goes costs itself and what is above it. Its
-//! main clauses are those of `Nodes::put`, `Nodes::take_family`, `Nodes::take_one` and `Nodes::totals`.
+//! main clauses are those of `Nodes::put`, `Nodes::take_family`, `Nodes::take_one`, `Nodes::totals` and `Nodes::least`,
+//! which lends the node of the least feerate at once.
 //!
 //! `Graph` stands above it: parents are nodes, and no step leads back. The main clauses are those of `Graph::add_above`,
 //! which says when a node is added below some and above others and when not, of `Graph::remove_family`, which takes out
@@ -36,7 +37,7 @@ mod weigh;
 
 pub use fault::GraphFault;
 pub use graph::Graph;
-pub use held::{Sums, Totals};
+pub use held::{Held, Sums, Totals};
 pub use id::{Id, NodeId};
 pub use law::{
     families_have_each_once, nodes_join_families, reaching_is_leading, roots_come_and_go,

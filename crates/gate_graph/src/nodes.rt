@@ -1,13 +1,16 @@
-ghost use Rattle.std.specs.Prelude.{◌≡◌, ◌≤◌, ◌<◌, ◌+◌, ◌++◌, ◌∷◌, [], false, true, ℕ, List, Contains, map, filter, IfOk, OnOk, IfSome, length, vec_len, is_some};
+ghost use Rattle.std.specs.Prelude.{◌≡◌, ◌≤◌, ◌<◌, ◌+◌, ◌++◌, ◌∷◌, [], Some, false, true, ℕ, List, Contains, map, filter, sum_by, IfOk, OnOk, IfSome, IfNone, length, vec_len, is_some};
+ghost use Rattle.std.specs.Option.{option_copied, option_map};
 ghost use Rattle.std.specs.Vec.{vec_capacity};
-ghost use Rattle.gate_graph.specs.Families.{among, has, ids_of, is_root, with_parent, without_parent};
+ghost use Rattle.gate_graph.specs.Families.{among, children_of, has, ids_of, is_root, with_parent, without_parent};
 ghost use Rattle.gate_graph.specs.Family.{Node};
 ghost use Rattle.gate_graph.specs.Leading.{are_led};
-ghost use Rattle.gate_graph.specs.Holding.{without_below, without_one, nodes_in, load_in, AreGone};
+ghost use Rattle.gate_graph.specs.Holding.{without_below, without_one, node_of, nodes_in, load_in, loaded, spots_of, AreGone};
+ghost use Rattle.gate_graph.specs.Ranks.{least_of};
+ghost use Rattle.gate_graph.specs.Slots.{at, entries_of};
 ghost use Rattle.gate_graph.specs.Weighing.{totals_of};
 
-use crate::copy::copy_each;
-use crate::find::{find, in_order};
+use crate::copy::{copy_each, scratch_for};
+use crate::find::{children, find, in_order};
 use crate::held::{Held, Sums, Totals};
 use crate::id::{Id, NodeId};
 use crate::links::Links;
@@ -15,7 +18,7 @@ use crate::name::{name_each, unname};
 use crate::put::put_node;
 use crate::slots::Slots;
 use crate::take::{take_family, take_one};
-use crate::walk::{Scratch, Way};
+use crate::walk::{Scratch, Way, tidy};
 use gate_bytes::{Copied, Memory};
 use indexmap::IndexSet;
 use std::alloc::Global;
@@ -38,7 +41,7 @@ impl<T: Drop, S: BuildHasher + Copy + Drop> Model for Nodes<T, S> {
 
     ghost Value = { Carried T };
 
-    ghost view = { λ g. record { nodes = loaded g.slots.held; room = g.room } };
+    ghost view = { λ g. record { nodes = loaded g.slots.held; places = g.slots.spots; room = g.room } };
 
     ghost invariant = { λ g. AreKept g.slots g.links g.scratch g.room };
 }
@@ -81,6 +84,75 @@ impl<T: Drop, S: BuildHasher + Copy + Drop> Nodes<T, S> {
             Some(place) => Some(&self.slots.at(place).totals),
             None => None,
         }
+    }
+
+    /// The sizes of all nodes, added up.
+    pub fn size(&self) -> u128
+        ensures { result ≡ sum_by (λ n. n.size) (nodes_in self.now.nodes) }
+    {
+        self.slots.size()
+    }
+
+    /// What a node carries, for a node.
+    pub fn load(&self, id: &NodeId) -> Option<&T>
+        ensures { option_copied result ≡ load_in self.now.nodes id.now }
+    {
+        match self.slots.place(id) {
+            Some(place) => Some(&self.slots.at(place).load),
+            None => None,
+        }
+    }
+
+    /// One of the nodes that name an id, whether a node has that id or not.
+    pub fn child(&self, id: &NodeId) -> Option<&NodeId>
+        ensures some { IfSome result (λ child. Contains (children_of (nodes_in self.now.nodes) id.now) child.now) }
+        ensures none { IfNone result (children_of (nodes_in self.now.nodes) id.now ≡ []) }
+    {
+        if self.links.count(id) == 0 {
+            None
+        } else {
+            Some(self.links.at(id, 0))
+        }
+    }
+
+    /// The ids of the nodes that name an id, each once, whether a node has that id or not.
+    pub fn children(&self, alloc: Global, id: &NodeId) -> Result<IndexSet<NodeId, S>, Memory>
+        ensures { IfOk result (λ found. (other : List ℕ) → among found.keys other ≡ among (children_of (nodes_in self.now.nodes) id.now) other) }
+    {
+        children(alloc, &self.slots, &self.links, id)
+    }
+
+    /// The nodes in the order of adding, with holes where some were taken out.
+    pub fn as_slice(&self) -> &[Option<Held<T>>]
+        ensures nodes { loaded (entries_of result.now) ≡ self.now.nodes }
+        ensures places { spots_of result.now ≡ self.now.places }
+    {
+        self.slots.as_slice()
+    }
+
+    /// Where a node stands among all, holes counted.
+    pub fn place(&self, id: &NodeId) -> Option<usize>
+        ensures sound { IfSome result (λ place. at self.now.places place ≡ Some id.now) }
+        ensures whole { (place : ℕ) → at self.now.places place ≡ Some id.now → result ≡ Some place }
+    {
+        self.slots.place(id)
+    }
+
+    /// The node that ranks least, of equals the last. A node is ranked by its own fee over its size, or by the fees over the
+    /// sizes of all that is below it, itself among them, whichever is greater.
+    pub fn least(&self) -> Option<&Held<T>>
+        ensures node { option_map (λ h. (node_of h, h.load)) (option_copied result) ≡ least_of self.now.nodes }
+        ensures totals { IfSome result (λ h. h.now.totals ≡ totals_of (nodes_in self.now.nodes) h.now.id) }
+    {
+        self.slots.least()
+    }
+
+    /// Closes the holes where they are more than half of all. It takes no memory, and gives up the room that was taken.
+    pub fn tidy(&mut self)
+        ensures { self.new.nodes ≡ self.old.nodes }
+    {
+        self.room = 0;
+        tidy(&mut self.slots, &mut self.scratch.marks);
     }
 
     /// Takes the memory for a node that names so many.
@@ -138,6 +210,7 @@ impl<T: Drop, S: BuildHasher + Copy + Drop> Nodes<T, S> {
         ensures room { self.new.room ≡ self.old.room }
         ensures left { self.new.nodes ≡ without_below self.old.nodes id.now }
         ensures gone { AreGone self.old.nodes id.now gone.old.items gone.new.items }
+        ensures capacity { vec_capacity gone.new ≡ vec_capacity gone.old }
     {
         take_family(
             &mut self.slots,
@@ -227,15 +300,23 @@ impl<T: Drop, S: BuildHasher + Copy + Drop> Nodes<T, S> {
         unname(&mut self.slots, &mut self.links, id);
     }
 
-    /// The same nodes again, with what they carry. It costs what putting each of them costs.
+    /// The same nodes again, with what they carry. No totals are found anew, and the holes are left out.
     pub fn copy(&self, alloc: Global) -> Result<Nodes<T, S>, Memory>
     where
         T: Copied,
         ensures { IfOk result (λ copy. copy.nodes ≡ self.now.nodes) }
     {
-        let mut copy = Nodes::new(alloc, self.slots.hasher());
-        copy_each(alloc, self.slots.as_slice(), &mut copy)?;
-        Ok(copy)
+        let _size = self.slots.size();
+        let mut slots = Slots::new(alloc, self.slots.hasher());
+        let mut links = Links::new(alloc, self.slots.hasher());
+        copy_each(alloc, self.slots.as_slice(), &mut slots, &mut links)?;
+        let scratch = scratch_for(alloc, slots.len(), slots.count())?;
+        Ok(Nodes {
+            slots,
+            links,
+            scratch,
+            room: 0,
+        })
     }
 
     pub(crate) fn alloc(&self) -> Global {

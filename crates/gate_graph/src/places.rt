@@ -1,11 +1,17 @@
-ghost use Rattle.std.specs.Prelude.{◌≡◌, Option, None, Some, true, is_some, slice_set, vec_len};
+ghost use Rattle.std.specs.Prelude.{◌≡◌, Option, None, Some, true, is_some, filter, slice_set, vec_len};
 ghost use Rattle.std.specs.Vec.{vec_capacity};
 ghost use Rattle.std.specs.Option.{option_map};
-ghost use Rattle.gate_graph.specs.Slots.{at};
-ghost use Rattle.gate_graph.specs.Holding.{with_parents, with_totals};
+ghost use Rattle.std.specs.Str.{bytes_eq};
+ghost use Rattle.indexmap.specs.IndexMap.{get, index_map_len};
+ghost use Rattle.gate_graph.specs.Slots.{at, Covers, Indexes};
+ghost use Rattle.gate_graph.specs.Holding.{has_id, with_parents, with_totals};
+ghost use Rattle.gate_graph.specs.Ranks.{rate_of as the_rate};
 
 use crate::held::{Held, Totals};
 use crate::id::NodeId;
+use gate_ranking::Rate;
+use indexmap::IndexMap;
+use std::hash::BuildHasher;
 
 /// What stands at a place.
 pub(crate) fn standing<T: Drop>(slots: &[Option<Held<T>>], place: usize) -> &Held<T>
@@ -67,5 +73,43 @@ pub(crate) fn id_at<T: Drop>(slots: &[Option<Held<T>>], place: usize) -> Option<
     match &slots[place] {
         Some(held) => Some(held.id),
         None => None,
+    }
+}
+
+/// What a node is ranked by: its own fee over its size, or the fees over the sizes of all that is below it, itself among them,
+/// whichever is greater.
+#[tactic(auto, unfolding(crate::specs::Ranks::rate_with))]
+pub(crate) fn rate_of<T: Drop>(held: &Held<T>) -> Rate
+    ensures { result ≡ the_rate held.now }
+{
+    let own = Rate::new(u128::from(held.fee), u128::from(held.size));
+    let family = Rate::new(held.totals.below.fees, held.totals.below.size);
+    if own < family { family } else { own }
+}
+
+/// Closes the holes.
+pub(crate) fn close<T: Drop>(slots: &mut Vec<Option<Held<T>>>)
+    ensures { slots.new.items ≡ filter is_some slots.old.items }
+{
+    slots.retain(|slot| slot.is_some());
+}
+
+/// Writes the places of the nodes into an index, which has all their ids and no others.
+pub(crate) fn renumber<T: Drop, S: BuildHasher>(
+    slots: &[Option<Held<T>>],
+    places: &mut IndexMap<NodeId, usize, S>,
+)
+    requires { Covers has_id slots.now (get bytes_eq places.old) }
+    ensures places { Indexes has_id slots.now (get bytes_eq places.new) }
+    ensures count { index_map_len places.new ≡ index_map_len places.old }
+{
+    for place in 0..slots.len() {
+        match &slots[place] {
+            Some(held) => {
+                let moved: Result<_, _> = places.insert(held.id, place);
+                let _ = moved.unwrap();
+            }
+            None => {}
+        }
     }
 }

@@ -105,6 +105,7 @@ pub(crate) fn put_node<T: Drop, S: BuildHasher + Drop>(
     ensures found { vec_capacity scratch.new.found ≡ vec_capacity scratch.old.found }
     ensures above { vec_capacity scratch.new.above ≡ vec_capacity scratch.old.above }
 {
+    let _count = slots.count();
     let id = held.id;
     let weight = Weight {
         size: held.size,

@@ -1,14 +1,18 @@
-ghost use Rattle.std.specs.Prelude.{◌≡◌, ◌<◌, [], ◌∷◌, ◌++◌, ℕ, not, true, false, Some, None, is_some, map, filter, find, length, slice_set, OnOk, IfSome};
+ghost use Rattle.std.specs.Prelude.{◌≡◌, ◌<◌, ◌+◌, ◌^◌, [], ◌∷◌, ◌++◌, ℕ, not, true, false, Some, None, is_some, map, filter, find, length, slice_set, sum_by, OnOk, IfSome};
 ghost use Rattle.std.specs.Str.{bytes_eq};
-ghost use Rattle.std.specs.Option.{option_map};
+ghost use Rattle.std.specs.Option.{option_copied, option_map};
 ghost use Rattle.gate_graph.specs.Families.{has, ids_of};
-ghost use Rattle.gate_graph.specs.Holding.{has_id, id_at, at_id, with_parents, with_totals, nodes_of};
+ghost use Rattle.gate_graph.specs.Holding.{has_id, id_at, at_id, with_parents, with_totals, nodes_of, spots_of};
 ghost use Rattle.gate_graph.specs.Slots.{at, entries_of};
+ghost use Rattle.gate_graph.specs.Ranks.{rate_of};
+ghost use Rattle.gate_ranking.specs.Rate.{rate_cmp};
+ghost use Rattle.gate_ranking.specs.Lesser.{least_by};
 
 use crate::held::{Held, Totals};
 use crate::id::NodeId;
-use crate::places::{empty, id_at, rewrite, standing, write};
+use crate::places::{close, empty, id_at, rate_of, renumber, rewrite, standing, write};
 use gate_bytes::Memory;
+use gate_ranking::{Ranking, Rate};
 use indexmap::IndexMap;
 use std::alloc::Global;
 use std::hash::BuildHasher;
@@ -19,6 +23,10 @@ use std::marker::Model;
 pub(crate) struct Slots<T: Drop, S: BuildHasher + Drop> {
     slots: Vec<Option<Held<T>>>,
     places: IndexMap<NodeId, usize, S>,
+    /// What each node is ranked by, at its place.
+    ranking: Ranking<Rate>,
+    /// The sizes of all nodes, added up.
+    size: u128,
     /// How many nodes there is room for.
     room: usize,
 }
@@ -31,12 +39,13 @@ impl<T: Drop, S: BuildHasher + Drop> Model for Slots<T, S> {
     ghost use Rattle.gate_graph.specs.declared.held.Held.{Held};
     ghost use Rattle.gate_graph.specs.Slots.{entries_of};
     ghost use Rattle.gate_graph.specs.Holding.{Stored, IsPlaced, HasSpot, spots_of};
+    ghost use Rattle.gate_graph.specs.Ranks.{IsRanked};
 
     ghost Value = { Stored T };
 
     ghost view = { λ s. record { held = entries_of s.slots.items; spots = spots_of s.slots.items; room = s.room } };
 
-    ghost invariant = { λ s. IsPlaced s.slots.items (index_map_len s.places) (get bytes_eq s.places) × HasSpot s.room (spare s.places) (vec_len s.slots) (vec_capacity s.slots) };
+    ghost invariant = { λ s. IsPlaced s.slots.items (index_map_len s.places) (get bytes_eq s.places) × HasSpot s.room (spare s.places) (vec_len s.slots) (vec_capacity s.slots) × IsRanked s.slots.items s.room s.ranking s.size };
 }
 
 impl<T: Drop, S: BuildHasher + Drop> Slots<T, S> {
@@ -48,13 +57,16 @@ impl<T: Drop, S: BuildHasher + Drop> Slots<T, S> {
         Slots {
             slots: Vec::new(alloc),
             places: IndexMap::with_hasher(alloc, hasher),
+            ranking: Ranking::new(alloc),
+            size: 0,
             room: 0,
         }
     }
 
     /// The slots, in the order of adding.
     pub(crate) fn as_slice(&self) -> &[Option<Held<T>>]
-        ensures { entries_of result.now ≡ self.now.held }
+        ensures held { entries_of result.now ≡ self.now.held }
+        ensures spots { spots_of result.now ≡ self.now.spots }
     {
         self.slots.as_slice()
     }
@@ -78,6 +90,23 @@ impl<T: Drop, S: BuildHasher + Drop> Slots<T, S> {
         ensures { result ≡ length self.now.held }
     {
         self.places.len()
+    }
+
+    /// The sizes of all nodes, added up.
+    pub(crate) fn size(&self) -> u128
+        ensures { result ≡ sum_by (λ n. n.size) (nodes_of self.now.held) }
+    {
+        self.size
+    }
+
+    /// The node that ranks least, of equals the last.
+    pub(crate) fn least(&self) -> Option<&Held<T>>
+        ensures { option_copied result ≡ least_by rate_cmp rate_of self.now.held }
+    {
+        match self.ranking.least() {
+            Some((place, _rate)) => Some(standing(&self.slots, place)),
+            None => None,
+        }
     }
 
     /// The place of the node that has an id.
@@ -114,6 +143,8 @@ impl<T: Drop, S: BuildHasher + Drop> Slots<T, S> {
         ensures room { self.new.room ≡ self.old.room }
     {
         write(&mut self.slots, place, totals);
+        let rate = rate_of(standing(&self.slots, place));
+        self.ranking.update(place, rate);
     }
 
     /// Writes the parents of a node, and gives those that it had.
@@ -137,6 +168,8 @@ impl<T: Drop, S: BuildHasher + Drop> Slots<T, S> {
     {
         let held = empty(&mut self.slots, place);
         let _ = self.places.swap_remove(&held.id);
+        self.ranking.remove(place);
+        self.size -= u128::from(held.size);
         held
     }
 
@@ -148,6 +181,7 @@ impl<T: Drop, S: BuildHasher + Drop> Slots<T, S> {
     {
         self.room = 0;
         self.places.reserve(1)?;
+        self.ranking.reserve(1)?;
         self.slots.reserve(1)?;
         self.room = 1;
         Ok(())
@@ -157,6 +191,7 @@ impl<T: Drop, S: BuildHasher + Drop> Slots<T, S> {
     pub(crate) fn put(&mut self, held: Held<T>) -> usize
         requires room { 0 < self.old.room }
         requires new { has (nodes_of self.old.held) held.id ≡ false }
+        requires fits { sum_by (λ n. n.size) (nodes_of self.old.held) + held.size < 2 ^ 128 }
         ensures held { self.new.held ≡ self.old.held ++ held ∷ [] }
         ensures spots { self.new.spots ≡ self.old.spots ++ Some held.id ∷ [] }
         ensures place { result ≡ length self.old.spots }
@@ -165,8 +200,21 @@ impl<T: Drop, S: BuildHasher + Drop> Slots<T, S> {
         let place = self.slots.as_slice().len();
         let put: Result<_, _> = self.places.insert(held.id, place);
         let _ = put.unwrap();
+        self.size += u128::from(held.size);
+        self.ranking.push(rate_of(&held));
         self.slots.push_reserved(Some(held));
         place
+    }
+
+    /// Closes the holes, so that nodes have other places, in the same order.
+    pub(crate) fn close_up(&mut self)
+        ensures held { self.new.held ≡ self.old.held }
+        ensures spots { self.new.spots ≡ filter is_some self.old.spots }
+    {
+        self.room = 0;
+        close(&mut self.slots);
+        renumber(&self.slots, &mut self.places);
+        self.ranking.close_up();
     }
 }
 

@@ -73,6 +73,7 @@ fn pull_each<T: Drop, S: BuildHasher + Drop>(
     ensures spots { length slots.new.spots ≡ length slots.old.spots }
     ensures slots_room { slots.new.room ≡ slots.old.room }
     ensures links_room { links.new.room ≡ links.old.room }
+    ensures capacity { vec_capacity gone.new ≡ vec_capacity gone.old }
 {
     for place in places {
         let load = pull_one(slots, links, *place);
@@ -109,6 +110,7 @@ pub(crate) fn take_family<T: Drop, S: BuildHasher + Drop>(
     ensures slots_room { slots.new.room ≡ slots.old.room }
     ensures links_room { links.new.room ≡ links.old.room }
     ensures gone { AreGone (loaded slots.old.held) id.now gone.old.items gone.new.items }
+    ensures capacity { vec_capacity gone.new ≡ vec_capacity gone.old }
 {
     walk_below(slots, links, &mut scratch.marks, &mut scratch.found, id);
     lower_above_each(

@@ -250,3 +250,16 @@ pub(crate) fn walk_below<T: Drop, S: BuildHasher + Drop>(
         None => walk_named(slots, links, marks, found, id),
     }
 }
+
+/// Closes the holes where they are more than half of the slots, with their marks.
+pub(crate) fn tidy<T: Drop, S: BuildHasher + Drop>(slots: &mut Slots<T, S>, marks: &mut Vec<bool>)
+    requires { AreClear (length slots.old.spots) marks.old.items }
+    ensures held { slots.new.held ≡ slots.old.held }
+    ensures clear { AreClear (length slots.new.spots) marks.new.items }
+{
+    if slots.len() / 2 <= slots.count() {
+        return;
+    }
+    slots.close_up();
+    marks.truncate(slots.len());
+}

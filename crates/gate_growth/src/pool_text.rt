@@ -68,13 +68,10 @@ fn push_score(text: &mut String, score: &Score) -> Result<(), Memory> {
     Ok(())
 }
 
-/// The least score of a copy of the pool.
-fn push_least(alloc: Global, text: &mut String, pool: &Pool<Colliding>) -> Result<(), Memory> {
-    let mut copy = pool.copy(alloc)?;
-    let least = copy.least();
-    drop(copy);
-    match least {
-        Some(score) => push_score(text, &score),
+/// The least score of a pool.
+fn push_least(text: &mut String, pool: &Pool<Colliding>) -> Result<(), Memory> {
+    match pool.least() {
+        Some(score) => push_score(text, score),
         None => Ok(()),
     }
 }
@@ -108,5 +105,5 @@ pub(crate) fn push_pool(
     push_count(text, pool.count(), pool.size())?;
     let listing = pool.listing(alloc)?;
     push_entries(alloc, text, pool, listing.as_slice())?;
-    push_least(alloc, text, pool)
+    push_least(text, pool)
 }

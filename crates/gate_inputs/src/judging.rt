@@ -10,7 +10,7 @@ use crate::answer::Answers;
 use crate::witness::allows_witness;
 use gate_bytes::{Kept, Memory};
 use gate_script::{Template, push_stack, sigops, template, witness_program};
-use gate_tx::TxIn;
+use gate_tx::{TxIn, Witness};
 use std::alloc::Global;
 
 /// The most signature operations of a redeem script (Bitcoin Core's `MAX_P2SH_SIGOPS`).
@@ -56,7 +56,7 @@ fn direct(input: &TxIn, form: Template, script: &[u8]) -> Answers
     let program = witness_program(script);
     Answers {
         standard: is_relayed(form),
-        witness_standard: allows_witness(form, input.witness.as_slice(), program),
+        witness_standard: allows_witness(form, &input.witness, program),
         sigop_cost: cost(input, 0, program),
     }
 }
@@ -69,7 +69,7 @@ fn under_script_hash(input: &TxIn, redeem: &[u8]) -> Answers
     let operations = sigops(redeem, true);
     Answers {
         standard: operations <= MOST_REDEEM_SIGOPS,
-        witness_standard: allows_witness(Template::ScriptHash, input.witness.as_slice(), program),
+        witness_standard: allows_witness(Template::ScriptHash, &input.witness, program),
         sigop_cost: cost(input, operations, program),
     }
 }
@@ -102,16 +102,14 @@ fn cost(input: &TxIn, redeem: u64, program: Option<(u8, &[u8])>) -> u64
     let legacy = sigops(input.script.as_slice(), false).saturating_add(redeem);
     let scaled = legacy.saturating_mul(WITNESS_SCALE);
     match program {
-        Some((version, program)) => scaled.saturating_add(program_cost(
-            input.witness.as_slice(),
-            version,
-            program.len(),
-        )),
+        Some((version, program)) => {
+            scaled.saturating_add(program_cost(&input.witness, version, program.len()))
+        }
         None => scaled,
     }
 }
 
-fn program_cost(witness: &[Kept<u8>], version: u8, size: usize) -> u64
+fn program_cost(witness: &Witness, version: u8, size: usize) -> u64
     ensures { result ≡ min (program_cost witness.now version size) (2 ^ 64 - 1) }
 {
     match (version, size) {
@@ -121,11 +119,11 @@ fn program_cost(witness: &[Kept<u8>], version: u8, size: usize) -> u64
     }
 }
 
-fn script_cost(witness: &[Kept<u8>]) -> u64
+fn script_cost(witness: &Witness) -> u64
     ensures { result ≡ min (script_cost witness.now) (2 ^ 64 - 1) }
 {
     match witness.last() {
-        Some(script) => sigops(script.as_slice(), true),
+        Some(script) => sigops(script, true),
         None => 0,
     }
 }

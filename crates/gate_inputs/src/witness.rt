@@ -2,8 +2,8 @@ ghost use Rattle.std.specs.Prelude.{◌≡◌};
 ghost use Rattle.std.specs.Option.{option_map};
 ghost use Rattle.gate_inputs.specs.Reports.{is_standard_p2wsh_stack, is_standard_p2wsh, is_standard_script_path, allows_taproot, allows_program, allows_witness, are_at_most_80_bytes};
 
-use gate_bytes::Kept;
 use gate_script::Template;
+use gate_tx::{Witness, WitnessItems};
 
 /// The longest witness script under a version 0 program, in bytes (Bitcoin Core's
 /// `MAX_STANDARD_P2WSH_SCRIPT_SIZE`).
@@ -27,7 +27,7 @@ const LEAF_MASK: u8 = 0xfe;
 /// Whether policy lets the witness pass, of a coin of that template, where the spend meets that program.
 pub(crate) fn allows_witness(
     form: Template,
-    witness: &[Kept<u8>],
+    witness: &Witness,
     program: Option<(u8, &[u8])>,
 ) -> bool
     ensures { result ≡ allows_witness form witness.now (option_map (λ p. (p.0, p.1.now)) program.entry) }
@@ -41,7 +41,7 @@ pub(crate) fn allows_witness(
     }
 }
 
-fn allows_program(form: Template, witness: &[Kept<u8>], version: u8, size: usize) -> bool
+fn allows_program(form: Template, witness: &Witness, version: u8, size: usize) -> bool
     ensures { result ≡ allows_program form witness.now version size }
 {
     if version == 0 && size == 32 {
@@ -53,23 +53,23 @@ fn allows_program(form: Template, witness: &[Kept<u8>], version: u8, size: usize
     }
 }
 
-fn is_standard_p2wsh(witness: &[Kept<u8>]) -> bool
+fn is_standard_p2wsh(witness: &Witness) -> bool
     ensures { result ≡ is_standard_p2wsh witness.now }
 {
     match witness.split_last() {
-        Some((script, items)) => is_standard_p2wsh_stack(script.as_slice(), items),
+        Some((script, items)) => is_standard_p2wsh_stack(script, items),
         None => true,
     }
 }
 
 /// Whether that is a witness script with items before it.
-fn is_standard_p2wsh_stack(script: &[u8], items: &[Kept<u8>]) -> bool
-    ensures { result ≡ is_standard_p2wsh_stack script.now items.now }
+fn is_standard_p2wsh_stack(script: &[u8], items: WitnessItems<'_>) -> bool
+    ensures { result ≡ is_standard_p2wsh_stack script.now items.entry }
 {
     script.len() <= LONGEST_SCRIPT && items.len() <= MOST_ITEMS && are_at_most_80_bytes(items)
 }
 
-fn allows_taproot(witness: &[Kept<u8>]) -> bool
+fn allows_taproot(witness: &Witness) -> bool
     ensures { result ≡ allows_taproot witness.now }
 {
     let Some((control, items)) = witness.split_last() else {
@@ -78,11 +78,11 @@ fn allows_taproot(witness: &[Kept<u8>]) -> bool
     let Some((_script, items)) = items.split_last() else {
         return true;
     };
-    is_standard_script_path(control.as_slice(), items)
+    is_standard_script_path(control, items)
 }
 
-fn is_standard_script_path(control: &[u8], items: &[Kept<u8>]) -> bool
-    ensures { result ≡ is_standard_script_path control.now items.now }
+fn is_standard_script_path(control: &[u8], items: WitnessItems<'_>) -> bool
+    ensures { result ≡ is_standard_script_path control.now items.entry }
 {
     match control {
         [] => false,
@@ -91,8 +91,8 @@ fn is_standard_script_path(control: &[u8], items: &[Kept<u8>]) -> bool
     }
 }
 
-fn are_at_most_80_bytes(items: &[Kept<u8>]) -> bool
-    ensures { result ≡ are_at_most_80_bytes items.now }
+fn are_at_most_80_bytes(mut items: WitnessItems<'_>) -> bool
+    ensures { result ≡ are_at_most_80_bytes items.entry }
 {
-    items.iter().all(|item| item.len() <= LONGEST_ITEM)
+    items.all(|item| item.len() <= LONGEST_ITEM)
 }

@@ -15,6 +15,8 @@ mod looking;
 #[cfg(test)]
 mod passes;
 #[cfg(test)]
+mod rounds;
+#[cfg(test)]
 mod running;
 #[cfg(test)]
 mod splitting;

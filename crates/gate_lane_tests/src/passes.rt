@@ -1,7 +1,7 @@
 //! Two users race for one coin; passes settle with the journal of their gate, and with no other.
 ghost use Rattle.std.specs.Prelude.{◌≡◌, ◌+◌, ◌<◌, length, IfOk, OnOk};
 
-use gate_admit::{OpeningCoin, Verdict, Verdicts};
+use gate_admit::{OpeningCoin, Policy, Verdict, Verdicts};
 use gate_bytes::{Copied, Counted, Kept, Memory, Text};
 use gate_core::{Opening, State};
 use gate_journal::{Entry, Journal, replay_check};
@@ -66,6 +66,7 @@ fn opening(alloc: Global, hasher: Hasher) -> Result<Opening<Hasher>, Memory> {
     let coins = coins(alloc)?;
     Ok(Opening {
         budget: 1_000_000,
+        policy: Policy::default(),
         coins: Kept::from_vec(coins),
         times: Kept::from_vec(times),
         verdicts: verdicts(alloc, hasher),

@@ -19,13 +19,13 @@ own : IsNumeralModel (λ ds. all_ascii_digits ds ≡ true) (digits_value 10)
 own = numerals_by_value _ tells_all_ascii_digits
 
 -- what a number of bits is
-record IsLength (most : ℕ) (text : List ℕ) : Type 0 where
-  some : 0 < length text
-  short : length text < 4
-  digits : all_ascii_digits text ≡ true
-  value : digits_value 10 text ≤ most
+pub record IsLength (most : ℕ) (text : List ℕ) : Type 0 where
+  pub some : 0 < length text
+  pub short : length text < 4
+  pub digits : all_ascii_digits text ≡ true
+  pub value : digits_value 10 text ≤ most
 
-length_found : (most : ℕ) (text : List ℕ) → is_length most text ≡ true → IsLength most text
+pub length_found : (most : ℕ) (text : List ℕ) → is_length most text ≡ true → IsLength most text
 length_found most text h =
     let a = and_right (nat_lt 0 (length text)) _ h in
     let b = and_right (nat_lt (length text) 4) _ a in
@@ -36,14 +36,14 @@ length_found most text h =
       value = leb-true (digits_value 10 text) most (and_right (all_ascii_digits text) _ b);
     }
 
-length_read : (most : ℕ) (text : List ℕ) → IsLength most text → is_length most text ≡ true
+pub length_read : (most : ℕ) (text : List ℕ) → IsLength most text → is_length most text ≡ true
 length_read most text h = and_both _ _ (lt-ltb 0 (length text) h.some) (and_both _ _ (lt-ltb (length text) 4 h.short) (and_both _ _ h.digits (le-leb (digits_value 10 text) most h.value)))
 
 if_false : (b : Bool) (n : ℕ) → (b ≡ true → ⊥) → None ≡ (if b then Some n else None)
 if_false true n h = absurd (h refl)
 if_false false n h = refl
 
-not_length : (most : ℕ) (text : List ℕ) → (IsLength most text → ⊥) → None ≡ length_of most text
+pub not_length : (most : ℕ) (text : List ℕ) → (IsLength most text → ⊥) → None ≡ length_of most text
 unfolding length_of
 not_length most text h = if_false (is_length most text) _ (λ all. h (length_found most text all))
 

@@ -13,3 +13,4 @@ pub mod Names
 pub mod Printed
 pub mod Entries
 pub mod Flags
+pub mod Ranged

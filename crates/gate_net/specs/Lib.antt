@@ -6,3 +6,4 @@ pub mod Denials
 pub mod Whitelists
 pub mod Laws
 pub mod Examples
+pub mod SubnetTexts

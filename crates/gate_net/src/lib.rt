@@ -17,7 +17,10 @@ pub use address::Address;
 pub use denial::NetDenial;
 pub use entry::WhitelistEntry;
 pub use fault::NetFault;
-pub use laws::{addresses_are_spelled, addresses_read_back, entries_take_nothing, flags_are_given};
+pub use laws::{
+    addresses_are_spelled, addresses_read_back, entries_take_nothing, flags_are_given,
+    subnets_are_spelled,
+};
 pub use permissions::Permissions;
 pub use subnet::Subnet;
 pub use whitelist::Whitelist;

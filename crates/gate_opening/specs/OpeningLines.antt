@@ -9,7 +9,10 @@ use Rattle.gate_tx.specs.declared.OutPoint.{OutPoint}
 use Rattle.gate_admit.specs.declared.verdicts.Verdict.{Verdict}
 use Rattle.gate_admit.specs.declared.verdicts.Verdict.TheVariants.{Good, Soft, Hard}
 use Rattle.gate_net.specs.Whitelists.{entry_of}
+use Rattle.gate_admit.specs.Policies.{is_count}
+use Rattle.gate_opening.specs.Limits.{limit_named}
 use Rattle.gate_opening.specs.Settings.{setting_named}
+use Rattle.gate_opening.specs.declared.limit.Limit.{Limit}
 use Rattle.gate_opening.specs.declared.opening_line.OpeningLine.{OpeningLine}
 use Rattle.gate_opening.specs.declared.opening_line.OpeningLine.TheVariants as says
 use Rattle.gate_opening.specs.declared.opening_line.CoinHead.{CoinHead}
@@ -132,6 +135,17 @@ set_line_of name text = do
   on ← on_of text
   Some (says.Set setting on)
 
+-- `N`, from 1 to 1,000, behind the name of a limit
+abbrev pub limit_line_of : Limit → List ℕ → Option OpeningLine
+limit_line_of limit text = do
+  count ← number_of text
+  if is_count count then Some (says.Limit limit count) else None
+
+-- a setting, or a limit of families
+abbrev pub other_line_of : Option Limit → List ℕ → List ℕ → Option OpeningLine
+other_line_of None name text = set_line_of name text
+other_line_of (Some limit) name text = limit_line_of limit text
+
 -- a line's name, and what stands after it
 abbrev pub named_line : List ℕ × List ℕ → Option OpeningLine
 named_line p =
@@ -141,7 +155,7 @@ named_line p =
     else if bytes_eq p.0 (codes "verdict") then verdict_line_of p.1
     else if bytes_eq p.0 (codes "whitelist") then whitelist_line_of p.1
     else if bytes_eq p.0 (codes "rpcwhitelist") then rpc_line_of p.1
-    else set_line_of p.0 p.1
+    else other_line_of (limit_named p.0) p.0 p.1
 
 -- what a text says in an opening
 abbrev pub opening_line_of : List ℕ → Option OpeningLine

@@ -21,6 +21,9 @@ use Rattle.gate_opening.specs.declared.opening_fault.OpeningToken.TheVariants as
 use Rattle.gate_opening.specs.declared.opening_line.OpeningLine.{OpeningLine}
 use Rattle.gate_opening.specs.declared.opening_line.OpeningLine.TheVariants as says
 use Rattle.gate_lines.specs.Lines.{line_limit, count_limit, is_skipped, lines_of}
+use Rattle.gate_admit.specs.Policies.{Policy, policy_of, usual_policy}
+use Rattle.gate_opening.specs.declared.limit.Limits.{Limits}
+use Rattle.gate_opening.specs.Limits.{no_limits, limit_in, with_limit}
 use Rattle.gate_opening.specs.declared.setting.Settings.{Settings}
 use Rattle.gate_opening.specs.Settings.{nothing_set, said_of, with_setting}
 use Rattle.gate_opening.specs.OpeningLines.{said_by}
@@ -38,9 +41,10 @@ pub record Said : Type 0 where
   pub whitelist : List WhitelistEntry
   pub rpcwhitelist : List (List ℕ)
   pub settings : Settings
+  pub limits : Limits
 
 abbrev pub nothing_said : Said
-nothing_said = record { budget = None; times = []; coins = []; coin_lines = []; rows = []; other = None; whitelist = []; rpcwhitelist = []; settings = nothing_set }
+nothing_said = record { budget = None; times = []; coins = []; coin_lines = []; rows = []; other = None; whitelist = []; rpcwhitelist = []; settings = nothing_set; limits = no_limits }
 
 -- ---- one line
 
@@ -65,6 +69,7 @@ line_fault said (says.OtherVerdicts verdict) = fault_if (is_some said.other) tok
 line_fault said (says.Whitelist entry) = entry_fault entry
 line_fault said (says.RpcWhitelist text) = None
 line_fault said (says.Set setting on) = fault_if (is_some (said_of said.settings setting)) tokens.BadLine
+line_fault said (says.Limit limit count) = fault_if (is_some (limit_in said.limits limit)) tokens.BadLine
 
 abbrev pub with_entry : List WhitelistEntry → Result WhitelistEntry NetDenial → List WhitelistEntry
 with_entry entries (Ok entry) = entries ++ entry ∷ []
@@ -80,6 +85,7 @@ joined said number (says.OtherVerdicts verdict) = record said { other = Some ver
 joined said number (says.Whitelist entry) = record said { whitelist = with_entry said.whitelist entry }
 joined said number (says.RpcWhitelist text) = record said { rpcwhitelist = said.rpcwhitelist ++ text ∷ [] }
 joined said number (says.Set setting on) = record said { settings = with_setting said.settings setting on }
+joined said number (says.Limit limit count) = record said { limits = with_limit said.limits limit count }
 
 abbrev pub unless : Option OpeningToken → ℕ → Said → Result Said OpeningFault
 unless None number said = Ok said
@@ -133,9 +139,16 @@ lists_in said = record {
   is_default_on = default_of said.settings.rpcwhitelistdefault said.rpcwhitelist;
 }
 
+-- 25 and 25 where nothing is said; no line says a number that no policy has
+abbrev pub policy_in : Said → Policy
+policy_in said =
+    unwrap_or (policy_of (unwrap_or said.limits.ancestors 25) (unwrap_or said.limits.descendants 25) (unwrap_or said.settings.mempoolfullrbf false))
+    usual_policy
+
 abbrev pub opening_of : Said → Start
 opening_of said = record {
   budget = unwrap_or said.budget 300000000;
+  policy = policy_in said;
   coins = said.coins;
   times = said.times;
   verdicts = record { rows = said.rows; other = said.other };

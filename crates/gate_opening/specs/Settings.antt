@@ -2,7 +2,7 @@
 use Rattle.std.specs.Prelude.{ℕ, Bool, if◌then◌else◌, List, codes, Option, Some, None}
 use Rattle.std.specs.Str.{bytes_eq}
 use Rattle.gate_opening.specs.declared.setting.Setting.{Setting}
-use Rattle.gate_opening.specs.declared.setting.Setting.TheVariants.{Bloom, BlocksOnly, WhitelistRelay, WhitelistForceRelay, RpcWhitelistDefault}
+use Rattle.gate_opening.specs.declared.setting.Setting.TheVariants.{Bloom, BlocksOnly, WhitelistRelay, WhitelistForceRelay, RpcWhitelistDefault, FullRbf}
 use Rattle.gate_opening.specs.declared.setting.Settings.{Settings}
 
 -- the setting that a line begins with
@@ -13,10 +13,18 @@ setting_named name =
     else if bytes_eq name (codes "whitelistrelay") then Some WhitelistRelay
     else if bytes_eq name (codes "whitelistforcerelay") then Some WhitelistForceRelay
     else if bytes_eq name (codes "rpcwhitelistdefault") then Some RpcWhitelistDefault
+    else if bytes_eq name (codes "mempoolfullrbf") then Some FullRbf
     else None
 
 abbrev pub nothing_set : Settings
-nothing_set = record { bloom = None; blocksonly = None; whitelistrelay = None; whitelistforcerelay = None; rpcwhitelistdefault = None }
+nothing_set = record {
+  bloom = None;
+  blocksonly = None;
+  whitelistrelay = None;
+  whitelistforcerelay = None;
+  rpcwhitelistdefault = None;
+  mempoolfullrbf = None;
+}
 
 abbrev pub said_of : Settings → Setting → Option Bool
 said_of settings Bloom = settings.bloom
@@ -24,6 +32,7 @@ said_of settings BlocksOnly = settings.blocksonly
 said_of settings WhitelistRelay = settings.whitelistrelay
 said_of settings WhitelistForceRelay = settings.whitelistforcerelay
 said_of settings RpcWhitelistDefault = settings.rpcwhitelistdefault
+said_of settings FullRbf = settings.mempoolfullrbf
 
 abbrev pub with_setting : Settings → Setting → Bool → Settings
 with_setting settings Bloom on = record settings { bloom = Some on }
@@ -31,3 +40,4 @@ with_setting settings BlocksOnly on = record settings { blocksonly = Some on }
 with_setting settings WhitelistRelay on = record settings { whitelistrelay = Some on }
 with_setting settings WhitelistForceRelay on = record settings { whitelistforcerelay = Some on }
 with_setting settings RpcWhitelistDefault on = record settings { rpcwhitelistdefault = Some on }
+with_setting settings FullRbf on = record settings { mempoolfullrbf = Some on }

@@ -2,13 +2,14 @@
 ghost use Rattle.std.specs.Prelude.{◌≡◌, ◌≢◌, Ok, Err, IfOk, IfErr};
 ghost use Rattle.gate_core.specs.Good.{IsGoodWorld};
 ghost use Rattle.gate_opening.specs.OpeningLines.{said_by};
-ghost use Rattle.gate_opening.specs.Said.{exceeds, nothing_said, opened_from, opening_of, with_line, with_text, Takes};
+ghost use Rattle.gate_opening.specs.Said.{exceeds, nothing_said, opened_from, opening_of, policy_in, with_line, with_text, Takes};
 
+use crate::limit::{Limit, Limits};
 use crate::opening_fault::{OpeningFault, OpeningToken, at_line};
 use crate::opening_line::{OpeningLine, read_opening_line};
 use crate::setting::{Setting, Settings};
 use crate::times::{append_times, times_fit};
-use gate_admit::{OpeningCoin, Verdicts};
+use gate_admit::{OpeningCoin, Policy, Verdicts};
 use gate_bytes::{Kept, Memory, Text};
 use gate_core::{Opening, State};
 use gate_lines::asks_nothing;
@@ -24,6 +25,10 @@ const MAX_TIMES: u64 = 1_000_000;
 /// The budget of an opening that names none, in virtual bytes.
 const DEFAULT_BUDGET: u64 = 300_000_000;
 
+/// The limit of ancestors, and that of descendants, of an opening that names none (Bitcoin Core's `DEFAULT_ANCESTOR_LIMIT` and
+/// `DEFAULT_DESCENDANT_LIMIT`).
+const DEFAULT_LIMIT: u64 = 25;
+
 /// What the lines of an opening have said so far: contracts see a record of it. After a fault it holds nothing of use.
 #[derive(Drop)]
 pub(crate) struct Draft<S: BuildHasher + Copy + Drop> {
@@ -36,6 +41,7 @@ pub(crate) struct Draft<S: BuildHasher + Copy + Drop> {
     whitelist: Vec<WhitelistEntry>,
     rpcwhitelist: Vec<Text>,
     settings: Settings,
+    limits: Limits,
 }
 
 impl<S: BuildHasher + Copy + Drop> Model for Draft<S> {
@@ -43,7 +49,7 @@ impl<S: BuildHasher + Copy + Drop> Model for Draft<S> {
 
     ghost Value = { Said };
 
-    ghost view = { λ d. record { budget = d.budget; times = d.times.items; coins = d.coins.items; coin_lines = d.coin_lines.items; rows = d.verdicts.rows; other = d.verdicts.other; whitelist = d.whitelist.items; rpcwhitelist = d.rpcwhitelist.items; settings = d.settings } };
+    ghost view = { λ d. record { budget = d.budget; times = d.times.items; coins = d.coins.items; coin_lines = d.coin_lines.items; rows = d.verdicts.rows; other = d.verdicts.other; whitelist = d.whitelist.items; rpcwhitelist = d.rpcwhitelist.items; settings = d.settings; limits = d.limits } };
 }
 
 impl<S: BuildHasher + Copy + Drop> Draft<S> {
@@ -59,6 +65,7 @@ impl<S: BuildHasher + Copy + Drop> Draft<S> {
             whitelist: Vec::new(alloc),
             rpcwhitelist: Vec::new(alloc),
             settings: Settings::new(),
+            limits: Limits::new(),
         }
     }
 
@@ -112,6 +119,7 @@ impl<S: BuildHasher + Copy + Drop> Draft<S> {
                 Err(_) => Err(OpeningFault::Memory),
             },
             OpeningLine::Set(setting, on) => self.set(number, setting, on),
+            OpeningLine::Limit(limit, count) => self.limit(number, limit, count),
         }
     }
 
@@ -168,10 +176,34 @@ impl<S: BuildHasher + Copy + Drop> Draft<S> {
         Ok(())
     }
 
+    fn limit(&mut self, number: u64, limit: Limit, count: u64) -> Result<(), OpeningFault>
+        ensures { Takes result self.new (with_line self.old number (OpeningLine.Limit limit count)) }
+    {
+        if self.limits.get(limit).is_some() {
+            return Err(OpeningFault::Line(number, OpeningToken::BadLine));
+        }
+        self.limits.set(limit, count);
+        Ok(())
+    }
+
+    /// What is asked of families and of replacements.
+    fn policy(&self) -> Policy
+        ensures { result ≡ policy_in self.now }
+    {
+        let ancestors = self.limits.ancestors.unwrap_or(DEFAULT_LIMIT);
+        let descendants = self.limits.descendants.unwrap_or(DEFAULT_LIMIT);
+        let full_rbf = self.settings.mempoolfullrbf.unwrap_or(false);
+        match Policy::new(ancestors, descendants, full_rbf) {
+            Some(policy) => policy,
+            None => Policy::default(),
+        }
+    }
+
     /// What a gate is opened with, and the line of each coin.
     fn opening(self, alloc: Global) -> Result<(Opening<S>, Vec<u64>), Memory>
         ensures { IfOk result (λ p. (p.0 ≡ opening_of self) × (p.1.items ≡ self.coin_lines)) }
     {
+        let policy = self.policy();
         let Draft {
             budget,
             times,
@@ -181,6 +213,7 @@ impl<S: BuildHasher + Copy + Drop> Draft<S> {
             whitelist,
             rpcwhitelist,
             settings,
+            limits: _,
         } = self;
         let lists = RpcWhitelist::parse(
             alloc,
@@ -190,6 +223,7 @@ impl<S: BuildHasher + Copy + Drop> Draft<S> {
         let blocksonly = settings.blocksonly.unwrap_or(false);
         let opening = Opening {
             budget: budget.unwrap_or(DEFAULT_BUDGET),
+            policy,
             coins: Kept::from_vec(coins),
             times: Kept::from_vec(times),
             verdicts,

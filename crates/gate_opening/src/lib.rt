@@ -5,6 +5,7 @@
 #![tactic(auto)]
 
 mod draft;
+mod limit;
 mod opening;
 mod opening_fault;
 mod opening_line;

@@ -1,10 +1,11 @@
 //! What one line of an opening says.
 ghost use Rattle.std.specs.Prelude.{◌≡◌, MatchOption, IfOk, None, Some};
 ghost use Rattle.std.specs.Option.{option_map};
-ghost use Rattle.gate_opening.specs.OpeningLines.{opening_line_of, budget_line_of, times_line_of, coin_line_of, outpoint_of, coin_head_of, script_of, verdict_line_of, row_of, verdict_of, is_coinbase_of, whitelist_line_of, rpc_line_of, set_line_of, on_of};
+ghost use Rattle.gate_opening.specs.OpeningLines.{opening_line_of, budget_line_of, times_line_of, coin_line_of, outpoint_of, coin_head_of, script_of, verdict_line_of, row_of, verdict_of, is_coinbase_of, whitelist_line_of, rpc_line_of, limit_line_of, set_line_of, on_of};
 
+use crate::limit::Limit;
 use crate::setting::Setting;
-use gate_admit::{Verdict, VerdictRow};
+use gate_admit::{LARGEST_LIMIT, Verdict, VerdictRow};
 use gate_bytes::{Kept, Memory, Text};
 use gate_chain::OpeningCoin;
 use gate_lines::{next_word, read_number, read_small_number};
@@ -32,6 +33,8 @@ pub(crate) enum OpeningLine {
     /// An entry of the lists of methods.
     RpcWhitelist(Text),
     Set(Setting, bool),
+    /// How many transactions a family may have, the new one among them.
+    Limit(Limit, u64),
 }
 
 /// What a line says, or `None` where it has no form.
@@ -59,7 +62,10 @@ pub(crate) fn read_opening_line(alloc: Global, line: &str) -> Result<Option<Open
     if name == "rpcwhitelist" {
         return rpc_line(alloc, rest);
     }
-    Ok(set_line(name, rest))
+    match Limit::named(name) {
+        Some(limit) => Ok(limit_line(limit, rest)),
+        None => Ok(set_line(name, rest)),
+    }
 }
 
 /// `N`
@@ -224,6 +230,18 @@ fn rpc_line(alloc: Global, rest: &str) -> Result<Option<OpeningLine>, Memory>
     }
     let entry = Text::from_string(String::from_str(alloc, rest)?);
     Ok(Some(OpeningLine::RpcWhitelist(entry)))
+}
+
+/// `N`, from 1 to 1,000, behind the name of a limit
+fn limit_line(limit: Limit, rest: &str) -> Option<OpeningLine>
+    ensures { result ≡ limit_line_of limit rest.now }
+{
+    let count = read_number(rest)?;
+    if 1 <= count && count <= LARGEST_LIMIT {
+        Some(OpeningLine::Limit(limit, count))
+    } else {
+        None
+    }
 }
 
 /// `0|1` behind the name of a setting

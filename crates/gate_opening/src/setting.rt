@@ -15,6 +15,8 @@ pub(crate) enum Setting {
     WhitelistForceRelay,
     /// Users without a list of methods may call none.
     RpcWhitelistDefault,
+    /// Every entry may be replaced.
+    FullRbf,
 }
 
 impl Setting {
@@ -32,6 +34,8 @@ impl Setting {
             Some(Setting::WhitelistForceRelay)
         } else if name == "rpcwhitelistdefault" {
             Some(Setting::RpcWhitelistDefault)
+        } else if name == "mempoolfullrbf" {
+            Some(Setting::FullRbf)
         } else {
             None
         }
@@ -46,6 +50,7 @@ pub(crate) struct Settings {
     pub(crate) whitelistrelay: Option<bool>,
     pub(crate) whitelistforcerelay: Option<bool>,
     pub(crate) rpcwhitelistdefault: Option<bool>,
+    pub(crate) mempoolfullrbf: Option<bool>,
 }
 
 impl Settings {
@@ -58,6 +63,7 @@ impl Settings {
             whitelistrelay: None,
             whitelistforcerelay: None,
             rpcwhitelistdefault: None,
+            mempoolfullrbf: None,
         }
     }
 
@@ -70,6 +76,7 @@ impl Settings {
             Setting::WhitelistRelay => self.whitelistrelay,
             Setting::WhitelistForceRelay => self.whitelistforcerelay,
             Setting::RpcWhitelistDefault => self.rpcwhitelistdefault,
+            Setting::FullRbf => self.mempoolfullrbf,
         }
     }
 
@@ -82,6 +89,7 @@ impl Settings {
             Setting::WhitelistRelay => self.whitelistrelay = Some(on),
             Setting::WhitelistForceRelay => self.whitelistforcerelay = Some(on),
             Setting::RpcWhitelistDefault => self.rpcwhitelistdefault = Some(on),
+            Setting::FullRbf => self.mempoolfullrbf = Some(on),
         }
     }
 }

@@ -1,12 +1,12 @@
--- The order of admission: ids sorted by their places, and entries that enter one after the other.
-use Rattle.std.proofs.Common.{◌≡◌, ◌≢◌, ℕ, zero, suc, ◌+◌, ◌<◌, true, false, List, [], ◌∷◌, take, get_or, Option, Some, None, refl, sym, ap, subst, ◌∙◌, ◌⊎◌, inl, inr, arith, true≢false, not, is_some}
-use Rattle.std.specs.Prelude.{Bool, Contains, filter, ◌↔◌}
+-- The order of admission: ids sorted by their places.
+use Rattle.std.proofs.Common.{◌≡◌, ◌≢◌, ℕ, zero, suc, ◌+◌, ◌<◌, true, false, List, [], ◌∷◌, get_or, Option, Some, None, refl, sym, ap, subst, ◌∙◌, ◌⊎◌, inl, inr, arith, true≢false, not, is_some, if◌then◌else◌}
+use Rattle.std.specs.Prelude.{Bool, Contains, IfSome, filter, ◌↔◌}
 use Rattle.std.specs.List.{AllPairs, list_all}
 use Rattle.std.specs.List.Sorted.{IsPermutation, IsNonDecreasingBy}
-use Rattle.std.specs.Option.{unwrap_or}
+use Rattle.std.specs.Option.{option_map, unwrap_or}
 use Rattle.std.specs.Str.{bytes_eq}
 use Rattle.std.specs.Cmp.Lexicographic.{bytes_decides}
-use Rattle.std.proofs.lemmas.Bool.{false_from_ne_true, cases_order, and_parts, and_from}
+use Rattle.std.proofs.lemmas.Bool.{cases_order, and_parts, and_from}
 use Rattle.std.proofs.lemmas.List.Elements.{Contains-get_or}
 use Rattle.std.proofs.lemmas.List.Kept.{AllPairs-cons, AllPairs-filter}
 use Rattle.std.proofs.lemmas.List.Sorted.{IsPermutation-sym, Contains-permutation}
@@ -14,22 +14,74 @@ use Rattle.std.proofs.lemmas.Map.Keys.{IsDistinct-IsPermutation}
 use Rattle.std.proofs.lemmas.Map.Made.{AllPairs-from_IsDistinct, IsDistinct-from_AllPairs}
 use Rattle.std.proofs.lemmas.Option.{none-some, same_Some}
 use Rattle.gate_tx.specs.declared.TxIn.{TxIn}
-use Rattle.gate_tx.specs.declared.OutPoint.{OutPoint}
-use Rattle.gate_tx.specs.Coins.{point_eq, spends}
-use Rattle.gate_tx.specs.Equality.{out_point_decides}
 use Rattle.gate_tx.specs.Ids.{txid_of, wtxid_of}
+use Rattle.gate_graph.specs.Slots.{entries_of, at, passes}
 use Rattle.gate_graph.proofs.Apart.{bytes_eq-sym}
-use Rattle.gate_graph.proofs.Members.{Contains-cons_cases, Contains-head, Contains-rest, list_any_of, not_in_none}
-use Rattle.gate_pool.specs.Pool.{Admitted, has_txid, has_wtxid, entry_by_txid, entry_by_wtxid, spender_of, listing_of}
+use Rattle.gate_graph.proofs.Members.{Contains-cons_cases, Contains-head, Contains-rest, not_in_none}
+use Rattle.gate_pool.specs.Pool.{Admitted, entry_by_txid, entry_by_wtxid, spender_of, listing_of}
 use Rattle.gate_pool.specs.Family.{AreIdsOf}
-use Rattle.gate_pool.specs.Distinct.{AreDistinct}
 use Rattle.gate_pool.specs.Keeping.{IsNew}
-use Rattle.gate_pool.specs.Slots.{entries_of, at, passes, Indexes}
+use Rattle.gate_pool.specs.Places.{place_in}
 use Rattle.gate_pool.proofs.Adding.{pairs_head, pairs_tail}
-use Rattle.gate_pool.proofs.Apart.{place_of}
-use Rattle.gate_pool.proofs.Conflicts.{find_absent}
 use Rattle.gate_pool.proofs.Entries.{Id, Contains-map, Contains-from_map}
 use Rattle.gate_pool.proofs.Walking.{Contains-from_filter, same_id}
+
+-- an id stands somewhere
+stands_at : (spots : List (Option Id)) (x : Id) → Contains (entries_of spots) x → (i : ℕ) × (at spots i ≡ Some x)
+stands_at [] x m = not_in_none x m
+stands_at (None ∷ spots) x m = let w = stands_at spots x m in (suc w.0, w.1)
+stands_at (Some y ∷ spots) x m =
+    elim (Contains-cons_cases y (entries_of spots) x m) [
+      | inl same ↦ (0, ap Some same)
+      | inr k ↦ let w = stands_at spots x k in (suc w.0, w.1)
+    ]
+
+-- what stands at a place is among all
+stands_among : (spots : List (Option Id)) (i : ℕ) (x : Id) → at spots i ≡ Some x → Contains (entries_of spots) x
+stands_among [] i x e = absurd (none-some x e)
+stands_among (None ∷ spots) zero x e = absurd (none-some x e)
+stands_among (None ∷ spots) (suc i) x e = stands_among spots i x e
+stands_among (Some y ∷ spots) zero x e = subst (Contains (y ∷ entries_of spots)) (same_Some y x e) (Contains-head y (entries_of spots))
+stands_among (Some y ∷ spots) (suc i) x e = Contains-rest y (entries_of spots) x (stands_among spots i x e)
+
+-- an id that stands somewhere has a place, at which it stands
+in_some : (o : Option ℕ) (p : ℕ) → option_map suc o ≡ Some p → (q : ℕ) × (o ≡ Some q) × (p ≡ suc q)
+in_some None p e = absurd (none-some p e)
+in_some (Some q) p e = (q, refl, sym (same_Some (suc q) p e))
+
+place_head : (s : Option Id) (x : Id) → passes (λ y. bytes_eq y x) s ≡ true → s ≡ Some x
+place_head None x t = absurd (true≢false (sym t))
+place_head (Some y) x t = ap Some ((bytes_decides y x).0 t)
+
+pub place_stands : (spots : List (Option Id)) (x : Id) (p : ℕ) → place_in spots x ≡ Some p → at spots p ≡ Some x
+place_stands [] x p e = absurd (none-some p e)
+place_stands (s ∷ spots) x p e = by (λ q k. place_stands spots x q k) (passes (λ y. bytes_eq y x) s) refl e
+  where
+    by : ((q : ℕ) → place_in spots x ≡ Some q → at spots q ≡ Some x) → (b : Bool) → passes (λ y. bytes_eq y x) s ≡ b → (if b then Some 0 else option_map suc (place_in spots x)) ≡ Some p → at (s ∷ spots) p ≡ Some x
+    by ih true t k = subst (λ q. at (s ∷ spots) q ≡ Some x) (same_Some 0 p k) (place_head s x t)
+    by ih false t k = let w = in_some (place_in spots x) p k in subst (λ q. at (s ∷ spots) q ≡ Some x) (sym w.2) (ih w.0 w.1)
+
+place_later : (o : Option ℕ) → is_some o ≡ true → is_some (option_map suc o) ≡ true
+place_later None h = h
+place_later (Some q) h = refl
+
+pub place_some : (spots : List (Option Id)) (x : Id) (p : ℕ) → at spots p ≡ Some x → is_some (place_in spots x) ≡ true
+place_some [] x p e = absurd (none-some x e)
+place_some (s ∷ spots) x p e = by (λ q k. place_some spots x q k) (passes (λ y. bytes_eq y x) s) refl p e
+  where
+    by : ((q : ℕ) → at spots q ≡ Some x → is_some (place_in spots x) ≡ true) → (b : Bool) → passes (λ y. bytes_eq y x) s ≡ b → (q : ℕ) → at (s ∷ spots) q ≡ Some x → is_some (if b then Some 0 else option_map suc (place_in spots x)) ≡ true
+    by ih true t q k = refl
+    by ih false t zero k = absurd (true≢false (sym (ap (passes (λ y. bytes_eq y x)) k ∙ same_id x) ∙ t))
+    by ih false t (suc q) k = place_later (place_in spots x) (ih q k)
+
+-- an answer that names the only place
+pub only_place : (spots : List (Option Id)) (x : Id) (r : Option ℕ) → ((p : ℕ) → r ≡ Some p → at spots p ≡ Some x) → ((p : ℕ) → at spots p ≡ Some x → r ≡ Some p) → r ≡ place_in spots x
+only_place spots x r sound whole = by (place_in spots x) refl r refl
+  where
+    by : (o : Option ℕ) → place_in spots x ≡ o → (q : Option ℕ) → r ≡ q → r ≡ o
+    by (Some p) e q is = whole p (place_stands spots x p e)
+    by None e None is = is
+    by None e (Some p) is = absurd (true≢false (sym (place_some spots x p (sound p is)) ∙ ap is_some e))
 
 module _ (n : Id → ℕ) where
   -- each id has a smaller number than the later ones
@@ -65,16 +117,25 @@ module _ (n : Id → ℕ) where
       right : (z : Id) → Contains ys z → Contains xs z
       right z m = elim (Contains-cons_cases x xs z (h z (Contains-rest y ys z m))) [ inl e ↦ absurd (omega (arith, pairs_head R y ys b z m, ap n (sym heads ∙ e))) | inr k ↦ k ]
 
-  -- entries follow one another by their places
-  pub Follow-places : (slots : List (Option Admitted)) (o : ℕ) → ((i : ℕ) (e : Admitted) → at slots i ≡ Some e → n (txid_of e.tx) ≡ o + i) → Follow (entries_of slots)
-  Follow-places [] o h = λ i j d lt within. absurd (omega (arith, within))
-  Follow-places (None ∷ slots) o h = Follow-places slots (suc o) (λ i e k. omega (arith, h (suc i) e k))
-  Follow-places (Some x ∷ slots) o h =
-      AllPairs-cons (λ (a : Admitted) (b : Admitted). n (txid_of a.tx) < n (txid_of b.tx)) x (entries_of slots)
+  -- ids rise by their places
+  pub Rises-spots : (spots : List (Option Id)) (o : ℕ) → ((i : ℕ) (x : Id) → at spots i ≡ Some x → n x ≡ o + i) → Rises (entries_of spots)
+  Rises-spots [] o h = λ i j d lt within. absurd (omega (arith, within))
+  Rises-spots (None ∷ spots) o h = Rises-spots spots (suc o) (λ i x k. omega (arith, h (suc i) x k))
+  Rises-spots (Some y ∷ spots) o h =
+      AllPairs-cons (λ (a : Id) (b : Id). n a < n b) y (entries_of spots)
       (λ j d within.
-      let w = place_of slots (get_or (entries_of slots) j d) (Contains-get_or (entries_of slots) j d within) in
-      omega (arith, h 0 x refl, h (suc w.0) (get_or (entries_of slots) j d) w.1))
-      (Follow-places slots (suc o) (λ i e k. omega (arith, h (suc i) e k)))
+      let w = stands_at spots (get_or (entries_of spots) j d) (Contains-get_or (entries_of spots) j d within) in
+      omega (arith, h 0 y refl, h (suc w.0) (get_or (entries_of spots) j d) w.1))
+      (Rises-spots spots (suc o) (λ i x k. omega (arith, h (suc i) x k)))
+
+  -- the same of entries that have these ids
+  pub Follow-listing : (entries : List Admitted) → Rises (listing_of entries) → Follow entries
+  Follow-listing [] h = λ i j d lt within. absurd (omega (arith, within))
+  Follow-listing (x ∷ entries) h =
+      AllPairs-cons (λ (a : Admitted) (b : Admitted). n (txid_of a.tx) < n (txid_of b.tx)) x entries
+      (λ j d within. pairs_head (λ (a : Id) (b : Id). n a < n b) (txid_of x.tx) (listing_of entries) h (txid_of (get_or entries j d).tx)
+      (Contains-map (λ (e : Admitted). txid_of e.tx) entries (get_or entries j d) (Contains-get_or entries j d within)))
+      (Follow-listing entries (pairs_tail (λ (a : Id) (b : Id). n a < n b) (txid_of x.tx) (listing_of entries) h))
 
   -- so their ids rise
   pub Rises-listing : (entries : List Admitted) → Follow entries → Rises (listing_of entries)
@@ -97,10 +158,6 @@ module _ (n : Id → ℕ) where
         | inr (inr more) ↦ absurd (omega (arith, more, up i j d (omega (arith, lt)) within))
       ]
 
--- the place of an id, or 0
-abbrev pub place_in : (Id → Option ℕ) → Id → ℕ
-place_in look id = unwrap_or (look id) 0
-
 -- ids are those of the same entries in any order
 AreIdsOf-moved : (old ids : List Id) (entries : List Admitted) → IsPermutation old ids → AreIdsOf old entries → AreIdsOf ids entries
 AreIdsOf-moved old ids entries moved are = record {
@@ -109,78 +166,71 @@ AreIdsOf-moved old ids entries moved are = record {
   only = λ id m. are.only id (Contains-permutation ids old id (IsPermutation-sym old ids moved) m);
 }
 
-module _ {slots : List (Option Admitted)} {look : Id → Option ℕ} (h : Indexes has_txid slots look) where
-  place_at : (i : ℕ) (e : Admitted) → at slots i ≡ Some e → place_in look (txid_of e.tx) ≡ i
-  place_at i e there = ap (λ o. unwrap_or o 0) (h.whole (txid_of e.tx) i (ap (passes (λ x. has_txid x (txid_of e.tx))) there ∙ same_id (txid_of e.tx)))
+-- the place of an id, or 0
+abbrev pub number_in : List (Option Id) → Id → ℕ
+number_in spots id = unwrap_or (place_in spots id) 0
 
-  -- entries at one place are one
-  one_entry : (a b : Admitted) → Contains (entries_of slots) a → Contains (entries_of slots) b → place_in look (txid_of a.tx) ≡ place_in look (txid_of b.tx) → a ≡ b
-  one_entry a b m k same =
-      let v = place_of slots a m in
-      let w = place_of slots b k in
-      let place : v.0 ≡ w.0 = sym (place_at v.0 a v.1) ∙ same ∙ place_at w.0 b w.1 in
-      same_Some a b (sym v.1 ∙ ap (at slots) place ∙ w.1)
+module _ (entries : List Admitted) (spots : List (Option Id)) (is : entries_of spots ≡ listing_of entries) (distinct : AllPairs (λ (a : Admitted) (b : Admitted). txid_of a.tx ≢ txid_of b.tx) entries) where
+  once : (xs : List Admitted) → AllPairs (λ (a : Admitted) (b : Admitted). txid_of a.tx ≢ txid_of b.tx) xs → AllPairs (λ (a : Id) (b : Id). a ≢ b) (listing_of xs)
+  once [] h = λ i j d lt within. absurd (omega (arith, within))
+  once (x ∷ xs) h = AllPairs-cons (λ (a : Id) (b : Id). a ≢ b) (txid_of x.tx) (listing_of xs)
+      (λ k d lt same.
+      let v = Contains-from_map (λ (y : Admitted). txid_of y.tx) xs (get_or (listing_of xs) k d) (Contains-get_or (listing_of xs) k d lt) in
+      pairs_head (λ (a : Admitted) (b : Admitted). txid_of a.tx ≢ txid_of b.tx) x xs h v.item v.among (same ∙ sym v.is))
+      (once xs (pairs_tail (λ (a : Admitted) (b : Admitted). txid_of a.tx ≢ txid_of b.tx) x xs h))
 
-  -- ids of entries that were sorted by their places are in order of admission
-  pub in_order : (test : Admitted → Bool) (old ids : List Id) → IsPermutation old ids → IsNonDecreasingBy (place_in look) ids → AreIdsOf old (filter test (entries_of slots)) → ids ≡ listing_of (filter test (entries_of slots))
-  in_order test old ids moved up was =
-      same_rising (place_in look) ids (listing_of entries)
-      (Rises-sorted (place_in look) ids up are.once (λ a b m k same.
-      let v = are.only a m in
-      let w = are.only b k in
-      let one = one_entry v.0 w.0 (Contains-from_filter test (entries_of slots) v.0 v.1) (Contains-from_filter test (entries_of slots) w.0 w.1) (ap (place_in look) v.2 ∙ same ∙ ap (place_in look) (sym w.2)) in
-      sym v.2 ∙ ap (λ (e : Admitted). txid_of e.tx) one ∙ w.2))
-      (Rises-listing (place_in look) entries (AllPairs-filter (λ (a : Admitted) (b : Admitted). place_in look (txid_of a.tx) < place_in look (txid_of b.tx)) test (entries_of slots) (Follow-places (place_in look) slots 0 (λ i e there. place_at i e there ∙ from_none i))))
-      (λ id m. let w = are.only id m in subst (Contains (listing_of entries)) w.2 (listed entries w.0 w.1))
-      (λ id m. let w = Contains-from_map (λ (e : Admitted). txid_of e.tx) entries id m in subst (Contains ids) w.is (are.all w.item w.among))
+  -- no id stands twice
+  one_spot : (ss : List (Option Id)) → AllPairs (λ (a : Id) (b : Id). a ≢ b) (entries_of ss) → (i j : ℕ) (x : Id) → at ss i ≡ Some x → at ss j ≡ Some x → i ≡ j
+  one_spot [] h i j x p q = absurd (none-some x p)
+  one_spot (None ∷ ss) h zero j x p q = absurd (none-some x p)
+  one_spot (None ∷ ss) h (suc i) zero x p q = absurd (none-some x q)
+  one_spot (None ∷ ss) h (suc i) (suc j) x p q = ap suc (one_spot ss h i j x p q)
+  one_spot (Some y ∷ ss) h zero zero x p q = refl
+  one_spot (Some y ∷ ss) h zero (suc j) x p q = absurd (pairs_head (λ (a : Id) (b : Id). a ≢ b) y (entries_of ss) h x (stands_among ss j x q) (same_Some y x p))
+  one_spot (Some y ∷ ss) h (suc i) zero x p q = absurd (pairs_head (λ (a : Id) (b : Id). a ≢ b) y (entries_of ss) h x (stands_among ss i x p) (same_Some y x q))
+  one_spot (Some y ∷ ss) h (suc i) (suc j) x p q = ap suc (one_spot ss (pairs_tail (λ (a : Id) (b : Id). a ≢ b) y (entries_of ss) h) i j x p q)
+
+  number_at : (i : ℕ) (x : Id) → at spots i ≡ Some x → number_in spots x ≡ i
+  number_at i x e = by (place_in spots x) refl
     where
-      entries : List Admitted
-      entries = filter test (entries_of slots)
+      by : (o : Option ℕ) → place_in spots x ≡ o → unwrap_or o 0 ≡ i
+      by None k = absurd (true≢false (sym (place_some spots x i e) ∙ ap is_some k))
+      by (Some p) k = one_spot spots (subst (AllPairs (λ (a : Id) (b : Id). a ≢ b)) (sym is) (once entries distinct)) p i x (place_stands spots x p k) e
 
-      are : AreIdsOf ids entries
-      are = AreIdsOf-moved old ids entries moved was
-
+  follow : Follow (number_in spots) entries
+  follow = Follow-listing (number_in spots) entries (subst (Rises (number_in spots)) is (Rises-spots (number_in spots) spots 0 (λ i x e. number_at i x e ∙ from_none i)))
+    where
       from_none : (i : ℕ) → i ≡ 0 + i
       from_none i = omega arith
 
-      listed : (es : List Admitted) (e : Admitted) → Contains es e → Contains (listing_of es) (txid_of e.tx)
-      listed es e m = Contains-map (λ (x : Admitted). txid_of x.tx) es e m
+  -- ids of entries at one place are one
+  one_id : (x y : Id) → Contains (listing_of entries) x → Contains (listing_of entries) y → number_in spots x ≡ number_in spots y → x ≡ y
+  one_id x y m k same =
+      let v = stands_at spots x (subst (λ l. Contains l x) (sym is) m) in
+      let w = stands_at spots y (subst (λ l. Contains l y) (sym is) k) in
+      let place : v.0 ≡ w.0 = sym (number_at v.0 x v.1) ∙ same ∙ number_at w.0 y w.1 in
+      same_Some x y (sym v.1 ∙ ap (at spots) place ∙ w.1)
 
--- what stands at a place is an entry
-entry_at : (slots : List (Option Admitted)) (i : ℕ) (e : Admitted) → at slots i ≡ Some e → Contains (entries_of slots) e
-entry_at [] i e there = absurd (none-some e there)
-entry_at (None ∷ slots) zero e there = absurd (none-some e there)
-entry_at (None ∷ slots) (suc i) e there = entry_at slots i e there
-entry_at (Some x ∷ slots) zero e there = subst (Contains (x ∷ entries_of slots)) (same_Some x e there) (Contains-head x (entries_of slots))
-entry_at (Some x ∷ slots) (suc i) e there = Contains-rest x (entries_of slots) e (entry_at slots i e there)
+  listed : (es : List Admitted) (e : Admitted) → Contains es e → Contains (listing_of es) (txid_of e.tx)
+  listed es e m = Contains-map (λ (x : Admitted). txid_of x.tx) es e m
 
--- what holds of each two entries holds of one before a place and of that at the place
-before : (R : Admitted → Admitted → Type 0) (slots : List (Option Admitted)) (i : ℕ) (e : Admitted) → AllPairs R (entries_of slots) → at slots i ≡ Some e → (x : Admitted) → Contains (entries_of (take i slots)) x → R x e
-before R [] i e pairs there x m = absurd (none-some e there)
-before R (s ∷ slots) zero e pairs there x m = not_in_none x m
-before R (None ∷ slots) (suc i) e pairs there x m = before R slots i e pairs there x m
-before R (Some y ∷ slots) (suc i) e pairs there x m =
-    elim (Contains-cons_cases y (entries_of (take i slots)) x m) [
-      | inl same ↦ subst (λ z. R z e) same (pairs_head R y (entries_of slots) pairs e (entry_at slots i e there))
-      | inr k ↦ before R slots i e (pairs_tail R y (entries_of slots) pairs) there x k
-    ]
+  -- ids of entries that were sorted by their places are in order of admission
+  pub in_order : (test : Admitted → Bool) (old ids : List Id) → IsPermutation old ids → IsNonDecreasingBy (number_in spots) ids → AreIdsOf old (filter test entries) → ids ≡ listing_of (filter test entries)
+  in_order test old ids moved up was =
+      same_rising (number_in spots) ids (listing_of some)
+      (Rises-sorted (number_in spots) ids up are.once (λ a b m k same. one_id a b (all_of_it a m) (all_of_it b k) same))
+      (Rises-listing (number_in spots) some (AllPairs-filter (λ (a : Admitted) (b : Admitted). number_in spots (txid_of a.tx) < number_in spots (txid_of b.tx)) test entries follow))
+      (λ id m. let w = are.only id m in subst (Contains (listing_of some)) w.2 (listed some w.0 w.1))
+      (λ id m. let w = Contains-from_map (λ (e : Admitted). txid_of e.tx) some id m in subst (Contains ids) w.is (are.all w.item w.among))
+    where
+      some : List Admitted
+      some = filter test entries
 
--- an entry is new to those before it
-pub IsNew-next : (slots : List (Option Admitted)) → AreDistinct (entries_of slots) → (i : ℕ) (e : Admitted) → at slots i ≡ Some e → IsNew (entries_of (take i slots)) e
-IsNew-next slots distinct i e there = record {
-  txid = find_absent (λ x. has_txid x (txid_of e.tx)) front (λ x m. false_from_ne_true _ (λ t.
-      before (λ (a : Admitted) (b : Admitted). txid_of a.tx ≢ txid_of b.tx) slots i e distinct.txids there x m ((bytes_decides (txid_of x.tx) (txid_of e.tx)).0 t)));
-  wtxid = find_absent (λ x. has_wtxid x (wtxid_of e.tx)) front (λ x m. false_from_ne_true _ (λ t.
-      before (λ (a : Admitted) (b : Admitted). wtxid_of a.tx ≢ wtxid_of b.tx) slots i e distinct.wtxids there x m ((bytes_decides (wtxid_of x.tx) (wtxid_of e.tx)).0 t)));
-  points = λ p c. find_absent (λ x. spends x.tx.inputs p.prevout) front (λ x m. false_from_ne_true _ (λ t.
-      true≢false (sym (own p c) ∙ before (λ (a : Admitted) (b : Admitted). (point : OutPoint) → spends a.tx.inputs point ≡ true → spends b.tx.inputs point ≡ false) slots i e distinct.points there x m p.prevout t)));
-}
-  where
-    front : List Admitted
-    front = entries_of (take i slots)
+      are : AreIdsOf ids some
+      are = AreIdsOf-moved old ids some moved was
 
-    own : (p : TxIn) → Contains e.tx.inputs p → spends e.tx.inputs p.prevout ≡ true
-    own p c = list_any_of (λ (q : TxIn). point_eq q.prevout p.prevout) e.tx.inputs p c ((out_point_decides p.prevout p.prevout).1 refl)
+      all_of_it : (x : Id) → Contains ids x → Contains (listing_of entries) x
+      all_of_it x m = let w = are.only x m in subst (Contains (listing_of entries)) w.2 (listed entries w.0 (Contains-from_filter test entries w.0 w.1))
 
 none_of : {X : Type 0} (o : Option X) → not (is_some o) ≡ true → o ≡ None
 none_of None h = refl
@@ -208,3 +258,10 @@ IsNew-free entries e free no_txid no_wtxid is = (
   },
   λ new. is ∙ from_all (λ (j : TxIn). not (is_some (spender_of entries j.prevout))) e.tx.inputs (λ i c. ap (λ o. not (is_some o)) (new.points i c)),
 )
+
+-- an answer about an id, told of another that is the same
+pub told_place : (spots : List (Option Id)) (y x : Id) (r : Option ℕ) → y ≡ x → IfSome r (λ p. at spots p ≡ Some y) → ((p : ℕ) → at spots p ≡ Some y → r ≡ Some p) → r ≡ place_in spots x
+told_place spots y x r same sound whole =
+    only_place spots x r
+    (λ p e. subst (λ (o : Option ℕ). IfSome o (λ p. at spots p ≡ Some y)) e sound ∙ ap Some same)
+    (λ p e. whole p (e ∙ ap Some (sym same)))

@@ -1,18 +1,17 @@
 -- What conflicts with a transaction is gone once none spends what it spends.
-use Rattle.std.proofs.Common.{◌≡◌, ◌<◌, ◌+◌, ℕ, Bool, true, false, ◌⊎◌, inl, inr, arith, cond, List, [], ◌∷◌, ◌++◌, None, Some, sym, ap, ◌∙◌, refl, true≢false, not}
+use Rattle.std.proofs.Common.{◌≡◌, ◌+◌, ℕ, Bool, true, false, cond, List, [], ◌∷◌, ◌++◌, None, Some, sym, ap, ◌∙◌, refl, true≢false, not}
 use Rattle.std.specs.Prelude.{Contains, find}
 use Rattle.std.specs.List.{list_any}
-use Rattle.std.specs.Str.{bytes_eq}
-use Rattle.std.proofs.lemmas.Bool.{and_parts, cases_order, false_from_ne_true}
+use Rattle.std.proofs.lemmas.Bool.{false_from_ne_true}
 use Rattle.gate_tx.specs.declared.TxIn.{TxIn}
 use Rattle.gate_tx.specs.Ids.{txid_of, wtxid_of}
-use Rattle.gate_tx.specs.Coins.{point_eq, spends}
+use Rattle.gate_tx.specs.Coins.{spends}
 use Rattle.gate_graph.proofs.Members.{Contains-head, Contains-rest, any_is, list_any_of}
 use Rattle.gate_pool.specs.Pool.{Admitted, has_txid, has_wtxid, spender_of, entry_by_txid, entry_by_wtxid}
 use Rattle.gate_pool.specs.Family.{names, spends_one_of, is_conflict, without_below, is_below_some, entered}
 use Rattle.gate_pool.specs.Keeping.{IsNew}
 use Rattle.gate_pool.proofs.Entries.{find_none}
-use Rattle.gate_pool.proofs.Walking.{none-filter, point_of}
+use Rattle.gate_pool.proofs.Walking.{none-filter}
 use Rattle.gate_pool.proofs.Removals.{without_below-none}
 
 pub find_absent : {X : Type 0} (p : X → Bool) (xs : List X) → ((x : X) → Contains xs x → p x ≡ false) → find p xs ≡ None
@@ -27,19 +26,6 @@ none_left inputs entries none = without_below-none (spends_one_of inputs) entrie
 -- where no entry names an id, none is below one that does
 pub none_named : (entries : List Admitted) (txid : List ℕ) → ((e : Admitted) → Contains entries e → names e txid ≡ false) → without_below (λ e. names e txid) entries ≡ entries
 none_named entries txid none = without_below-none (λ e. names e txid) entries (find_absent (λ (e : Admitted). names e txid) entries none)
-
--- who spends an output of a transaction names it
-pub spends_names : (e : Admitted) (txid : List ℕ) (index : ℕ) → spends e.tx.inputs (point_of txid index) ≡ true → names e txid ≡ true
-spends_names e txid index s =
-    let i = any_is (λ (i : TxIn). point_eq i.prevout (point_of txid index)) e.tx.inputs s in
-    list_any_of (λ (i : TxIn). bytes_eq i.prevout.txid txid) e.tx.inputs i.0 i.1 (and_parts _ _ i.2).0
-
-pub next_or_before : (j n : ℕ) → j < n + 1 → (j < n) ⊎ (j ≡ n)
-next_or_before j n lt = elim (cases_order j n) [
-  | inl same ↦ inr same
-  | inr (inl less) ↦ inl less
-  | inr (inr more) ↦ absurd (omega (arith, lt, more))
-]
 
 -- an entry whose ids are of none is new once its conflicts are gone
 pub IsNew-left : (e : Admitted) (old rest : List Admitted) → entry_by_txid old (txid_of e.tx) ≡ None → entry_by_wtxid old (wtxid_of e.tx) ≡ None

@@ -5,20 +5,20 @@ use Rattle.std.specs.Str.{bytes_eq}
 use Rattle.std.specs.List.{AllPairs}
 use Rattle.std.specs.Cmp.Lexicographic.{bytes_decides}
 use Rattle.std.proofs.lemmas.Bool.{and_parts, and_from, false_from_ne_true, cases_order}
-use Rattle.std.proofs.lemmas.List.Elements.{filter_agree}
+use Rattle.std.proofs.lemmas.List.Elements.{filter_agree, Contains-get_or}
 use Rattle.std.proofs.lemmas.List.{get_or_read}
-use Rattle.std.proofs.lemmas.List.Kept.{AllPairs-filter}
+use Rattle.std.proofs.lemmas.List.Kept.{AllPairs-cons, AllPairs-filter}
 use Rattle.gate_tx.specs.declared.OutPoint.{OutPoint}
 use Rattle.gate_tx.specs.Coins.{spends}
 use Rattle.gate_tx.specs.Ids.{txid_of}
 use Rattle.gate_graph.specs.Family.{reaches}
 use Rattle.gate_graph.proofs.Members.{Contains-cons_cases, Contains-head, Contains-rest, any_is, list_any_of, not_in_none}
 use Rattle.gate_graph.proofs.Steps.{same_bool}
-use Rattle.gate_pool.specs.Pool.{Admitted, has_txid}
+use Rattle.gate_pool.specs.Pool.{Admitted, has_txid, listing_of}
 use Rattle.gate_pool.specs.Family.{steps, all_below, descendants_of, is_among, AreIdsOf}
 use Rattle.gate_pool.specs.Distinct.{AreDistinct}
-use Rattle.gate_pool.proofs.Adding.{passed}
-use Rattle.gate_pool.proofs.Entries.{Id}
+use Rattle.gate_pool.proofs.Adding.{passed, pairs_head, pairs_tail}
+use Rattle.gate_pool.proofs.Entries.{Id, Contains-map, Contains-from_map}
 use Rattle.gate_pool.proofs.Walking.{Contains-filter, Contains-from_filter, falls, same_id}
 
 module _ {X Y : Type 0} (f : X → Id) (h : Y → Id) where
@@ -104,3 +104,19 @@ is_among_ids entries test ids distinct are e m = same_bool _ _
     let one : v.0 ≡ e = same_entry entries distinct v.0 e (Contains-from_filter test entries v.0 v.1) m (v.2 ∙ sym ((bytes_decides (txid_of e.tx) w.0).0 w.2)) in
     ap test (sym one) ∙ passed test entries v.0 v.1)
     (λ t. list_any_of (has_txid e) ids (txid_of e.tx) (are.all e (Contains-filter test entries e m t)) (same_id (txid_of e.tx)))
+
+-- the ids of entries that pass a test
+pub AreIdsOf-listing : {g : List Admitted} (test : Admitted → Bool) → AreDistinct g → AreIdsOf (listing_of (filter test g)) (filter test g)
+AreIdsOf-listing {g} test distinct = record {
+  once = pairs_map (filter test g) (AllPairs-filter (λ (a : Admitted) (b : Admitted). txid_of a.tx ≢ txid_of b.tx) test g distinct.txids);
+  all = λ e m. Contains-map (λ (x : Admitted). txid_of x.tx) (filter test g) e m;
+  only = λ id m. let v = Contains-from_map (λ (x : Admitted). txid_of x.tx) (filter test g) id m in (v.item, v.among, v.is);
+}
+  where
+    pairs_map : (xs : List Admitted) → AllPairs (λ (a : Admitted) (b : Admitted). txid_of a.tx ≢ txid_of b.tx) xs → AllPairs (λ (a : Id) (b : Id). a ≢ b) (listing_of xs)
+    pairs_map [] h = λ i j d lt within. absurd (omega (arith, within))
+    pairs_map (x ∷ xs) h = AllPairs-cons (λ (a : Id) (b : Id). a ≢ b) (txid_of x.tx) (listing_of xs)
+        (λ k d lt same.
+        let v = Contains-from_map (λ (y : Admitted). txid_of y.tx) xs (get_or (listing_of xs) k d) (Contains-get_or (listing_of xs) k d lt) in
+        pairs_head (λ (a : Admitted) (b : Admitted). txid_of a.tx ≢ txid_of b.tx) x xs h v.item v.among (same ∙ sym v.is))
+        (pairs_map xs (pairs_tail (λ (a : Admitted) (b : Admitted). txid_of a.tx ≢ txid_of b.tx) x xs h))

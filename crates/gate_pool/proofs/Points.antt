@@ -1,6 +1,9 @@
 -- What a loop over inputs has written.
-use Rattle.std.proofs.Common.{◌≡◌, ℕ, zero, suc, ◌+◌, ◌<◌, Bool, true, false, cond, ◌||◌, List, [], ◌∷◌, ◌++◌, length, take, get_or, refl, sym, ap, ◌∙◌, arith, Option, Some, None, is_some, Result, Ok, Err, IsOk, OnErr, true≢false}
+use Rattle.std.proofs.Common.{◌≡◌, ℕ, zero, suc, ◌+◌, ◌<◌, Bool, true, false, cond, ◌||◌, ◌⊎◌, inl, inr, subst, List, [], ◌∷◌, ◌++◌, length, take, get_or, refl, sym, ap, ◌∙◌, arith, Option, Some, None, is_some, Result, Ok, Err, IsOk, OnErr, true≢false}
+use Rattle.std.specs.Prelude.{Contains}
 use Rattle.std.proofs.lemmas.Bool.{or_right}
+use Rattle.std.proofs.lemmas.List.Elements.{Contains-append_cases}
+use Rattle.gate_graph.proofs.Members.{Contains-cons_cases, not_in_none}
 use Rattle.std.specs.List.{list_any}
 use Rattle.std.proofs.lemmas.List.{take_more}
 use Rattle.std.proofs.lemmas.List.Folds.{list_any-append}
@@ -35,3 +38,11 @@ some-cond false v o h = h
 pub ok_where_present : {A E V : Type 0} (r : Result A E) (o : Option V) → OnErr r (o ≡ None) → is_some o ≡ true → IsOk r
 ok_where_present (Ok a) o none some = refl
 ok_where_present (Err e) o none some = absurd (true≢false (sym some ∙ ap is_some none))
+
+-- one more input
+pub Contains-take_more : {X : Type 0} (xs : List X) (i : ℕ) (x y : X) → i < length xs → x ≡ get_or xs i x → Contains (take (i + 1) xs) y → Contains (take i xs) y ⊎ (x ≡ y)
+Contains-take_more xs i x y h is c =
+    elim (Contains-append_cases (take i xs) (x ∷ []) y (subst (λ l. Contains l y) (take_more xs i x h ∙ ap (λ z. take i xs ++ z ∷ []) (sym is)) c)) [
+      | inl k ↦ inl k
+      | inr k ↦ elim (Contains-cons_cases x [] y k) [ inl e ↦ inr e | inr n ↦ not_in_none y n ]
+    ]

@@ -7,6 +7,8 @@ use Rattle.gate_tx.specs.Tx.{Tx}
 use Rattle.gate_tx.specs.Ids.{txid_of}
 use Rattle.gate_tx.specs.Coins.{spends}
 use Rattle.gate_graph.specs.Family.{Node, steps_of, reaches}
+use Rattle.gate_graph.specs.declared.held.Sums.{Sums as NodeSums}
+use Rattle.gate_graph.specs.declared.held.Totals.{Totals}
 use Rattle.gate_pool.specs.Pool.{Admitted, has_txid, size_of}
 use Rattle.gate_pool.specs.declared.closures.Sums.{Sums}
 
@@ -91,3 +93,11 @@ fees_of entries = sum_by (λ e. e.fee) entries
 -- how many entries there are, and what they come to
 abbrev pub sums_of : List Admitted → Sums
 sums_of entries = record { count = length entries; size = size_of entries; fees = fees_of entries }
+
+-- the same as nodes keep it
+abbrev pub summed : List Admitted → NodeSums
+summed entries = record { count = length entries; size = size_of entries; fees = fees_of entries }
+
+-- what the families of an id come to, each with its own entry
+abbrev pub totals_of : List Admitted → List ℕ → Totals
+totals_of entries txid = record { above = summed (ancestors_of entries txid); below = summed (descendants_of entries txid) }

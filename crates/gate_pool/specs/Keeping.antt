@@ -1,52 +1,58 @@
 -- What a pool keeps beside its entries.
-use Rattle.std.specs.Prelude.{◌≡◌, ℕ, ◌+◌, ◌<◌, ◌≤◌, Bool, None, List, Option, Some, length, Contains}
+use Rattle.std.specs.Prelude.{◌≡◌, ℕ, ◌+◌, ◌<◌, ◌≤◌, None, List, Option, length, map, Contains, IfSome}
+use Rattle.std.specs.Option.{option_map}
 use Rattle.gate_tx.specs.declared.TxIn.{TxIn}
 use Rattle.gate_tx.specs.declared.OutPoint.{OutPoint}
 use Rattle.gate_tx.specs.Ids.{txid_of, wtxid_of}
-use Rattle.gate_tx.specs.Coins.{spends}
-use Rattle.gate_pool.specs.Pool.{Admitted, IsBounded, most_entries, has_txid, has_wtxid, entry_by_txid, entry_by_wtxid, spender_of, size_of}
-use Rattle.gate_pool.specs.Slots.{entries_of, Indexes}
+use Rattle.gate_graph.specs.Family.{Node}
+use Rattle.gate_pool.specs.Pool.{Admitted, IsBounded, most_entries, entry_by_txid, entry_by_wtxid, spender_of}
+use Rattle.gate_pool.specs.Family.{node_of}
+use Rattle.gate_pool.specs.Distinct.{AreDistinct}
+use Rattle.gate_pool.specs.Scores.{AreBounded, least_of}
+use Rattle.gate_pool.specs.declared.scores.Score.{Score}
 
-abbrev pub has_point : Admitted → OutPoint → Bool
-has_point e point = spends e.tx.inputs point
+-- what the nodes carry, in order of admission
+abbrev pub entries_in : List (Node × Admitted) → List Admitted
+entries_in nodes = map (λ p. p.1) nodes
 
--- each index finds the places of the entries, `n` of them stand there, and `sum` is their size
-pub record IsKept (slots : List (Option Admitted)) (n : ℕ) (sum : ℕ) (by_txid by_wtxid : List ℕ → Option ℕ) (by_point : OutPoint → Option ℕ) : Type 0 where
-  pub txids : Indexes has_txid slots by_txid
-  pub wtxids : Indexes has_wtxid slots by_wtxid
-  pub points : Indexes has_point slots by_point
-  pub count : n ≡ length (entries_of slots)
-  pub size : sum ≡ size_of (entries_of slots)
-  pub bounded : (e : Admitted) → Contains (entries_of slots) e → IsBounded e
+-- entries, each with its node
+abbrev pub carried : List Admitted → List (Node × Admitted)
+carried entries = map (λ e. (node_of e, e)) entries
 
--- an entry of fewer inputs than `room` has a place in each index and among the slots
-pub record HasRoom (room : ℕ) (txid_spare wtxid_spare point_spare : ℕ) (len capacity : ℕ) : Type 0 where
-  pub txids : 0 < room → 0 < txid_spare
+-- each node is its entry's
+pub record IsCarried (nodes : List (Node × Admitted)) : Type 0 where
+  pub is : nodes ≡ carried (entries_in nodes)
+  pub bounded : (e : Admitted) → Contains (entries_in nodes) e → IsBounded e
+
+-- a look-up finds the id of the entry that a search finds
+pub record IsIndexed (entries : List Admitted) (by_wtxid : List ℕ → Option (List ℕ)) (by_point : OutPoint → Option (List ℕ)) : Type 0 where
+  pub wtxids : (id : List ℕ) → by_wtxid id ≡ option_map (λ e. txid_of e.tx) (entry_by_wtxid entries id)
+  pub points : (point : OutPoint) → by_point point ≡ option_map (λ e. txid_of e.tx) (spender_of entries point)
+  pub distinct : AreDistinct entries
+
+-- of `count` entries none is on its way out, and each can go; one more of fewer inputs than `room` has a place in each index
+-- and among the nodes
+pub record HasRoom (room count nodes wtxid_spare point_spare parents leaving gone : ℕ) : Type 0 where
+  pub none : leaving ≡ 0
+  pub gone_room : count ≤ gone
+  pub few : count ≤ most_entries
+  pub next : 0 < room → count + 1 ≤ gone
+  pub next_few : 0 < room → count + 1 ≤ most_entries
+  pub nodes_room : room ≤ nodes
   pub wtxids : 0 < room → 0 < wtxid_spare
   pub points : room ≤ point_spare + 1
-  pub slots : 0 < room → len < capacity
+  pub parents_room : room ≤ parents + 1
+
+-- room to list entries, and one more; no entry is older than the oldest; the least score is kept
+pub record IsReady (entries : List Admitted) (room chosen : ℕ) (oldest : ℕ) (least : Option Score) : Type 0 where
+  pub chosen_room : length entries ≤ chosen
+  pub next : 0 < room → length entries + 1 ≤ chosen
+  pub times : (e : Admitted) → Contains entries e → oldest ≤ e.time
+  pub score : least ≡ least_of entries
+  pub bounded : IfSome least (λ score. AreBounded score.family)
 
 -- no entry has its ids, or spends what it spends
 pub record IsNew (entries : List Admitted) (e : Admitted) : Type 0 where
   pub txid : entry_by_txid entries (txid_of e.tx) ≡ None
   pub wtxid : entry_by_wtxid entries (wtxid_of e.tx) ≡ None
   pub points : (i : TxIn) → Contains e.tx.inputs i → spender_of entries i.prevout ≡ None
-
--- a bound is known, and is at least m
-abbrev pub IsUpTo : Option ℕ → ℕ → Type 0
-IsUpTo known m = (n : ℕ) × (known ≡ Some n) × (m ≤ n)
-
--- each outpoint that an entry spends has an index up to the bound of its transaction
-pub record IsNoted (entries : List Admitted) (bound : List ℕ → Option ℕ) : Type 0 where
-  pub noted : (e : Admitted) → Contains entries e → (i : TxIn) → Contains e.tx.inputs i → IsUpTo (bound i.prevout.txid) i.prevout.index
-
--- room to find families now, and for an entry of fewer inputs than `room`; no entry is older than the oldest
-pub record IsReady (entries : List Admitted) (bound : List ℕ → Option ℕ) (places : ℕ) (spares : ℕ) (slots : ℕ) (room : ℕ) (oldest : ℕ) : Type 0 where
-  pub noted : IsNoted entries bound
-  pub now : length entries + 1 ≤ places
-  pub few : length entries ≤ most_entries
-  pub times : (e : Admitted) → Contains entries e → oldest ≤ e.time
-  pub next : 0 < room → length entries + 2 ≤ places
-  pub next_few : 0 < room → length entries < most_entries
-  pub bounds : room ≤ spares + 1
-  pub slots_room : room ≤ slots

@@ -3,7 +3,6 @@ pub mod Family
 pub mod Removal
 pub mod Scores
 pub mod Distinct
-pub mod Walk
 pub mod Search
-pub mod Slots
 pub mod Keeping
+pub mod Places

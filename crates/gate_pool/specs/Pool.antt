@@ -53,6 +53,9 @@ has_txid e txid = bytes_eq (txid_of e.tx) txid
 abbrev pub has_wtxid : Admitted → List ℕ → Bool
 has_wtxid e wtxid = bytes_eq (wtxid_of e.tx) wtxid
 
+abbrev pub has_point : Admitted → OutPoint → Bool
+has_point e point = spends e.tx.inputs point
+
 -- the first entry that has an id, or that spends an outpoint
 abbrev pub entry_by_txid : List Admitted → List ℕ → Option Admitted
 entry_by_txid entries txid = find (λ e. has_txid e txid) entries

@@ -43,9 +43,3 @@ pub record AreBounded (sums : Sums) : Type 0 where
   pub size : sums.size ≤ most_entries * largest_vsize
   pub fees : sums.fees ≤ most_entries * max_money
   pub rate : sums.fees ≤ max_money * sums.size
-
--- the score of one of them
-pub record IsWeighed (score : Score) : Type 0 where
-  pub fees : score.fees ≤ most_entries * max_money
-  pub size : score.size ≤ most_entries * largest_vsize
-  pub family : AreBounded score.family

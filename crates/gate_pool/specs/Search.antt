@@ -4,6 +4,7 @@ use Rattle.std.specs.List.{AllPairs}
 use Rattle.gate_tx.specs.declared.TxIn.{TxIn}
 use Rattle.gate_tx.specs.Ids.{txid_of}
 use Rattle.gate_pool.specs.Pool.{Admitted}
+use Rattle.gate_pool.specs.Family.{names}
 
 -- the ids of the transactions whose outputs the inputs spend, one for each input
 abbrev pub parents_of : List TxIn → List (List ℕ)
@@ -12,6 +13,10 @@ parents_of inputs = map (λ (i : TxIn). i.prevout.txid) inputs
 -- an entry has this id
 abbrev pub IsEntry : List Admitted → List ℕ → Type 0
 IsEntry entries txid = (e : Admitted) × Contains entries e × (txid_of e.tx ≡ txid)
+
+-- it is the id of an entry that spends an output of the transaction with another
+abbrev pub IsChild : List Admitted → List ℕ → List ℕ → Type 0
+IsChild entries parent txid = (e : Admitted) × Contains entries e × (names e parent ≡ true) × (txid_of e.tx ≡ txid)
 
 -- the ids are entries', each once
 pub record AreEntries (entries : List Admitted) (txids : List (List ℕ)) : Type 0 where

@@ -10,7 +10,7 @@ ghost use Rattle.gate_pool.specs.Removal.{family_of_entry, without_entry};
 use crate::closures::descendants;
 use crate::entry::Entry;
 use crate::pool::Pool;
-use gate_bytes::{Copied, Memory};
+use gate_bytes::Memory;
 use gate_tx::{TxIn, Txid};
 use std::alloc::Global;
 use std::hash::BuildHasher;
@@ -75,34 +75,5 @@ impl<S: BuildHasher + Copy + Drop> Pool<S> {
         let txids = self.family(alloc, txid)?;
         self.take_family(txid);
         Ok(txids)
-    }
-
-    /// A pool with the same entries, which hashes alike. The transactions are shared.
-    pub fn copy(&self, alloc: Global) -> Result<Pool<S>, Memory>
-        ensures { IfOk result (λ pool. pool.entries ≡ self.now.entries) }
-    {
-        let mut pool = Pool::new(alloc, self.hasher())?;
-        match self.copy_into(alloc, &mut pool) {
-            Ok(()) => Ok(pool),
-            Err(Memory) => {
-                drop(pool);
-                Err(Memory)
-            }
-        }
-    }
-
-    /// Lets a copy of each entry enter a pool without entries.
-    fn copy_into(&self, alloc: Global, pool: &mut Pool<S>) -> Result<(), Memory>
-        requires { pool.old.entries ≡ [] }
-        ensures { OnOk result (pool.new.entries ≡ self.now.entries) }
-    {
-        self.tells_distinct();
-        for slot in self.slots().as_slice() {
-            match slot {
-                Some(entry) => pool.admit(entry.copy(alloc)?)?,
-                None => {}
-            }
-        }
-        Ok(())
     }
 }

@@ -20,6 +20,18 @@ pub struct Sums {
     pub fees: u128,
 }
 
+impl From<gate_graph::Sums> for Sums {
+    ghost from_gives = { λ nodes sums. sums ≡ record { count = nodes.count; size = nodes.size; fees = nodes.fees } };
+
+    fn from(sums: gate_graph::Sums) -> Sums {
+        Sums {
+            count: sums.count as usize,
+            size: sums.size,
+            fees: sums.fees,
+        }
+    }
+}
+
 /// Adds the id of an entry, unless it was found before. Tells whether there are no more than `most`.
 fn add<V: FamilyView>(
     pool: &V,

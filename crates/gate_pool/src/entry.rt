@@ -12,6 +12,9 @@ use std::marker::Model;
 /// No entry is larger, in virtual bytes.
 pub const LARGEST_VSIZE: u64 = 10_000_000;
 
+/// No pool has more entries.
+pub const MOST_ENTRIES: usize = 50_000_000;
+
 /// A transaction in the pool.
 #[derive(Debug, Drop)]
 pub struct Entry {

@@ -4,22 +4,21 @@
 //! the place of all that conflicts with it, and of all that is below that, without memory.
 #![tactic(auto)]
 
-mod below;
-mod bounds;
 mod changes;
+mod choice;
 mod closures;
 mod entry;
-mod family;
+mod naming;
 mod places;
 mod pool;
+mod reading;
 mod scores;
-mod slots;
+mod store;
 mod view;
-mod weighing;
 
-pub use below::Test;
+pub use choice::Test;
 pub use closures::{Sums, add_up, ancestors, ancestors_with, descendants};
-pub use entry::{Entry, LARGEST_VSIZE};
-pub use pool::{MOST_ENTRIES, Pool};
+pub use entry::{Entry, LARGEST_VSIZE, MOST_ENTRIES};
+pub use pool::Pool;
 pub use scores::Score;
 pub use view::FamilyView;

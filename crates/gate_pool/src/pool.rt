@@ -1,55 +1,47 @@
-ghost use Rattle.std.specs.Prelude.{◌≡◌, ◌<◌, Bool, None, [], not, filter, length, IfOk, IfSome, OnOk};
+ghost use Rattle.std.specs.Prelude.{◌≡◌, ◌<◌, ◌^◌, Bool, None, [], not, filter, length, is_some, IfOk, IfSome, OnOk};
 ghost use Rattle.std.specs.List.Sorted.{IsPermutation};
 ghost use Rattle.std.specs.Option.{option_copied};
 ghost use Rattle.gate_tx.specs.Ids.{txid_of, wtxid_of};
 ghost use Rattle.gate_pool.specs.Pool.{Admitted, entry_by_txid, entry_by_wtxid, spender_of, has_txid, listing_of, size_of, is_before};
-ghost use Rattle.gate_pool.specs.Family.{names, spends_one_of, without_family, without_below, entered, AreIdsOf};
+ghost use Rattle.gate_pool.specs.Family.{names, spends_one_of, totals_of, without_family, without_below, entered, AreIdsOf};
 ghost use Rattle.gate_pool.specs.Scores.{AreBounded, least_of};
 ghost use Rattle.gate_pool.specs.Distinct.{AreDistinct};
 
-use crate::below::{Before, Test, take_passing};
-use crate::bounds::note;
+use crate::choice::{Before, Test};
 use crate::entry::Entry;
-use crate::family::{children_up_to, take_conflicts, take_named, take_out};
+use crate::naming::node_id;
 use crate::scores::Score;
-use crate::slots::Slots;
+use crate::store::Store;
 use crate::view::FamilyView;
-use crate::weighing::least_score;
 use gate_bytes::{Kept, Memory};
+use gate_graph::{NodeId, Totals};
 use gate_tx::{OutPoint, TxIn, Txid, Wtxid};
-use indexmap::IndexMap;
 use std::alloc::Global;
 use std::hash::BuildHasher;
 use std::marker::Model;
 
-/// No pool has more entries.
-pub const MOST_ENTRIES: usize = 50_000_000;
-
 /// The transactions that wait for a block, in order of admission.
 #[derive(Drop)]
 pub struct Pool<S: BuildHasher + Copy + Drop> {
-    slots: Slots<S>,
-    /// Of each transaction, an index that no spent one exceeds.
-    bounds: IndexMap<Txid, u32, S>,
-    /// Room for the ids of a family.
-    found: Vec<Txid>,
+    store: Store<S>,
+    /// Room for the ids of entries that are chosen.
+    chosen: Vec<NodeId>,
+    /// The least score of all.
+    least: Option<Score>,
     /// No entry was admitted before this second.
     oldest: u64,
-    room: usize,
 }
 
 impl<S: BuildHasher + Copy + Drop> Model for Pool<S> {
-    ghost use Rattle.std.specs.Str.{bytes_eq};
     ghost use Rattle.std.specs.Vec.{vec_capacity};
-    ghost use Rattle.indexmap.specs.IndexMap.{get, spare};
     ghost use Rattle.gate_pool.specs.Pool.{Pooled};
     ghost use Rattle.gate_pool.specs.Keeping.{IsReady};
 
     ghost Value = { Pooled };
 
-    ghost view = { λ p. record { entries = p.slots.entries; room = p.room } };
+    ghost view = { λ p. p.store };
 
-    ghost invariant = { λ p. IsReady p.slots.entries (get bytes_eq p.bounds) (vec_capacity p.found) (spare p.bounds) p.slots.room p.room p.oldest };
+    ghost invariant = { λ p. IsReady p.store.entries p.store.room (vec_capacity p.chosen) p.oldest p.least };
 }
 
 impl<S: BuildHasher + Copy + Drop> Pool<S> {
@@ -57,53 +49,60 @@ impl<S: BuildHasher + Copy + Drop> Pool<S> {
     pub fn new(alloc: Global, hasher: S) -> Result<Pool<S>, Memory>
         ensures { IfOk result (λ pool. pool.entries ≡ []) }
     {
-        let found = Vec::with_capacity(alloc, 1)?;
         Ok(Pool {
-            slots: Slots::new(alloc, hasher),
-            bounds: IndexMap::with_hasher(alloc, hasher),
-            found,
+            store: Store::new(alloc, hasher),
+            chosen: Vec::new(alloc),
+            least: None,
             oldest: u64::MAX,
-            room: 0,
         })
     }
 
     pub fn entry(&self, txid: &Txid) -> Option<&Entry>
         ensures { option_copied result ≡ entry_by_txid self.now.entries txid.now }
     {
-        self.slots.entry(txid)
+        self.store.entry(txid)
     }
 
     pub fn by_wtxid(&self, wtxid: &Wtxid) -> Option<&Entry>
         ensures { option_copied result ≡ entry_by_wtxid self.now.entries wtxid.now }
     {
-        self.slots.by_wtxid(wtxid)
+        self.store.by_wtxid(wtxid)
     }
 
     /// The entry that spends an output.
     pub fn spender(&self, point: &OutPoint) -> Option<&Entry>
         ensures { option_copied result ≡ spender_of self.now.entries point.now }
     {
-        self.slots.spender(point)
+        self.store.spender(point)
+    }
+
+    /// What the families of an entry come to: stored, and lent without memory.
+    pub fn totals(&self, txid: &Txid) -> Option<&Totals>
+        ensures found { is_some result ≡ is_some (entry_by_txid self.now.entries txid.now) }
+        ensures totals { IfSome result (λ totals. totals.now ≡ totals_of self.now.entries txid.now) }
+        ensures small { IfSome result (λ totals. totals.now.below.size < 2 ^ 100) }
+    {
+        self.store.totals(txid)
     }
 
     pub fn count(&self) -> usize
         ensures { result ≡ length self.now.entries }
     {
-        self.slots.count()
+        self.store.count()
     }
 
     /// In virtual bytes.
     pub fn size(&self) -> u128
         ensures { result ≡ size_of self.now.entries }
     {
-        self.slots.size()
+        self.store.size()
     }
 
     /// The txids, in order of admission.
     pub fn listing(&self, alloc: Global) -> Result<Kept<Txid>, Memory>
         ensures { IfOk result (λ txids. txids ≡ listing_of self.now.entries) }
     {
-        self.slots.listing(alloc)
+        self.store.listing(alloc)
     }
 
     /// Puts the ids of entries in order of admission, in place.
@@ -112,29 +111,23 @@ impl<S: BuildHasher + Copy + Drop> Pool<S> {
         ensures same { IsPermutation txids.old txids.new }
         ensures len { length txids.new ≡ length txids.old }
     {
-        self.slots.sort_by_admission(txids);
-    }
-
-    pub(crate) fn slots(&self) -> &Slots<S>
-        ensures { result.now.entries ≡ self.now.entries }
-    {
-        &self.slots
+        self.store.sort_by_admission(txids);
     }
 
     /// The state that the hashers are made from.
     pub fn hasher(&self) -> S {
-        *self.bounds.hasher()
+        self.store.hasher()
     }
 
     pub(crate) fn allocator(&self) -> Global {
-        *self.bounds.allocator()
+        self.store.allocator()
     }
 
     /// That no two entries share an id or spend one outpoint: it does nothing.
     pub fn tells_distinct(&self)
         ensures { AreDistinct self.now.entries }
     {
-        self.slots.tells_distinct();
+        self.store.tells_distinct();
     }
 
     /// Takes the memory for an entry of this many inputs. A pool of `MOST_ENTRIES` entries has none for another.
@@ -142,41 +135,12 @@ impl<S: BuildHasher + Copy + Drop> Pool<S> {
         ensures entries { self.new.entries ≡ self.old.entries }
         ensures room { OnOk result (inputs < self.new.room) }
     {
-        let most = self.slots.points().saturating_mul(2).saturating_add(16);
-        if self.bounds.len() > most {
-            self.purge()?;
-        }
-        self.take_room(inputs)
-    }
-
-    /// Makes the bounds afresh, without those of transactions of which nothing is spent any more.
-    fn purge(&mut self) -> Result<(), Memory>
-        ensures { self.new.entries ≡ self.old.entries }
-    {
-        self.room = 0;
-        let alloc = *self.bounds.allocator();
-        let hasher = *self.bounds.hasher();
-        self.bounds = self.slots.bounds(alloc, hasher)?;
-        Ok(())
-    }
-
-    fn take_room(&mut self, inputs: usize) -> Result<(), Memory>
-        ensures entries { self.new.entries ≡ self.old.entries }
-        ensures room { OnOk result (inputs < self.new.room) }
-    {
-        self.room = 0;
-        let Some(room) = inputs.checked_add(1) else {
+        let Some(places) = self.store.count().checked_add(1) else {
             return Err(Memory);
         };
-        let count = self.slots.count();
-        if count >= MOST_ENTRIES {
-            return Err(Memory);
-        }
-        self.found.reserve(count + 2)?;
-        self.bounds.reserve(inputs)?;
-        self.slots.reserve(inputs)?;
-        self.room = room;
-        Ok(())
+        self.chosen.clear();
+        self.chosen.reserve(places)?;
+        self.store.reserve(inputs)
     }
 
     /// Puts an entry at the end, in the place of all that conflicts with it and of all that is below that. It takes no
@@ -187,22 +151,18 @@ impl<S: BuildHasher + Copy + Drop> Pool<S> {
         requires wtxid { entry_by_wtxid self.old.entries (wtxid_of entry.tx) ≡ None }
         ensures { self.new.entries ≡ entered self.old.entries entry }
     {
-        self.room = 0;
-        let inputs = entry.transaction().inputs();
-        take_conflicts(&mut self.slots, &mut self.found, &self.bounds, inputs);
-        note(&mut self.bounds, inputs);
         self.oldest = self.oldest.min(entry.time());
-        self.slots.put(entry);
-        self.slots.tidy();
+        self.store.take_conflicts(entry.transaction().inputs());
+        self.store.put(entry);
+        self.least = self.store.settle();
     }
 
     /// Takes out the entry of an id and all that is below the id. It takes no memory, and gives up the room that was taken.
     pub fn take_family(&mut self, txid: &Txid)
         ensures { self.new.entries ≡ without_family self.old.entries txid.now }
     {
-        self.room = 0;
-        take_out(&mut self.slots, &mut self.found, &self.bounds, txid);
-        self.slots.tidy();
+        self.store.take_out(&node_id(txid));
+        self.least = self.store.settle();
     }
 
     /// Takes out the entry of an id alone: what spends its outputs stays. It takes no memory, and gives up the room that was
@@ -210,9 +170,8 @@ impl<S: BuildHasher + Copy + Drop> Pool<S> {
     pub fn remove_root(&mut self, txid: &Txid)
         ensures { self.new.entries ≡ filter (λ e. not (has_txid e txid.now)) self.old.entries }
     {
-        self.room = 0;
-        self.slots.pull(txid);
-        self.slots.tidy();
+        self.store.take_one(txid);
+        self.least = self.store.settle();
     }
 
     /// Takes out the entries that spend what one of the inputs spends, and all that is below them. It takes no memory, gives
@@ -220,9 +179,8 @@ impl<S: BuildHasher + Copy + Drop> Pool<S> {
     pub fn take_spenders(&mut self, inputs: &[TxIn])
         ensures { self.new.entries ≡ without_below (spends_one_of inputs.now) self.old.entries }
     {
-        self.room = 0;
-        take_conflicts(&mut self.slots, &mut self.found, &self.bounds, inputs);
-        self.slots.tidy();
+        self.store.take_conflicts(inputs);
+        self.least = self.store.settle();
     }
 
     /// Takes out the entries that spend outputs of a transaction, whether that is an entry or not, and all that is below
@@ -230,9 +188,8 @@ impl<S: BuildHasher + Copy + Drop> Pool<S> {
     pub fn take_children(&mut self, txid: &Txid)
         ensures { self.new.entries ≡ without_below (λ e. names e txid.now) self.old.entries }
     {
-        self.room = 0;
-        take_named(&mut self.slots, &mut self.found, &self.bounds, txid);
-        self.slots.tidy();
+        self.store.take_children(txid);
+        self.least = self.store.settle();
     }
 
     /// Takes out the entries that pass a test and all that is below them. It takes no memory, and gives up the room that was
@@ -240,9 +197,9 @@ impl<S: BuildHasher + Copy + Drop> Pool<S> {
     pub fn take_below<T: Test>(&mut self, test: &T)
         ensures { self.new.entries ≡ without_below (T.chosen test.now) self.old.entries }
     {
-        self.room = 0;
-        take_passing(&mut self.slots, &mut self.found, &self.bounds, test);
-        self.slots.tidy();
+        self.store.choose(test, &mut self.chosen);
+        self.store.take_chosen(self.chosen.as_slice());
+        self.least = self.store.settle();
     }
 
     /// The same for the entries that were admitted before a second. It looks through the pool only where one that old has
@@ -252,19 +209,30 @@ impl<S: BuildHasher + Copy + Drop> Pool<S> {
     {
         if self.oldest < time {
             self.take_below(&Before { time });
-            self.oldest = self.slots.oldest();
+            self.oldest = self.store.oldest();
         }
     }
 
-    /// The entry of least score, of equals the one that was admitted last. It takes no memory, and looks at each entry's
-    /// family.
-    pub fn least(&mut self) -> Option<Score>
-        ensures value { result ≡ least_of self.old.entries }
-        ensures bounded { IfSome result (λ score. AreBounded score.family) }
-        ensures entries { self.new.entries ≡ self.old.entries }
-        ensures room { self.new.room ≡ self.old.room }
+    /// The entry of least score, of equals the one that was admitted last. It takes no memory and looks at no other entry.
+    pub fn least(&self) -> Option<&Score>
+        ensures value { option_copied result ≡ least_of self.now.entries }
+        ensures bounded { IfSome result (λ score. AreBounded score.now.family) }
     {
-        least_score(&self.slots, &mut self.found, &self.bounds)
+        self.least.as_ref()
+    }
+
+    /// A pool with the same entries, which hashes alike. The transactions are shared, and no totals are found anew.
+    pub fn copy(&self, alloc: Global) -> Result<Pool<S>, Memory>
+        ensures { IfOk result (λ pool. pool.entries ≡ self.now.entries) }
+    {
+        let chosen = Vec::with_capacity(alloc, self.store.count())?;
+        let store = self.store.copy(alloc)?;
+        Ok(Pool {
+            store,
+            chosen,
+            least: self.least,
+            oldest: self.oldest,
+        })
     }
 }
 
@@ -272,17 +240,14 @@ impl<S: BuildHasher + Copy + Drop> FamilyView for Pool<S> {
     ghost entries = { λ pool. pool.entries };
 
     fn entry(&self, txid: &Txid) -> Option<&Entry> {
-        self.slots.entry(txid)
+        self.store.entry(txid)
     }
 
     fn children(&self, alloc: Global, txid: &Txid) -> Result<Vec<Txid>, Memory> {
-        match self.bounds.get(txid) {
-            Some(bound) => children_up_to(&self.slots, alloc, txid, *bound),
-            None => Ok(Vec::new(alloc)),
-        }
+        self.store.children(alloc, txid)
     }
 
     fn tells_apart(&self) {
-        self.slots.tells_distinct();
+        self.store.tells_distinct();
     }
 }

@@ -1,5 +1,5 @@
-ghost use Rattle.std.specs.Prelude.{◌≡◌, IfSome};
-ghost use Rattle.gate_pool.specs.Scores.{AreBounded, IsWeighed, score_from, lesser};
+ghost use Rattle.std.specs.Prelude.{◌≡◌};
+ghost use Rattle.gate_pool.specs.Scores.{AreBounded, score_from};
 
 use crate::closures::Sums;
 use crate::entry::Entry;
@@ -22,8 +22,7 @@ impl Score {
     /// The score of an entry that comes to this with its descendants.
     pub(crate) fn of(entry: &Entry, family: Sums) -> Score
         requires { AreBounded family }
-        ensures value { result ≡ score_from entry.now family }
-        ensures weighed { IsWeighed result }
+        ensures { result ≡ score_from entry.now family }
     {
         let fees = u128::from(entry.fee());
         let size = u128::from(entry.vsize());
@@ -41,25 +40,6 @@ impl Score {
                 size,
                 family,
             }
-        }
-    }
-
-    /// The lesser of this score and that of a later entry, which is the later one where they are equal.
-    pub(crate) fn or_later(self, later: Option<Score>) -> Score
-        requires first { IsWeighed self }
-        requires later { IfSome later IsWeighed }
-        ensures value { result ≡ lesser self later }
-        ensures weighed { IsWeighed result }
-    {
-        match later {
-            Some(later) => {
-                if self.fees * later.size < later.fees * self.size {
-                    self
-                } else {
-                    later
-                }
-            }
-            None => self,
         }
     }
 }

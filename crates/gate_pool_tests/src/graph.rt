@@ -447,3 +447,43 @@ fn faults_are_told(rt: HostRuntime) -> Result<(), Fail> {
     }
     Ok(())
 }
+
+/// How many are below a node, itself among them, by the totals that it keeps.
+fn assert_kept_below(rt: &impl Abort, graph: &Graph<Hashing>, name: u8, count: u64) {
+    match graph.totals(&named(name)) {
+        Some(totals) => assert_eq!(rt; totals.below.count, count, "below {name}"),
+        None => assert!(rt; false, "no totals of {name}"),
+    }
+}
+
+/// Adds the children 1 and 2, 3 below both, and last the parent 4 above 1 and 2.
+fn add_four(alloc: Global, graph: &mut Graph<Hashing>) -> Result<(), GraphFault> {
+    add_leaf(alloc, graph, 1, &[], 100, 10)?;
+    add_leaf(alloc, graph, 2, &[], 200, 20)?;
+    add_leaf(alloc, graph, 3, &[1, 2], 300, 30)?;
+    add_above(alloc, graph, 4, &[], &[1, 2])
+}
+
+fn keeps_totals_of_four(
+    rt: &(impl Abort + AllocGlobal),
+    graph: &mut Graph<Hashing>,
+) -> Result<(), GraphFault> {
+    add_four(rt.alloc(), graph)?;
+    assert_kept_below(rt, graph, 4, 4);
+    let mut alone = graph.copy(rt.alloc())?;
+    assert_root(rt, &mut alone, 4, true);
+    assert_count(rt, &alone, 3);
+    assert_kept_below(rt, &alone, 1, 2);
+    drop(alone);
+    assert_goes_out(rt, graph, 1, &[1, 3])?;
+    assert_kept_below(rt, graph, 4, 2);
+    Ok(())
+}
+
+#[test]
+fn a_late_parent_has_four_below_it(rt: HostRuntime) -> Result<(), Fail> {
+    let mut graph = empty(rt.alloc());
+    let result = keeps_totals_of_four(&rt, &mut graph);
+    drop(graph);
+    Ok(result?)
+}

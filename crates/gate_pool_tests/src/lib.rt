@@ -1,10 +1,12 @@
-//! Tests of the graph of ancestors, of the pool, of replacement, and of expiry and trim.
+//! Tests of the ranking of rates, of the graph of ancestors, of the pool, of replacement, and of expiry and trim.
 #![tactic(auto)]
 
 #[cfg(test)]
 mod graph;
 #[cfg(test)]
 mod graph_edits;
+#[cfg(test)]
+mod nodes;
 #[cfg(test)]
 mod paying;
 #[cfg(test)]
@@ -13,6 +15,8 @@ mod plain_graph;
 mod plain_pool;
 #[cfg(test)]
 mod pool;
+#[cfg(test)]
+mod ranking;
 #[cfg(test)]
 mod replacement;
 #[cfg(test)]

@@ -1,6 +1,6 @@
 //! Transactions of one output, which tests let enter a pool.
 use gate_bytes::{Kept, Memory};
-use gate_tx::{Identified, OutPoint, Transaction, TxIn, TxOut};
+use gate_tx::{Identified, OutPoint, Transaction, TxIn, TxOut, Witness};
 use std::alloc::Global;
 
 /// An input without a script or a witness.
@@ -9,7 +9,7 @@ pub(crate) fn input(alloc: Global, prevout: OutPoint, sequence: u32) -> TxIn {
         prevout,
         script: Kept::from_vec(Vec::new(alloc)),
         sequence,
-        witness: Kept::from_vec(Vec::new(alloc)),
+        witness: Witness::new(alloc),
     }
 }
 

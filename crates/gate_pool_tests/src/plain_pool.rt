@@ -95,6 +95,18 @@ impl Plain {
         Ok(())
     }
 
+    /// Takes out the row of an id alone.
+    pub fn remove_alone(&mut self, txid: Txid) {
+        self.rows.retain(|row| row.txid != txid);
+    }
+
+    /// Takes out what spends from an id, whether a row has it or not, and what is below that.
+    pub fn take_children(&mut self, alloc: Global, txid: Txid) -> Result<(), Memory> {
+        let mut ids = Vec::new(alloc);
+        ids.push(txid)?;
+        self.drop_below(ids)
+    }
+
     /// Takes out the rows that are smaller, which stands for an earlier time, and what is below them.
     pub fn take_before(&mut self, alloc: Global, vsize: u64) -> Result<(), Memory> {
         let mut ids = Vec::new(alloc);
@@ -247,6 +259,52 @@ impl Plain {
         }
         pool.sort_by_admission(txids.as_mut_slice());
         Ok(txids.as_slice() == wanted.as_slice())
+    }
+
+    /// The id of a row, and the ids of all rows above it.
+    fn above_with(&self, alloc: Global, txid: &Txid) -> Result<Vec<Txid>, Memory> {
+        let mut found = Vec::new(alloc);
+        self.add(&mut found, txid)?;
+        for _ in 0..self.rows.len() {
+            let before = found.len();
+            self.add_parents(&mut found)?;
+            if found.len() == before {
+                break;
+            }
+        }
+        Ok(found)
+    }
+
+    /// Whether a pool keeps the totals of a row's families that passes over the list find.
+    fn agrees_on_totals<S: BuildHasher + Copy + Drop>(
+        &self,
+        alloc: Global,
+        pool: &Pool<S>,
+        txid: &Txid,
+    ) -> Result<bool, Memory> {
+        let above = self.above_with(alloc, txid)?;
+        let below = self.below(alloc, &[*txid])?;
+        Ok(match pool.totals(txid) {
+            Some(totals) => {
+                Sums::from(totals.above) == self.sums(above.as_slice())
+                    && Sums::from(totals.below) == self.sums(below.as_slice())
+            }
+            None => false,
+        })
+    }
+
+    /// The same of each row.
+    pub fn agrees_on_each<S: BuildHasher + Copy + Drop>(
+        &self,
+        alloc: Global,
+        pool: &Pool<S>,
+    ) -> Result<bool, Memory> {
+        for row in self.rows.as_slice() {
+            if !self.agrees_on_totals(alloc, pool, &row.txid)? {
+                return Ok(false);
+            }
+        }
+        Ok(true)
     }
 
     fn sums(&self, txids: &[Txid]) -> Sums {

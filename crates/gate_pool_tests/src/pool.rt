@@ -180,7 +180,41 @@ fn copy_agrees<S: BuildHasher + Copy + Drop>(
     agrees
 }
 
-/// One edit, and now and then the oldest go. Tells whether the same ids went by the edit.
+/// The oldest go, an entry goes alone, or what spends from or beside a transaction goes, as is drawn.
+fn edit_drawn<S: BuildHasher + Copy + Drop>(
+    alloc: Global,
+    draw: &mut Draw,
+    pool: &mut Pool<S>,
+    plain: &mut Plain,
+    one: &Made,
+) -> Result<(), Memory> {
+    match draw.below(12) {
+        0 => {
+            let vsize = 100 + u64::from(draw.below(30));
+            pool.take_before(vsize);
+            plain.take_before(alloc, vsize)
+        }
+        1..=3 => {
+            pool.remove_root(&one.row.txid);
+            plain.remove_alone(one.row.txid);
+            Ok(())
+        }
+        4 => {
+            pool.take_children(&one.row.txid);
+            plain.take_children(alloc, one.row.txid)
+        }
+        5 => {
+            pool.take_spenders(one.identified.get().transaction().inputs());
+            // it stands in the place of all that spend what it spends, and goes alone
+            plain.replace(alloc, one.row)?;
+            plain.remove_alone(one.row.txid);
+            Ok(())
+        }
+        _ => Ok(()),
+    }
+}
+
+/// One edit, and now and then another kind. Tells whether the same ids went by the first.
 fn edit_some<S: BuildHasher + Copy + Drop>(
     alloc: Global,
     draw: &mut Draw,
@@ -188,19 +222,18 @@ fn edit_some<S: BuildHasher + Copy + Drop>(
     pool: &mut Pool<S>,
     plain: &mut Plain,
 ) -> Result<bool, Memory> {
-    let mut same = true;
-    if let Some(one) = made.get(draw.below(60) as usize) {
-        same = edit(alloc, pool, plain, one)?;
-    }
-    if draw.below(12) == 0 {
-        let vsize = 100 + u64::from(draw.below(30));
-        pool.take_before(vsize);
-        plain.take_before(alloc, vsize)?;
+    let (first, second) = (draw.below(60) as usize, draw.below(60) as usize);
+    let same = match made.get(first) {
+        Some(one) => edit(alloc, pool, plain, one)?,
+        None => true,
+    };
+    if let Some(one) = made.get(second) {
+        edit_drawn(alloc, draw, pool, plain, one)?;
     }
     Ok(same)
 }
 
-/// Whether each index, the least score and two families are those that searches of the list find.
+/// Whether each index, all totals, the least score and two families are those that searches of the list find.
 fn all_agree<S: BuildHasher + Copy + Drop>(
     alloc: Global,
     draw: &mut Draw,
@@ -216,6 +249,7 @@ fn all_agree<S: BuildHasher + Copy + Drop>(
     };
     Ok(
         families
+            && plain.agrees_on_each(alloc, pool)?
             && least == plain.least(alloc)?
             && made.iter().all(|one| plain.agrees(pool, &one.row))
             && plain.is_listed(alloc, pool)?,

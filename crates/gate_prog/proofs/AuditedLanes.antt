@@ -1,29 +1,29 @@
--- The journal that lanes print is one that an audit finds legal.
-use Rattle.std.proofs.Common.{◌≡◌, ℕ, zero, suc, ◌+◌, ◌-◌, ◌<◌, ◌≤◌, nat_lt, nat_le, Bool, true, false, if◌then◌else◌, List, [], ◌∷◌, ◌++◌, length, get_or, map, Option, Some, None, IsOk, Result, Ok, Err, inl, inr, refl, sym, ap, ap₂, subst, ◌∙◌, append_assoc, arith}
+-- The journals that lanes print are legal ones for an audit.
+use Rattle.std.proofs.Common.{◌≡◌, ℕ, zero, suc, ◌+◌, ◌-◌, ◌<◌, ◌≤◌, nat_lt, nat_le, Bool, true, false, if◌then◌else◌, List, [], ◌∷◌, ◌++◌, length, take, get_or, map, Option, Some, None, IsOk, Result, Ok, Err, inl, inr, refl, sym, ap, ap₂, subst, ◌∙◌, append_assoc, append-nil, arith}
 use Rattle.std.specs.List.{All, cons_option}
 use Rattle.std.specs.Prelude.{slice_get}
-use Rattle.std.proofs.lemmas.List.{append_cancel_left, get_or-map, length-map}
-use Rattle.std.proofs.lemmas.List.Elements.{All-head, All-tail}
+use Rattle.std.proofs.lemmas.List.Elements.{All-cons, All-head, All-nil, All-tail}
 use Rattle.std.proofs.lemmas.Bool.{false≢true}
 use Rattle.std.proofs.lemmas.Option.{none-some, same_Some, slice_get-get_or}
 use Rattle.gate_audit.specs.Audits.{IsLegal}
-use Rattle.gate_audit.specs.Journals.{AreWithin, entry_limit, entry_lines, event_line, reply_line}
-use Rattle.gate_audit.proofs.Telling.{runs_have_legal_journals}
-use Rattle.gate_core.specs.Runs.{run_of}
+use Rattle.gate_audit.specs.Journals.{AreBounded, AreWithin, Round, Rounds, base_line, count_of, ended_lines, entries_of, entry_limit, entry_lines, event_line, reply_line, round_lines, rounds_lines}
+use Rattle.gate_audit.proofs.Journals.{no_rounds}
+use Rattle.gate_audit.proofs.Telling.{rounds_have_legal_journals}
 use Rattle.gate_core.specs.World.{World}
 use Rattle.gate_message.specs.declared.event.Event.{Event}
-use Rattle.gate_message.specs.declared.reply.Reply.{Reply}
 use Rattle.gate_events.specs.EventLines.{line_event}
 use Rattle.gate_events.specs.EventTexts.{text_of}
 use Rattle.gate_events.proofs.SpelledTexts.{texts_spell}
-use Rattle.gate_journal.specs.Legal.{entry, events_of, replies_of}
+use Rattle.gate_journal.specs.Legal.{AreLegalRounds, entry, events_of, joined, replies_of, state_after}
 use Rattle.gate_journal.specs.Legal.{IsLegal as IsLegalJournal}
 use Rattle.gate_journal.specs.declared.Entry.{Entry}
 use Rattle.gate_lanes.specs.Ends.{Left, LaneRan, LanesRan}
+use Rattle.gate_lanes.specs.Parts.{rounds_of}
+use Rattle.gate_lanes.specs.Rounds.{Concludes}
+use Rattle.gate_lanes.specs.declared.round.Conclusion.{Conclusion}
+use Rattle.gate_lanes.specs.declared.round.Conclusion.TheVariants as conclusions
 use Rattle.gate_lane.specs.LaneEvents.{lane_events, with_event}
 use Rattle.gate_lanes.specs.LaneCalls.{Answer, HasCalls, calls_made}
-use Rattle.gate_lanes.specs.Lanes.{LaneDone}
-use Rattle.gate_lanes.specs.Parts.{lanes_of}
 use Rattle.gate_lanes.proofs.LedCalls.{lanes_are_calls}
 use Rattle.gate_lines.specs.Lines.{count_limit, is_skipped, line_limit, lines_of, unlines}
 use Rattle.gate_lines.specs.declared.fault.LaneFault.{LaneFault}
@@ -31,15 +31,15 @@ use Rattle.gate_opening.specs.Openings.{opening_part}
 use Rattle.gate_opening.specs.Said.{spelled}
 use Rattle.gate_opening.specs.declared.OpeningFault.{OpeningFault}
 use Rattle.gate_shared.specs.Calls.{PassView}
-use Rattle.gate_shared.specs.Settling.{AreTheCalls, SettlesAll, owner_at}
+use Rattle.gate_shared.specs.Settling.{AreTheCalls, owner_at}
 use Rattle.gate_shared.specs.declared.receipt.Made.{Made}
 use Rattle.gate_shared.specs.declared.settle.Owner.{Owner}
 use Rattle.gate_shared.specs.declared.settle.Settled.{Settled}
-use Rattle.gate_prog.specs.declared.job.Job.TheVariants as jobs
-use Rattle.gate_prog.specs.Jobs.{JobDone, LanesDone}
-use Rattle.gate_prog.specs.LaneJobs.{Concludes, LanesTell}
-use Rattle.gate_prog.specs.LaneLines.{journal_lines, lane_over, lanes_text, settled_line, settled_lines}
-use Rattle.gate_prog.specs.PrintedJournals.{LanesAreAudited}
+use Rattle.gate_prog.specs.Jobs.{LanesDone}
+use Rattle.gate_prog.specs.LaneJobs.{GoOn, GoesOn, RoundsTell, Start, first_start}
+use Rattle.gate_prog.specs.LaneLines.{base_text, count_before, entries_by, journal_lines, lane_over, lanes_text, settled_line, settled_lines, told_lines}
+use Rattle.gate_prog.specs.PrintedJournals.{LanesAreAudited, PrintedRound, base_lines, behind_round, entries_in, rounds_journal, rounds_text}
+use Rattle.std.proofs.lemmas.List.{append_cancel_left}
 
 -- some line spells the event
 abbrev IsSpelled : Event → Type 0
@@ -144,47 +144,178 @@ lines_same : (entries : List Entry) → journal_lines entries ≡ entry_lines (m
 lines_same [] = refl
 lines_same (e ∷ entries) = ap (λ (lines : List (List ℕ)). event_line (text_of e.event) ∷ reply_line e.reply ∷ lines) (lines_same entries)
 
-journal_legal : (w : World) (entries : List Entry) → IsLegalJournal w entries → All (λ (e : Entry). IsSpelled e.event) entries → length entries ≤ entry_limit
-    → AreWithin (journal_lines entries) → IsLegal w (journal_lines entries) (length entries)
-journal_legal w entries legal told few within =
-    let texts = map text_of (events_of entries) in
-    let same : journal_lines entries ≡ entry_lines texts (run_of w (events_of entries)).0 = lines_same entries ∙ ap (entry_lines texts) legal in
-    let count : length (events_of entries) ≡ length entries = length-map entries (λ (e : Entry). e.event) in
-    let found = runs_have_legal_journals w (events_of entries) texts (texts_spelled entries told) (subst (λ (n : ℕ). n ≤ entry_limit) (sym count) few)
-    (subst AreWithin same within) in
-    subst (λ (n : ℕ). IsLegal w (journal_lines entries) n) count (subst (λ (lines : List (List ℕ)). IsLegal w lines (length (events_of entries))) (sym same) found)
+-- ---- the journals of rounds
+
+-- the journal of a round is legal from this state, bounded, and its events are spelled
+record IsSound (w : World) (entries : List Entry) : Type 0 where
+  legal : IsLegalJournal w entries
+  few : length entries ≤ entry_limit
+  told : All (λ (e : Entry). IsSpelled e.event) entries
+
+-- each from the state that the one before leads to
+abbrev AreSound : World → List PrintedRound → Type 0
+AreSound w [] = Unit {0}
+AreSound w (round ∷ rounds) = IsSound w round.entries × AreSound (state_after w round.entries) rounds
+
+sound_front : (n : ℕ) (w : World) (rounds : List PrintedRound) → AreSound w rounds → AreSound w (take n rounds)
+sound_front zero w rounds h = tt
+sound_front (suc n) w [] h = tt
+sound_front (suc n) w (round ∷ rounds) (one, more) = (one, sound_front n (state_after w round.entries) rounds more)
+
+-- such a round as an audit has it
+abbrev made : (w : World) (round : PrintedRound) → IsSound w round.entries → Round
+made w round sound = record { entries = round.entries; texts = map text_of (events_of round.entries); spelled = texts_spelled round.entries sound.told }
+
+abbrev made_all : (w : World) (rounds : List PrintedRound) → AreSound w rounds → List Round
+made_all w [] h = []
+made_all w (round ∷ rounds) (one, more) = made w round one ∷ made_all (state_after w round.entries) rounds more
+
+abbrev all_but_last : Round → List Round → List Round
+all_but_last first [] = []
+all_but_last first (next ∷ rounds) = first ∷ all_but_last next rounds
+
+abbrev last_of : Round → List Round → Round
+last_of first [] = first
+last_of first (next ∷ rounds) = last_of next rounds
+
+abbrev all : Round → List Round → Rounds
+all first rounds = record { ended = all_but_last first rounds; last = last_of first rounds }
+
+-- the lines of rounds that stand behind others
+abbrev behind_lines : ℕ → List Round → List (List ℕ)
+behind_lines count [] = []
+behind_lines count (round ∷ rounds) = base_line count ∷ (round_lines round ++ behind_lines (count + length round.entries) rounds)
+
+all_lines : (count : ℕ) (first : Round) (rounds : List Round)
+    → ended_lines count (all_but_last first rounds) ++ round_lines (last_of first rounds) ≡ round_lines first ++ behind_lines (count + length first.entries) rounds
+all_lines count first [] = sym (append-nil (round_lines first))
+all_lines count first (next ∷ rounds) =
+    let more = count + length first.entries in
+    append_assoc (round_lines first) (base_line more ∷ ended_lines more (all_but_last next rounds)) (round_lines (last_of next rounds))
+    ∙ ap (λ (ls : List (List ℕ)). round_lines first ++ (base_line more ∷ ls)) (all_lines more next rounds)
+
+all_entries : (first : Round) (rounds : List Round) → entries_of (all first rounds) ≡ map (λ (round : Round). round.entries) (first ∷ rounds)
+all_entries first [] = refl
+all_entries first (next ∷ rounds) = ap (λ (es : List (List Entry)). first.entries ∷ es) (all_entries next rounds)
+
+made_entries : (w : World) (rounds : List PrintedRound) (sound : AreSound w rounds)
+    → map (λ (round : Round). round.entries) (made_all w rounds sound) ≡ map (λ (round : PrintedRound). round.entries) rounds
+made_entries w [] sound = refl
+made_entries w (round ∷ rounds) (one, more) = ap (λ (es : List (List Entry)). round.entries ∷ es) (made_entries (state_after w round.entries) rounds more)
+
+made_lines : (count : ℕ) (w : World) (rounds : List PrintedRound) (sound : AreSound w rounds) → rounds_journal (Some count) rounds ≡ behind_lines count (made_all w rounds sound)
+made_lines count w [] sound = refl
+made_lines count w (round ∷ rounds) (one, more) =
+    ap₂ (λ (xs ys : List (List ℕ)). base_line count ∷ (xs ++ ys)) (lines_same round.entries) (made_lines (count + length round.entries) (state_after w round.entries) rounds more)
+
+sound_legal : (w : World) (rounds : List PrintedRound) → AreSound w rounds → AreLegalRounds w (map (λ (round : PrintedRound). round.entries) rounds)
+sound_legal w [] sound = tt
+sound_legal w (round ∷ rounds) (one, more) = (one.legal, sound_legal (state_after w round.entries) rounds more)
+
+abbrev IsFew : List Entry → Type 0
+IsFew entries = length entries ≤ entry_limit
+
+sound_bounded : (w : World) (rounds : List PrintedRound) → AreSound w rounds → All IsFew (map (λ (round : PrintedRound). round.entries) rounds)
+sound_bounded w [] sound = All-nil IsFew
+sound_bounded w (round ∷ rounds) (one, more) =
+    All-cons IsFew round.entries (map (λ (r : PrintedRound). r.entries) rounds) one.few (sound_bounded (state_after w round.entries) rounds more)
+
+journal_legal : (w : World) (rounds : List PrintedRound) → AreSound w rounds → AreWithin (rounds_journal None rounds) → IsLegal w (rounds_journal None rounds) (entries_in rounds)
+journal_legal w [] sound within = rounds_have_legal_journals w no_rounds (refl, tt) (All-cons IsFew [] [] (omega arith) (All-nil IsFew)) within
+journal_legal w (round ∷ rounds) (one, more) within =
+    let first = made w round one in
+    let rest = made_all (state_after w round.entries) rounds more in
+    let lines : rounds_journal None (round ∷ rounds) ≡ rounds_lines (all first rest) =
+    ap₂ (λ (xs ys : List (List ℕ)). xs ++ ys) (lines_same round.entries) (made_lines (0 + length round.entries) (state_after w round.entries) rounds more)
+    ∙ sym (all_lines 0 first rest) in
+    let entries : map (λ (r : PrintedRound). r.entries) (round ∷ rounds) ≡ entries_of (all first rest) =
+    sym (made_entries w (round ∷ rounds) (one, more)) ∙ sym (all_entries first rest) in
+    let found = rounds_have_legal_journals w (all first rest)
+    (subst (AreLegalRounds w) entries (sound_legal w (round ∷ rounds) (one, more)))
+    (subst (All IsFew) entries (sound_bounded w (round ∷ rounds) (one, more)))
+    (subst AreWithin lines within) in
+    subst (λ (ls : List (List ℕ)). IsLegal w ls (entries_in (round ∷ rounds))) (sym lines)
+    (subst (λ (n : ℕ). IsLegal w (rounds_lines (all first rest)) n) (ap (λ (es : List (List Entry)). length (joined es)) (sym entries)) found)
 
 -- ---- what is printed
 
--- the text of lanes whose calls were settled, up to the journal
+-- the text of a round whose calls were settled, up to the journal
 told_head : (texts : List (List ℕ)) (settled : Settled)
     → lanes_text 1 texts ++ unlines (settled_lines true settled) ≡ (lanes_text 1 texts ++ (settled_line settled.count ++ 10 ∷ [])) ++ unlines (journal_lines settled.journal.entries)
 told_head texts settled =
     ap (λ (l : List ℕ). lanes_text 1 texts ++ l) (sym (append_assoc (settled_line settled.count) (10 ∷ []) (unlines (journal_lines settled.journal.entries))))
     ∙ sym (append_assoc (lanes_text 1 texts) (settled_line settled.count ++ 10 ∷ []) (unlines (journal_lines settled.journal.entries)))
 
-not_one : ◌≡◌ {A = ℕ} 0 1 → ⊥
-not_one e = omega arith
+base_same : (before : Option ℕ) → base_text before ≡ unlines (base_lines before)
+base_same None = refl
+base_same (Some count) = refl
 
-audited : (w : World) (lanes : List (List ℕ)) (ends : List Left) (printed before after : List ℕ)
-    → LanesTell true w lanes ends printed (Some 0) → All (λ (end : Left). IsOk end.result) ends → after ≡ before ++ printed
-    → (head : List ℕ) × (entries : List Entry) × (after ≡ before ++ (head ++ unlines (journal_lines entries)))
-    × (AreWithin (journal_lines entries) → IsLegal w (journal_lines entries) (length entries))
-audited w lanes ends printed before after tells ended wrote = concluded tells.concluded
+-- a round that went on, as it is printed
+record Printed (start : Start) (text : List ℕ) (next : Start) : Type 0 where
+  round : PrintedRound
+  is : text ≡ unlines (base_lines start.behind) ++ (round.head ++ unlines (journal_lines round.entries))
+  sound : IsSound start.state round.entries
+  state : next.state ≡ state_after start.state round.entries
+  behind : next.behind ≡ behind_round start.behind round
+
+printed_one : (start : Start) (lanes : List (List ℕ)) (text : List ℕ) (next : Start) → GoesOn true start lanes text next → Printed start text next
+printed_one start lanes text next goes = settled goes.round.conclusion goes.tells.ran.2 goes.tells.told goes.behind
   where
-    concluded : Concludes true w tells.passes tells.lines (Some 0)
-        → (head : List ℕ) × (entries : List Entry) × (after ≡ before ++ (head ++ unlines (journal_lines entries)))
-        × (AreWithin (journal_lines entries) → IsLegal w (journal_lines entries) (length entries))
-    concluded (inl (settled, few, settles, lines, status)) =
-        let entries = settled.journal.entries in
-        let spelled = entries_spelled entries tells.passes settled.owners settles.1.2 (passes_spelled lanes ends tells.passes tells.ran ended) in
-        let text : printed ≡ (lanes_text 1 tells.texts ++ (settled_line settled.count ++ 10 ∷ [])) ++ unlines (journal_lines entries) =
-        tells.told ∙ ap (λ (l : List (List ℕ)). lanes_text 1 tells.texts ++ unlines l) lines ∙ told_head tells.texts settled in
-        (lanes_text 1 tells.texts ++ (settled_line settled.count ++ 10 ∷ []), entries, wrote ∙ ap (λ (l : List ℕ). before ++ l) text, journal_legal w entries settles.0 spelled few)
-    concluded (inr (inl (none, lines, status))) = absurd (not_one (same_Some _ _ status))
-    concluded (inr (inr (lines, status))) = absurd (none-some 0 (sym status))
+    settled : (conclusion : Conclusion) → Concludes start.state goes.tells.ran.0 conclusion (Some next.state)
+        → goes.told ≡ lanes_text 1 goes.tells.texts ++ unlines (told_lines true conclusion)
+        → next.behind ≡ Some (count_before start.behind + entries_by conclusion) → Printed start text next
+    settled (conclusions.Settles s) to told behind =
+        let head = lanes_text 1 goes.tells.texts ++ (settled_line s.count ++ 10 ∷ []) in
+        record {
+          round = record { head = head; entries = s.journal.entries };
+          is = goes.is ∙ ap₂ (λ (xs ys : List ℕ). xs ++ ys) (base_same start.behind) (told ∙ told_head goes.tells.texts s);
+          sound = record {
+            legal = to.settles.0;
+            few = to.few;
+            told = entries_spelled s.journal.entries goes.tells.ran.0 s.owners to.settles.1.2 (passes_spelled lanes goes.round.ends goes.tells.ran.0 goes.tells.ran.1 goes.whole);
+          };
+          state = to.leads;
+          behind = behind ∙ ap (λ (n : ℕ). Some (count_before start.behind + n)) to.settles.1.1;
+        }
+    settled conclusions.Differs to told behind = absurd to
+    settled conclusions.Unknown to told behind = absurd to
+
+record PrintedAll (start : Start) (rounds : List (List (List ℕ))) (text : List ℕ) : Type 0 where
+  printed : List PrintedRound
+  count : length printed ≡ length rounds
+  is : text ≡ rounds_text start.behind printed
+  sound : AreSound start.state printed
+
+printed_all : (start : Start) (rounds : List (List (List ℕ))) (text : List ℕ) (last : Start) → GoOn true start rounds text last → PrintedAll start rounds text
+printed_all start [] text last (none, same) = record { printed = []; count = refl; is = none; sound = tt }
+printed_all start (lanes ∷ rounds) text last (next, front, rest, goes, on, is) =
+    let one = printed_one start lanes front next goes in
+    let more = printed_all next rounds rest last on in
+    let base = unlines (base_lines start.behind) in
+    let journal = unlines (journal_lines one.round.entries) in
+    record {
+      printed = one.round ∷ more.printed;
+      count = ap suc more.count;
+      is = is ∙ ap₂ (λ (xs ys : List ℕ). xs ++ ys) one.is (more.is ∙ ap (λ (b : Option ℕ). rounds_text b more.printed) one.behind)
+          ∙ append_assoc base (one.round.head ++ journal) (rounds_text (behind_round start.behind one.round) more.printed)
+          ∙ ap (λ (l : List ℕ). base ++ l) (append_assoc one.round.head journal (rounds_text (behind_round start.behind one.round) more.printed));
+      sound = (one.sound, subst (λ (w : World). AreSound w more.printed) one.state more.sound);
+    }
+
+one_not_zero : ◌≡◌ {A = ℕ} 0 1 → ⊥
+one_not_zero e = omega arith
+
+told_all : (w : World) (rounds : List (List (List ℕ))) (printed : List ℕ) → RoundsTell true w rounds printed 0 → PrintedAll (first_start w) rounds printed
+told_all w rounds printed (inl (last, on, status)) = printed_all (first_start w) rounds printed last on
+told_all w rounds printed (inr (lanes, start, front, told, reaches, ends, is, status)) = absurd (one_not_zero status)
 
 pub lanes_are_audited : LanesAreAudited
 lanes_are_audited text rest before after w workers explain is parted done =
     let d : LanesDone true text (Ok w) (Some before) (Some after) 0 = subst (λ (r : Result World OpeningFault). LanesDone true text r (Some before) (Some after) 0) is done in
-    audited w (lanes_of d.0) d.1 d.2 before after d.5 d.6 d.7
+    let same : d.0 ≡ rest = append_cancel_left (opening_part text) d.0 rest (sym d.2 ∙ parted) in
+    let all = told_all w (rounds_of d.0) d.1 d.4 in (
+      all.printed,
+      all.count ∙ ap (λ (t : List ℕ). length (rounds_of t)) same,
+      d.5 ∙ ap (λ (l : List ℕ). before ++ l) all.is,
+      λ n within. journal_legal w (take n all.printed) (sound_front n w all.printed all.sound) within,
+    )

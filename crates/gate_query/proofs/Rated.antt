@@ -1,6 +1,6 @@
 -- Which entries pay a rate, and that all pay none.
-use Rattle.std.proofs.Common.{◌≡◌, ◌≤◌, ℕ, ◌*◌, ◌/◌, ◌==◌, nat_lt, Bool, true, false, if◌then◌else◌, List, refl, ap, ◌∙◌, arith}
-use Rattle.std.specs.Prelude.{Contains, filter, ◌&&◌}
+use Rattle.std.proofs.Common.{◌≡◌, ℕ, ◌*◌, ◌/◌, ◌==◌, nat_lt, Bool, true, false, if◌then◌else◌, List, refl, ap, ◌∙◌, arith}
+use Rattle.std.specs.Prelude.{filter, ◌&&◌}
 use Rattle.std.proofs.lemmas.Bool.{le-leb}
 use Rattle.std.specs.List.{list_any}
 use Rattle.gate_tx.specs.Ids.{txid_of}

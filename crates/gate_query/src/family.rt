@@ -6,7 +6,7 @@ ghost use Rattle.gate_pool.specs.Family.{ancestors_of, descendants_of, children_
 use gate_admit::Pool;
 use gate_bytes::{Kept, Memory};
 use gate_pool::{FamilyView, ancestors, descendants};
-use gate_tx::{OutPoint, TxIn, Txid};
+use gate_tx::{OutPoint, TxIn, Txid, Witness};
 use std::alloc::Global;
 use std::hash::BuildHasher;
 
@@ -21,7 +21,7 @@ fn spending(alloc: Global, txid: &Txid) -> TxIn
         },
         script: Kept::from_vec(Vec::new(alloc)),
         sequence: 0,
-        witness: Kept::from_vec(Vec::new(alloc)),
+        witness: Witness::new(alloc),
     }
 }
 

@@ -5,10 +5,9 @@ ghost use Rattle.gate_pool.specs.Pool.{Admitted, entry_by_txid, has_txid};
 ghost use Rattle.gate_pool.specs.Family.{names, is_among};
 ghost use Rattle.gate_query.specs.Answers.{info_of, info_from, is_replaceable, pool_info};
 
-use crate::family::{children, with_ancestors, with_descendants};
+use crate::family::{children, with_ancestors};
 use gate_admit::{Entry, Floor, Pool};
 use gate_bytes::{Kept, Memory};
-use gate_pool::add_up;
 use gate_rbf::signals;
 use gate_rpc::{EntryInfo, RpcResult};
 use gate_tx::Txid;
@@ -66,9 +65,7 @@ fn info<S: BuildHasher + Copy + Drop>(
 {
     pool.tells_distinct();
     let above = with_ancestors(alloc, pool, txid)?;
-    let below = with_descendants(alloc, pool, txid)?;
-    let ancestors = add_up(pool, above.as_slice());
-    let descendants = add_up(pool, below.as_slice());
+    let totals = pool.totals(txid).unwrap();
     let is_replaceable = one_signals(pool, above.as_slice());
     let spent_by = Kept::from_vec(children(alloc, pool, txid)?);
     Ok(EntryInfo {
@@ -77,19 +74,19 @@ fn info<S: BuildHasher + Copy + Drop>(
         vsize: entry.vsize(),
         weight: entry.identified().get().weight() as u64,
         time: entry.time(),
-        ancestor_count: ancestors.count as u64,
-        ancestor_size: ancestors.size,
-        ancestor_fees: ancestors.fees,
-        descendant_count: descendants.count as u64,
-        descendant_size: descendants.size,
-        descendant_fees: descendants.fees,
+        ancestor_count: totals.above.count,
+        ancestor_size: totals.above.size,
+        ancestor_fees: totals.above.fees,
+        descendant_count: totals.below.count,
+        descendant_size: totals.below.size,
+        descendant_fees: totals.below.fees,
         is_replaceable,
         depends: parents_among(above, entry),
         spent_by,
     })
 }
 
-/// What is known of an entry: itself, and what its ancestors and its descendants come to, found by walking. None where no
+/// What is known of an entry: itself, and what its ancestors and its descendants come to, as the pool keeps it. None where no
 /// entry has the id.
 pub fn entry_info<S: BuildHasher + Copy + Drop>(
     alloc: Global,

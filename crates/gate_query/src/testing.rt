@@ -3,7 +3,7 @@ ghost use Rattle.std.specs.Prelude.{◌≡◌, IfOk};
 ghost use Rattle.gate_admit.specs.Standing.{standing};
 ghost use Rattle.gate_query.specs.Answers.{tested};
 
-use gate_admit::{Chain, Floor, Pool, Prepared, Verdicts, judge};
+use gate_admit::{Chain, Floor, Policy, Pool, Prepared, Verdicts, judge};
 use gate_bytes::Memory;
 use gate_rpc::{RpcError, RpcResult};
 use gate_standard::Denial;
@@ -18,9 +18,10 @@ pub fn test_submission<S: BuildHasher + Copy + Drop>(
     pool: &Pool<S>,
     floor: &Floor,
     verdicts: &Verdicts<S>,
+    policy: &Policy,
     prepared: &Prepared,
 ) -> Result<Result<RpcResult, RpcError>, Memory>
-    ensures { IfOk result (λ answer. answer ≡ tested (standing chain.now pool.now.entries floor.now verdicts.now) prepared.now) }
+    ensures { IfOk result (λ answer. answer ≡ tested (standing chain.now pool.now.entries floor.now verdicts.now policy.now) prepared.now) }
 {
     let Some(txid) = prepared.txid() else {
         return Ok(Err(RpcError::Denied(Denial::Decode)));
@@ -28,7 +29,7 @@ pub fn test_submission<S: BuildHasher + Copy + Drop>(
     let Some(wtxid) = prepared.wtxid() else {
         return Ok(Err(RpcError::Denied(Denial::Decode)));
     };
-    match judge(alloc, chain, pool, floor, prepared, verdicts)? {
+    match judge(alloc, chain, pool, floor, prepared, verdicts, policy)? {
         Ok(grant) => Ok(Ok(RpcResult::Allowed {
             txid,
             wtxid,

@@ -4,10 +4,13 @@ use Rattle.std.specs.Prelude.{Contains, filter, ◌≢◌}
 use Rattle.std.specs.List.{list_any, AllPairs}
 use Rattle.std.specs.Cmp.Lexicographic.{bytes_decides}
 use Rattle.std.proofs.lemmas.Bool.{and_parts, and_from, false_from_ne_true, cases_Bool}
+use Rattle.std.proofs.lemmas.List.Elements.{filter_agree}
 use Rattle.gate_tx.specs.Ids.{txid_of}
 use Rattle.gate_graph.proofs.Members.{Contains-cons_cases, Contains-head, Contains-rest, any_is, list_any_of, not_in_none}
 use Rattle.gate_graph.proofs.Steps.{same_bool}
+use Rattle.gate_graph.specs.Family.{reaches}
 use Rattle.gate_pool.specs.Pool.{Admitted, has_txid}
+use Rattle.gate_pool.specs.Family.{steps, all_below, is_below_some, descendants_of}
 use Rattle.gate_pool.specs.Distinct.{AreDistinct}
 use Rattle.gate_pool.proofs.Adding.{DifferById, pairs_head, pairs_tail, passed, same_kept}
 use Rattle.gate_pool.proofs.Walking.{Contains-from_filter, Contains-filter}
@@ -64,3 +67,23 @@ not_alone test entries d txid m is other c one =
   where
     only : (e : Admitted) → Contains (filter test entries) e → c ≡ e
     only e n = elim (Contains-cons_cases c [] e (subst (λ l. Contains l e) one n)) [ inl same ↦ same | inr k ↦ not_in_none e k ]
+
+-- what is below the only one is below those that pass
+pub below_alone : (test : Admitted → Bool) (entries : List Admitted) (c : Admitted) → filter test entries ≡ c ∷ [] → all_below test entries ≡ descendants_of entries (txid_of c.tx)
+below_alone test entries c one =
+    filter_agree (is_below_some test entries) (λ e. reaches (steps entries) (txid_of c.tx) (txid_of e.tx)) (λ e. same_bool _ _ (below e) (above e)) entries
+  where
+    there : Contains (filter test entries) c
+    there = subst (λ l. Contains l c) (sym one) (Contains-head c [])
+
+    below : (e : Admitted) → is_below_some test entries e ≡ true → reaches (steps entries) (txid_of c.tx) (txid_of e.tx) ≡ true
+    below e h =
+        let w = any_is (λ a. test a && reaches (steps entries) (txid_of a.tx) (txid_of e.tx)) entries h in
+        let p = and_parts _ _ w.2 in
+        elim (Contains-cons_cases c [] w.0 (subst (λ l. Contains l w.0) one (Contains-filter test entries w.0 w.1 p.0))) [
+          | inl same ↦ subst (λ (a : Admitted). reaches (steps entries) (txid_of a.tx) (txid_of e.tx) ≡ true) (sym same) p.1
+          | inr none ↦ not_in_none w.0 none
+        ]
+
+    above : (e : Admitted) → reaches (steps entries) (txid_of c.tx) (txid_of e.tx) ≡ true → is_below_some test entries e ≡ true
+    above e r = list_any_of (λ a. test a && reaches (steps entries) (txid_of a.tx) (txid_of e.tx)) entries c (Contains-from_filter test entries c there) (and_from _ _ (passed test entries c there) r)

@@ -1,5 +1,5 @@
 -- How many descendants entries have together, id by id.
-use Rattle.std.proofs.Common.{◌≡◌, ℕ, ◌+◌, ◌<◌, ◌≤◌, Bool, List, [], ◌∷◌, length, take, get_or, sym, ap, ◌∙◌, subst, arith, true, false}
+use Rattle.std.proofs.Common.{◌≡◌, ℕ, ◌+◌, ◌<◌, ◌≤◌, Bool, List, [], ◌∷◌, length, take, get_or, sym, ap, ◌∙◌, subst, arith, true, false, refl, is_some, Option, Some, None, true≢false}
 use Rattle.std.specs.Prelude.{Contains, filter, nat_lt}
 use Rattle.std.proofs.lemmas.Bool.{false_from_ne_true}
 use Rattle.std.proofs.lemmas.Bool.Decides.{Decides-ltb}
@@ -8,12 +8,14 @@ use Rattle.gate_tx.specs.Ids.{txid_of}
 use Rattle.gate_graph.proofs.Members.{Contains-head, Contains-rest}
 use Rattle.gate_graph.proofs.Reaching.{reaches-same}
 use Rattle.gate_graph.specs.Family.{reaches}
-use Rattle.gate_pool.specs.Pool.{Admitted, has_txid, entry_by_txid}
-use Rattle.gate_pool.specs.Family.{steps, descendants_of, all_below, is_below_some, AreIdsOf}
+use Rattle.std.specs.Cmp.Lexicographic.{bytes_decides}
+use Rattle.gate_pool.specs.Pool.{Admitted, entry_by_txid, has_txid}
+use Rattle.gate_pool.proofs.Entries.{find_none}
+use Rattle.gate_pool.specs.Family.{steps, descendants_of, AreIdsOf}
+use Rattle.gate_pool.specs.Search.{IsEntry}
 use Rattle.gate_pool.specs.Distinct.{AreDistinct}
 use Rattle.gate_pool.proofs.Adding.{weight, weigh, weighed, found_by_id}
 use Rattle.gate_pool.proofs.Walking.{Contains-filter, Contains-from_filter}
-use Rattle.gate_pool.proofs.Ids.{ids_length-filter, descendants_of_one, AreIdsOf-one}
 use Rattle.gate_rbf.specs.Replacing.{descendant_count}
 
 -- how many are below an entry, itself among them
@@ -41,25 +43,17 @@ module _ (entries : List Admitted) (distinct : AreDistinct entries) (ids : List 
     member : Contains entries owner.0
     member = Contains-from_filter test entries owner.0 owner.1
 
-    family : length (all_below (λ x. has_txid x id) entries) ≡ family_size entries owner.0
-    family = ap (λ a. length (all_below (λ x. has_txid x a) entries)) (sym owner.2) ∙ ap length (descendants_of_one entries owner.0 member)
-
     -- it is the id of an entry
-    pub one_id : AreIdsOf (id ∷ []) (filter (λ x. has_txid x id) entries)
-    one_id = AreIdsOf-one entries owner.0 id member owner.2
+    pub next_entry : IsEntry entries id
+    next_entry = (owner.0, member, owner.2)
 
     -- one id more counts its family
-    pub counted-more : counted entries (take (k + 1) ids) ≡ counted entries (take k ids) + length (all_below (λ x. has_txid x id) entries)
+    pub counted-more : counted entries (take (k + 1) ids) ≡ counted entries (take k ids) + length (descendants_of entries id)
     counted-more =
         sum_by_more (λ (a : List ℕ). weight (family_size entries) (entry_by_txid entries a)) ids k id within
         ∙ ap (λ a. counted entries (take k ids) + weight (family_size entries) (entry_by_txid entries a)) (here ∙ sym owner.2)
         ∙ ap (λ o. counted entries (take k ids) + weight (family_size entries) o) (found_by_id entries distinct.txids owner.0 member)
-        ∙ ap (λ n. counted entries (take k ids) + n) (sym family)
-
-    -- which are as many as the ids of the family
-    pub counted-found : (found : List (List ℕ)) → AreIdsOf found (all_below (λ x. has_txid x id) entries) → counted entries (take (k + 1) ids) ≡ counted entries (take k ids) + length found
-    counted-found found family =
-        counted-more ∙ ap (λ n. counted entries (take k ids) + n) (sym (ids_length-filter found entries (is_below_some (λ x. has_txid x id) entries) distinct family))
+        ∙ ap (λ a. counted entries (take k ids) + length (descendants_of entries a)) owner.2
 
 -- each entry is below itself
 own : (entries : List Admitted) (e : Admitted) → Contains entries e → 1 ≤ family_size entries e
@@ -78,3 +72,11 @@ is_over most n h = (Decides-ltb most n).1 h
 
 pub is_within : (most n : ℕ) → n ≤ most → nat_lt most n ≡ false
 is_within most n h = false_from_ne_true _ (λ t. omega (arith, (Decides-ltb most n).0 t, h))
+
+-- an entry is found by its id
+pub entry_found : (entries : List Admitted) (id : List ℕ) → IsEntry entries id → is_some (entry_by_txid entries id) ≡ true
+entry_found entries id w = by (entry_by_txid entries id) refl
+  where
+    by : (o : Option Admitted) → entry_by_txid entries id ≡ o → is_some o ≡ true
+    by (Some e) h = refl
+    by None h = absurd (true≢false (sym ((bytes_decides (txid_of w.0.tx) id).1 w.2) ∙ find_none (λ (e : Admitted). has_txid e id) entries h w.0 w.1))

@@ -1,44 +1,53 @@
 //! A39: the entries that a replacement conflicts with have at most 100 descendants.
-ghost use Rattle.std.specs.Prelude.{◌≡◌, ◌<◌, ◌≤◌, Bool, None, IfOk, IfSome, filter, not, nat_lt};
+ghost use Rattle.std.specs.Prelude.{◌≡◌, ◌<◌, ◌≤◌, Bool, None, IfOk, IfSome, filter, length, not, nat_lt};
 ghost use Rattle.gate_pool.specs.Pool.{Admitted};
-ghost use Rattle.gate_pool.specs.Family.{conflicts_of, AreIdsOf};
+ghost use Rattle.gate_pool.specs.Family.{conflicts_of, descendants_of, AreIdsOf};
+ghost use Rattle.gate_pool.specs.Search.{IsEntry};
 ghost use Rattle.gate_rbf.specs.Replacing.{descendant_count};
 
 use crate::direct::DirectConflicts;
 use gate_bytes::Memory;
-use gate_pool::{Pool, descendants};
+use gate_pool::Pool;
 use gate_tx::Txid;
 use std::alloc::Global;
 use std::hash::BuildHasher;
 
 /// No more descendants go with the entries that a transaction conflicts with.
-const MOST_DESCENDANTS: usize = 100;
+const MOST_DESCENDANTS: u64 = 100;
 
-/// Whether entries, given by their ids, have few enough descendants together, themselves among them.
-fn has_few_descendants<S: BuildHasher + Copy + Drop>(
-    alloc: Global,
-    pool: &Pool<S>,
-    ids: &[Txid],
-) -> Result<bool, Memory>
-    ensures { (test : Admitted → Bool) → AreIdsOf ids.now (filter test pool.now.entries) → IfOk result (λ few. few ≡ not (nat_lt 100 (descendant_count pool.now.entries (filter test pool.now.entries)))) }
+/// How many are below the entry of an id, itself among them, as the pool keeps it.
+fn count_below<S: BuildHasher + Copy + Drop>(pool: &Pool<S>, id: &Txid) -> u64
+    requires { IsEntry pool.now.entries id.now }
+    ensures { result ≡ length (descendants_of pool.now.entries id.now) }
+{
+    pool.totals(id).unwrap().below.count
+}
+
+/// Whether entries, given by their ids, have few enough descendants together, themselves among them. An entry below two of them
+/// counts twice.
+fn has_few_descendants<S: BuildHasher + Copy + Drop>(pool: &Pool<S>, ids: &[Txid]) -> bool
+    requires { (test : Admitted → Bool) × AreIdsOf ids.now (filter test pool.now.entries) }
+    ensures { (test : Admitted → Bool) → AreIdsOf ids.now (filter test pool.now.entries) → result ≡ not (nat_lt 100 (descendant_count pool.now.entries (filter test pool.now.entries))) }
 {
     pool.tells_distinct();
     let mut left = MOST_DESCENDANTS;
     for id in ids {
-        let Some(found) = descendants(alloc, pool, &[*id], left)? else {
-            return Ok(false);
-        };
-        left -= found.len();
+        let count = count_below(pool, id);
+        if count > left {
+            return false;
+        }
+        left -= count;
     }
-    Ok(true)
+    true
 }
 
 impl<'a, S: BuildHasher + Copy + Drop> DirectConflicts<'a, S> {
     /// Whether the conflicts, which have these ids, have few enough descendants.
-    fn has_few_descendants(&self, alloc: Global, ids: &[Txid]) -> Result<bool, Memory>
-        ensures { AreIdsOf ids.now (conflicts_of self.now.entries self.now.tx) → IfOk result (λ few. few ≡ not (nat_lt 100 (descendant_count self.now.entries (conflicts_of self.now.entries self.now.tx)))) }
+    fn has_few_descendants(&self, ids: &[Txid]) -> bool
+        requires { AreIdsOf ids.now (conflicts_of self.now.entries self.now.tx) }
+        ensures { result ≡ not (nat_lt 100 (descendant_count self.now.entries (conflicts_of self.now.entries self.now.tx))) }
     {
-        has_few_descendants(alloc, self.pool(), ids)
+        has_few_descendants(self.pool(), ids)
     }
 
     /// The ids of the conflicts, each once. None where they have too many descendants.
@@ -47,10 +56,10 @@ impl<'a, S: BuildHasher + Copy + Drop> DirectConflicts<'a, S> {
         ensures few { IfOk result (λ few. IfSome few (λ ids. descendant_count self.now.entries (conflicts_of self.now.entries self.now.tx) ≤ 100)) }
         ensures many { IfOk result (λ few. few ≡ None → 100 < descendant_count self.now.entries (conflicts_of self.now.entries self.now.tx)) }
     {
-        let Some(ids) = self.ids_within(alloc, MOST_DESCENDANTS)? else {
+        let Some(ids) = self.ids_within(alloc, MOST_DESCENDANTS as usize)? else {
             return Ok(None);
         };
-        if !self.has_few_descendants(alloc, ids.as_slice())? {
+        if !self.has_few_descendants(ids.as_slice()) {
             return Ok(None);
         }
         Ok(Some(ids))

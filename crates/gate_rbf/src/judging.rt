@@ -1,4 +1,4 @@
-ghost use Rattle.std.specs.Prelude.{◌≡◌, ◌<◌, Some, None, IfOk, IfErr, OnOk, length};
+ghost use Rattle.std.specs.Prelude.{◌≡◌, ◌<◌, Some, None, IfOk, IfErr, IfSome, OnOk, length};
 ghost use Rattle.std.specs.List.{list_any};
 ghost use Rattle.gate_bytes.specs.Order.{first_failing};
 ghost use Rattle.gate_pool.specs.Family.{conflicts_of, replaced_of, sums_of, AreIdsOf};
@@ -23,11 +23,25 @@ impl<'a, S: BuildHasher + Copy + Drop> DirectConflicts<'a, S> {
         adds_parents(alloc, self.pool(), ids, self.transaction())
     }
 
+    /// What the only conflict and all that is below it come to, where there is exactly one: as the pool keeps it.
+    fn sums_of_only(&self) -> Option<Sums>
+        ensures { IfSome result (λ sums. sums ≡ sums_of (replaced_of self.now.entries self.now.tx)) }
+    {
+        let only = self.only()?;
+        match self.pool().totals(&only) {
+            Some(totals) => Some(Sums::from(totals.below)),
+            None => None,
+        }
+    }
+
     /// What the conflicts, which have these ids, and all that are below them come to.
     fn replaced_sums(&self, alloc: Global, ids: &[Txid]) -> Result<Sums, Memory>
         requires { AreIdsOf ids.now (conflicts_of self.now.entries self.now.tx) }
         ensures { IfOk result (λ sums. sums ≡ sums_of (replaced_of self.now.entries self.now.tx)) }
     {
+        if let Some(sums) = self.sums_of_only() {
+            return Ok(sums);
+        }
         let pool = self.pool();
         let gone = with_descendants(alloc, pool, ids)?;
         Ok(add_up(pool, gone.as_slice()))

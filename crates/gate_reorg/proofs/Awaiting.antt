@@ -20,6 +20,7 @@ use Rattle.gate_block.specs.Switching.{left_of, without_last, last_blocks, switc
 use Rattle.gate_pool.specs.Pool.{Admitted, spends_of}
 use Rattle.gate_pool.proofs.Entries.{Contains-map, Contains-from_map}
 use Rattle.gate_admit.specs.Coins.{view_coin}
+use Rattle.gate_admit.specs.Policies.{Policy}
 use Rattle.gate_admit.specs.Good.{AreApart, IsSettled, IsSound, connected_transactions}
 use Rattle.gate_admit.proofs.Filtering.{All-flat_map}
 use Rattle.gate_admit.proofs.Removing.{spent_at}
@@ -30,14 +31,14 @@ use Rattle.gate_reorg.proofs.Making.{makes, makes_by, makes_same, MadeBy, is_spe
 use Rattle.gate_reorg.proofs.Settling.{new_by, settled_without}
 
 -- sound, but that a coin may be of a transaction that is pending
-pub record IsSoundBut (pending : List Tx) (chain : History) (entries : List Admitted) : Type 0 where
-  pub orderly : AreOrderly entries
+pub record IsSoundBut (policy : Policy) (pending : List Tx) (chain : History) (entries : List Admitted) : Type 0 where
+  pub orderly : AreOrderly policy entries
   pub coins : (e : Admitted) → Contains entries e → (i : TxIn) → Contains e.tx.inputs i → IsSome (view_coin chain entries i.prevout) ⊎ MadeBy pending i.prevout
   pub fresh : (e : Admitted) → Contains entries e → is_known_txid chain (txid_of e.tx) ≡ false
 
 -- where nothing is pending, sound
-pub sound_at_last : (chain : History) (entries : List Admitted) → IsSoundBut [] chain entries → IsSound chain entries
-sound_at_last chain entries h = record {
+pub sound_at_last : (policy : Policy) (chain : History) (entries : List Admitted) → IsSoundBut policy [] chain entries → IsSound policy chain entries
+sound_at_last policy chain entries h = record {
   txids = h.orderly.txids;
   wtxids = h.orderly.wtxids;
   spends = h.orderly.spends;
@@ -51,8 +52,8 @@ sound_at_last chain entries h = record {
 }
 
 -- what is sound is orderly
-pub sound_orderly : (chain : History) (entries : List Admitted) → IsSound chain entries → AreOrderly entries
-sound_orderly chain entries h = record { txids = h.txids; wtxids = h.wtxids; spends = h.spends; limited = h.limited }
+pub sound_orderly : (policy : Policy) (chain : History) (entries : List Admitted) → IsSound policy chain entries → AreOrderly policy entries
+sound_orderly policy chain entries h = record { txids = h.txids; wtxids = h.wtxids; spends = h.spends; limited = h.limited }
 
 -- ---- blocks in the place of others
 
@@ -71,7 +72,7 @@ module _
     (h : History) (depth : ℕ) (blocks : List Block) (entries left : List Admitted) (pending : List Tx)
     (settled : IsSettled h) (rules : NoneFails (blocks_rules (without_last h depth) blocks))
     (told : AreTold ((connected_transactions h ++ map (λ (e : Admitted). e.tx) entries) ++ transactions_of blocks))
-    (sound : IsSound h entries) (leaves : Leaves entries left (transactions_of blocks)) (waits : LeavesPending (transactions_of (last_blocks h depth)) (transactions_of blocks) pending)
+    (policy : Policy) (sound : IsSound policy h entries) (leaves : Leaves entries left (transactions_of blocks)) (waits : LeavesPending (transactions_of (last_blocks h depth)) (transactions_of blocks) pending)
   where
     front_back : h.blocks ≡ take (left_of h depth) h.blocks ++ last_blocks h depth
     front_back = sym (take-append-drop (left_of h depth) h.blocks)
@@ -117,7 +118,7 @@ module _
         ⊎_elim
         (λ (w : PoolMakes entries i.prevout).
         inl (⊎_elim
-        (λ (k : Contains left w.0). view_pool chain left i.prevout (leaves.orderly (sound_orderly h entries sound)).txids (w.0, k, w.2))
+        (λ (k : Contains left w.0). view_pool chain left i.prevout (leaves.orderly policy (sound_orderly policy h entries sound)).txids (w.0, k, w.2))
         (λ t. made_new e m i c t.0 t.1 (told w.0.tx t.0 (in_pool w.0 w.1) (in_new t.0 t.1) (makes_by w.0.tx i.prevout w.2 ∙ sym t.2) i.prevout w.2))
         (leaves.parents e m i c w.0 w.1 (makes_by w.0.tx i.prevout w.2))))
         (λ (k : IsSome (coin_of h i.prevout)).
@@ -150,5 +151,5 @@ module _
         (known_cases (switched h depth blocks) (txid_of e.tx) k))
 
     -- after new blocks took the place of others
-    pub switched_sound : IsSoundBut pending (switched h depth blocks) left
-    switched_sound = record { orderly = leaves.orderly (sound_orderly h entries sound); coins = coin_now; fresh = fresh_now }
+    pub switched_sound : IsSoundBut policy pending (switched h depth blocks) left
+    switched_sound = record { orderly = leaves.orderly policy (sound_orderly policy h entries sound); coins = coin_now; fresh = fresh_now }

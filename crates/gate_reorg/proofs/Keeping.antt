@@ -26,13 +26,13 @@ use Rattle.gate_pool.proofs.Entries.{Contains-from_map}
 use Rattle.gate_pool.proofs.Walking.{Contains-filter, Contains-from_filter}
 use Rattle.gate_trim.specs.Expiry.{expired, is_stale}
 use Rattle.gate_trim.proofs.Trimmings.{trim_keeps, trim_within}
-use Rattle.gate_admit.specs.Good.{AreApart, IsGood, IsSettled, IsSound, Limits, connected_transactions}
+use Rattle.gate_admit.specs.Good.{AreApart, IsGood, IsSettled, IsSound, Limits, connected_transactions, limits_for}
 use Rattle.gate_admit.specs.Standing.{Standing}
 use Rattle.gate_admit.proofs.Removing.{below_sound, family_sound}
 use Rattle.gate_submission.specs.declared.moved.Moved.{Moved}
 use Rattle.gate_reorg.specs.Events.{Happened, event_rules, event_of}
 use Rattle.gate_submission.specs.Blocks.{present}
-use Rattle.gate_reorg.specs.Goodness.{IsReadyFor, StaysGood, EventsKeepPoolsGood, EntriesAreUnconfirmed, BlocksComeBack, limits_for, met_by}
+use Rattle.gate_reorg.specs.Goodness.{IsReadyFor, StaysGood, EventsKeepPoolsGood, EntriesAreUnconfirmed, BlocksComeBack, met_by}
 use Rattle.gate_reorg.specs.Reorganisation.{all_confirmed, has_id, unconfirmed, all_tried_again, is_premature, without_premature, returned, pool_after}
 use Rattle.gate_submission.specs.Blocks.{transactions_of}
 use Rattle.gate_reorg.proofs.Awaiting.{AreTold, IsSoundBut, LeavesPending, sound_at_last, switched_sound, told_apart}
@@ -99,39 +99,39 @@ module _ {limits : Limits} {h : History} {entries : List Admitted} {blocks : Lis
 -- ---- the pool after an event
 
 abbrev Ready : Standing → List Block → ℕ → Type 0
-Ready over blocks budget = IsReadyFor (limits_for budget) over.chain over.entries blocks
+Ready over blocks budget = IsReadyFor (limits_for over.policy budget) over.chain over.entries blocks
 
 module _ (over : Standing) (depth : ℕ) (blocks : List Block) (now budget : ℕ) (rules : NoneFails (blocks_rules (without_last over.chain depth) blocks)) (ready : Ready over blocks budget) where
-  confirmed_kept : IsSoundBut (unconfirmed (transactions_of blocks) (transactions_of (last_blocks over.chain depth))) (switched over.chain depth blocks) (all_confirmed over.entries (transactions_of blocks))
+  confirmed_kept : IsSoundBut over.policy (unconfirmed (transactions_of blocks) (transactions_of (last_blocks over.chain depth))) (switched over.chain depth blocks) (all_confirmed over.entries (transactions_of blocks))
   confirmed_kept =
       switched_sound over.chain depth blocks over.entries (all_confirmed over.entries (transactions_of blocks))
       (unconfirmed (transactions_of blocks) (transactions_of (last_blocks over.chain depth)))
-      ready.settled rules (met_told ready) ready.good.sound (all_confirmed_leaves over.entries (transactions_of blocks)) (unconfirmed_waits (transactions_of blocks) (transactions_of (last_blocks over.chain depth)))
+      ready.settled rules (met_told ready) over.policy ready.good.sound (all_confirmed_leaves over.entries (transactions_of blocks)) (unconfirmed_waits (transactions_of blocks) (transactions_of (last_blocks over.chain depth)))
 
   -- where no block went
-  pub plain_good : depth ≡ 0 → IsGood (limits_for budget) (switched over.chain depth blocks) (all_confirmed over.entries (transactions_of blocks))
+  pub plain_good : depth ≡ 0 → IsGood (limits_for over.policy budget) (switched over.chain depth blocks) (all_confirmed over.entries (transactions_of blocks))
   plain_good none = record {
-    sound = sound_at_last (switched over.chain depth blocks) (all_confirmed over.entries (transactions_of blocks))
-        (subst (λ (pending : List Tx). IsSoundBut pending (switched over.chain depth blocks) (all_confirmed over.entries (transactions_of blocks)))
+    sound = sound_at_last over.policy (switched over.chain depth blocks) (all_confirmed over.entries (transactions_of blocks))
+        (subst (λ (pending : List Tx). IsSoundBut over.policy pending (switched over.chain depth blocks) (all_confirmed over.entries (transactions_of blocks)))
         (ap (λ (bs : List Block). unconfirmed (transactions_of blocks) (transactions_of bs)) (ap (last_blocks over.chain) none ∙ none_last over.chain)) confirmed_kept);
     size = omega (arith, ready.good.size, (all_confirmed_leaves over.entries (transactions_of blocks)).size);
   }
 
   -- where blocks went
   pub returned_good :
-      IsGood (limits_for budget) (switched over.chain depth blocks)
-      (returned (switched over.chain depth blocks) over.verdicts now budget over.entries over.floor (transactions_of blocks) (transactions_of (last_blocks over.chain depth))).entries
+      IsGood (limits_for over.policy budget) (switched over.chain depth blocks)
+      (returned (switched over.chain depth blocks) over.verdicts over.policy now budget over.entries over.floor (transactions_of blocks) (transactions_of (last_blocks over.chain depth))).entries
   unfolding returned
   returned_good =
       let chain = switched over.chain depth blocks in
-      let tried = all_tried_again chain over.verdicts now (all_confirmed over.entries (transactions_of blocks)) (unconfirmed (transactions_of blocks) (transactions_of (last_blocks over.chain depth))) in
+      let tried = all_tried_again chain over.verdicts over.policy now (all_confirmed over.entries (transactions_of blocks)) (unconfirmed (transactions_of blocks) (transactions_of (last_blocks over.chain depth))) in
       let settled : IsSettled chain = settled_by (without_last over.chain depth) blocks (settled_without over.chain depth ready.settled) rules ready.blocks_spelled in
-      let sound : IsSound chain tried =
-      sound_at_last chain tried (all_tried_kept chain over.verdicts now settled (all_confirmed over.entries (transactions_of blocks)) (unconfirmed (transactions_of blocks) (transactions_of (last_blocks over.chain depth)))
+      let sound : IsSound over.policy chain tried =
+      sound_at_last over.policy chain tried (all_tried_kept chain over.verdicts over.policy now settled (all_confirmed over.entries (transactions_of blocks)) (unconfirmed (transactions_of blocks) (transactions_of (last_blocks over.chain depth)))
       (tried_spelled ready depth) (tried_apart ready depth) confirmed_kept) in
       let left = expired now (without_premature chain tried) in
       record {
-        sound = trim_keeps (IsSound chain) (family_sound chain) budget left over.floor (below_sound chain (is_stale now) (without_premature chain tried) (below_sound chain (λ (e : Admitted). is_premature chain tried e.tx) tried sound));
+        sound = trim_keeps (IsSound over.policy chain) (family_sound over.policy chain) budget left over.floor (below_sound over.policy chain (is_stale now) (without_premature chain tried) (below_sound over.policy chain (λ (e : Admitted). is_premature chain tried e.tx) tried sound));
         size = trim_within budget left over.floor;
       }
 
@@ -139,15 +139,15 @@ none_gone : (depth : ℕ) → (depth == 0) ≡ true → depth ≡ 0
 none_gone depth h = grind (arith, nat_tests)
 
 pool_good : (over : Standing) (depth : ℕ) (blocks : List Block) (now budget : ℕ) → first_failing (switch_rules over.chain depth blocks) ≡ None → Ready over blocks budget
-    → IsGood (limits_for budget) (switched over.chain depth blocks)
-    (pool_after depth (switched over.chain depth blocks) over.verdicts now budget over.entries over.floor (transactions_of blocks) (transactions_of (last_blocks over.chain depth))).entries
+    → IsGood (limits_for over.policy budget) (switched over.chain depth blocks)
+    (pool_after depth (switched over.chain depth blocks) over.verdicts over.policy now budget over.entries over.floor (transactions_of blocks) (transactions_of (last_blocks over.chain depth))).entries
 unfolding pool_after
 pool_good over depth blocks now budget passes ready = go (depth == 0) refl
   where
     go : (b : Bool) → (depth == 0) ≡ b
-        → IsGood (limits_for budget) (switched over.chain depth blocks)
+        → IsGood (limits_for over.policy budget) (switched over.chain depth blocks)
         (cond b (record { entries = all_confirmed over.entries (transactions_of blocks); floor = over.floor })
-        (returned (switched over.chain depth blocks) over.verdicts now budget over.entries over.floor (transactions_of blocks) (transactions_of (last_blocks over.chain depth)))).entries
+        (returned (switched over.chain depth blocks) over.verdicts over.policy now budget over.entries over.floor (transactions_of blocks) (transactions_of (last_blocks over.chain depth)))).entries
     go true e = plain_good over depth blocks now budget (switched_rules over.chain depth blocks passes) ready (none_gone depth e)
     go false e = returned_good over depth blocks now budget (switched_rules over.chain depth blocks passes) ready
 
@@ -172,13 +172,13 @@ switch_passes h depth blocks passes = rest_passes (list_any is_none blocks) Bloc
 pub answers_keep : (over : Standing) (depth : ℕ) (blocks : List (Option Block)) (now budget floor : ℕ) (chain : History) (entries : List Admitted) (result : Result Moved ChainFault)
     → IfOk result (λ moved. event_of over depth (present blocks) now budget ≡ record { chain = chain; entries = entries; floor = floor; moved = moved })
     → OnOk result (first_failing (event_rules over.chain depth blocks) ≡ None) → OnErr result (chain ≡ over.chain) → OnErr result (entries ≡ over.entries)
-    → IsReadyFor (limits_for budget) over.chain over.entries (present blocks) → StaysGood (limits_for budget) chain entries
+    → IsReadyFor (limits_for over.policy budget) over.chain over.entries (present blocks) → StaysGood (limits_for over.policy budget) chain entries
 answers_keep over depth blocks now budget floor chain entries (Ok moved) is passes same kept ready =
-    subst (λ (after : Happened). StaysGood (limits_for budget) after.chain after.entries) is
+    subst (λ (after : Happened). StaysGood (limits_for over.policy budget) after.chain after.entries) is
     (events_keep_pools_good over depth (present blocks) now budget (switch_passes over.chain depth blocks passes) ready)
 answers_keep over depth blocks now budget floor chain entries (Err fault) is passes same kept ready = record {
   settled = subst IsSettled (sym same) ready.settled;
-  good = subst (λ (h : History). IsGood (limits_for budget) h entries) (sym same) (subst (IsGood (limits_for budget) over.chain) (sym kept) ready.good);
+  good = subst (λ (h : History). IsGood (limits_for over.policy budget) h entries) (sym same) (subst (IsGood (limits_for over.policy budget) over.chain) (sym kept) ready.good);
 }
 
 -- ---- what holds after it

@@ -18,6 +18,7 @@ use Rattle.gate_pool.specs.Family.{steps, is_below_some, is_conflict, without_be
 use Rattle.gate_pool.proofs.Entries.{Id, entry_step}
 use Rattle.gate_pool.proofs.Walking.{Contains-filter, Contains-from_filter}
 use Rattle.gate_admit.specs.Good.{IsLimited}
+use Rattle.gate_admit.specs.Policies.{Policy}
 use Rattle.gate_admit.proofs.Filtering.{AllPairs-flat_map_filter}
 use Rattle.gate_admit.proofs.Granted.{Differ}
 use Rattle.gate_admit.proofs.Removing.{DifferByTxid, DifferByWtxid, limited_part}
@@ -27,19 +28,19 @@ use Rattle.gate_reorg.specs.Reorganisation.{without_txid, confirmed, all_confirm
 -- ---- what any part keeps
 
 -- entries are told apart, no outpoint is spent twice, and families are within their limits
-pub record AreOrderly (entries : List Admitted) : Type 0 where
+pub record AreOrderly (policy : Policy) (entries : List Admitted) : Type 0 where
   pub txids : AllPairs DifferByTxid entries
   pub wtxids : AllPairs DifferByWtxid entries
   pub spends : AllPairs Differ (spent_by entries)
-  pub limited : All (λ (e : Admitted). IsLimited entries (txid_of e.tx)) entries
+  pub limited : All (λ (e : Admitted). IsLimited policy entries (txid_of e.tx)) entries
 
-pub orderly_part : (k : Admitted → Bool) (entries : List Admitted) → AreOrderly entries → AreOrderly (filter k entries)
-orderly_part k entries h = record {
+pub orderly_part : (policy : Policy) (k : Admitted → Bool) (entries : List Admitted) → AreOrderly policy entries → AreOrderly policy (filter k entries)
+orderly_part policy k entries h = record {
   txids = AllPairs-filter DifferByTxid k entries h.txids;
   wtxids = AllPairs-filter DifferByWtxid k entries h.wtxids;
   spends = AllPairs-flat_map_filter (λ (e : Admitted). spends_of e.tx) Differ k entries h.spends;
-  limited = All-weaker (λ (e : Admitted). IsLimited entries (txid_of e.tx)) (λ (e : Admitted). IsLimited (filter k entries) (txid_of e.tx))
-      (λ e. limited_part k entries (txid_of e.tx)) (filter k entries) (All-filter k (λ (e : Admitted). IsLimited entries (txid_of e.tx)) entries h.limited);
+  limited = All-weaker (λ (e : Admitted). IsLimited policy entries (txid_of e.tx)) (λ (e : Admitted). IsLimited policy (filter k entries) (txid_of e.tx))
+      (λ e. limited_part policy k entries (txid_of e.tx)) (filter k entries) (All-filter k (λ (e : Admitted). IsLimited policy entries (txid_of e.tx)) entries h.limited);
 }
 
 fewer : (k : Admitted → Bool) (entries : List Admitted) → size_of (filter k entries) ≤ size_of entries
@@ -55,7 +56,7 @@ fewer k (e ∷ entries) = go (k e) (fewer k entries)
 -- what is left of entries when blocks have these transactions: none of their ids, nothing that spends what they spend, and each
 -- parent of what is left that no block has
 pub record Leaves (entries left : List Admitted) (new : List Tx) : Type 0 where
-  pub orderly : AreOrderly entries → AreOrderly left
+  pub orderly : (policy : Policy) → AreOrderly policy entries → AreOrderly policy left
   pub size : size_of left ≤ size_of entries
   pub within : (e : Admitted) → Contains left e → Contains entries e
   pub apart : (e : Admitted) → Contains left e → (t : Tx) → Contains new t → txid_of e.tx ≢ txid_of t
@@ -77,7 +78,7 @@ module _ (entries : List Admitted) (t : Tx) where
       let from_mid : (e : Admitted) → Contains (without_txid entries (txid_of t)) e → Contains entries e = λ e m. Contains-from_filter (λ (a : Admitted). not (has_txid a (txid_of t))) entries e m in
       let to_mid : (e : Admitted) → Contains (without_below (is_conflict t) (without_txid entries (txid_of t))) e → Contains (without_txid entries (txid_of t)) e = λ e m. stays_within (is_conflict t) (without_txid entries (txid_of t)) e m in
       record {
-        orderly = λ h. orderly_part (λ (a : Admitted). not (is_below_some (is_conflict t) (without_txid entries (txid_of t)) a)) (without_txid entries (txid_of t)) (orderly_part (λ (a : Admitted). not (has_txid a (txid_of t))) entries h);
+        orderly = λ policy h. orderly_part policy (λ (a : Admitted). not (is_below_some (is_conflict t) (without_txid entries (txid_of t)) a)) (without_txid entries (txid_of t)) (orderly_part policy (λ (a : Admitted). not (has_txid a (txid_of t))) entries h);
         size = omega (arith, fewer (λ (a : Admitted). not (is_below_some (is_conflict t) (without_txid entries (txid_of t)) a)) (without_txid entries (txid_of t)), fewer (λ (a : Admitted). not (has_txid a (txid_of t))) entries);
         within = λ e m. from_mid e (to_mid e m);
         apart = λ e m u k same.
@@ -101,7 +102,7 @@ module _ (entries : List Admitted) (t : Tx) where
 
 leaves_all : (entries : List Admitted) → Leaves entries entries []
 leaves_all entries = record {
-  orderly = λ h. h;
+  orderly = λ policy h. h;
   size = omega arith;
   within = λ e m. m;
   apart = λ e m t k. not_in_none t k;
@@ -111,7 +112,7 @@ leaves_all entries = record {
 
 leaves_more : (entries middle left : List Admitted) (t : Tx) (txs : List Tx) → Leaves entries middle (t ∷ []) → Leaves middle left txs → Leaves entries left (t ∷ txs)
 leaves_more entries middle left t txs h k = record {
-  orderly = λ o. k.orderly (h.orderly o);
+  orderly = λ policy o. k.orderly policy (h.orderly policy o);
   size = omega (arith, h.size, k.size);
   within = λ e m. h.within e (k.within e m);
   apart = λ e m u c. ⊎_elim (λ (s : t ≡ u). h.apart e (k.within e m) u (subst (λ (v : Tx). Contains (t ∷ []) v) s (Contains-head t []))) (λ n. k.apart e m u n) (Contains-cons_cases t txs u c);

@@ -17,6 +17,7 @@ use Rattle.gate_pool.proofs.Entries.{Contains-map, Contains-from_map}
 use Rattle.gate_pool.proofs.Walking.{Contains-from_filter}
 use Rattle.gate_trim.specs.Expiry.{expired, is_stale}
 use Rattle.gate_trim.proofs.Trimmings.{trim_keeps, trim_rises}
+use Rattle.gate_admit.specs.Policies.{Policy}
 use Rattle.gate_admit.specs.declared.Attempt.TheVariants.{Again}
 use Rattle.gate_admit.specs.declared.Grant.{Grant}
 use Rattle.gate_admit.specs.Good.{connected_transactions}
@@ -45,21 +46,21 @@ tried_came entries t now (Ok grant) e m =
     (Contains-push_cases (without_below (is_conflict t) entries) (admitted t grant now) e m)
 tried_came entries t now (Err denial) e m = inl (stays_within (λ a. names a (txid_of t)) entries e m)
 
-all_tried_came : (chain : History) (verdicts : VerdictTable) (now : ℕ) (entries : List Admitted) (txs : List Tx) (e : Admitted) → Contains (all_tried_again chain verdicts now entries txs) e → Came entries txs e
+all_tried_came : (chain : History) (verdicts : VerdictTable) (policy : Policy) (now : ℕ) (entries : List Admitted) (txs : List Tx) (e : Admitted) → Contains (all_tried_again chain verdicts policy now entries txs) e → Came entries txs e
 unfolding tried_again
-all_tried_came chain verdicts now entries [] e m = inl m
-all_tried_came chain verdicts now entries (t ∷ txs) e m =
+all_tried_came chain verdicts policy now entries [] e m = inl m
+all_tried_came chain verdicts policy now entries (t ∷ txs) e m =
     ⊎_elim
-    (λ (k : Contains (tried_again chain verdicts now entries t) e). ⊎_elim (λ (l : Contains entries e). inl l) (λ (same : t ≡ e.tx). inr (subst (λ (u : Tx). Contains (t ∷ txs) u) same (Contains-head t txs)))
-    (tried_came entries t now (decision_of Again (standing chain entries 0 verdicts) (Some t)) e k))
+    (λ (k : Contains (tried_again chain verdicts policy now entries t) e). ⊎_elim (λ (l : Contains entries e). inl l) (λ (same : t ≡ e.tx). inr (subst (λ (u : Tx). Contains (t ∷ txs) u) same (Contains-head t txs)))
+    (tried_came entries t now (decision_of Again (standing chain entries 0 verdicts policy) (Some t)) e k))
     (λ (k : Contains txs e.tx). inr (Contains-rest t txs e.tx k))
-    (all_tried_came chain verdicts now (tried_again chain verdicts now entries t) txs e m)
+    (all_tried_came chain verdicts policy now (tried_again chain verdicts policy now entries t) txs e m)
 
-returned_came : (chain : History) (verdicts : VerdictTable) (now budget : ℕ) (entries : List Admitted) (floor : ℕ) (new old : List Tx) (e : Admitted)
-    → Contains (returned chain verdicts now budget entries floor new old).entries e → Came entries old e
+returned_came : (chain : History) (verdicts : VerdictTable) (policy : Policy) (now budget : ℕ) (entries : List Admitted) (floor : ℕ) (new old : List Tx) (e : Admitted)
+    → Contains (returned chain verdicts policy now budget entries floor new old).entries e → Came entries old e
 unfolding returned
-returned_came chain verdicts now budget entries floor new old e m =
-    let left = all_tried_again chain verdicts now (all_confirmed entries new) (unconfirmed new old) in
+returned_came chain verdicts policy now budget entries floor new old e m =
+    let left = all_tried_again chain verdicts policy now (all_confirmed entries new) (unconfirmed new old) in
     let ripe = without_premature chain left in
     let within : Contains left e =
     stays_within (λ (a : Admitted). is_premature chain left a.tx) left e
@@ -68,16 +69,16 @@ returned_came chain verdicts now budget entries floor new old e m =
     (λ l txid h a k. h a (Contains-from_filter (λ (x : Admitted). not (reaches (steps l) txid (txid_of x.tx))) l a k)) budget (expired now ripe) floor (λ a k. k) e m)) in
     ⊎_elim (λ (k : Contains (all_confirmed entries new) e). inl ((all_confirmed_leaves entries new).within e k))
     (λ (k : Contains (unconfirmed new old) e.tx). inr (Contains-from_filter (λ (u : Tx). not (has_id new (txid_of u))) old e.tx k))
-    (all_tried_came chain verdicts now (all_confirmed entries new) (unconfirmed new old) e within)
+    (all_tried_came chain verdicts policy now (all_confirmed entries new) (unconfirmed new old) e within)
 
-after_came : (depth : ℕ) (chain : History) (verdicts : VerdictTable) (now budget : ℕ) (entries : List Admitted) (floor : ℕ) (new old : List Tx) (e : Admitted)
-    → Contains (pool_after depth chain verdicts now budget entries floor new old).entries e → Came entries old e
+after_came : (depth : ℕ) (chain : History) (verdicts : VerdictTable) (policy : Policy) (now budget : ℕ) (entries : List Admitted) (floor : ℕ) (new old : List Tx) (e : Admitted)
+    → Contains (pool_after depth chain verdicts policy now budget entries floor new old).entries e → Came entries old e
 unfolding pool_after
-after_came depth chain verdicts now budget entries floor new old e = go (depth == 0)
+after_came depth chain verdicts policy now budget entries floor new old e = go (depth == 0)
   where
-    go : (b : Bool) → Contains (cond b (record { entries = all_confirmed entries new; floor = floor }) (returned chain verdicts now budget entries floor new old)).entries e → Came entries old e
+    go : (b : Bool) → Contains (cond b (record { entries = all_confirmed entries new; floor = floor }) (returned chain verdicts policy now budget entries floor new old)).entries e → Came entries old e
     go true m = inl ((all_confirmed_leaves entries new).within e m)
-    go false m = returned_came chain verdicts now budget entries floor new old e m
+    go false m = returned_came chain verdicts policy now budget entries floor new old e m
 
 -- ---- transactions
 
@@ -91,7 +92,7 @@ events_bring_nothing_else over depth blocks now budget tx m =
     let entries = map (λ (e : Admitted). e.tx) over.entries in
     let new = transactions_of blocks in
     let front = take (left_of h depth) h.blocks in
-    let after = pool_after depth (switched h depth blocks) over.verdicts now budget over.entries over.floor new (transactions_of (last_blocks h depth)) in
+    let after = pool_after depth (switched h depth blocks) over.verdicts over.policy now budget over.entries over.floor new (transactions_of (last_blocks h depth)) in
     let before : Contains (connected_transactions h) tx → Contains (met_by h over.entries blocks) tx =
     λ k. Contains-append_left (connected_transactions h ++ entries) new tx (Contains-append_left (connected_transactions h) entries tx k) in
     ⊎_elim
@@ -108,27 +109,27 @@ events_bring_nothing_else over depth blocks now budget tx m =
     (λ (l : Contains (transactions_of (last_blocks h depth)) w.item.tx).
     before (subst (λ (t : Tx). Contains (connected_transactions h) t) w.is
     (subst (λ (bs : List Block). Contains (transactions_of bs) w.item.tx) (sym (front_back h depth)) (Contains-last_blocks front (last_blocks h depth) w.item.tx l))))
-    (after_came depth (switched h depth blocks) over.verdicts now budget over.entries over.floor new (transactions_of (last_blocks h depth)) w.item w.among))
+    (after_came depth (switched h depth blocks) over.verdicts over.policy now budget over.entries over.floor new (transactions_of (last_blocks h depth)) w.item w.among))
     (Contains-append_cases (connected_transactions (switched h depth blocks)) (map (λ (e : Admitted). e.tx) after.entries) tx m)
 
 -- ---- the floor
 
-returned_floor : (chain : History) (verdicts : VerdictTable) (now budget : ℕ) (entries : List Admitted) (floor : ℕ) (new old : List Tx) → floor ≤ (returned chain verdicts now budget entries floor new old).floor
+returned_floor : (chain : History) (verdicts : VerdictTable) (policy : Policy) (now budget : ℕ) (entries : List Admitted) (floor : ℕ) (new old : List Tx) → floor ≤ (returned chain verdicts policy now budget entries floor new old).floor
 unfolding returned
-returned_floor chain verdicts now budget entries floor new old = trim_rises budget (expired now (without_premature chain (all_tried_again chain verdicts now (all_confirmed entries new) (unconfirmed new old)))) floor
+returned_floor chain verdicts policy now budget entries floor new old = trim_rises budget (expired now (without_premature chain (all_tried_again chain verdicts policy now (all_confirmed entries new) (unconfirmed new old)))) floor
 
-after_floor : (depth : ℕ) (chain : History) (verdicts : VerdictTable) (now budget : ℕ) (entries : List Admitted) (floor : ℕ) (new old : List Tx) → floor ≤ (pool_after depth chain verdicts now budget entries floor new old).floor
+after_floor : (depth : ℕ) (chain : History) (verdicts : VerdictTable) (policy : Policy) (now budget : ℕ) (entries : List Admitted) (floor : ℕ) (new old : List Tx) → floor ≤ (pool_after depth chain verdicts policy now budget entries floor new old).floor
 unfolding pool_after
-after_floor depth chain verdicts now budget entries floor new old = go (depth == 0)
+after_floor depth chain verdicts policy now budget entries floor new old = go (depth == 0)
   where
-    go : (b : Bool) → floor ≤ (cond b (record { entries = all_confirmed entries new; floor = floor }) (returned chain verdicts now budget entries floor new old)).floor
+    go : (b : Bool) → floor ≤ (cond b (record { entries = all_confirmed entries new; floor = floor }) (returned chain verdicts policy now budget entries floor new old)).floor
     go true = omega arith
-    go false = returned_floor chain verdicts now budget entries floor new old
+    go false = returned_floor chain verdicts policy now budget entries floor new old
 
 pub floors_never_fall : FloorsNeverFall
 unfolding event_of
 floors_never_fall over depth blocks now budget =
-    after_floor depth (switched over.chain depth blocks) over.verdicts now budget over.entries over.floor (transactions_of blocks) (transactions_of (last_blocks over.chain depth))
+    after_floor depth (switched over.chain depth blocks) over.verdicts over.policy now budget over.entries over.floor (transactions_of blocks) (transactions_of (last_blocks over.chain depth))
 
 -- ---- where no block goes
 

@@ -5,6 +5,7 @@ use Rattle.gate_tx.specs.Tx.{Tx}
 use Rattle.gate_chain.specs.History.{History}
 use Rattle.gate_pool.specs.Pool.{Admitted}
 use Rattle.gate_standard.specs.declared.Denial.{Denial}
+use Rattle.gate_admit.specs.Policies.{Policy}
 use Rattle.gate_admit.specs.declared.Attempt.TheVariants.{Again}
 use Rattle.gate_admit.specs.declared.Grant.{Grant}
 use Rattle.gate_admit.specs.Rules.{decision_of}
@@ -28,21 +29,21 @@ module _ (landed : List Tx) where
       go true ih = ap (λ l. tx ∷ l) ih
       go false ih = ih
 
-module _ (chain : History) (verdicts : VerdictTable) (now : ℕ) where
-  all_tried_append : (txs rest : List Tx) (entries : List Admitted) → all_tried_again chain verdicts now entries (txs ++ rest) ≡ all_tried_again chain verdicts now (all_tried_again chain verdicts now entries txs) rest
+module _ (chain : History) (verdicts : VerdictTable) (policy : Policy) (now : ℕ) where
+  all_tried_append : (txs rest : List Tx) (entries : List Admitted) → all_tried_again chain verdicts policy now entries (txs ++ rest) ≡ all_tried_again chain verdicts policy now (all_tried_again chain verdicts policy now entries txs) rest
   all_tried_append [] rest entries = refl
-  all_tried_append (tx ∷ txs) rest entries = all_tried_append txs rest (tried_again chain verdicts now entries tx)
+  all_tried_append (tx ∷ txs) rest entries = all_tried_append txs rest (tried_again chain verdicts policy now entries tx)
 
   -- a block's transactions, and then those of others
   pub returned_more : (landed txs rest : List Tx) (entries : List Admitted)
-      → all_tried_again chain verdicts now entries (unconfirmed landed (txs ++ rest)) ≡ all_tried_again chain verdicts now (all_tried_again chain verdicts now entries (unconfirmed landed txs)) (unconfirmed landed rest)
-  returned_more landed txs rest entries = ap (all_tried_again chain verdicts now entries) (unconfirmed_append landed txs rest) ∙ all_tried_append (unconfirmed landed txs) (unconfirmed landed rest) entries
+      → all_tried_again chain verdicts policy now entries (unconfirmed landed (txs ++ rest)) ≡ all_tried_again chain verdicts policy now (all_tried_again chain verdicts policy now entries (unconfirmed landed txs)) (unconfirmed landed rest)
+  returned_more landed txs rest entries = ap (all_tried_again chain verdicts policy now entries) (unconfirmed_append landed txs rest) ∙ all_tried_append (unconfirmed landed txs) (unconfirmed landed rest) entries
 
 -- ---- one of them
 
-module _ (chain : History) (verdicts : VerdictTable) (now : ℕ) (entries : List Admitted) (tx : Tx) where
+module _ (chain : History) (verdicts : VerdictTable) (policy : Policy) (now : ℕ) (entries : List Admitted) (tx : Tx) where
   -- what a decision comes to, where it is the one on the transaction
-  pub tried_from : (prepared : Option Tx) (decision : Result Grant Denial) → decision ≡ decision_of Again (standing chain entries 0 verdicts) prepared → prepared ≡ Some tx
-      → tried entries tx now decision ≡ tried_again chain verdicts now entries tx
+  pub tried_from : (prepared : Option Tx) (decision : Result Grant Denial) → decision ≡ decision_of Again (standing chain entries 0 verdicts policy) prepared → prepared ≡ Some tx
+      → tried entries tx now decision ≡ tried_again chain verdicts policy now entries tx
   unfolding tried_again
-  tried_from prepared decision h is = ap (tried entries tx now) (h ∙ ap (decision_of Again (standing chain entries 0 verdicts)) is)
+  tried_from prepared decision h is = ap (tried entries tx now) (h ∙ ap (decision_of Again (standing chain entries 0 verdicts policy)) is)

@@ -25,6 +25,7 @@ use Rattle.gate_pool.proofs.Walking.{Contains-from_filter}
 use Rattle.gate_trim.specs.Expiry.{expired, is_stale}
 use Rattle.gate_trim.specs.Trimming.{Trimmed}
 use Rattle.gate_trim.proofs.Trimmings.{trim_keeps}
+use Rattle.gate_admit.specs.Policies.{Policy}
 use Rattle.gate_admit.specs.Coins.{view_coin}
 use Rattle.gate_admit.specs.Verdicts.{VerdictTable}
 use Rattle.gate_admit.proofs.Filtering.{find-filter_same}
@@ -82,10 +83,10 @@ first_mature chain entries e m =
     same_premature chain (without_premature chain entries) entries e.tx (λ i c. same_coin chain (is_below test entries) entries (below_some_closed test entries) e m i c)
     ∙ stays_apart test entries e m
 
-returned_mature : (chain : History) (verdicts : VerdictTable) (now budget : ℕ) (entries : List Admitted) (floor : ℕ) (new old : List Tx) → AreMature chain (returned chain verdicts now budget entries floor new old).entries
+returned_mature : (chain : History) (verdicts : VerdictTable) (policy : Policy) (now budget : ℕ) (entries : List Admitted) (floor : ℕ) (new old : List Tx) → AreMature chain (returned chain verdicts policy now budget entries floor new old).entries
 unfolding returned
-returned_mature chain verdicts now budget entries floor new old =
-    let tried = all_tried_again chain verdicts now (all_confirmed entries new) (unconfirmed new old) in
+returned_mature chain verdicts policy now budget entries floor new old =
+    let tried = all_tried_again chain verdicts policy now (all_confirmed entries new) (unconfirmed new old) in
     trim_keeps (AreMature chain) (λ l txid. kept_mature chain (reaches (steps l) txid) l (below_closed l txid)) budget (expired now (without_premature chain tried)) floor
     (kept_mature chain (is_below (is_stale now) (without_premature chain tried)) (without_premature chain tried) (below_some_closed (is_stale now) (without_premature chain tried)) (first_mature chain tried))
 
@@ -103,18 +104,18 @@ ripe chain entries tx h =
 some_gone : (depth : ℕ) → depth ≢ 0 → (depth == 0) ≡ false
 some_gone depth h = grind (arith, nat_tests)
 
-after_mature : (depth : ℕ) (chain : History) (verdicts : VerdictTable) (now budget : ℕ) (entries : List Admitted) (floor : ℕ) (new old : List Tx) → depth ≢ 0
-    → AreMature chain (pool_after depth chain verdicts now budget entries floor new old).entries
+after_mature : (depth : ℕ) (chain : History) (verdicts : VerdictTable) (policy : Policy) (now budget : ℕ) (entries : List Admitted) (floor : ℕ) (new old : List Tx) → depth ≢ 0
+    → AreMature chain (pool_after depth chain verdicts policy now budget entries floor new old).entries
 unfolding pool_after
-after_mature depth chain verdicts now budget entries floor new old some =
+after_mature depth chain verdicts policy now budget entries floor new old some =
     subst (λ (after : Trimmed). AreMature chain after.entries)
-    (sym (cond-false (depth == 0) (record { entries = all_confirmed entries new; floor = floor }) (returned chain verdicts now budget entries floor new old) (some_gone depth some)))
-    (returned_mature chain verdicts now budget entries floor new old)
+    (sym (cond-false (depth == 0) (record { entries = all_confirmed entries new; floor = floor }) (returned chain verdicts policy now budget entries floor new old) (some_gone depth some)))
+    (returned_mature chain verdicts policy now budget entries floor new old)
 
 pub returns_leave_the_ripe : ReturnsLeaveTheRipe
 unfolding event_of
 returns_leave_the_ripe over depth blocks now budget some k d l =
     let chain = switched over.chain depth blocks in
-    let after = pool_after depth chain over.verdicts now budget over.entries over.floor (transactions_of blocks) (transactions_of (last_blocks over.chain depth)) in
+    let after = pool_after depth chain over.verdicts over.policy now budget over.entries over.floor (transactions_of blocks) (transactions_of (last_blocks over.chain depth)) in
     ripe chain after.entries (get_or after.entries k d).tx
-    (after_mature depth chain over.verdicts now budget over.entries over.floor (transactions_of blocks) (transactions_of (last_blocks over.chain depth)) some (get_or after.entries k d) (Contains-get_or after.entries k d l))
+    (after_mature depth chain over.verdicts over.policy now budget over.entries over.floor (transactions_of blocks) (transactions_of (last_blocks over.chain depth)) some (get_or after.entries k d) (Contains-get_or after.entries k d l))

@@ -12,6 +12,7 @@ use Rattle.gate_pool.specs.Pool.{Admitted, has_txid, spends_of, spent_by, size_o
 use Rattle.gate_pool.specs.Family.{steps, is_below_some, is_conflict, names, without_below, entered}
 use Rattle.gate_trim.specs.Expiry.{expired, is_stale}
 use Rattle.gate_trim.proofs.Trimmings.{trim_keeps, trim_within}
+use Rattle.gate_admit.specs.Policies.{Policy}
 use Rattle.gate_admit.specs.declared.Attempt.TheVariants.{Again}
 use Rattle.gate_admit.specs.declared.Grant.{Grant}
 use Rattle.gate_admit.specs.Granting.{IsGrantable}
@@ -54,57 +55,57 @@ all_confirmed_once : (entries : List Admitted) (txs : List Tx) → SpendOnce ent
 all_confirmed_once entries [] h = h
 all_confirmed_once entries (t ∷ txs) h = all_confirmed_once (confirmed entries t) txs (confirmed_once entries t h)
 
-module _ (chain : History) (verdicts : VerdictTable) (now : ℕ) where
-  tried_once : (entries : List Admitted) (t : Tx) → SpendOnce entries → SpendOnce (tried_again chain verdicts now entries t)
+module _ (chain : History) (verdicts : VerdictTable) (policy : Policy) (now : ℕ) where
+  tried_once : (entries : List Admitted) (t : Tx) → SpendOnce entries → SpendOnce (tried_again chain verdicts policy now entries t)
   unfolding tried_again
-  tried_once entries t h = go (decision_of Again (standing chain entries 0 verdicts) (Some t)) refl
+  tried_once entries t h = go (decision_of Again (standing chain entries 0 verdicts policy) (Some t)) refl
     where
-      go : (d : Result Grant Denial) → decision_of Again (standing chain entries 0 verdicts) (Some t) ≡ d → SpendOnce (tried entries t now d)
-      go (Ok grant) e = entered_once (standing chain entries 0 verdicts) t grant now (decided_live Again (standing chain entries 0 verdicts) t grant e) h
+      go : (d : Result Grant Denial) → decision_of Again (standing chain entries 0 verdicts policy) (Some t) ≡ d → SpendOnce (tried entries t now d)
+      go (Ok grant) e = entered_once (standing chain entries 0 verdicts policy) t grant now (decided_live Again (standing chain entries 0 verdicts policy) t grant e) h
       go (Err denial) e = below_once (λ (a : Admitted). names a (txid_of t)) entries h
 
-  all_tried_once : (entries : List Admitted) (ts : List Tx) → SpendOnce entries → SpendOnce (all_tried_again chain verdicts now entries ts)
+  all_tried_once : (entries : List Admitted) (ts : List Tx) → SpendOnce entries → SpendOnce (all_tried_again chain verdicts policy now entries ts)
   all_tried_once entries [] h = h
-  all_tried_once entries (t ∷ ts) h = all_tried_once (tried_again chain verdicts now entries t) ts (tried_once entries t h)
+  all_tried_once entries (t ∷ ts) h = all_tried_once (tried_again chain verdicts policy now entries t) ts (tried_once entries t h)
 
-  returned_once : (budget : ℕ) (entries : List Admitted) (floor : ℕ) (new old : List Tx) → SpendOnce entries → SpendOnce (returned chain verdicts now budget entries floor new old).entries
+  returned_once : (budget : ℕ) (entries : List Admitted) (floor : ℕ) (new old : List Tx) → SpendOnce entries → SpendOnce (returned chain verdicts policy now budget entries floor new old).entries
   unfolding returned
   returned_once budget entries floor new old h =
-      let tried = all_tried_again chain verdicts now (all_confirmed entries new) (unconfirmed new old) in
+      let tried = all_tried_again chain verdicts policy now (all_confirmed entries new) (unconfirmed new old) in
       trim_keeps SpendOnce (λ l txid. part_once (λ (e : Admitted). not (reaches (steps l) txid (txid_of e.tx))) l) budget (expired now (without_premature chain tried)) floor
       (below_once (is_stale now) (without_premature chain tried)
       (below_once (λ (e : Admitted). is_premature chain tried e.tx) tried (all_tried_once (all_confirmed entries new) (unconfirmed new old) (all_confirmed_once entries new h))))
 
-  after_once : (depth budget : ℕ) (entries : List Admitted) (floor : ℕ) (new old : List Tx) → SpendOnce entries → SpendOnce (pool_after depth chain verdicts now budget entries floor new old).entries
+  after_once : (depth budget : ℕ) (entries : List Admitted) (floor : ℕ) (new old : List Tx) → SpendOnce entries → SpendOnce (pool_after depth chain verdicts policy now budget entries floor new old).entries
   unfolding pool_after
   after_once depth budget entries floor new old h = go (depth == 0)
     where
-      go : (b : Bool) → SpendOnce (cond b (record { entries = all_confirmed entries new; floor = floor }) (returned chain verdicts now budget entries floor new old)).entries
+      go : (b : Bool) → SpendOnce (cond b (record { entries = all_confirmed entries new; floor = floor }) (returned chain verdicts policy now budget entries floor new old)).entries
       go true = all_confirmed_once entries new h
       go false = returned_once budget entries floor new old h
 
 pub events_spend_once : EventsSpendOnce
 unfolding event_of
 events_spend_once over depth blocks now budget h =
-    after_once (switched over.chain depth blocks) over.verdicts now depth budget over.entries over.floor (transactions_of blocks) (transactions_of (last_blocks over.chain depth)) h
+    after_once (switched over.chain depth blocks) over.verdicts over.policy now depth budget over.entries over.floor (transactions_of blocks) (transactions_of (last_blocks over.chain depth)) h
 
 -- ---- the budget
 
-returned_size : (chain : History) (verdicts : VerdictTable) (now budget : ℕ) (entries : List Admitted) (floor : ℕ) (new old : List Tx) → size_of (returned chain verdicts now budget entries floor new old).entries ≤ budget
+returned_size : (chain : History) (verdicts : VerdictTable) (policy : Policy) (now budget : ℕ) (entries : List Admitted) (floor : ℕ) (new old : List Tx) → size_of (returned chain verdicts policy now budget entries floor new old).entries ≤ budget
 unfolding returned
-returned_size chain verdicts now budget entries floor new old =
-    trim_within budget (expired now (without_premature chain (all_tried_again chain verdicts now (all_confirmed entries new) (unconfirmed new old)))) floor
+returned_size chain verdicts policy now budget entries floor new old =
+    trim_within budget (expired now (without_premature chain (all_tried_again chain verdicts policy now (all_confirmed entries new) (unconfirmed new old)))) floor
 
-after_size : (depth : ℕ) (chain : History) (verdicts : VerdictTable) (now budget : ℕ) (entries : List Admitted) (floor : ℕ) (new old : List Tx) → size_of entries ≤ budget
-    → size_of (pool_after depth chain verdicts now budget entries floor new old).entries ≤ budget
+after_size : (depth : ℕ) (chain : History) (verdicts : VerdictTable) (policy : Policy) (now budget : ℕ) (entries : List Admitted) (floor : ℕ) (new old : List Tx) → size_of entries ≤ budget
+    → size_of (pool_after depth chain verdicts policy now budget entries floor new old).entries ≤ budget
 unfolding pool_after
-after_size depth chain verdicts now budget entries floor new old h = go (depth == 0)
+after_size depth chain verdicts policy now budget entries floor new old h = go (depth == 0)
   where
-    go : (b : Bool) → size_of (cond b (record { entries = all_confirmed entries new; floor = floor }) (returned chain verdicts now budget entries floor new old)).entries ≤ budget
+    go : (b : Bool) → size_of (cond b (record { entries = all_confirmed entries new; floor = floor }) (returned chain verdicts policy now budget entries floor new old)).entries ≤ budget
     go true = omega (arith, h, (all_confirmed_leaves entries new).size)
-    go false = returned_size chain verdicts now budget entries floor new old
+    go false = returned_size chain verdicts policy now budget entries floor new old
 
 pub events_keep_the_budget : EventsKeepTheBudget
 unfolding event_of
 events_keep_the_budget over depth blocks now budget h =
-    after_size depth (switched over.chain depth blocks) over.verdicts now budget over.entries over.floor (transactions_of blocks) (transactions_of (last_blocks over.chain depth)) h
+    after_size depth (switched over.chain depth blocks) over.verdicts over.policy now budget over.entries over.floor (transactions_of blocks) (transactions_of (last_blocks over.chain depth)) h

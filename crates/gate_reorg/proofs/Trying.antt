@@ -22,6 +22,7 @@ use Rattle.gate_pool.specs.Pool.{Admitted, spends_of, spent_by}
 use Rattle.gate_pool.specs.Family.{steps, names, is_below_some, is_conflict, without_below, ancestors_above, entered}
 use Rattle.gate_pool.proofs.Entries.{Id, Contains-map, entry_step}
 use Rattle.gate_pool.proofs.Walking.{Contains-filter}
+use Rattle.gate_admit.specs.Policies.{Policy}
 use Rattle.gate_admit.specs.declared.Attempt.TheVariants.{Again}
 use Rattle.gate_admit.specs.declared.Grant.{Grant}
 use Rattle.gate_admit.specs.Coins.{view_coin}
@@ -54,10 +55,10 @@ parent_stays test entries e a i m c at id =
     (subst (λ (x : Id). Contains (steps entries) (x, txid_of e.tx)) (sym id) (entry_step entries e i (stays_within test entries e m) c)) below)
     ∙ stays_beside test entries e m))))
 
-pub below_kept : (pending : List Tx) (chain : History) (test : Admitted → Bool) (entries : List Admitted) → IsSoundBut pending chain entries → IsSoundBut pending chain (without_below test entries)
-below_kept pending chain test entries h =
+pub below_kept : (policy : Policy) (pending : List Tx) (chain : History) (test : Admitted → Bool) (entries : List Admitted) → IsSoundBut policy pending chain entries → IsSoundBut policy pending chain (without_below test entries)
+below_kept policy pending chain test entries h =
     let left = without_below test entries in
-    let orderly : AreOrderly left = orderly_part (λ (x : Admitted). not (is_below_some test entries x)) entries h.orderly in
+    let orderly : AreOrderly policy left = orderly_part policy (λ (x : Admitted). not (is_below_some test entries x)) entries h.orderly in
     record {
       orderly = orderly;
       coins = λ e m i c. ⊎_elim
@@ -76,10 +77,10 @@ one_of : (t : Tx) (ts : List Tx) (p : OutPoint) → MadeBy (t ∷ ts) p → (mak
 one_of t ts p w =
     ⊎_elim (λ (e : t ≡ w.0). inl (ap (λ (u : Tx). makes u p) e ∙ w.2)) (λ (k : Contains ts w.0). inr (w.0, k, w.2)) (Contains-cons_cases t ts w.0 w.1)
 
-pub refused_kept : (chain : History) (entries : List Admitted) (t : Tx) (ts : List Tx) → IsSoundBut (t ∷ ts) chain entries → IsSoundBut ts chain (without_below (λ (e : Admitted). names e (txid_of t)) entries)
-refused_kept chain entries t ts h =
+pub refused_kept : (policy : Policy) (chain : History) (entries : List Admitted) (t : Tx) (ts : List Tx) → IsSoundBut policy (t ∷ ts) chain entries → IsSoundBut policy ts chain (without_below (λ (e : Admitted). names e (txid_of t)) entries)
+refused_kept policy chain entries t ts h =
     let test : Admitted → Bool = λ e. names e (txid_of t) in
-    let k = below_kept (t ∷ ts) chain test entries h in
+    let k = below_kept policy (t ∷ ts) chain test entries h in
     record {
       orderly = k.orderly;
       coins = λ e m i c. ⊎_elim
@@ -117,13 +118,13 @@ own_beside over t k i c = false_from_ne_true _ (λ h.
     true≢false (sym p.0 ∙ All-contains (λ (a : Admitted). is_conflict t a ≡ false) (ancestors_above over.entries t.inputs) w.0 k.beside above))
 
 module _
-    (over : Standing) (t : Tx) (ts : List Tx) (grant : Grant) (now : ℕ) (h : IsSoundBut (t ∷ ts) over.chain over.entries) (k : IsGrantable over t) (fresh : is_known_txid over.chain (txid_of t) ≡ false)
-    (limited : All (λ (a : Admitted). IsLimited (entered over.entries (admitted t grant now)) (txid_of a.tx)) (entered over.entries (admitted t grant now)))
+    (over : Standing) (t : Tx) (ts : List Tx) (grant : Grant) (now : ℕ) (h : IsSoundBut over.policy (t ∷ ts) over.chain over.entries) (k : IsGrantable over t) (fresh : is_known_txid over.chain (txid_of t) ≡ false)
+    (limited : All (λ (a : Admitted). IsLimited over.policy (entered over.entries (admitted t grant now)) (txid_of a.tx)) (entered over.entries (admitted t grant now)))
   where
-    left_is : IsSoundBut (t ∷ ts) over.chain (without_below (is_conflict t) over.entries)
-    left_is = below_kept (t ∷ ts) over.chain (is_conflict t) over.entries h
+    left_is : IsSoundBut over.policy (t ∷ ts) over.chain (without_below (is_conflict t) over.entries)
+    left_is = below_kept over.policy (t ∷ ts) over.chain (is_conflict t) over.entries h
 
-    orderly_now : AreOrderly (entered over.entries (admitted t grant now))
+    orderly_now : AreOrderly over.policy (entered over.entries (admitted t grant now))
     orderly_now =
         let e = admitted t grant now in
         let left = without_below (is_conflict t) over.entries in
@@ -169,7 +170,7 @@ module _
     is_new : (a : Admitted) → Contains ((admitted t grant now) ∷ []) a → admitted t grant now ≡ a
     is_new a m = ⊎_elim (λ (e : admitted t grant now ≡ a). e) (λ n. not_in_none a n) (Contains-cons_cases (admitted t grant now) [] a m)
 
-    pub granted_kept : IsSoundBut ts over.chain (entered over.entries (admitted t grant now))
+    pub granted_kept : IsSoundBut over.policy ts over.chain (entered over.entries (admitted t grant now))
     granted_kept = record {
       orderly = orderly_now;
       coins = λ a m i c. ⊎_elim
@@ -195,21 +196,21 @@ granted_new over t grant settled fresh is_tx apart d =
     unknown over.chain (txid_of t) (decided_live Again over t grant d).fresh
     (unconnected Again over t settled (λ k e l. fresh (get_or over.entries k e) (Contains-get_or over.entries k e l)) is_tx apart passes)
 
-module _ (chain : History) (verdicts : VerdictTable) (now : ℕ) (settled : IsSettled chain) where
-  tried_kept : (entries : List Admitted) (t : Tx) (ts : List Tx) → IsTx t → AreApart (t ∷ connected_transactions chain) → IsSoundBut (t ∷ ts) chain entries → IsSoundBut ts chain (tried_again chain verdicts now entries t)
+module _ (chain : History) (verdicts : VerdictTable) (policy : Policy) (now : ℕ) (settled : IsSettled chain) where
+  tried_kept : (entries : List Admitted) (t : Tx) (ts : List Tx) → IsTx t → AreApart (t ∷ connected_transactions chain) → IsSoundBut policy (t ∷ ts) chain entries → IsSoundBut policy ts chain (tried_again chain verdicts policy now entries t)
   unfolding tried_again
-  tried_kept entries t ts is_tx apart h = go (decision_of Again (standing chain entries 0 verdicts) (Some t)) refl
+  tried_kept entries t ts is_tx apart h = go (decision_of Again (standing chain entries 0 verdicts policy) (Some t)) refl
     where
-      go : (d : Result Grant Denial) → decision_of Again (standing chain entries 0 verdicts) (Some t) ≡ d → IsSoundBut ts chain (tried entries t now d)
+      go : (d : Result Grant Denial) → decision_of Again (standing chain entries 0 verdicts policy) (Some t) ≡ d → IsSoundBut policy ts chain (tried entries t now d)
       go (Ok grant) e =
-          granted_kept (standing chain entries 0 verdicts) t ts grant now h (decided_live Again (standing chain entries 0 verdicts) t grant e)
-          (granted_new (standing chain entries 0 verdicts) t grant settled h.fresh is_tx apart e)
-          (again_limited (standing chain entries 0 verdicts) t grant now h.orderly.limited e)
-      go (Err denial) e = refused_kept chain entries t ts h
+          granted_kept (standing chain entries 0 verdicts policy) t ts grant now h (decided_live Again (standing chain entries 0 verdicts policy) t grant e)
+          (granted_new (standing chain entries 0 verdicts policy) t grant settled h.fresh is_tx apart e)
+          (again_limited (standing chain entries 0 verdicts policy) t grant now h.orderly.limited e)
+      go (Err denial) e = refused_kept policy chain entries t ts h
 
-  pub all_tried_kept : (entries : List Admitted) (ts : List Tx) → ((t : Tx) → Contains ts t → IsTx t) → ((t : Tx) → Contains ts t → AreApart (t ∷ connected_transactions chain)) → IsSoundBut ts chain entries
-      → IsSoundBut [] chain (all_tried_again chain verdicts now entries ts)
+  pub all_tried_kept : (entries : List Admitted) (ts : List Tx) → ((t : Tx) → Contains ts t → IsTx t) → ((t : Tx) → Contains ts t → AreApart (t ∷ connected_transactions chain)) → IsSoundBut policy ts chain entries
+      → IsSoundBut policy [] chain (all_tried_again chain verdicts policy now entries ts)
   all_tried_kept entries [] spelled apart h = h
   all_tried_kept entries (t ∷ ts) spelled apart h =
-      all_tried_kept (tried_again chain verdicts now entries t) ts (λ u m. spelled u (Contains-rest t ts u m)) (λ u m. apart u (Contains-rest t ts u m))
+      all_tried_kept (tried_again chain verdicts policy now entries t) ts (λ u m. spelled u (Contains-rest t ts u m)) (λ u m. apart u (Contains-rest t ts u m))
       (tried_kept entries t ts (spelled t (Contains-head t ts)) (apart t (Contains-head t ts)) h)

@@ -44,4 +44,4 @@ happened before chain after = record {
 unfoldable pub event_of : Standing → ℕ → List Block → ℕ → ℕ → Happened
 event_of over depth blocks now budget =
     let chain = switched over.chain depth blocks in
-    happened over.entries chain (pool_after depth chain over.verdicts now budget over.entries over.floor (transactions_of blocks) (transactions_of (last_blocks over.chain depth)))
+    happened over.entries chain (pool_after depth chain over.verdicts over.policy now budget over.entries over.floor (transactions_of blocks) (transactions_of (last_blocks over.chain depth)))

@@ -14,7 +14,7 @@ use Rattle.gate_locks.specs.Finality.{is_final_at}
 use Rattle.gate_locks.specs.Locks.{median_at, sequence_locks_met_by}
 use Rattle.gate_block.specs.Switching.{last_blocks, switched, switch_rules}
 use Rattle.gate_pool.specs.Pool.{Admitted, spent_by, size_of}
-use Rattle.gate_admit.specs.Good.{AreApart, IsGood, IsSettled, Limits, connected_transactions}
+use Rattle.gate_admit.specs.Good.{AreApart, IsGood, IsSettled, Limits, connected_transactions, limits_for}
 use Rattle.gate_admit.specs.Standing.{Standing}
 use Rattle.gate_reorg.specs.Reorganisation.{input_heights, spends_young_coin}
 use Rattle.gate_submission.specs.Blocks.{transactions_of}
@@ -38,13 +38,10 @@ pub record StaysGood (limits : Limits) (chain : History) (entries : List Admitte
   pub settled : IsSettled chain
   pub good : IsGood limits chain entries
 
-abbrev pub limits_for : ℕ → Limits
-limits_for budget = record { budget = budget }
-
 -- an event that no rule refuses keeps the chain settled and the pool good
 abbrev pub EventsKeepPoolsGood : Type 0
 EventsKeepPoolsGood = (over : Standing) (depth : ℕ) (blocks : List Block) (now budget : ℕ) → first_failing (switch_rules over.chain depth blocks) ≡ None
-    → IsReadyFor (limits_for budget) over.chain over.entries blocks → StaysGood (limits_for budget) (event_of over depth blocks now budget).chain (event_of over depth blocks now budget).entries
+    → IsReadyFor (limits_for over.policy budget) over.chain over.entries blocks → StaysGood (limits_for over.policy budget) (event_of over depth blocks now budget).chain (event_of over depth blocks now budget).entries
 
 -- the next block may have the transaction: it is final there, its relative locks are met, and it spends no coin of a coinbase
 -- that is less than 100 blocks below
@@ -61,7 +58,7 @@ ReturnsLeaveTheRipe = (over : Standing) (depth : ℕ) (blocks : List Block) (now
 -- after any event, no connected block has the transaction of an entry
 abbrev pub EntriesAreUnconfirmed : Type 0
 EntriesAreUnconfirmed = (over : Standing) (depth : ℕ) (blocks : List Block) (now budget : ℕ) → first_failing (switch_rules over.chain depth blocks) ≡ None
-    → IsReadyFor (limits_for budget) over.chain over.entries blocks
+    → IsReadyFor (limits_for over.policy budget) over.chain over.entries blocks
     → All (λ (e : Admitted). list_any (has_transaction (txid_of e.tx)) (event_of over depth blocks now budget).chain.blocks ≡ false) (event_of over depth blocks now budget).entries
 
 -- blocks that go and come again leave the chain as it was, all its coins and times

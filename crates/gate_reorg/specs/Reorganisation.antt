@@ -21,6 +21,7 @@ use Rattle.gate_admit.specs.Coins.{view_coin}
 use Rattle.gate_admit.specs.Rules.{decision_of, is_immature}
 use Rattle.gate_admit.specs.Standing.{standing}
 use Rattle.gate_admit.specs.Submission.{admitted}
+use Rattle.gate_admit.specs.Policies.{Policy}
 use Rattle.gate_admit.specs.Verdicts.{VerdictTable}
 use Rattle.gate_submission.specs.Blocks.{transactions_of}
 
@@ -57,13 +58,13 @@ tried entries tx now (Ok grant) = entered entries (admitted tx grant now)
 tried entries tx now (Err denial) = without_below (λ e. names e (txid_of tx)) entries
 
 -- it is tried again over the chain; no fee is asked for, so that the pool's floor does not matter
-unfoldable pub tried_again : History → VerdictTable → ℕ → List Admitted → Tx → List Admitted
-tried_again chain verdicts now entries tx = tried entries tx now (decision_of Again (standing chain entries 0 verdicts) (Some tx))
+unfoldable pub tried_again : History → VerdictTable → Policy → ℕ → List Admitted → Tx → List Admitted
+tried_again chain verdicts policy now entries tx = tried entries tx now (decision_of Again (standing chain entries 0 verdicts policy) (Some tx))
 
 -- one after another
-abbrev pub all_tried_again : History → VerdictTable → ℕ → List Admitted → List Tx → List Admitted
-all_tried_again chain verdicts now entries [] = entries
-all_tried_again chain verdicts now entries (tx ∷ txs) = all_tried_again chain verdicts now (tried_again chain verdicts now entries tx) txs
+abbrev pub all_tried_again : History → VerdictTable → Policy → ℕ → List Admitted → List Tx → List Admitted
+all_tried_again chain verdicts policy now entries [] = entries
+all_tried_again chain verdicts policy now entries (tx ∷ txs) = all_tried_again chain verdicts policy now (tried_again chain verdicts policy now entries tx) txs
 
 -- ---- Entries that the next block cannot have
 
@@ -99,12 +100,12 @@ without_premature chain entries = without_below (λ e. is_premature chain entrie
 
 -- Over a chain that was changed, the entries and the floor after these transactions were confirmed and those returned. The
 -- budget is in virtual bytes.
-unfoldable pub returned : History → VerdictTable → ℕ → ℕ → List Admitted → ℕ → List Tx → List Tx → Trimmed
-returned chain verdicts now budget entries floor new old =
-    trim_of budget (expired now (without_premature chain (all_tried_again chain verdicts now (all_confirmed entries new) (unconfirmed new old)))) floor
+unfoldable pub returned : History → VerdictTable → Policy → ℕ → ℕ → List Admitted → ℕ → List Tx → List Tx → Trimmed
+returned chain verdicts policy now budget entries floor new old =
+    trim_of budget (expired now (without_premature chain (all_tried_again chain verdicts policy now (all_confirmed entries new) (unconfirmed new old)))) floor
 
 -- the same where so many blocks were disconnected: where none was, entries are confirmed and nothing else is done
-unfoldable pub pool_after : ℕ → History → VerdictTable → ℕ → ℕ → List Admitted → ℕ → List Tx → List Tx → Trimmed
-pool_after depth chain verdicts now budget entries floor new old =
+unfoldable pub pool_after : ℕ → History → VerdictTable → Policy → ℕ → ℕ → List Admitted → ℕ → List Tx → List Tx → Trimmed
+pool_after depth chain verdicts policy now budget entries floor new old =
     if depth == 0 then record { entries = all_confirmed entries new; floor = floor }
-    else returned chain verdicts now budget entries floor new old
+    else returned chain verdicts policy now budget entries floor new old

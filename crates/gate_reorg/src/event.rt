@@ -6,12 +6,13 @@ ghost use Rattle.gate_chain.specs.Connecting.{Tells};
 ghost use Rattle.gate_chain.specs.declared.ChainDenial.TheVariants.{BlockDecode as Unreadable};
 ghost use Rattle.gate_chain.specs.Times.{tip_of};
 ghost use Rattle.gate_block.specs.Switching.{switched, last_blocks, switch_rules};
+ghost use Rattle.gate_admit.specs.Good.{limits_for};
 ghost use Rattle.gate_admit.specs.Standing.{standing};
 ghost use Rattle.gate_reorg.specs.Reorganisation.{all_confirmed, returned};
 ghost use Rattle.gate_reorg.specs.Changing.{HoldsTheSame, stands};
 ghost use Rattle.gate_reorg.specs.Following.{left_by};
 ghost use Rattle.gate_submission.specs.Blocks.{transactions_of};
-ghost use Rattle.gate_reorg.specs.Goodness.{IsReadyFor, StaysGood, limits_for};
+ghost use Rattle.gate_reorg.specs.Goodness.{IsReadyFor, StaysGood};
 ghost use Rattle.gate_reorg.specs.Events.{event_rules, event_of, count_beyond};
 ghost use Rattle.gate_submission.specs.Blocks.{present};
 
@@ -20,7 +21,7 @@ use crate::moved::count_beyond;
 use crate::returning::return_all;
 use crate::staleness::take_premature;
 use crate::terms::{Changing, Switched, Terms};
-use gate_admit::{Floor, Verdicts};
+use gate_admit::{Floor, Policy, Verdicts};
 use gate_block::switch;
 use gate_bytes::{Copied, Memory};
 use gate_chain::{Block, Chain, ChainDenial, ChainFault};
@@ -189,7 +190,7 @@ impl<'a, S: BuildHasher + Copy + Drop> Changing<'a, S> {
     ) -> Result<Moved, ChainFault>
         ensures same { HoldsTheSame self.old self.new }
         ensures chain { OnOk result (self.new.chain.now ≡ switched self.old.chain.now depth blocks.items) }
-        ensures pool { OnOk result (returned self.new.chain.now self.old.verdicts.now self.old.second self.old.budget self.old.pool.now.entries self.old.floor.now landings.now (transactions_of (last_blocks self.old.chain.now depth)) ≡ record { entries = self.new.pool.now.entries; floor = self.new.floor.now }) }
+        ensures pool { OnOk result (returned self.new.chain.now self.old.verdicts.now self.old.policy.now self.old.second self.old.budget self.old.pool.now.entries self.old.floor.now landings.now (transactions_of (last_blocks self.old.chain.now depth)) ≡ record { entries = self.new.pool.now.entries; floor = self.new.floor.now }) }
         ensures moved { IfOk result (λ moved. moved ≡ record { tip = tip_of self.new.chain.now; removed = count_beyond self.old.pool.now.entries self.new.pool.now.entries; entered = count_beyond self.new.pool.now.entries self.old.pool.now.entries }) }
         ensures chain_kept { OnErr result (self.new.chain.now ≡ self.old.chain.now) }
         ensures pool_kept { OnErr result (self.new.pool.now.entries ≡ self.old.pool.now.entries) }
@@ -201,6 +202,7 @@ impl<'a, S: BuildHasher + Copy + Drop> Changing<'a, S> {
         let under = Terms {
             chain: self.chain,
             verdicts: self.verdicts,
+            policy: self.policy,
             second: self.second,
             budget: self.budget,
         };
@@ -260,25 +262,27 @@ pub fn chain_event<S: BuildHasher + Copy + Drop>(
     pool: &mut Pool<S>,
     floor: &mut Floor,
     verdicts: &Verdicts<S>,
+    policy: &Policy,
     disconnect: u64,
     blocks: &[Option<Block>],
     now: u64,
     budget: u64,
 ) -> Result<Moved, ChainFault>
-    ensures ok { IfOk result (λ moved. event_of (standing chain.old pool.old.entries floor.old verdicts.now) disconnect (present blocks.now) now budget ≡ record { chain = chain.new; entries = pool.new.entries; floor = floor.new; moved = moved }) }
+    ensures ok { IfOk result (λ moved. event_of (standing chain.old pool.old.entries floor.old verdicts.now policy.now) disconnect (present blocks.now) now budget ≡ record { chain = chain.new; entries = pool.new.entries; floor = floor.new; moved = moved }) }
     ensures chain_kept { OnErr result (chain.new ≡ chain.old) }
     ensures pool_kept { OnErr result (pool.new.entries ≡ pool.old.entries) }
     ensures floor_kept { OnErr result (floor.new ≡ floor.old) }
     ensures passes { OnOk result (first_failing (event_rules chain.old disconnect blocks.now) ≡ None) }
     ensures denied { IfErr result (λ fault. Tells fault (first_failing (event_rules chain.old disconnect blocks.now))) }
     // Where the transactions are told apart by their ids, the pool stays good.
-    ensures good { IsReadyFor (limits_for budget) chain.old pool.old.entries (present blocks.now) → StaysGood (limits_for budget) chain.new pool.new.entries }
+    ensures good { IsReadyFor (limits_for policy.now budget) chain.old pool.old.entries (present blocks.now) → StaysGood (limits_for policy.now budget) chain.new pool.new.entries }
 {
     let mut changing = Changing {
         chain,
         pool,
         floor,
         verdicts,
+        policy,
         second: now,
         budget,
     };

@@ -26,7 +26,7 @@ fn try_again<S: BuildHasher + Copy + Drop>(
     pool: &mut Pool<S>,
     transaction: &Transaction,
 ) -> Result<(), Memory>
-    ensures { OnOk result (pool.new.entries ≡ tried_again under.now.chain.now under.now.verdicts.now under.now.second pool.old.entries transaction.now) }
+    ensures { OnOk result (pool.new.entries ≡ tried_again under.now.chain.now under.now.verdicts.now under.now.policy.now under.now.second pool.old.entries transaction.now) }
 {
     let identified = Identified::new(alloc, transaction.copy(alloc)?)?;
     let txid = identified.txid();
@@ -37,6 +37,7 @@ fn try_again<S: BuildHasher + Copy + Drop>(
         pool,
         &prepared,
         under.verdicts,
+        under.policy,
         under.second,
     )? {
         Ok(_grant) => {}

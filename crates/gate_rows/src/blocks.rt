@@ -75,6 +75,17 @@ const ROWS: &[Row] = &[
         status: 0,
     },
     Row {
+        name: "reorganisation-under-a-small-descendant-limit",
+        words: "run",
+        input: Input::Short(
+            b"budget 1000000\ntimes 101 1000 600\ncoin <32*11> 0 100000 1 plain 0014<20*22>\ncoin <32*12> 0 100000 1 plain 0014<20*22>\ncoin <32*13> 0 100000 1 plain 0014<20*22>\ncoin <32*14> 0 100000 1 plain 0014<20*22>\nverdict * ok\nlimitdescendantcount 1\n---\npeer 1 enter 192.0.2.1\nchain 0 5000 01<35*00>3ba3edfd7a7b12b27ac72c3e67768f617fc81bc3888a51323a9fb8aa4b1e5e4a29ab5f49ffff001d1dac2b7c020100000001<32*00>ffffffff4d04ffff001d0104455468652054696d65732030332f4a616e2f32303039204368616e63656c6c6f72206f6e206272696e6b206f66207365636f6e64206261696c6f757420666f722062616e6b73ffffffff0100f2052a01000000434104678afdb0fe5548271967f1a67130b7105cd6a828e03909a67962e0ea1f61deb649f6bc3f4cef38c4f35504e51ec112de5c384df7ba0b8d578a4c702b6bf11d5fac000000000200000000010<32*11>1<10*0>fdffffff02409c<12*0>160014<20*22>409c<12*0>160014<20*22>0248<72*30>21<33*02>00000000\npeer 1 tx 5000 02000000000101abdb0c6e199a8ea51d30c8621735515ce879f491213b7380d86dbf3fb66dfc92<10*0>fdffffff015898<12*0>160014<20*22>0248<72*30>21<33*02>00000000\npeer 1 tx 5000 02000000000101abdb0c6e199a8ea51d30c8621735515ce879f491213b7380d86dbf3fb66dfc920100000000fdffffff015898<12*0>160014<20*22>0248<72*30>21<33*02>00000000\nchain 1 6000\nuser a rpc 5000 {\"method\":\"getrawmempool\",\"id\":1}\n",
+        ),
+        outputs: &[
+            b"entered none\nchain 101 removed 0 entered 0\nadmitted 5cac4701bb2a2a77b81d5d703e18d80639950d800153a9dbecff239d6bae856f fee 1000 vsize 110 replaced 0\nadmitted e64ee01cb0565ddb8e94a9214cab7d12a885a5ee59f747d4fc5080058c421dc3 fee 1000 vsize 110 replaced 0\nchain 100 removed 2 entered 0\nrpc 200 {\"error\":null,\"id\":1,\"result\":[]}\n",
+        ],
+        status: 0,
+    },
+    Row {
         name: "reorganisation-onto-a-conflicting-block",
         words: "run",
         input: Input::Short(

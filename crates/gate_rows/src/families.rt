@@ -1,8 +1,52 @@
-//! Coins of the pool, conflicts and replacement. Written by tools/row-tests from rows/.
+//! Coins of the pool, conflicts, replacement and an operator's limits. Written by tools/row-tests from rows/.
 use crate::row::{Input, Row, pass_all};
 use std::test::Fail;
 
 const ROWS: &[Row] = &[
+    Row {
+        name: "ancestor-limit-of-1",
+        words: "run",
+        input: Input::Short(
+            b"budget 1000000\ntimes 101 1000 600\ncoin <32*11> 0 100000 1 plain 0014<20*22>\ncoin <32*12> 0 100000 1 plain 0014<20*22>\ncoin <32*13> 0 100000 1 plain 0014<20*22>\ncoin <32*14> 0 100000 1 plain 0014<20*22>\nverdict * ok\nlimitancestorcount 1\n---\npeer 1 enter 192.0.2.1\npeer 1 tx 5000 0200000000010<32*11>1<10*0>fdffffff01328601<10*0>160014<20*22>0248<72*30>21<33*02>00000000\npeer 1 tx 5000 02000000000101c23f45e637fe94d795bc86e127eb09739961e383cdb7eb794c7c59aa89ebb05a<10*0>fdffffff01c48501<10*0>160014<20*22>0248<72*30>21<33*02>00000000\npeer 1 tx 5000 0200000000010198bba4f9be20dc4c48155b389164857740b69726ff3ac3e766a24e31455aaac<11*0>fdffffff01568501<10*0>160014<20*22>0248<72*30>21<33*02>00000000\n",
+        ),
+        outputs: &[
+            b"entered none\nadmitted 5ab0eb89aa597c4c79ebb7cd83e361997309eb27e186bc95d794fe37e6453fc2 fee 110 vsize 110 replaced 0\nadmitted c0aa5a45314ea266e7c33aff2697b64077856491385b15484cdc20bef9a4bb98 fee 110 vsize 110 replaced 0\ndenied A36 keep too-long-mempool-chain\n",
+        ],
+        status: 0,
+    },
+    Row {
+        name: "ancestor-limit-of-2",
+        words: "run",
+        input: Input::Short(
+            b"budget 1000000\ntimes 101 1000 600\ncoin <32*11> 0 100000 1 plain 0014<20*22>\ncoin <32*12> 0 100000 1 plain 0014<20*22>\ncoin <32*13> 0 100000 1 plain 0014<20*22>\ncoin <32*14> 0 100000 1 plain 0014<20*22>\nverdict * ok\nlimitancestorcount 2\n---\npeer 1 enter 192.0.2.1\npeer 1 tx 5000 0200000000010<32*11>1<10*0>fdffffff01328601<10*0>160014<20*22>0248<72*30>21<33*02>00000000\npeer 1 tx 5000 02000000000101c23f45e637fe94d795bc86e127eb09739961e383cdb7eb794c7c59aa89ebb05a<10*0>fdffffff01c48501<10*0>160014<20*22>0248<72*30>21<33*02>00000000\npeer 1 tx 5000 0200000000010198bba4f9be20dc4c48155b389164857740b69726ff3ac3e766a24e31455aaac<11*0>fdffffff01568501<10*0>160014<20*22>0248<72*30>21<33*02>00000000\n",
+        ),
+        outputs: &[
+            b"entered none\nadmitted 5ab0eb89aa597c4c79ebb7cd83e361997309eb27e186bc95d794fe37e6453fc2 fee 110 vsize 110 replaced 0\nadmitted c0aa5a45314ea266e7c33aff2697b64077856491385b15484cdc20bef9a4bb98 fee 110 vsize 110 replaced 0\ndenied A36 keep too-long-mempool-chain\n",
+        ],
+        status: 0,
+    },
+    Row {
+        name: "descendant-limit-of-one",
+        words: "run",
+        input: Input::Short(
+            b"budget 1000000\ntimes 101 1000 600\ncoin <32*11> 0 100000 1 plain 0014<20*22>\ncoin <32*12> 0 100000 1 plain 0014<20*22>\ncoin <32*13> 0 100000 1 plain 0014<20*22>\ncoin <32*14> 0 100000 1 plain 0014<20*22>\nverdict * ok\nlimitdescendantcount 1\n---\npeer 1 enter 192.0.2.1\npeer 1 tx 5000 0200000000010<32*11>1<10*0>fdffffff0268bf<12*0>160014<20*22>68bf<12*0>160014<20*22>0248<72*30>21<33*02>00000000\npeer 1 tx 5000 020000000001013ff05bacef1383402234b6aa879ed689b6b7f00611aa2a8192310ca13a4b26c5<10*0>fdffffff01fabe<12*0>160014<20*22>0248<72*30>21<33*02>00000000\npeer 1 tx 5000 020000000001013ff05bacef1383402234b6aa879ed689b6b7f00611aa2a8192310ca13a4b26c50100000000fdffffff01fabe<12*0>160014<20*22>0248<72*30>21<33*02>00000000\n",
+        ),
+        outputs: &[
+            b"entered none\nadmitted c5264b3aa10c3192812aaa1106f0b7b689d69e87aab63422408313efac5bf03f fee 2000 vsize 141 replaced 0\nadmitted a8af4570eb70727bedef6a41857fc70dcb6185f6ff51674b06dfa026c953738c fee 110 vsize 110 replaced 0\ndenied A36 keep too-long-mempool-chain\n",
+        ],
+        status: 0,
+    },
+    Row {
+        name: "full-replacement",
+        words: "run",
+        input: Input::Short(
+            b"budget 1000000\ntimes 101 1000 600\ncoin <32*11> 0 100000 1 plain 0014<20*22>\ncoin <32*12> 0 100000 1 plain 0014<20*22>\ncoin <32*13> 0 100000 1 plain 0014<20*22>\ncoin <32*14> 0 100000 1 plain 0014<20*22>\nverdict * ok\nmempoolfullrbf 1\n---\npeer 1 enter 192.0.2.1\npeer 1 tx 5000 0200000000010<32*11>1<10*0>ffffffff01b88201<10*0>160014<20*22>0248<72*30>21<33*02>00000000\npeer 1 tx 5000 0200000000010<32*11>1<10*0>ffffffff014a8201<10*0>160014<20*22>0248<72*30>21<33*02>00000000\n",
+        ),
+        outputs: &[
+            b"entered none\nadmitted 6fbc76df8e2b42d6b6748f5c6ab77ca5d9c0e9240602c6a13bc44948485527d4 fee 1000 vsize 110 replaced 0\nadmitted b033a9c83d2112511ec32b6bb53e375b60a7909c5ad3901947bb6eccb7257904 fee 1110 vsize 110 replaced 1\n",
+        ],
+        status: 0,
+    },
     Row {
         name: "height-lock-on-a-pool-coin",
         words: "run",

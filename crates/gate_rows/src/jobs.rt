@@ -7,7 +7,9 @@ use std::alloc::Global;
 use std::hash::{BuildHasherDefault, FoldHasher};
 use std::io;
 use std::io::{BufReader, BufWriter, ErrorKind, Read, Write};
+use std::sync::Wait;
 use std::test::Fail;
+use std::thread::Threads;
 
 /// A reader that is interrupted once its bytes are out.
 #[derive(Drop)]
@@ -361,5 +363,50 @@ fn lanes_that_break(rt: HostRuntime) -> Result<(), Fail> {
     );
     assert!(rt; end == Err(LaneFault::Read));
     assert!(rt; written.is_empty());
+    Ok(())
+}
+
+/// How a job over the lanes of an input ends, and what it writes.
+fn laned<R: AllocGlobal + Threads + Wait + Sync>(
+    rt: &R,
+    input: &[u8],
+) -> (Result<u8, LaneFault>, Vec<u8>) {
+    let alloc = rt.alloc();
+    let mut reader = input;
+    let mut written = Vec::new(alloc);
+    let options = LanesOptions {
+        workers: Workers::default(),
+        journal: false,
+    };
+    let end = run_lanes_job(rt, alloc, hasher(), options, &mut reader, &mut written);
+    (end, written)
+}
+
+/// No round is run where one doesn't begin with a line `---`, the last of the input too.
+#[test]
+fn rounds_without_a_lane(rt: HostRuntime) -> Result<(), Fail> {
+    for input in [
+        b"times 1 0 0\n---\npeer 1 leave\n===\n".as_slice(),
+        b"times 1 0 0\n---\npeer 1 leave\n===\n#\n\npeer 1 leave\n---\n".as_slice(),
+        b"times 1 0 0\n---\n===\n---\n===\n===\n---".as_slice(),
+    ] {
+        let (end, written) = laned(&rt, input);
+        assert!(rt; end == Err(LaneFault::Read));
+        assert!(rt; written.is_empty());
+    }
+    Ok(())
+}
+
+/// Lanes are numbered from 1 in each round, and a base counts the calls of all rounds before it.
+#[test]
+fn three_rounds(rt: HostRuntime) -> Result<(), Fail> {
+    let input =
+        b"times 1 0 0\n---\npeer 1 leave\n---\npeer 2 leave\n===\n\n---\n===\n# a comment\n---\npeer 1 leave".as_slice();
+    let (end, written) = laned(&rt, input);
+    assert!(rt; end == Ok(0));
+    assert!(rt;
+        written.as_slice()
+            == b"lane 1\ndenied P1 keep peer-unknown\nlane 2\ndenied P1 keep peer-unknown\nsettled 2\nbase 2\nlane 1\nsettled 0\nbase 2\nlane 1\ndenied P1 keep peer-unknown\nsettled 1\n".as_slice()
+    );
     Ok(())
 }

@@ -29,6 +29,8 @@ mod program;
 #[cfg(test)]
 mod repeating;
 #[cfg(test)]
+mod rounds;
+#[cfg(test)]
 mod row;
 #[cfg(test)]
 mod spending;

@@ -4,6 +4,15 @@ use std::test::Fail;
 
 const ROWS: &[Row] = &[
     Row {
+        name: "ancestor-limit-of-zero",
+        words: "run",
+        input: Input::Short(
+            b"budget 1000000\ntimes 101 1000 600\ncoin <32*11> 0 100000 1 plain 0014<20*22>\ncoin <32*12> 0 100000 1 plain 0014<20*22>\nlimitancestorcount 0\ncoin <32*13> 0 100000 1 plain 0014<20*22>\ncoin <32*14> 0 100000 1 plain 0014<20*22>\nverdict * ok\n",
+        ),
+        outputs: &[b"opening 5 bad-line\n"],
+        status: 2,
+    },
+    Row {
         name: "line-too-long",
         words: "run",
         input: Input::Short(

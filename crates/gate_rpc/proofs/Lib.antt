@@ -4,3 +4,4 @@ pub mod Digits
 pub mod Listed
 pub mod Objects
 pub mod Narrowing
+pub mod Intersections

@@ -23,7 +23,7 @@ pub use entry::RpcEntry;
 pub use error::RpcError;
 pub use fault::{CallError, RpcFault};
 pub use id::Id;
-pub use law::lists_only_narrow;
+pub use law::{lists_are_intersections, lists_only_narrow};
 pub use method::Method;
 pub use reply::{RpcReply, reply_text};
 pub use request::{Command, Request};

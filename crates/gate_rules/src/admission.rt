@@ -185,7 +185,7 @@ pub(crate) fn chain_rules() -> [Rule; 14]
             token: "txn-mempool-conflict",
             then: Then::Keep,
             core: Some("AcceptToMemoryPool (BIP 125)"),
-            says: "An entry of the pool spends the same outpoint, and none of its inputs has a sequence of at most 0xfffffffd, so that it may not be replaced",
+            says: "An entry of the pool spends the same outpoint, and none of its inputs has a sequence of at most 0xfffffffd, so that it may not be replaced; with mempoolfullrbf it may be",
         },
         Rule {
             name: "A24",
@@ -284,7 +284,7 @@ pub(crate) fn fee_rules() -> [Rule; 4]
             token: "too-long-mempool-chain",
             then: Then::Keep,
             core: Some("CalculateMemPoolAncestors"),
-            says: "With its ancestors in the pool it would be more than 25 transactions or 101,000 virtual bytes, or an ancestor would get more than 25 descendants or 101,000 virtual bytes of them",
+            says: "With its ancestors in the pool it would be more transactions than limitancestorcount says (25) or more than 101,000 virtual bytes, or an ancestor would get more descendants than limitdescendantcount says (25) or more than 101,000 virtual bytes of them",
         },
         Rule {
             name: "A37",

@@ -16,6 +16,7 @@ pub fn trim<S: BuildHasher + Copy + Drop>(pool: &mut Pool<S>, floor: &mut Floor,
         let Some(score) = pool.least() else {
             return;
         };
+        let score = *score;
         pool.take_family(&score.txid);
         floor.raise(score.family);
     }

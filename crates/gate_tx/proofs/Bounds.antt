@@ -44,7 +44,7 @@ compact-some n =
     let some_two : 0 < length two = some_of (ltb n 65536) (253 ∷ little_bytes 2 n) four (omega arith) some_four in
     some_of (ltb n 253) (n ∷ []) two (omega arith) some_two
 
-var_bytes-le : (s : List ℕ) → length s < length (var_bytes s)
+pub var_bytes-le : (s : List ℕ) → length s < length (var_bytes s)
 var_bytes-le s = omega (arith, length-append (compact (length s)) s, compact-some (length s))
 
 vector-le : {X : Type 0} (text : X → List ℕ) (xs : List X) → length (flat_map text xs) ≤ length (vector text xs)

@@ -6,6 +6,7 @@ ghost use Rattle.gate_tx.specs.Text.{var_bytes, vector, input, output, witness};
 ghost use Rattle.gate_tx.specs.Internal.{capped, IsRangedInput, IsRangedOutput};
 
 use crate::transaction::{TxIn, TxOut};
+use crate::witness::Witness;
 use gate_bytes::{Kept, Memory, compact_size, put_compact};
 
 /// A part of a transaction that has one text.
@@ -36,6 +37,22 @@ impl Written for Kept<u8> {
     fn write(&self, out: &mut Vec<u8>) -> Result<(), Memory> {
         put_compact(out, self.len() as u64)?;
         out.extend_from_slice(self.as_slice())?;
+        Ok(())
+    }
+}
+
+impl Written for Witness {
+    ghost text_of = { vector var_bytes };
+
+    ghost IsRangedPart = { λ _. Unit {0} };
+
+    fn size(&self) -> usize {
+        compact_size(self.len() as u64).saturating_add(self.texts().len())
+    }
+
+    fn write(&self, out: &mut Vec<u8>) -> Result<(), Memory> {
+        put_compact(out, self.len() as u64)?;
+        out.extend_from_slice(self.texts())?;
         Ok(())
     }
 }
@@ -99,7 +116,7 @@ pub(crate) fn put_witnesses(inputs: &[TxIn], out: &mut Vec<u8>) -> Result<(), Me
     ensures { OnOk result (out.new.items ≡ out.old.items ++ flat_map witness inputs.now) }
 {
     for input in inputs {
-        put_list(input.witness.as_slice(), out)?;
+        input.witness.write(out)?;
     }
     Ok(())
 }
@@ -120,7 +137,7 @@ pub(crate) fn witness_size(inputs: &[TxIn]) -> usize
 {
     let mut size = 0usize;
     for input in inputs {
-        size = size.saturating_add(list_size(input.witness.as_slice()));
+        size = size.saturating_add(input.witness.size());
     }
     size
 }

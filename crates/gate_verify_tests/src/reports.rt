@@ -1,7 +1,7 @@
 //! Reports by workers: in order with any number of them, and whatever the check that was handed in does.
 use gate_bytes::{Copied, Kept, Memory};
 use gate_inputs::report;
-use gate_tx::{Coin, OutPoint, TxIn, Txid, Wtxid};
+use gate_tx::{Coin, OutPoint, TxIn, Txid, Witness, Wtxid};
 use gate_verify::{Crew, InputCheck, InputReport, Piece, PolicyCheck, Workers, verify_all};
 use std::alloc::Global;
 use std::process::Abort;
@@ -59,7 +59,7 @@ fn piece(alloc: Global, spend: &Spend) -> Result<Piece, Fail> {
             },
             script,
             sequence: 0xffff_fffd,
-            witness: Kept::from_vec(Vec::new(alloc)),
+            witness: Witness::new(alloc),
         },
         coin: Coin {
             value: 100_000,

@@ -1,20 +1,15 @@
 use gate_bytes::{Copied, Kept};
 use gate_inputs::{Answers, Coin, Piece, report};
-use gate_tx::{OutPoint, TxIn, Txid, Wtxid};
+use gate_tx::{OutPoint, TxIn, Txid, Witness, Wtxid};
 use std::test::Fail;
 
-/// So many of a byte.
-fn filled(rt: &HostRuntime, byte: u8, count: usize) -> Result<Kept<u8>, Fail> {
-    let bytes = vec![in rt.alloc(); byte; count]?;
-    Ok(Kept::from_vec(bytes))
+/// Puts an item of so many of a byte at the end.
+fn push_filled(rt: &HostRuntime, witness: &mut Witness, byte: u8, count: u16) -> Result<(), Fail> {
+    let item = vec![in rt.alloc(); byte; usize::from(count)]?;
+    Ok(witness.push(&item)?)
 }
 
-fn piece_of(
-    rt: &HostRuntime,
-    coin: &[u8],
-    script: &[u8],
-    witness: Vec<Kept<u8>>,
-) -> Result<Piece, Fail> {
+fn piece_of(rt: &HostRuntime, coin: &[u8], script: &[u8], witness: Witness) -> Result<Piece, Fail> {
     Ok(Piece {
         wtxid: Wtxid::new([0; 32]),
         index: 0,
@@ -25,7 +20,7 @@ fn piece_of(
             },
             script: Kept::from_vec(script.to_vec(rt.alloc())?),
             sequence: 0xffff_fffd,
-            witness: Kept::from_vec(witness),
+            witness,
         },
         coin: Coin {
             value: 100_000,
@@ -41,7 +36,7 @@ fn is_reported(
     rt: &HostRuntime,
     coin: &[u8],
     script: &[u8],
-    witness: Vec<Kept<u8>>,
+    witness: Witness,
     want: (bool, bool, u64),
 ) -> Result<bool, Fail> {
     let report = report(rt.alloc(), piece_of(rt, coin, script, witness)?)?;
@@ -55,17 +50,12 @@ fn is_reported(
 }
 
 /// So many items of a size, and a last one of OP_CHECKSIGs.
-fn items_and_script(
-    rt: &HostRuntime,
-    items: usize,
-    size: usize,
-    last: usize,
-) -> Result<Vec<Kept<u8>>, Fail> {
-    let mut witness = Vec::new(rt.alloc());
+fn items_and_script(rt: &HostRuntime, items: usize, size: u16, last: u16) -> Result<Witness, Fail> {
+    let mut witness = Witness::new(rt.alloc());
     for _ in 0..items {
-        witness.push(filled(rt, 1, size)?)?;
+        push_filled(rt, &mut witness, 1, size)?;
     }
-    witness.push(filled(rt, 0xac, last)?)?;
+    push_filled(rt, &mut witness, 0xac, last)?;
     Ok(witness)
 }
 
@@ -90,14 +80,14 @@ const PUSHED_PROGRAM: [u8; 23] = [
 // Expected values: the limits of Bitcoin Core 22.0's policy/policy.h, and BIP 141's costs.
 #[test]
 fn coins_of_each_template(rt: HostRuntime) -> Result<(), Fail> {
-    let no = Vec::new(rt.alloc());
+    let no = Witness::new(rt.alloc());
     assert_eq!(rt;
         is_reported(&rt, &KEY_HASH, &[0xac, 0xae], no, (true, true, 84))?,
         true
     );
-    let no = Vec::new(rt.alloc());
+    let no = Witness::new(rt.alloc());
     assert_eq!(rt; is_reported(&rt, &[0x51], &[], no, (false, true, 0))?, true);
-    let no = Vec::new(rt.alloc());
+    let no = Witness::new(rt.alloc());
     assert_eq!(rt;
         is_reported(&rt, &[0x52, 2, 0xaa, 0xbb], &[], no, (false, true, 0))?,
         true
@@ -112,22 +102,22 @@ fn coins_of_each_template(rt: HostRuntime) -> Result<(), Fail> {
 
 #[test]
 fn redeem_scripts(rt: HostRuntime) -> Result<(), Fail> {
-    let no = Vec::new(rt.alloc());
+    let no = Witness::new(rt.alloc());
     assert_eq!(rt;
         is_reported(&rt, &SCRIPT_HASH, &[0x50], no, (false, true, 0))?,
         true
     );
-    let no = Vec::new(rt.alloc());
+    let no = Witness::new(rt.alloc());
     assert_eq!(rt;
         is_reported(&rt, &SCRIPT_HASH, &[], no, (false, true, 0))?,
         true
     );
-    let no = Vec::new(rt.alloc());
+    let no = Witness::new(rt.alloc());
     assert_eq!(rt;
         is_reported(&rt, &SCRIPT_HASH, &[0x02, 0x52, 0xae], no, (true, true, 8))?,
         true
     );
-    let no = Vec::new(rt.alloc());
+    let no = Witness::new(rt.alloc());
     assert_eq!(rt;
         is_reported(&rt, &SCRIPT_HASH, &[0x01, 0xae], no, (false, true, 80))?,
         true

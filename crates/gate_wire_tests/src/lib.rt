@@ -17,4 +17,6 @@ mod standardness;
 #[cfg(test)]
 mod transactions;
 #[cfg(test)]
+mod witnesses;
+#[cfg(test)]
 mod words;

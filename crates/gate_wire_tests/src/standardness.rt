@@ -1,6 +1,6 @@
 use gate_bytes::Kept;
 use gate_standard::*;
-use gate_tx::{OutPoint, Transaction, TxIn, TxOut, Txid};
+use gate_tx::{OutPoint, Transaction, TxIn, TxOut, Txid, Witness};
 use std::alloc::Global;
 use std::test::Fail;
 
@@ -25,7 +25,7 @@ fn spending(alloc: Global, input: &Input<'_>) -> Result<TxIn, Fail> {
         prevout,
         script: joined(alloc, &[script])?,
         sequence: 0xffff_fffd,
-        witness: Kept::from_vec(Vec::new(alloc)),
+        witness: Witness::new(alloc),
     })
 }
 

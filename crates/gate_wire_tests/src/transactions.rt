@@ -249,14 +249,14 @@ fn repeated(alloc: Global, byte: u8, n: usize) -> Result<Kept<u8>, Fail> {
 }
 
 /// A signature's 72 bytes, and a key's 33.
-fn witness_items(alloc: Global) -> Result<Vec<Kept<u8>>, Fail> {
-    let mut items = Vec::new(alloc);
-    items.push(repeated(alloc, 0x30, 72)?)?;
-    items.push(repeated(alloc, 0x02, 33)?)?;
-    Ok(items)
+fn signature_and_key(alloc: Global) -> Result<Witness, Fail> {
+    let mut witness = Witness::new(alloc);
+    witness.push(&[0x30; 72])?;
+    witness.push(&[0x02; 33])?;
+    Ok(witness)
 }
 
-fn input_of(script: Kept<u8>, items: Vec<Kept<u8>>) -> TxIn {
+fn input_of(script: Kept<u8>, witness: Witness) -> TxIn {
     TxIn {
         prevout: OutPoint {
             txid: Txid::new([0x11; 32]),
@@ -264,14 +264,14 @@ fn input_of(script: Kept<u8>, items: Vec<Kept<u8>>) -> TxIn {
         },
         script,
         sequence: 0xffff_fffd,
-        witness: Kept::from_vec(items),
+        witness,
     }
 }
 
 fn one_input(alloc: Global) -> Result<Vec<TxIn>, Fail> {
-    let items = witness_items(alloc)?;
+    let witness = signature_and_key(alloc)?;
     let mut inputs = Vec::new(alloc);
-    inputs.push(input_of(repeated(alloc, 0, 0)?, items))?;
+    inputs.push(input_of(repeated(alloc, 0, 0)?, witness))?;
     Ok(inputs)
 }
 

@@ -7,4 +7,4 @@ use Rattle.gate_admit.proofs.again.all_limited.Given as goal
 
 abbrev pub invariant-loop-txid : goal.invariant-loop-txid
 invariant-loop-txid g l =
-    (a : Admitted) → Contains (g.V.FamilyView.entries l.pool) a → Contains (take l.txid-index l.txids) (txid_of a.tx) → is_limited (g.V.FamilyView.entries l.pool) (txid_of a.tx) ≡ true
+    (a : Admitted) → Contains (g.V.FamilyView.entries l.pool) a → Contains (take l.txid-index l.txids) (txid_of a.tx) → is_limited l.policy (g.V.FamilyView.entries l.pool) (txid_of a.tx) ≡ true

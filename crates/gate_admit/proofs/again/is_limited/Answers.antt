@@ -1,10 +1,11 @@
-use Rattle.std.proofs.Common.{◌≡◌, ◌<◌, Bool, true, false, ◌&&◌, leb, List, length, refl, sym, ap, subst, ◌∙◌}
+use Rattle.std.proofs.Common.{◌≡◌, ◌<◌, ℕ, Bool, true, false, ◌&&◌, leb, List, length, refl, sym, ap, subst, ◌∙◌}
 use Rattle.gate_tx.specs.Ids.{txid_of}
 use Rattle.gate_graph.specs.Family.{reaches}
 use Rattle.gate_pool.specs.Pool.{Admitted, has_txid, size_of}
 use Rattle.gate_pool.specs.Family.{steps, ancestors_of, descendants_of, all_below, is_below_some, AreIdsOf}
 use Rattle.gate_pool.specs.declared.closures.Sums.{Sums}
 use Rattle.gate_pool.proofs.Ids.{AreIdsOf-one}
+use Rattle.gate_admit.specs.Policies.{most_ancestors, most_descendants}
 use Rattle.gate_admit.proofs.Families.{below_one}
 use Rattle.gate_admit.proofs.OwnLimits.{too_many_descend}
 use Rattle.gate_admit.proofs.again.is_limited.Goals as goal
@@ -20,8 +21,9 @@ returns-in_default-2 g c =
     let x = c.args.txid.now in
     let own = c.requires in
     let test : Admitted → Bool = λ e. has_txid e x in
-    let many : 26 < length (all_below test entries) = c.in_ok-below.ensures.many test (AreIdsOf-one entries own.0 x own.1 own.2) c.in_default-2.is in
-    sym (too_many_descend entries x (subst (λ (l : List Admitted). 26 < length l) (below_one entries own.0 x own.1 own.2 ∙ ap (descendants_of entries) own.2) many))
+    let policy = c.args.policy.now in
+    let many : most_descendants policy < length (all_below test entries) = subst (λ (n : ℕ). n < length (all_below test entries)) c.most_descendants-most_below.ensures (c.in_ok-below.ensures.many test (AreIdsOf-one entries own.0 x own.1 own.2) c.in_default-2.is) in
+    sym (too_many_descend policy entries x (subst (λ (l : List Admitted). most_descendants policy < length l) (below_one entries own.0 x own.1 own.2 ∙ ap (descendants_of entries) own.2) many))
 
 pub returns : goal.returns
 returns g c =
@@ -34,7 +36,11 @@ returns g c =
     let up = c.add_up-above.ensures.sums (λ e. reaches (steps entries) (txid_of e.tx) x) (subst (λ l. AreIdsOf l (ancestors_of entries x)) (sym c.deref.ensures.value) above) in
     let down = c.add_up-below.ensures.sums (is_below_some test entries) (subst (λ l. AreIdsOf l (all_below test entries)) (sym c.deref-2.ensures.value) below) in
     let same = below_one entries own.0 x own.1 own.2 ∙ ap (descendants_of entries) own.2 in
-    grouped (leb c.add_up-above.result.count 25) (leb c.add_up-above.result.size 101000) (leb c.add_up-below.result.count 26) (leb c.add_up-below.result.size 111000)
-    ∙ ap (λ (s : Sums). leb s.count 25 && (leb s.size 101000 && (leb c.add_up-below.result.count 26 && leb c.add_up-below.result.size 111000))) up
-    ∙ ap (λ (s : Sums). leb (length (ancestors_of entries x)) 25 && (leb (size_of (ancestors_of entries x)) 101000 && (leb s.count 26 && leb s.size 111000))) down
-    ∙ ap (λ (l : List Admitted). leb (length (ancestors_of entries x)) 25 && (leb (size_of (ancestors_of entries x)) 101000 && (leb (length l) 26 && leb (size_of l) 111000))) same
+    let high = most_ancestors c.args.policy.now in
+    let low = most_descendants c.args.policy.now in
+    ap (λ (m : ℕ). (((leb c.add_up-above.result.count m && leb c.add_up-above.result.size 101000) && leb c.add_up-below.result.count c.most_descendants-most_below.result) && leb c.add_up-below.result.size 111000)) c.most_ancestors-most_above.ensures
+    ∙ ap (λ (m : ℕ). (((leb c.add_up-above.result.count high && leb c.add_up-above.result.size 101000) && leb c.add_up-below.result.count m) && leb c.add_up-below.result.size 111000)) c.most_descendants-most_below.ensures
+    ∙ grouped (leb c.add_up-above.result.count high) (leb c.add_up-above.result.size 101000) (leb c.add_up-below.result.count low) (leb c.add_up-below.result.size 111000)
+    ∙ ap (λ (s : Sums). leb s.count high && (leb s.size 101000 && (leb c.add_up-below.result.count low && leb c.add_up-below.result.size 111000))) up
+    ∙ ap (λ (s : Sums). leb (length (ancestors_of entries x)) high && (leb (size_of (ancestors_of entries x)) 101000 && (leb s.count low && leb s.size 111000))) down
+    ∙ ap (λ (l : List Admitted). leb (length (ancestors_of entries x)) high && (leb (size_of (ancestors_of entries x)) 101000 && (leb (length l) low && leb (size_of l) 111000))) same

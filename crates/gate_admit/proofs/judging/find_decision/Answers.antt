@@ -11,7 +11,7 @@ pub check_families-requires-clause-new : goal.check_families-requires-clause-new
 check_families-requires-clause-new g c =
     let entries = c.args.over.now.pool.now.entries in
     ap (λ es. entry_by_txid es (txid_of c.identified-identified.result.now)) (rw c.in-Ok.is at c.in_ok-direct.ensures.entries)
-    ∙ ap (λ t. entry_by_txid entries (txid_of t)) (sym c.get-tx.ensures) ∙ unpooled_id entries c.get-tx.result.now (rw c.in-Ok.is at c.in_ok-direct.ensures.ok)
+    ∙ ap (λ t. entry_by_txid entries (txid_of t)) (sym c.get-tx.ensures) ∙ unpooled_id c.args.over.now.policy.now entries c.get-tx.result.now (rw c.in-Ok.is at c.in_ok-direct.ensures.ok)
 
 pub check_families-requires-clause-most : goal.check_families-requires-clause-most
 check_families-requires-clause-most g c =

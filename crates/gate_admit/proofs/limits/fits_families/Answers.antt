@@ -2,14 +2,13 @@ use Rattle.std.proofs.Common.{◌≡◌, ℕ, ◌+◌, ◌∙◌, Bool, true, fa
 use Rattle.std.specs.Prelude.{nat_le}
 use Rattle.std.specs.List.{list_any}
 use Rattle.std.proofs.lemmas.Bool.Decides.{nat_tests}
-use Rattle.std.proofs.lemmas.Result.{IfOk-weaker}
 use Rattle.gate_tx.specs.declared.TxIn.{TxIn}
 use Rattle.gate_tx.specs.Ids.{txid_of}
 use Rattle.gate_graph.specs.Family.{reaches}
 use Rattle.gate_pool.specs.Pool.{Admitted}
 use Rattle.gate_pool.specs.Family.{steps, ancestors_above, conflicts_of}
 use Rattle.gate_admit.specs.declared.limits.FamilyLimits.{FamilyLimits}
-use Rattle.gate_admit.specs.Limits.{grown, usual_limits, carved_out, is_within, fits_families}
+use Rattle.gate_admit.specs.Limits.{grown, usual_limits, carved_out, is_within}
 use Rattle.gate_admit.proofs.Families.{second_try}
 use Rattle.gate_admit.proofs.limits.fits_families.Goals as goal
 
@@ -18,12 +17,11 @@ returns g c =
     let entries = c.args.direct.now.entries in
     let test : Admitted → Bool = λ e. list_any (λ (i : TxIn). reaches (steps entries) (txid_of e.tx) i.prevout.txid) c.args.direct.now.tx.inputs in
     let above = ancestors_above entries c.args.direct.now.tx.inputs in
-    let limits = grown entries (conflicts_of entries c.args.direct.now.tx) usual_limits in
+    let limits = grown entries (conflicts_of entries c.args.direct.now.tx) (usual_limits c.args.policy.now) in
     let first : is_within limits entries above c.args.vsize ≡ false =
-    ap (λ l. is_within l entries above c.args.vsize) (sym c.in_ok-limits.ensures.limits) ∙ sym ((rw c.pool-pool.ensures at c.in_ok-is_within.ensures) test c.requires) ∙ c.if-branch.false in
+    ap (λ l. is_within l entries above c.args.vsize) (sym c.first_limits-limits.ensures.limits) ∙ sym ((rw c.pool-pool.ensures at c.is_within.ensures) test c.requires) ∙ c.if-is_within.false in
     let small : nat_le c.args.vsize 10000 ≡ true = grind (arith, nat_tests, c.if-vsize-gt-CARVE_OUT_VSIZE.false) in
-    let asked : ℕ → FamilyLimits = λ n. record { ancestors = 2; ancestors_size = 101000; descendants = c.in_ok-limits.limits.descendants + 1; descendants_size = c.in_ok-limits.limits.descendants_size + n } in
-    IfOk-weaker c.is_within-2.result (λ fits. fits ≡ is_within (asked c.from.result) entries above c.args.vsize) (λ fits. fits ≡ fits_families entries c.args.direct.now.tx c.args.vsize)
-    (λ fits h. h ∙ ap (λ n. is_within (asked n) entries above c.args.vsize) c.from.ensures ∙ ap (λ l. is_within (carved_out l) entries above c.args.vsize) c.in_ok-limits.ensures.limits
-    ∙ second_try _ _ (is_within (carved_out limits) entries above c.args.vsize) first small)
-    ((rw c.pool-pool.ensures at c.is_within-2.ensures) test c.requires)
+    let asked : ℕ → FamilyLimits = λ n. record { ancestors = 2; ancestors_size = 101000; descendants = c.first_limits-limits.result.descendants + 1; descendants_size = c.first_limits-limits.result.descendants_size + n } in
+    (rw c.pool-pool.ensures at c.is_within-2.ensures) test c.requires
+    ∙ ap (λ n. is_within (asked n) entries above c.args.vsize) c.from.ensures ∙ ap (λ l. is_within (carved_out l) entries above c.args.vsize) c.first_limits-limits.ensures.limits
+    ∙ second_try _ _ (is_within (carved_out limits) entries above c.args.vsize) first small

@@ -12,6 +12,7 @@ use Rattle.gate_graph.specs.Walking.{AreClear}
 use Rattle.gate_graph.specs.Weighing.{AreSmall}
 use Rattle.gate_graph.proofs.Marking.{id_from, clear_push}
 use Rattle.gate_graph.proofs.Putting.{IsLinked-put, found_last, apart_put, small_put, unnamed_by}
+use Rattle.gate_graph.proofs.Ranks.{total_small}
 use Rattle.gate_graph.proofs.put.put_node.Goals as goal
 
 -- the new node stands at the end
@@ -21,6 +22,9 @@ place_stands spots x p e = ap (at (spots ++ Some x ∷ [])) e ∙ last spots
     last : (spots : List (Option (List ℕ))) → at (spots ++ Some x ∷ []) (length spots) ≡ Some x
     last [] = refl
     last (s ∷ spots) = last spots
+
+pub put-place-requires-clause-fits : goal.put-place-requires-clause-fits
+put-place-requires-clause-fits g c = omega (arith, total_small c.args.slots.now.held c.requires.small.size, c.requires.sized, c.count-count.ensures, c.count-count.type_inv)
 
 pub at-requires : goal.at-requires
 at-requires g c =

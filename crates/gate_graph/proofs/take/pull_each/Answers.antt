@@ -22,6 +22,7 @@ loop-place-init g c = record {
   slots_room = refl;
   links_room = refl;
   room = c.requires.room;
+  capacity = refl;
 }
 
 pub push_reserved-requires : goal.push_reserved-requires
@@ -65,6 +66,7 @@ loop-place-preserved g c =
       slots_room = c.pull_one-load.ensures.slots_room ∙ c.loop-place.invariant.slots_room;
       links_room = c.pull_one-load.ensures.links_room ∙ c.loop-place.invariant.links_room;
       room = omega (arith, c.loop-place.invariant.room, c.pull_one-load.ensures.fewer, c.push_reserved.ensures.len, c.push_reserved.ensures.capacity);
+      capacity = c.push_reserved.ensures.capacity ∙ c.loop-place.invariant.capacity;
     }
 
 pub returns-clause-left : goal.returns-clause-left

@@ -16,4 +16,5 @@ invariant-loop-place g l = record {
   slots_room : l.slots.room ≡ l.initial.slots.room;
   links_room : l.links.room ≡ l.initial.links.room;
   room : vec_len l.gone + length l.slots.held ≤ vec_capacity l.gone;
+  capacity : vec_capacity l.gone ≡ vec_capacity l.initial.gone;
 }

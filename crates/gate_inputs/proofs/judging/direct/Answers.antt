@@ -7,4 +7,4 @@ pub returns : goal.returns
 unfolding answers_by
 returns c =
     let program = c.witness_program-program.ensures ∙ sym (program_by-direct c.args.form c.args.script.now c.requires) in
-    same_answers c.is_relayed.ensures (c.allows_witness.ensures ∙ allows-same c.args.form c.as_slice.ensures program) (c.cost.ensures ∙ cost-capped c.args.input.now None 0 refl program)
+    same_answers c.is_relayed.ensures (c.allows_witness.ensures ∙ allows-same c.args.form refl program) (c.cost.ensures ∙ cost-capped c.args.input.now None 0 refl program)

@@ -1,4 +1,4 @@
-use Rattle.std.proofs.Common.{◌∙◌, true, Some}
+use Rattle.std.proofs.Common.{◌∙◌, true, Some, refl}
 use Rattle.gate_script.specs.Sigops.{sigops_of}
 use Rattle.gate_script.specs.declared.templates.Template.TheVariants.{ScriptHash}
 use Rattle.gate_inputs.specs.Internal.{answers_by}
@@ -10,4 +10,4 @@ unfolding answers_by
 returns c =
     let program = c.witness_program-program.ensures in
     let light = leb-capped (sigops_of true c.args.redeem.now) c.sigops-operations.result c.sigops-operations.ensures.exact in
-    same_answers light (c.allows_witness.ensures ∙ allows-same ScriptHash c.as_slice.ensures program) (c.cost.ensures ∙ cost-capped c.args.input.now (Some c.args.redeem.now) c.sigops-operations.result c.sigops-operations.ensures.exact program)
+    same_answers light (c.allows_witness.ensures ∙ allows-same ScriptHash refl program) (c.cost.ensures ∙ cost-capped c.args.input.now (Some c.args.redeem.now) c.sigops-operations.result c.sigops-operations.ensures.exact program)

@@ -7,6 +7,6 @@ use Rattle.gate_pool.proofs.places.put_points.Given as goal
 
 abbrev pub invariant-loop-input : goal.invariant-loop-input
 invariant-loop-input g l = record {
-  put : (point : OutPoint) → get point_eq l.spent point ≡ cond (spends (take l.input-index l.inputs) point) (Some l.place) (get point_eq l.fn.spent point);
+  put : (point : OutPoint) → get point_eq l.spent point ≡ cond (spends (take l.input-index l.inputs) point) (Some l.txid) (get point_eq l.fn.spent point);
   room : length l.inputs ≤ spare l.spent + l.input-index;
 }

@@ -8,4 +8,4 @@ use Rattle.gate_reorg.proofs.returning.return_all.Given as goal
 
 abbrev pub invariant-loop-block : goal.invariant-loop-block
 invariant-loop-block g l = (landed : List Tx) → ((id : List ℕ) → contains bytes_eq l.new id ≡ has_id landed id)
-    → all_tried_again l.under.chain.now l.under.verdicts.now l.under.second l.pool.entries (unconfirmed landed (transactions_of (drop l.block-index l.gone))) ≡ all_tried_again l.under.chain.now l.under.verdicts.now l.under.second l.fn.pool.entries (unconfirmed landed (transactions_of l.gone))
+    → all_tried_again l.under.chain.now l.under.verdicts.now l.under.policy.now l.under.second l.pool.entries (unconfirmed landed (transactions_of (drop l.block-index l.gone))) ≡ all_tried_again l.under.chain.now l.under.verdicts.now l.under.policy.now l.under.second l.fn.pool.entries (unconfirmed landed (transactions_of l.gone))

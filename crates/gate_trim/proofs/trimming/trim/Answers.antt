@@ -7,24 +7,20 @@ use Rattle.gate_trim.proofs.trimming.trim.Goals as goal
 
 pub returns-in_default : goal.returns-in_default
 returns-in_default g c =
-    sym c.loop-pool.invariant
-    ∙ trim_stops c.args.budget c.loop-pool.pool.entries c.loop-pool.floor (sym c.in_default.ensures.value)
-    ∙ ap (λ (l : List Admitted). record { entries = l; floor = c.loop-pool.floor }) (sym c.in_default.ensures.entries)
+    sym c.loop-pool.invariant ∙ trim_stops c.args.budget c.loop-pool.pool.entries c.loop-pool.floor (sym c.in_default.ensures.value)
 
 pub loop-pool-smaller : goal.loop-pool-smaller
 loop-pool-smaller g c =
-    let txid = c.in-Some.score.txid in
-    subst (λ (l : List Admitted). length l < length c.loop-pool.pool.entries)
-    (sym (c.take_family.ensures ∙ ap (λ l. without_family l txid) c.in-Some.ensures.entries))
-    (least_falls c.loop-pool.pool.entries c.in-Some.score (sym c.in-Some.ensures.value))
+    subst (λ (l : List Admitted). length l < length c.loop-pool.pool.entries) (sym c.take_family.ensures)
+    (least_falls c.loop-pool.pool.entries c.in-Some.score.now (sym c.in-Some.ensures.value))
 
 pub loop-pool-preserved : goal.loop-pool-preserved
 loop-pool-preserved g c =
     let budget = c.args.budget in
     let entries = c.loop-pool.pool.entries in
-    let score = c.in-Some.score in
+    let score = c.in-Some.score.now in
     let over : budget < size_of entries = omega (arith, c.size.ensures, c.from.ensures, c.loop-pool-test.true) in
-    ap (λ (l : List Admitted). trim_of budget l c.raise.new.self) (c.take_family.ensures ∙ ap (λ l. without_family l score.txid) c.in-Some.ensures.entries)
+    ap (λ (l : List Admitted). trim_of budget l c.raise.new.self) c.take_family.ensures
     ∙ ap (trim_of budget (without_family entries score.txid)) c.raise.ensures
     ∙ sym (trim_goes budget entries c.loop-pool.floor score (above (size_of entries) budget over) (sym c.in-Some.ensures.value))
     ∙ c.loop-pool.invariant

@@ -1,4 +1,4 @@
-use Rattle.std.proofs.Common.{rules, ◌≡◌, ◌≤◌, List, ℕ, length, sym, ap, subst, ◌∙◌, Ok, arith, ltb}
+use Rattle.std.proofs.Common.{rules, ◌≡◌, ◌≤◌, length, sym, ap, subst, ◌∙◌, arith}
 use Rattle.std.proofs.lemmas.Result.{err_from_is_err_and}
 use Rattle.gate_tx.specs.Reading.{Fails, front_of, taken, tx_at}
 use Rattle.gate_bytes.specs.Reading.{IsBytes}

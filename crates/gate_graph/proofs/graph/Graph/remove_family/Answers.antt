@@ -15,7 +15,7 @@ invariant_of-self g c =
     let old = c.self.inside.nodes.nodes in
     let ns = nodes_in old in
     let x = c.args.id.now in
-    let is : nodes_in c.take_family.new.self.nodes ≡ without_family ns x = ap nodes_in c.take_family.ensures.left ∙ ap (λ y. nodes_in (filter (λ p. not (reaches (steps_of ns) y p.0.id)) old)) c.new.ensures ∙ nodes_kept (λ n. not (reaches (steps_of ns) x n.id)) old in
+    let is : nodes_in c.tidy.new.self.nodes ≡ without_family ns x = ap nodes_in c.tidy.ensures ∙ ap nodes_in c.take_family.ensures.left ∙ ap (λ y. nodes_in (filter (λ p. not (reaches (steps_of ns) y p.0.id)) old)) c.new.ensures ∙ nodes_kept (λ n. not (reaches (steps_of ns) x n.id)) old in
     subst IsGraph (sym is) (IsGraph-without_family ns x c.self.invariant)
 
 pub returns-clause-removed : goal.returns-clause-removed
@@ -32,5 +32,5 @@ returns-clause-ok g c =
     let old = c.self.inside.nodes.nodes in
     let ns = nodes_in old in
     let x = c.args.id.now in
-    let is : nodes_in c.take_family.new.self.nodes ≡ without_family ns x = ap nodes_in c.take_family.ensures.left ∙ ap (λ y. nodes_in (filter (λ p. not (reaches (steps_of ns) y p.0.id)) old)) c.new.ensures ∙ nodes_kept (λ n. not (reaches (steps_of ns) x n.id)) old in
+    let is : nodes_in c.tidy.new.self.nodes ≡ without_family ns x = ap nodes_in c.tidy.ensures ∙ ap nodes_in c.take_family.ensures.left ∙ ap (λ y. nodes_in (filter (λ p. not (reaches (steps_of ns) y p.0.id)) old)) c.new.ensures ∙ nodes_kept (λ n. not (reaches (steps_of ns) x n.id)) old in
     is ∙ ap (λ s. without_family s x) c.self.view_is

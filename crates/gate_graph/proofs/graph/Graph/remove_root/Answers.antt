@@ -25,7 +25,7 @@ invariant_of-self g c =
     let at = c.new-node.ensures in
     let is1 : nodes_in c.take_one.new.self.nodes ≡ filter (λ n. not (bytes_eq n.id x)) ns =
     ap nodes_in c.take_one.ensures.left ∙ ap (λ y. nodes_in (filter (λ p. not (bytes_eq p.0.id y)) old)) at ∙ nodes_kept (λ n. not (bytes_eq n.id x)) old in
-    let is : nodes_in c.unname.new.self.nodes ≡ without_root ns x = c.unname.ensures ∙ (λ i. map (without_parent (at i)) (is1 i)) in
+    let is : nodes_in c.tidy.new.self.nodes ≡ without_root ns x = ap nodes_in c.tidy.ensures ∙ c.unname.ensures ∙ (λ i. map (without_parent (at i)) (is1 i)) in
     let root : is_root ns x ≡ true = ap (λ s. is_root s x) c.self.view_is ∙ c.requires in
     subst IsGraph (sym is) (IsGraph-without_root ns x c.self.invariant root)
 
@@ -37,5 +37,5 @@ returns g c =
     let at = c.new-node.ensures in
     let is1 : nodes_in c.take_one.new.self.nodes ≡ filter (λ n. not (bytes_eq n.id x)) ns =
     ap nodes_in c.take_one.ensures.left ∙ ap (λ y. nodes_in (filter (λ p. not (bytes_eq p.0.id y)) old)) at ∙ nodes_kept (λ n. not (bytes_eq n.id x)) old in
-    let is : nodes_in c.unname.new.self.nodes ≡ without_root ns x = c.unname.ensures ∙ (λ i. map (without_parent (at i)) (is1 i)) in
+    let is : nodes_in c.tidy.new.self.nodes ≡ without_root ns x = ap nodes_in c.tidy.ensures ∙ c.unname.ensures ∙ (λ i. map (without_parent (at i)) (is1 i)) in
     is ∙ ap (λ s. without_root s x) c.self.view_is

@@ -6,10 +6,22 @@ use Rattle.gate_graph.specs.declared.held.Held.{Held}
 use Rattle.gate_graph.specs.Slots.{at}
 use Rattle.gate_graph.specs.Holding.{has_id, id_at, spots_of, Stored}
 use Rattle.gate_graph.proofs.Placing.{held_taken, IsPlaced-taken, place_look, found_at, place_whole, spot_is, spots_of-set, slot_filled}
+use Rattle.gate_graph.proofs.Ranks.{total, total-take, taken_keys, stands_within, length-keys}
 use Rattle.gate_graph.proofs.slots.Slots.pull.Goals as goal
 
 pub empty-held-requires : goal.empty-held-requires
 empty-held-requires g c = slot_filled c.self.inside.slots.items c.args.place (ap (λ (s : Stored g.row.T.Denot). is_some (at s.spots c.args.place)) c.self.view_is ∙ c.requires)
+
+pub remove-requires : goal.remove-requires
+remove-requires g c =
+    let slots = c.self.inside.slots.items in
+    let stands = slot_filled slots c.args.place (ap (λ (s : Stored g.row.T.Denot). is_some (at s.spots c.args.place)) c.self.view_is ∙ c.requires) in
+    omega (arith, stands_within slots c.args.place stands, length-keys slots c.self.inside.ranking.keys c.self.invariant.2.keys)
+
+pub overflow_sub-self : goal.overflow_sub-self
+overflow_sub-self g c =
+    let within = total-take c.self.inside.slots.items c.args.place c.empty-held.result c.empty-held.ensures.taken in
+    omega (arith, within, c.self.invariant.2.sum, c.from.ensures)
 
 pub invariant_of-self : goal.invariant_of-self
 invariant_of-self g c =
@@ -22,6 +34,11 @@ invariant_of-self g c =
       record {
         place = λ l. omega (arith, c.self.invariant.1.place l, c.swap_remove.ensures.room.0);
         slot = λ l. omega (arith, c.self.invariant.1.slot l, c.empty-held.ensures.len, c.empty-held.ensures.capacity);
+      },
+      record {
+        keys = taken_keys c.self.inside.slots.items c.empty-held.new.slots.items p c.self.inside.ranking.keys c.remove.new.self.keys c.self.invariant.2.keys c.empty-held.ensures.emptied c.remove.ensures.keys;
+        ranks_room = omega (arith, c.self.invariant.2.ranks_room, c.remove.ensures.room);
+        sum = omega (arith, total-take c.self.inside.slots.items p c.empty-held.result c.empty-held.ensures.taken, c.self.invariant.2.sum, ap total c.empty-held.ensures.emptied, c.from.ensures);
       },
     )
 

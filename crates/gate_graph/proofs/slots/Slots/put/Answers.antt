@@ -1,4 +1,5 @@
-use Rattle.std.proofs.Common.{◌++◌, ◌∷◌, [], ◌+◌, ap, sym, ◌∙◌, length, is_some, Some, if◌then◌else◌, arith}
+use Rattle.std.proofs.Common.{◌≡◌, ◌++◌, ◌∷◌, [], ◌+◌, ◌<◌, ◌^◌, rules, ap, sym, ◌∙◌, length, is_some, Some, if◌then◌else◌, arith}
+use Rattle.std.specs.Prelude.{sum_by}
 use Rattle.std.specs.Str.{bytes_eq}
 use Rattle.indexmap.specs.IndexMap.{get, index_map_len}
 use Rattle.gate_graph.specs.Families.{has}
@@ -6,7 +7,19 @@ use Rattle.gate_graph.specs.Holding.{Stored, nodes_of, spots_of}
 use Rattle.gate_graph.specs.Slots.{entries_of}
 use Rattle.gate_graph.proofs.Indexing.{entries_of-push}
 use Rattle.gate_graph.proofs.Placing.{IsPlaced-put, spots_of-push, length-spots}
+use Rattle.gate_graph.proofs.Ranks.{total, total-push, pushed_keys}
 use Rattle.gate_graph.proofs.slots.Slots.put.Goals as goal
+
+pub overflow_add-self : goal.overflow_add-self
+overflow_add-self g c =
+    let size = ap (λ (s : Stored g.row.T.Denot). sum_by (λ n. n.size) (nodes_of s.held)) c.self.view_is in
+    let fits : c.self.inside.size + c.from.result < 2 ^ 128 = omega (arith, size, c.self.invariant.2.sum, c.requires.fits, c.from.ensures) in
+    search rules
+
+pub push-requires : goal.push-requires
+push-requires g c =
+    let room = ap (λ (s : Stored g.row.T.Denot). s.room) c.self.view_is in
+    omega (arith, room, c.self.invariant.2.ranks_room, c.requires.room)
 
 pub invariant_of-self : goal.invariant_of-self
 invariant_of-self g c =
@@ -24,6 +37,11 @@ invariant_of-self g c =
       record {
         place = λ l. absurd (omega (arith, l));
         slot = λ l. absurd (omega (arith, l));
+      },
+      record {
+        keys = pushed_keys c.self.inside.slots.items c.push_reserved.new.self.items h c.rate_of.result c.self.inside.ranking.keys c.push.new.self.keys c.self.invariant.2.keys c.push_reserved.ensures.items c.rate_of.ensures c.push.ensures.keys;
+        ranks_room = omega arith;
+        sum = omega (arith, total-push c.self.inside.slots.items h, c.self.invariant.2.sum, ap total c.push_reserved.ensures.items, c.from.ensures);
       },
     )
 

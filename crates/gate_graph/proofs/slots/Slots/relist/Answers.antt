@@ -4,6 +4,7 @@ use Rattle.std.specs.Option.{option_map}
 use Rattle.gate_graph.specs.Slots.{at}
 use Rattle.gate_graph.specs.Holding.{Stored, has_id, id_at, at_id, with_parents, spots_of}
 use Rattle.gate_graph.proofs.Placing.{held_changed, IsPlaced-changed, place_look, spots_of-changed, slot_filled, found_at}
+use Rattle.gate_graph.proofs.Ranks.{total, total-write, same_keys}
 use Rattle.gate_graph.proofs.slots.Slots.relist.Goals as goal
 
 pub rewrite-requires : goal.rewrite-requires
@@ -17,6 +18,11 @@ invariant_of-self g c =
       record {
         place = c.self.invariant.1.place;
         slot = λ l. omega (arith, c.self.invariant.1.slot l, c.rewrite.ensures.len, c.rewrite.ensures.capacity);
+      },
+      record {
+        keys = same_keys (with_parents c.args.parents) (λ h. refl) c.self.inside.slots.items c.rewrite.new.slots.items p c.self.inside.ranking.keys c.self.invariant.2.keys c.rewrite.ensures.written;
+        ranks_room = c.self.invariant.2.ranks_room;
+        sum = c.self.invariant.2.sum ∙ sym (ap total c.rewrite.ensures.written ∙ total-write (with_parents c.args.parents) (λ h. refl) c.self.inside.slots.items p);
       },
     )
 

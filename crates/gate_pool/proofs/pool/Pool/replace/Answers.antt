@@ -1,52 +1,45 @@
-use Rattle.std.proofs.Common.{◌≡◌, ◌++◌, ◌∷◌, [], ap, subst, ◌∙◌, inl, inr, not, arith, length, length-append}
-use Rattle.std.specs.Str.{bytes_eq}
+use Rattle.std.proofs.Common.{sym, ◌≡◌, ◌++◌, ◌∷◌, [], ap, subst, ◌∙◌, inl, inr, not, arith, length, length-append}
 use Rattle.std.specs.Prelude.{Contains}
 use Rattle.std.proofs.lemmas.List.Elements.{Contains-append_cases}
-use Rattle.indexmap.specs.IndexMap.{get}
 use Rattle.gate_tx.specs.Ids.{txid_of, wtxid_of}
 use Rattle.gate_pool.specs.Pool.{Admitted, Pooled, entry_by_txid, entry_by_wtxid}
 use Rattle.gate_pool.specs.Family.{spends_one_of, without_below, is_below_some, entered}
-use Rattle.gate_pool.specs.Keeping.{IsNoted}
 use Rattle.gate_pool.proofs.Conflicts.{IsNew-left}
-use Rattle.gate_pool.proofs.Noting.{IsNoted-grown, IsNoted-push}
-use Rattle.gate_pool.proofs.Walking.{IsNoted-less, Contains-from_filter, shorter}
+use Rattle.gate_pool.proofs.Walking.{Contains-from_filter, shorter}
 use Rattle.gate_graph.proofs.Members.{Contains-cons_cases, not_in_none}
+use Rattle.gate_pool.specs.Scores.{least_of}
 use Rattle.gate_pool.proofs.pool.Pool.replace.Goals as goal
 
 pub put-requires-clause-new : goal.put-requires-clause-new
 put-requires-clause-new g c =
     let e = c.args.entry in
-    let old = c.self.inside.slots.entries in
-    IsNew-left e old c.take_conflicts.new.slots.entries
+    let old = c.self.inside.store.entries in
+    IsNew-left e old c.take_conflicts.new.self.entries
     (ap (λ (p : Pooled). entry_by_txid p.entries (txid_of e.tx)) c.self.view_is ∙ c.requires.txid)
     (ap (λ (p : Pooled). entry_by_wtxid p.entries (wtxid_of e.tx)) c.self.view_is ∙ c.requires.wtxid)
-    (rw (c.inputs-inputs.ensures, c.transaction.ensures) at c.take_conflicts.ensures.rest)
-    (rw (c.inputs-inputs.ensures, c.transaction.ensures) at c.take_conflicts.ensures.gone)
+    (rw (c.inputs.ensures, c.transaction.ensures) at c.take_conflicts.ensures.rest)
+    (rw (c.inputs.ensures, c.transaction.ensures) at c.take_conflicts.ensures.gone)
 
 pub invariant_of-self : goal.invariant_of-self
 invariant_of-self g c =
     let e = c.args.entry in
-    let old = c.self.inside.slots.entries in
-    let rest : c.take_conflicts.new.slots.entries ≡ without_below (spends_one_of e.tx.inputs) old = rw (c.inputs-inputs.ensures, c.transaction.ensures) at c.take_conflicts.ensures.rest in
-    let kept : IsNoted c.take_conflicts.new.slots.entries (get bytes_eq c.self.inside.bounds) = IsNoted-less c.self.invariant.noted (λ d m. Contains-from_filter (λ (d : Admitted). not (is_below_some (spends_one_of e.tx.inputs) old d)) old d (subst (λ l. Contains l d) rest m)) in
-    let left : c.tidy.new.self.entries ≡ c.take_conflicts.new.slots.entries ++ e ∷ [] = c.tidy.ensures ∙ c.put.ensures in
+    let old = c.self.inside.store.entries in
+    let rest : c.take_conflicts.new.self.entries ≡ without_below (spends_one_of e.tx.inputs) old = rw (c.inputs.ensures, c.transaction.ensures) at c.take_conflicts.ensures.rest in
+    let left : c.settle-self-inside.new.self.entries ≡ c.take_conflicts.new.self.entries ++ e ∷ [] = c.settle-self-inside.ensures.entries ∙ c.put.ensures in
     record {
-      noted = IsNoted-push e (IsNoted-grown c.note.ensures.grown kept) (λ i m. (rw (c.inputs-inputs.ensures, c.transaction.ensures) at c.note.ensures.noted) i m) left;
-      now = omega (arith, c.self.invariant.next, c.self.ranges, shorter (λ (d : Admitted). not (is_below_some (spends_one_of e.tx.inputs) old d)) old, ap length rest, ap length (c.tidy.ensures ∙ c.put.ensures), length-append c.take_conflicts.new.slots.entries (e ∷ []), c.take_conflicts.ensures.capacity, c.requires.room, ap (λ (p : Pooled). p.room) c.self.view_is);
-      few = omega (arith, c.self.invariant.next_few, c.self.ranges, shorter (λ (d : Admitted). not (is_below_some (spends_one_of e.tx.inputs) old d)) old, ap length rest, ap length left, length-append c.take_conflicts.new.slots.entries (e ∷ []), c.requires.room, ap (λ (p : Pooled). p.room) c.self.view_is);
+      chosen_room = omega (arith, c.self.invariant.next, c.self.ranges, shorter (λ (d : Admitted). not (is_below_some (spends_one_of e.tx.inputs) old d)) old, ap length rest, ap length left, length-append c.take_conflicts.new.self.entries (e ∷ []), c.requires.room, ap (λ (p : Pooled). p.room) c.self.view_is);
+      next = λ l. absurd (omega (arith, l, c.settle-self-inside.ensures.room));
       times = λ d m.
-          elim (Contains-append_cases c.take_conflicts.new.slots.entries (e ∷ []) d (subst (λ l. Contains l d) left m)) [
+          elim (Contains-append_cases c.take_conflicts.new.self.entries (e ∷ []) d (subst (λ l. Contains l d) left m)) [
             | inl stays ↦ omega (arith, c.self.invariant.times d (Contains-from_filter (λ (d : Admitted). not (is_below_some (spends_one_of e.tx.inputs) old d)) old d (subst (λ l. Contains l d) rest stays)), c.min-self-inside.ensures)
             | inr new ↦ elim (Contains-cons_cases e [] d new) [ inl same ↦ omega (arith, c.min-self-inside.ensures, c.time.ensures, ap (λ (x : Admitted). x.time) same) | inr none ↦ not_in_none d none ]
           ];
-      next = λ l. absurd (omega (arith, l));
-      next_few = λ l. absurd (omega (arith, l));
-      bounds = omega arith;
-      slots_room = omega arith;
+      score = c.settle-self-inside.ensures.value ∙ ap least_of (sym c.settle-self-inside.ensures.entries);
+      bounded = c.settle-self-inside.ensures.bounded;
     }
 
 pub returns : goal.returns
 returns g c =
     let e = c.args.entry in
-    c.tidy.ensures ∙ c.put.ensures ∙ ap (λ l. l ++ e ∷ []) (rw (c.inputs-inputs.ensures, c.transaction.ensures) at c.take_conflicts.ensures.rest)
+    c.settle-self-inside.ensures.entries ∙ c.put.ensures ∙ ap (λ l. l ++ e ∷ []) (rw (c.inputs.ensures, c.transaction.ensures) at c.take_conflicts.ensures.rest)
     ∙ ap (λ (p : Pooled). entered p.entries e) c.self.view_is

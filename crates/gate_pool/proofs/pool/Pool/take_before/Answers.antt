@@ -12,6 +12,6 @@ not_before m n h = grind (arith, nat_tests)
 
 pub returns-else-self-time : goal.returns-else-self-time
 returns-else-self-time g c =
-    let young : (e : Admitted) → Contains c.self.inside.slots.entries e → is_before c.args.time e ≡ false = λ e m. not_before e.time c.args.time (omega (arith, c.self.invariant.times e m, c.if-self-time.false)) in
-    let all = without_below-none (is_before c.args.time) c.self.inside.slots.entries (find_absent (is_before c.args.time) c.self.inside.slots.entries young) in
+    let young : (e : Admitted) → Contains c.self.inside.store.entries e → is_before c.args.time e ≡ false = λ e m. not_before e.time c.args.time (omega (arith, c.self.invariant.times e m, c.if-self-time.false)) in
+    let all = without_below-none (is_before c.args.time) c.self.inside.store.entries (find_absent (is_before c.args.time) c.self.inside.store.entries young) in
     subst (λ (p : Pooled). p.entries ≡ without_below (is_before c.args.time) p.entries) c.self.view_is (sym all)

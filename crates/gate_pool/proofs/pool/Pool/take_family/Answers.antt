@@ -1,24 +1,17 @@
-use Rattle.std.proofs.Common.{not, ◌∙◌, ap, subst, arith, length}
-use Rattle.std.specs.Prelude.{Contains}
+use Rattle.std.proofs.Common.{sym, not, refl, ap, ◌∙◌}
 use Rattle.gate_tx.specs.Ids.{txid_of}
 use Rattle.gate_graph.specs.Family.{reaches}
 use Rattle.gate_pool.specs.Pool.{Admitted}
-use Rattle.gate_pool.specs.Family.{steps}
-use Rattle.gate_pool.proofs.Walking.{IsNoted-less, Contains-from_filter, shorter}
+use Rattle.gate_pool.specs.Family.{steps, without_family}
+use Rattle.gate_pool.proofs.Readiness.{IsReady-filter}
+use Rattle.gate_pool.specs.Scores.{least_of}
 use Rattle.gate_pool.proofs.pool.Pool.take_family.Goals as goal
 
 pub invariant_of-self : goal.invariant_of-self
 invariant_of-self g c =
+    let es = c.self.inside.store.entries in
     let x = c.args.txid.now in
-    let old = c.self.inside.slots.entries in
-    let left = c.tidy.ensures ∙ c.take_out.ensures.rest in
-    record {
-      noted = IsNoted-less c.self.invariant.noted (λ e m. Contains-from_filter (λ (e : Admitted). not (reaches (steps old) x (txid_of e.tx))) old e (subst (λ l. Contains l e) left m));
-      now = omega (arith, shorter (λ (e : Admitted). not (reaches (steps old) x (txid_of e.tx))) old, ap length left, c.self.invariant.now, c.take_out.ensures.capacity);
-      few = omega (arith, shorter (λ (e : Admitted). not (reaches (steps old) x (txid_of e.tx))) old, ap length left, c.self.invariant.few);
-      times = λ e m. c.self.invariant.times e (Contains-from_filter (λ (e : Admitted). not (reaches (steps old) x (txid_of e.tx))) old e (subst (λ l. Contains l e) left m));
-      next = λ l. absurd (omega (arith, l));
-      next_few = λ l. absurd (omega (arith, l));
-      bounds = omega arith;
-      slots_room = omega arith;
-    }
+    IsReady-filter (λ (e : Admitted). not (reaches (steps es) x (txid_of e.tx))) c.self.invariant (c.take_out.ensures.rest ∙ ap (without_family es) c.node_id.ensures) c.settle-self-inside.ensures.entries c.settle-self-inside.ensures.room refl (c.settle-self-inside.ensures.value ∙ ap least_of (sym c.settle-self-inside.ensures.entries)) c.settle-self-inside.ensures.bounded
+
+pub returns : goal.returns
+returns g c = c.settle-self-inside.ensures.entries ∙ c.take_out.ensures.rest ∙ (λ i. without_family (c.self.view_is i).entries (c.node_id.ensures i))

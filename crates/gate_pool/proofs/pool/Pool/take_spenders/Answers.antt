@@ -1,9 +1,10 @@
-use Rattle.std.proofs.Common.{not, ◌∙◌}
+use Rattle.std.proofs.Common.{ap, sym, not, refl, ◌∙◌}
 use Rattle.gate_pool.specs.Pool.{Admitted}
 use Rattle.gate_pool.specs.Family.{is_below_some, spends_one_of}
-use Rattle.gate_pool.proofs.Lessening.{IsReady-filter}
+use Rattle.gate_pool.proofs.Readiness.{IsReady-filter}
+use Rattle.gate_pool.specs.Scores.{least_of}
 use Rattle.gate_pool.proofs.pool.Pool.take_spenders.Goals as goal
 
 pub invariant_of-self : goal.invariant_of-self
 invariant_of-self g c =
-    IsReady-filter (λ (e : Admitted). not (is_below_some (spends_one_of c.args.inputs.now) c.self.inside.slots.entries e)) _ _ c.self.invariant (c.tidy.ensures ∙ c.take_conflicts.ensures.rest) c.take_conflicts.ensures.capacity
+    IsReady-filter (λ (e : Admitted). not (is_below_some (spends_one_of c.args.inputs.now) c.self.inside.store.entries e)) c.self.invariant c.take_conflicts.ensures.rest c.settle-self-inside.ensures.entries c.settle-self-inside.ensures.room refl (c.settle-self-inside.ensures.value ∙ ap least_of (sym c.settle-self-inside.ensures.entries)) c.settle-self-inside.ensures.bounded

@@ -1,0 +1,384 @@
+-- Where a rule denies, its figures decide.
+use Rattle.std.proofs.Common.{◌≡◌, ◌<◌, ◌≤◌, ◌+◌, ◌*◌, ◌++◌, ◌∷◌, [], ℕ, Bool, true, false, not, ◌&&◌, List, Option, Some, None, refl, ap, subst, true≢false, arith}
+use Rattle.std.specs.Prelude.{◌-◌, nat_le, nat_lt, if◌then◌else◌, IfSome, Result, Ok, Err, is_none, is_some, length}
+use Rattle.std.specs.List.{flat_map, list_any}
+use Rattle.std.specs.Option.{option_or}
+use Rattle.std.proofs.lemmas.Bool.{false≢true, or_parts}
+use Rattle.std.proofs.lemmas.Bool.Decides.{nat_tests}
+use Rattle.std.proofs.Math.Nat.{le_refl, le-max_left}
+use Rattle.gate_bytes.specs.Order.{Rule, first_failing}
+use Rattle.gate_tx.specs.declared.Coin.{Coin}
+use Rattle.gate_tx.specs.declared.TxIn.{TxIn}
+use Rattle.gate_tx.specs.declared.TxOut.{TxOut}
+use Rattle.gate_tx.specs.Ids.{txid_of, wtxid_of}
+use Rattle.gate_tx.specs.Money.{amount_or_zero}
+use Rattle.gate_tx.specs.Tx.{Tx}
+use Rattle.gate_standard.specs.Amounts.{required_fee, feerate}
+use Rattle.gate_standard.specs.Outputs.{carries_data, dust_threshold_of, is_below, is_dust}
+use Rattle.gate_standard.specs.Rules.{rules_of_input, rules_of_output, output_value_rules, transaction_rules, standard_rules}
+use Rattle.gate_standard.specs.declared.Denial.{Denial}
+use Rattle.gate_submission.specs.Alone.{alone_rules}
+use Rattle.gate_chain.specs.Times.{tip_of}
+use Rattle.gate_locks.specs.Finality.{is_final_at, threshold_of}
+use Rattle.gate_locks.specs.Locks.{median_at}
+use Rattle.gate_pool.specs.Pool.{Admitted, spender_of, size_of}
+use Rattle.gate_pool.specs.Family.{ancestors_above, is_conflict, conflicts_of, replaced_of, fees_of}
+use Rattle.gate_rbf.specs.Replacing.{replacement_rules, rules_beside, signals, incremental_relay_rate}
+use Rattle.gate_admit.specs.declared.attempt.Attempt.TheVariants.{First}
+use Rattle.gate_admit.specs.declared.grant.Grant.{Grant}
+use Rattle.gate_admit.specs.Coins.{coins_of, view_coin}
+use Rattle.gate_admit.specs.Limits.{limit_rules}
+use Rattle.gate_admit.specs.Policies.{Policy, most_ancestors}
+use Rattle.gate_admit.specs.Reports.{reported, report_rules, vsize_of, verdict_rules, rules_of_verdict}
+use Rattle.gate_admit.specs.Rules.{final_rules, pool_rules, coin_rules, lock_rules, coin_value_rules, balance_rules, fee_rules, payment_rules, admission_rules, coins_value, outputs_value, grant_of, denied_or, decision_of, is_immature, min_relay_rate}
+use Rattle.gate_admit.specs.Standing.{Standing}
+use Rattle.gate_admit.specs.Verdicts.{verdict_of}
+use Rattle.gate_figures.specs.declared.figures.Figures.{Figures}
+use Rattle.gate_figures.specs.declared.figures.Figures.TheVariants.{Ancestors, AncestorsSized, Dust, Input, NoCoin, Outpaid, Spent, Young}
+use Rattle.gate_figures.specs.Figures.{allowed_ancestors, coinless, crowded, doubted, dust, fee_at, figures_of, firm, firm_by, is_good, outpaid, outpaid_at, outpaid_by, paying_figures, pays, pays_above, sized, vsize_at, cost_at, young, young_by}
+use Rattle.gate_figures.specs.Laws.{Decide, FiguresDecide}
+
+lt_from : (m n : ℕ) → nat_lt m n ≡ true → m < n
+lt_from m n h = grind (arith, nat_tests)
+
+le_from : (m n : ℕ) → nat_lt m n ≡ false → n ≤ m
+le_from m n h = grind (arith, nat_tests)
+
+-- ---- of lists of rules
+
+-- a rule that fails has figures that decide, or none
+abbrev Shows : Standing → Tx → Rule Denial → Type 0
+Shows over tx rule = rule.1 ≡ true → IfSome (figures_of over tx rule.0) (Decide over)
+
+abbrev AllShow : Standing → Tx → List (Rule Denial) → Type 0
+AllShow over tx [] = Unit {0}
+AllShow over tx (rule ∷ rules) = Shows over tx rule × AllShow over tx rules
+
+both_show : (over : Standing) (tx : Tx) (xs ys : List (Rule Denial)) → AllShow over tx xs → AllShow over tx ys → AllShow over tx (xs ++ ys)
+both_show over tx [] ys a b = b
+both_show over tx (x ∷ xs) ys a b = (a.0, both_show over tx xs ys a.1 b)
+
+each_shows : {X : Type 0} (over : Standing) (tx : Tx) (rules : X → List (Rule Denial)) → ((x : X) → AllShow over tx (rules x)) → (xs : List X) → AllShow over tx (flat_map rules xs)
+each_shows over tx rules all [] = tt
+each_shows over tx rules all (x ∷ xs) = both_show over tx (rules x) (flat_map rules xs) (all x) (each_shows over tx rules all xs)
+
+found_by : (over : Standing) (tx : Tx) (said denial : Denial) (fails : Bool) (rest : Option Denial) → Shows over tx (said, fails)
+    → (rest ≡ Some denial → IfSome (figures_of over tx denial) (Decide over)) → (if fails then Some said else rest) ≡ Some denial
+    → IfSome (figures_of over tx denial) (Decide over)
+found_by over tx said denial true rest shows later h = subst (λ (o : Option Denial). IfSome o (λ d. IfSome (figures_of over tx d) (Decide over))) h (shows refl)
+found_by over tx said denial false rest shows later h = later h
+
+found : (over : Standing) (tx : Tx) (denial : Denial) (rules : List (Rule Denial)) → AllShow over tx rules → first_failing rules ≡ Some denial
+    → IfSome (figures_of over tx denial) (Decide over)
+found over tx denial [] all h = absurd (false≢true (ap is_some h))
+found over tx denial (rule ∷ rules) all h = found_by over tx rule.0 denial rule.1 (first_failing rules) all.0 (found over tx denial rules all.1) h
+
+-- ---- of figures that are looked for
+
+one_or : (over : Standing) (one rest : Option Figures) → IfSome one (Decide over) → IfSome rest (Decide over) → IfSome (option_or one rest) (Decide over)
+one_or over None rest a b = b
+one_or over (Some figures) rest a b = a
+
+below : (o : TxOut) → is_dust o ≡ true → is_below o.value (dust_threshold_of o) ≡ true
+unfolding is_dust
+below o h = second (not (carries_data o)) (is_below o.value (dust_threshold_of o)) h
+  where
+    second : (a b : Bool) → (a && b) ≡ true → b ≡ true
+    second true b k = k
+    second false b k = absurd (false≢true k)
+
+dust_decides : (over : Standing) (index : ℕ) (outputs : List TxOut) → IfSome (dust index outputs) (Decide over)
+dust_decides over index [] = tt
+dust_decides over index (o ∷ outputs) = go (dust_decides over (index + 1) outputs) (is_dust o) refl
+  where
+    go : IfSome (dust (index + 1) outputs) (Decide over) → (b : Bool) → is_dust o ≡ b → IfSome (if b then Some (Dust index o.value (dust_threshold_of o)) else dust (index + 1) outputs) (Decide over)
+    go later true e = below o e
+    go later false e = later
+
+none_of : {X : Type 0} (o : Option X) → is_none o ≡ true → o ≡ None
+none_of None h = refl
+none_of (Some x) h = absurd (false≢true h)
+
+coinless_decides : (over : Standing) (index : ℕ) (inputs : List TxIn) → IfSome (coinless over.chain over.entries index inputs) (Decide over)
+coinless_decides over index [] = tt
+coinless_decides over index (i ∷ inputs) = go (coinless_decides over (index + 1) inputs) (is_none (view_coin over.chain over.entries i.prevout)) refl
+  where
+    go : IfSome (coinless over.chain over.entries (index + 1) inputs) (Decide over) → (b : Bool) → is_none (view_coin over.chain over.entries i.prevout) ≡ b
+        → IfSome (if b then Some (NoCoin index i.prevout) else coinless over.chain over.entries (index + 1) inputs) (Decide over)
+    go later true e = none_of (view_coin over.chain over.entries i.prevout) e
+    go later false e = later
+
+soon : (next_height : ℕ) (coin : Coin) → is_immature next_height coin ≡ true → next_height - coin.height < 100
+soon next_height coin h = lt_from (next_height - coin.height) 100 (second coin.coinbase (nat_lt (next_height - coin.height) 100) h)
+  where
+    second : (a b : Bool) → (a && b) ≡ true → b ≡ true
+    second true b k = k
+    second false b k = absurd (false≢true k)
+
+young_by_decides : (over : Standing) (next_height index : ℕ) (o : Option Coin) → IfSome (young_by next_height index o) (Decide over)
+young_by_decides over next_height index None = tt
+young_by_decides over next_height index (Some coin) = go (is_immature next_height coin) refl
+  where
+    go : (b : Bool) → is_immature next_height coin ≡ b → IfSome (if b then Some (Young index coin.height next_height) else None) (Decide over)
+    go true e = soon next_height coin e
+    go false e = tt
+
+young_decides : (over : Standing) (index : ℕ) (inputs : List TxIn) → IfSome (young over.chain over.entries index inputs) (Decide over)
+young_decides over index [] = tt
+young_decides over index (i ∷ inputs) =
+    one_or over (young_by (tip_of over.chain + 1) index (view_coin over.chain over.entries i.prevout)) (young over.chain over.entries (index + 1) inputs)
+    (young_by_decides over (tip_of over.chain + 1) index (view_coin over.chain over.entries i.prevout)) (young_decides over (index + 1) inputs)
+
+firm_by_decides : (over : Standing) (index : ℕ) (o : Option Admitted) → over.policy.full_rbf ≡ false → IfSome (firm_by index o) (Decide over)
+firm_by_decides over index None asked = tt
+firm_by_decides over index (Some e) asked = go (signals e.tx)
+  where
+    go : (b : Bool) → IfSome (if b then None else Some (Spent index (txid_of e.tx))) (Decide over)
+    go true = tt
+    go false = asked
+
+firm_decides : (over : Standing) (index : ℕ) (inputs : List TxIn) → over.policy.full_rbf ≡ false → IfSome (firm over.entries index inputs) (Decide over)
+firm_decides over index [] asked = tt
+firm_decides over index (i ∷ inputs) asked =
+    one_or over (firm_by index (spender_of over.entries i.prevout)) (firm over.entries (index + 1) inputs)
+    (firm_by_decides over index (spender_of over.entries i.prevout) asked) (firm_decides over (index + 1) inputs asked)
+
+-- where an entry is asked for a signal, there is no full replacement
+asks : (full other : Bool) → (not full && other) ≡ true → full ≡ false
+asks true other h = absurd (false≢true h)
+asks false other h = refl
+
+outpaid_by_decides : (over : Standing) (rate : ℕ) (o : Option Admitted) → IfSome (outpaid_by rate o) (Decide over)
+outpaid_by_decides over rate None = tt
+outpaid_by_decides over rate (Some e) = go (nat_lt (feerate e.fee e.vsize) rate) refl
+  where
+    go : (b : Bool) → nat_lt (feerate e.fee e.vsize) rate ≡ b → IfSome (if b then None else Some (Outpaid rate (feerate e.fee e.vsize) (txid_of e.tx))) (Decide over)
+    go true h = tt
+    go false h = le_from (feerate e.fee e.vsize) rate h
+
+outpaid_decides : (over : Standing) (rate : ℕ) (inputs : List TxIn) → IfSome (outpaid over.entries rate inputs) (Decide over)
+outpaid_decides over rate [] = tt
+outpaid_decides over rate (i ∷ inputs) =
+    one_or over (outpaid_by rate (spender_of over.entries i.prevout)) (outpaid over.entries rate inputs)
+    (outpaid_by_decides over rate (spender_of over.entries i.prevout)) (outpaid_decides over rate inputs)
+
+outpaid_at_decides : (over : Standing) (rate : Option ℕ) (inputs : List TxIn) → IfSome (outpaid_at over.entries rate inputs) (Decide over)
+unfolding outpaid_at
+outpaid_at_decides over None inputs = tt
+outpaid_at_decides over (Some rate) inputs = outpaid_decides over rate inputs
+
+-- a transaction of any size may have as many ancestors as the policy says
+allows : (policy : Policy) (vsize : ℕ) → policy.ancestors ≤ allowed_ancestors policy vsize
+allows policy vsize = go (nat_le vsize 10000)
+  where
+    go : (b : Bool) → policy.ancestors ≤ (if b then most_ancestors policy else policy.ancestors)
+    go true = le-max_left policy.ancestors 2
+    go false = le_refl policy.ancestors
+
+crowded_decides : (over : Standing) (above : List Admitted) (vsize : Option ℕ) → IfSome (crowded over.policy above vsize) (Decide over)
+crowded_decides over above None = tt
+crowded_decides over above (Some vsize) = go (nat_lt (allowed_ancestors over.policy vsize) (length above + 1)) (nat_lt 101000 (size_of above + vsize)) refl refl
+  where
+    go : (a b : Bool) → nat_lt (allowed_ancestors over.policy vsize) (length above + 1) ≡ a → nat_lt 101000 (size_of above + vsize) ≡ b
+        → IfSome (if a then Some (Ancestors (length above + 1) (allowed_ancestors over.policy vsize)) else if b then Some (AncestorsSized (size_of above + vsize)) else None) (Decide over)
+    go true b e f = (allows over.policy vsize, lt_from (allowed_ancestors over.policy vsize) (length above + 1) e)
+    go false true e f = lt_from 101000 (size_of above + vsize) f
+    go false false e f = tt
+
+doubted_decides : (over : Standing) (wtxid : List ℕ) (index : ℕ) (inputs : List TxIn) → IfSome (doubted over.verdicts wtxid index inputs) (Decide over)
+doubted_decides over wtxid index [] = tt
+doubted_decides over wtxid index (i ∷ inputs) = go (doubted_decides over wtxid (index + 1) inputs) (is_good (verdict_of over.verdicts wtxid index)) refl
+  where
+    go : IfSome (doubted over.verdicts wtxid (index + 1) inputs) (Decide over) → (b : Bool) → is_good (verdict_of over.verdicts wtxid index) ≡ b
+        → IfSome (if b then doubted over.verdicts wtxid (index + 1) inputs else Some (Input index wtxid)) (Decide over)
+    go later true e = later
+    go later false e = e
+
+pays_decides : (over : Standing) (tx : Tx) (rate fee cost : ℕ) → nat_lt fee (required_fee rate (vsize_of cost tx)) ≡ true → IfSome (pays rate fee (sized cost tx)) (Decide over)
+unfolding pays
+pays_decides over tx rate fee cost h = go (nat_lt 16000 cost)
+  where
+    go : (b : Bool) → IfSome (pays rate fee (if b then None else Some (vsize_of cost tx))) (Decide over)
+    go true = tt
+    go false = lt_from fee (required_fee rate (vsize_of cost tx)) h
+
+above_decides : (over : Standing) (tx : Tx) (gone fee cost : ℕ) → nat_lt (fee - gone) (required_fee incremental_relay_rate (vsize_of cost tx)) ≡ true
+    → IfSome (pays_above gone fee (sized cost tx)) (Decide over)
+unfolding pays_above
+above_decides over tx gone fee cost h = go (nat_lt 16000 cost)
+  where
+    go : (b : Bool) → IfSome (pays_above gone fee (if b then None else Some (vsize_of cost tx))) (Decide over)
+    go true = tt
+    go false = lt_from (fee - gone) (required_fee incremental_relay_rate (vsize_of cost tx)) h
+
+-- ---- group by group
+
+oversized : (size : ℕ) → nat_lt 4_000_000 (size * 4) ≡ true → 1000000 < size
+oversized size h = omega (arith, lt_from 4_000_000 (size * 4) h)
+
+values_show : (over : Standing) (tx : Tx) (sum : ℕ) (outputs : List TxOut) → AllShow over tx (output_value_rules sum outputs)
+unfolding figures_of paying_figures
+values_show over tx sum [] = tt
+values_show over tx sum (o ∷ outputs) = (λ _. tt, (λ _. tt, (λ _. tt, values_show over tx (sum + amount_or_zero o.value) outputs)))
+
+transaction_shows : (over : Standing) (tx : Tx) → AllShow over tx (transaction_rules tx)
+unfolding figures_of paying_figures transaction_rules
+transaction_shows over tx = (
+  λ _. tt,
+  (
+    λ _. tt,
+    (
+      λ h. oversized _ h,
+      both_show over tx (output_value_rules 0 tx.outputs) _ (values_show over tx 0 tx.outputs) (λ _. tt, (λ _. tt, (λ _. tt, (λ _. tt, tt)))),
+    ),
+  ),
+)
+
+input_shows : (over : Standing) (tx : Tx) (i : TxIn) → AllShow over tx (rules_of_input i)
+unfolding figures_of paying_figures
+input_shows over tx i = (λ _. tt, (λ _. tt, tt))
+
+output_shows : (over : Standing) (tx : Tx) (o : TxOut) → AllShow over tx (rules_of_output o)
+unfolding figures_of paying_figures
+output_shows over tx o = (λ _. tt, (λ _. dust_decides over 0 tx.outputs, tt))
+
+standard_shows : (over : Standing) (tx : Tx) → AllShow over tx (standard_rules tx)
+unfolding figures_of paying_figures standard_rules
+standard_shows over tx = (
+  λ _. tt,
+  (
+    λ h. lt_from 400_000 _ h,
+    both_show over tx (flat_map rules_of_input tx.inputs) _ (each_shows over tx rules_of_input (input_shows over tx) tx.inputs)
+        (both_show over tx (flat_map rules_of_output tx.outputs) _ (each_shows over tx rules_of_output (output_shows over tx) tx.outputs)
+        (λ _. tt, (λ h. lt_from _ 82 h, tt))),
+  ),
+)
+
+alone_shows : (over : Standing) (tx : Tx) → AllShow over tx (alone_rules tx)
+unfolding alone_rules
+alone_shows over tx = both_show over tx (transaction_rules tx) (standard_rules tx) (transaction_shows over tx) (standard_shows over tx)
+
+unfinal : (tx : Tx) (next_height median : ℕ) → not (is_final_at tx next_height median) ≡ true → threshold_of tx.locktime next_height median ≤ tx.locktime
+unfolding is_final_at
+unfinal tx next_height median h =
+    let no = not_true (is_final_at tx next_height median) h in
+    le_from tx.locktime (threshold_of tx.locktime next_height median) (or_parts _ _ (or_parts _ _ no).1).0
+  where
+    not_true : (b : Bool) → not b ≡ true → b ≡ false
+    not_true true k = absurd (false≢true k)
+    not_true false k = refl
+
+final_shows : (over : Standing) (tx : Tx) → AllShow over tx (final_rules over.chain tx)
+unfolding figures_of final_rules
+final_shows over tx = (λ h. unfinal tx (tip_of over.chain + 1) (median_at over.chain (tip_of over.chain)) h, tt)
+
+pool_shows : (over : Standing) (tx : Tx) → AllShow over tx (pool_rules over.policy over.entries tx)
+unfolding figures_of paying_figures pool_rules
+pool_shows over tx = (λ _. tt, (λ _. tt, (λ h. firm_decides over 0 tx.inputs (asks over.policy.full_rbf _ h), tt)))
+
+coin_shows : (over : Standing) (tx : Tx) → AllShow over tx (coin_rules over.chain over.entries tx)
+unfolding figures_of paying_figures coin_rules
+coin_shows over tx = (λ _. tt, (λ _. coinless_decides over 0 tx.inputs, tt))
+
+lock_shows : (over : Standing) (tx : Tx) (coins : List Coin) → AllShow over tx (lock_rules over.chain coins tx)
+unfolding figures_of paying_figures lock_rules
+lock_shows over tx coins = (λ _. tt, tt)
+
+coin_values_show : (over : Standing) (tx : Tx) (next_height sum : ℕ) (coins : List Coin) → AllShow over tx (coin_value_rules next_height sum coins)
+unfolding figures_of paying_figures coin_value_rules
+coin_values_show over tx next_height sum [] = tt
+coin_values_show over tx next_height sum (coin ∷ coins) =
+    (λ _. young_decides over 0 tx.inputs, (λ _. tt, coin_values_show over tx next_height (sum + amount_or_zero coin.value) coins))
+
+balance_shows : (over : Standing) (tx : Tx) → AllShow over tx (balance_rules (coins_value (coins_of over.chain over.entries tx.inputs)) (outputs_value tx))
+unfolding figures_of paying_figures balance_rules
+balance_shows over tx = (λ h. lt_from _ _ h, (λ _. tt, tt))
+
+reports_show : (over : Standing) (tx : Tx) → AllShow over tx (report_rules (reported tx.inputs (coins_of over.chain over.entries tx.inputs)) tx)
+unfolding figures_of paying_figures report_rules
+reports_show over tx = (λ _. tt, (λ _. tt, (λ h. lt_from 16000 _ h, tt)))
+
+payment_shows : (over : Standing) (tx : Tx)
+    → AllShow over tx (payment_rules First over.floor (fee_at over.chain over.entries tx) (vsize_of (cost_at over.chain over.entries tx) tx))
+unfolding figures_of paying_figures fee_rules
+payment_shows over tx = (
+  λ h. pays_decides over tx over.floor (fee_at over.chain over.entries tx) (cost_at over.chain over.entries tx) h,
+  (λ h. pays_decides over tx min_relay_rate (fee_at over.chain over.entries tx) (cost_at over.chain over.entries tx) h, tt),
+)
+
+limits_show : (over : Standing) (tx : Tx) (vsize : ℕ) → AllShow over tx (limit_rules First over.policy over.entries tx vsize)
+unfolding figures_of paying_figures limit_rules
+limits_show over tx vsize = (λ _. crowded_decides over (ancestors_above over.entries tx.inputs) (vsize_at over.chain over.entries tx), (λ _. tt, tt))
+
+beside_shows : (over : Standing) (tx : Tx)
+    → AllShow over tx (rules_beside over.entries (conflicts_of over.entries tx) (fees_of (replaced_of over.entries tx)) tx (fee_at over.chain over.entries tx) (vsize_of (cost_at over.chain over.entries tx) tx))
+unfolding figures_of paying_figures rules_beside
+beside_shows over tx = (
+  λ _. outpaid_at_decides over _ tx.inputs,
+  (
+    λ h. lt_from 100 _ h,
+    (
+      λ _. tt,
+      (
+        λ h. lt_from _ _ h,
+        (λ h. above_decides over tx (fees_of (replaced_of over.entries tx)) (fee_at over.chain over.entries tx) (cost_at over.chain over.entries tx) h, tt),
+      ),
+    ),
+  ),
+)
+
+replacement_shows : (over : Standing) (tx : Tx)
+    → AllShow over tx (replacement_rules over.entries tx (fee_at over.chain over.entries tx) (vsize_of (cost_at over.chain over.entries tx) tx))
+unfolding replacement_rules
+replacement_shows over tx = go (list_any (is_conflict tx) over.entries)
+  where
+    go : (b : Bool) → AllShow over tx (if b then rules_beside over.entries (conflicts_of over.entries tx) (fees_of (replaced_of over.entries tx)) tx (fee_at over.chain over.entries tx) (vsize_of (cost_at over.chain over.entries tx) tx) else [])
+    go true = beside_shows over tx
+    go false = tt
+
+verdict_shows : (over : Standing) (tx : Tx) (index : ℕ) (inputs : List TxIn) → AllShow over tx (verdict_rules over.verdicts (wtxid_of tx) index inputs)
+unfolding figures_of verdict_rules rules_of_verdict
+verdict_shows over tx index [] = tt
+verdict_shows over tx index (i ∷ inputs) = (
+  λ _. doubted_decides over (wtxid_of tx) 0 tx.inputs,
+  (
+    λ _. doubted_decides over (wtxid_of tx) 0 tx.inputs,
+    (λ _. doubted_decides over (wtxid_of tx) 0 tx.inputs, verdict_shows over tx (index + 1) inputs),
+  ),
+)
+
+-- ---- the whole
+
+all_show : (over : Standing) (tx : Tx) → AllShow over tx (admission_rules First over tx)
+unfolding admission_rules
+all_show over tx =
+    let coins = coins_of over.chain over.entries tx.inputs in
+    both_show over tx (alone_rules tx) _ (alone_shows over tx)
+    (both_show over tx (final_rules over.chain tx) _ (final_shows over tx)
+    (both_show over tx (pool_rules over.policy over.entries tx) _ (pool_shows over tx)
+    (both_show over tx (coin_rules over.chain over.entries tx) _ (coin_shows over tx)
+    (both_show over tx (lock_rules over.chain coins tx) _ (lock_shows over tx coins)
+    (both_show over tx (coin_value_rules (tip_of over.chain + 1) 0 coins) _ (coin_values_show over tx (tip_of over.chain + 1) 0 coins)
+    (both_show over tx (balance_rules (coins_value coins) (outputs_value tx)) _ (balance_shows over tx)
+    (both_show over tx (report_rules (reported tx.inputs coins) tx) _ (reports_show over tx)
+    (both_show over tx (payment_rules First over.floor (fee_at over.chain over.entries tx) (vsize_of (cost_at over.chain over.entries tx) tx)) _ (payment_shows over tx)
+    (both_show over tx (limit_rules First over.policy over.entries tx (vsize_of (cost_at over.chain over.entries tx) tx)) _ (limits_show over tx _)
+    (both_show over tx (replacement_rules over.entries tx (fee_at over.chain over.entries tx) (vsize_of (cost_at over.chain over.entries tx) tx)) _ (replacement_shows over tx)
+    (verdict_shows over tx 0 tx.inputs)))))))))))
+
+denied : (found : Option Denial) (grant : Grant) (denial : Denial) → denied_or found grant ≡ Err denial → found ≡ Some denial
+denied None grant denial h = absurd (true≢false (ap is_granted h))
+  where
+    is_granted : Result Grant Denial → Bool
+    is_granted (Ok g) = true
+    is_granted (Err d) = false
+denied (Some said) grant denial h = ap said_by h
+  where
+    said_by : Result Grant Denial → Option Denial
+    said_by (Ok g) = None
+    said_by (Err d) = Some d
+
+pub figures_decide : FiguresDecide
+unfolding decision_of
+figures_decide over tx denial h =
+    found over tx denial (admission_rules First over tx) (all_show over tx) (denied (first_failing (admission_rules First over tx)) (grant_of over tx) denial h)

@@ -1,0 +1,11 @@
+use Rattle.std.proofs.Common.{◌≡◌, ◌≤◌, ◌*◌, ◌^◌, Bool, take}
+use Rattle.std.specs.Prelude.{filter}
+use Rattle.gate_pool.specs.Pool.{Admitted}
+use Rattle.gate_pool.specs.Family.{AreIdsOf}
+use Rattle.gate_rbf.proofs.Counted.{counted}
+use Rattle.gate_figures.proofs.families.count_below_all.Given as goal
+
+abbrev pub invariant-loop-id : goal.invariant-loop-id
+invariant-loop-id g l =
+    ((test : Admitted → Bool) → AreIdsOf l.ids (filter test l.pool.entries) → l.sum ≡ counted l.pool.entries (take l.id-index l.ids))
+    × (l.sum ≤ l.id-index * 2 ^ 64)

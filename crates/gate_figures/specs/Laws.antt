@@ -1,0 +1,39 @@
+-- Laws of the figures.
+use Rattle.std.specs.Prelude.{◌≡◌, ◌<◌, ◌≤◌, ◌-◌, Some, None, true, false, IfSome, Err}
+use Rattle.gate_tx.specs.Tx.{Tx}
+use Rattle.gate_standard.specs.Outputs.{is_below}
+use Rattle.gate_standard.specs.declared.Denial.{Denial}
+use Rattle.gate_locks.specs.Finality.{threshold_of}
+use Rattle.gate_admit.specs.declared.attempt.Attempt.TheVariants.{First}
+use Rattle.gate_admit.specs.Coins.{view_coin}
+use Rattle.gate_admit.specs.Rules.{decision_of}
+use Rattle.gate_admit.specs.Standing.{Standing}
+use Rattle.gate_admit.specs.Verdicts.{verdict_of}
+use Rattle.gate_figures.specs.declared.figures.Figures.{Figures}
+use Rattle.gate_figures.specs.declared.figures.Figures.TheVariants.{Large, Small, Weighs, Dust, Final, Spent, NoCoin, Young, Balance, Costs, Pays, Ancestors, AncestorsSized, Outpaid, Descendants, Above, Input}
+use Rattle.gate_figures.specs.Figures.{figures_of, is_good}
+
+-- figures are past what is allowed, and by the policy no less is allowed, or below what is needed; no coin is there, or no good
+-- verdict; and only where the policy asks for signals is an entry named that doesn't signal
+abbrev pub Decide : Standing → Figures → Type 0
+Decide over (Large size) = 1000000 < size
+Decide over (Small size) = size < 82
+Decide over (Weighs weight) = 400000 < weight
+Decide over (Dust output value needs) = is_below value needs ≡ true
+Decide over (Final locktime height median) = threshold_of locktime height median ≤ locktime
+Decide over (Spent input by) = over.policy.full_rbf ≡ false
+Decide over (NoCoin input outpoint) = view_coin over.chain over.entries outpoint ≡ None
+Decide over (Young input height next) = next - height < 100
+Decide over (Balance coins outputs) = coins < outputs
+Decide over (Costs cost) = 16000 < cost
+Decide over (Pays fee needs) = fee < needs
+Decide over (Ancestors count most) = (over.policy.ancestors ≤ most) × (most < count)
+Decide over (AncestorsSized size) = 101000 < size
+Decide over (Outpaid rate most by) = rate ≤ most
+Decide over (Descendants count) = 100 < count
+Decide over (Above fee gone needs) = fee - gone < needs
+Decide over (Input input wtxid) = is_good (verdict_of over.verdicts wtxid input) ≡ false
+
+-- where a transaction is denied, the figures of the rule that denies it decide
+abbrev pub FiguresDecide : Type 0
+FiguresDecide = (over : Standing) (tx : Tx) (denial : Denial) → decision_of First over (Some tx) ≡ Err denial → IfSome (figures_of over tx denial) (Decide over)

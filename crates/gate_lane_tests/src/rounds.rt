@@ -1,0 +1,67 @@
+//! Rounds: the next gate begins with the state that the one before led to, and counts its calls anew.
+use gate_core::State;
+use gate_lanes::{Conclusion, Lane, RoundEnd, run_rounds};
+use gate_opening::read_opening;
+use gate_verify::{PolicyCheck, Workers};
+use std::alloc::Global;
+use std::hash::{BuildHasherDefault, FoldHasher};
+use std::test::*;
+
+type Hasher = BuildHasherDefault<FoldHasher>;
+
+/// A chain with one coin.
+const OPENING: &[u8] =
+    b"budget 1000000\ntimes 101 1000 600\ncoin 1111111111111111111111111111111111111111111111111111111111111111 0 100000 1 plain 00142222222222222222222222222222222222222222\nverdict * ok\n";
+
+/// A user who spends it with a fee of 110 satoshi, and the reply.
+const SENDS: &[u8] =
+    b"user a rpc 5000 {\"method\":\"sendrawtransaction\",\"params\":[\"0200000000010111111111111111111111111111111111111111111111111111111111111111110000000000ffffffff013286010000000000160014222222222222222222222222222222222222222202483030303030303030303030303030303030303030303030303030303030303030303030303030303030303030303030303030303030303030303030303030303030303030303030302102020202020202020202020202020202020202020202020202020202020202020200000000\"],\"id\":1}\n";
+
+const SENT: &[u8] =
+    b"rpc 200 {\"error\":null,\"id\":1,\"result\":\"499e3bf177f2eb576435a2ce4e47f56fea77687c1883931cb404bff096c60058\"}\n";
+
+/// A user who asks for the pool, and the reply with that transaction in it.
+const LISTS: &[u8] = b"user a rpc 0 {\"method\":\"getrawmempool\",\"id\":1}\n";
+
+const LISTED: &[u8] =
+    b"rpc 200 {\"error\":null,\"id\":1,\"result\":[\"499e3bf177f2eb576435a2ce4e47f56fea77687c1883931cb404bff096c60058\"]}\n";
+
+fn opened(alloc: Global) -> Result<State<Hasher>, Fail> {
+    let mut text = OPENING;
+    Ok(read_opening(alloc, BuildHasherDefault::new(), &mut text)?)
+}
+
+/// A round of one lane over these lines.
+fn round(alloc: Global, lines: &'static [u8]) -> Result<Vec<Lane<&'static [u8], Vec<u8>>>, Fail> {
+    let lane = Lane {
+        reader: lines,
+        writer: Vec::new(alloc),
+    };
+    Ok(Vec::from_array(alloc, [lane])?)
+}
+
+/// Whether a round of one lane of one call settled, and this was its reply.
+fn told(round: &RoundEnd<Vec<u8>>, reply: &[u8]) -> bool {
+    let [end] = round.ends.as_slice() else {
+        return false;
+    };
+    let settled = match &round.conclusion {
+        Conclusion::Settles(settled) => settled.count == 1,
+        Conclusion::Differs | Conclusion::Unknown => false,
+    };
+    settled && end.result == Ok(1) && end.writer.as_slice() == reply
+}
+
+#[test]
+fn a_round_goes_on_from_the_one_before(rt: HostRuntime) -> Result<(), Fail> {
+    let alloc = rt.alloc();
+    let state = opened(alloc)?;
+    let rounds = Vec::from_array(alloc, [round(alloc, SENDS)?, round(alloc, LISTS)?])?;
+    let ends = run_rounds(&rt, alloc, state, &PolicyCheck, rounds, Workers::default())?;
+    let [sent, listed] = ends.as_slice() else {
+        return Err(Fail::new("not two rounds"));
+    };
+    assert!(rt; told(sent, SENT));
+    assert!(rt; told(listed, LISTED));
+    Ok(())
+}

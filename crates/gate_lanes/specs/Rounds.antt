@@ -1,0 +1,71 @@
+-- Rounds: gates one after another, each on the state that the one before led to.
+use Rattle.std.specs.Prelude.{◌≡◌, ℕ, ◌≤◌, ◌⊎◌, List, [], ◌∷◌, length, Option, Some, None}
+use Rattle.gate_core.specs.World.{World}
+use Rattle.gate_journal.specs.Legal.{state_after}
+use Rattle.gate_shared.specs.Calls.{PassView}
+use Rattle.gate_shared.specs.Ends.{EndsGood}
+use Rattle.gate_shared.specs.Settling.{SettlesAll, DontSettle}
+use Rattle.gate_shared.specs.declared.settle.Settled.{Settled}
+use Rattle.gate_shared.specs.declared.settle.Unsettled.{Unsettled}
+use Rattle.gate_shared.specs.declared.settle.Unsettled.TheVariants as causes
+use Rattle.gate_lanes.specs.Ends.{Given, Left, LanesRan}
+use Rattle.gate_lanes.specs.declared.round.Conclusion.{Conclusion}
+use Rattle.gate_lanes.specs.declared.round.Conclusion.TheVariants as conclusions
+
+-- ---- one round
+
+-- These passes settle with a legal journal from this state, of at most 100,000 entries, which leads to the next state. That
+-- is good where the first is and the run of the passes' events is apart.
+pub record SettlesTo (w : World) (passes : List PassView) (settled : Settled) (next : World) : Type 0 where
+  pub few : length settled.journal.entries ≤ 100000
+  pub settles : SettlesAll w passes settled
+  pub leads : next ≡ state_after w settled.journal.entries
+  pub good : EndsGood w passes next
+
+-- what passes do that were not settled, by the cause
+abbrev pub unsettled_by : Unsettled → Conclusion
+unsettled_by (causes.Missing receipt) = conclusions.Differs
+unsettled_by (causes.CountDiffers journal passes) = conclusions.Differs
+unsettled_by causes.Memory = conclusions.Unknown
+
+-- the passes settle, and lead to the next state; or, whatever memory there is, they don't; or that is not known. There is a
+-- next state just where they settle.
+abbrev pub Concludes : World → List PassView → Conclusion → Option World → Type 0
+Concludes w passes (conclusions.Settles settled) None = ⊥
+Concludes w passes (conclusions.Settles settled) (Some next) = SettlesTo w passes settled next
+Concludes w passes conclusions.Differs None = DontSettle w passes
+Concludes w passes conclusions.Differs (Some next) = ⊥
+Concludes w passes conclusions.Unknown None = Unit {0}
+Concludes w passes conclusions.Unknown (Some next) = ⊥
+
+-- what a round came to: the ends of its lanes, and what their passes do
+pub record RoundLeft : Type 0 where
+  pub ends : List Left
+  pub conclusion : Conclusion
+
+abbrev pub round_left : List Left → Conclusion → RoundLeft
+round_left ends conclusion = record { ends = ends; conclusion = conclusion }
+
+-- from this state the lanes of a round ran, and this is what it came to, and the state that it leads to
+abbrev pub RoundRan : World → List Given → RoundLeft → Option World → Type 0
+RoundRan w lanes round next = (passes : List PassView) × LanesRan lanes round.ends passes × Concludes w passes round.conclusion next
+
+-- ---- all rounds
+
+-- from this state the rounds of these lanes settled one after another, each on the state that the one before led to, and the
+-- last leads to this one
+abbrev pub RoundsSettled : World → List (List Given) → List RoundLeft → World → Type 0
+RoundsSettled w [] [] last = last ≡ w
+RoundsSettled w [] (round ∷ rounds) last = ⊥
+RoundsSettled w (lanes ∷ more) [] last = ⊥
+RoundsSettled w (lanes ∷ more) (round ∷ rounds) last = (next : World) × RoundRan w lanes round (Some next) × RoundsSettled next more rounds last
+
+-- from this state the rounds of these lanes ran one after another, each on the state that the one before led to; none ran
+-- behind one that doesn't settle
+abbrev pub RoundsRan : World → List (List Given) → List RoundLeft → Type 0
+RoundsRan w [] [] = Unit {0}
+RoundsRan w [] (round ∷ rounds) = ⊥
+RoundsRan w (lanes ∷ more) [] = ⊥
+RoundsRan w (lanes ∷ more) (round ∷ rounds) =
+    ((next : World) × RoundRan w lanes round (Some next) × RoundsRan next more rounds)
+    ⊎ (RoundRan w lanes round None × (rounds ≡ []))

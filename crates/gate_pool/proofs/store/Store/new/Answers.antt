@@ -1,0 +1,23 @@
+use Rattle.std.proofs.Common.{refl, ap, [], length, arith}
+use Rattle.std.specs.Map.{lookup}
+use Rattle.std.specs.Str.{bytes_eq}
+use Rattle.gate_graph.proofs.Members.{not_in_none}
+use Rattle.gate_tx.specs.Coins.{point_eq}
+use Rattle.indexmap.specs.IndexMap.{get}
+use Rattle.gate_pool.specs.Keeping.{entries_in}
+use Rattle.gate_pool.proofs.Carrying.{IsCarried-of}
+use Rattle.gate_pool.proofs.Found.{IsIndexed-none, IsIndexed-same}
+use Rattle.gate_pool.proofs.Readiness.{HasRoom-none}
+use Rattle.gate_pool.proofs.store.Store.new.Goals as goal
+
+pub invariant_of-result : goal.invariant_of-result
+invariant_of-result g c = (
+  IsCarried-of c.new.result.nodes [] c.new.ensures (λ e m. not_in_none e m),
+  IsIndexed-same
+      (IsIndexed-none (get bytes_eq c.with_hasher.result) (get point_eq c.with_hasher-2.result) (λ k. ap (lookup (bytes_eq k)) c.with_hasher.ensures.empty) (λ k. ap (lookup (point_eq k)) c.with_hasher-2.ensures.empty))
+      (ap entries_in c.new.ensures) (λ k. refl) (λ k. refl),
+  HasRoom-none c.new-3.ensures.len (omega (arith, ap (λ l. length (entries_in l)) c.new.ensures)) (omega (arith, ap (λ l. length (entries_in l)) c.new.ensures)),
+)
+
+pub returns-clause-entries : goal.returns-clause-entries
+returns-clause-entries g c = ap entries_in c.new.ensures

@@ -1,0 +1,346 @@
+ghost use Rattle.std.specs.Prelude.{◌≡◌, ◌<◌, ◌≤◌, ◌^◌, ◌++◌, ◌∷◌, Bool, List, ℕ, [], not, filter, length, is_some, IfOk, IfSome, IfNone, OnOk, Contains, None, true, false};
+ghost use Rattle.std.specs.List.Sorted.{IsPermutation};
+ghost use Rattle.std.specs.Option.{option_copied};
+ghost use Rattle.std.specs.Vec.{vec_capacity};
+ghost use Rattle.gate_tx.specs.declared.TxIn.{TxIn as Input};
+ghost use Rattle.gate_tx.specs.declared.OutPoint.{OutPoint as Point};
+ghost use Rattle.gate_tx.specs.Coins.{spends};
+ghost use Rattle.gate_pool.specs.Pool.{Admitted, entry_by_txid, entry_by_wtxid, spender_of, has_txid, listing_of, size_of};
+ghost use Rattle.gate_pool.specs.Keeping.{IsNew};
+ghost use Rattle.gate_pool.specs.Family.{names, children_of, spends_one_of, totals_of, without_family, without_below, AreIdsOf};
+ghost use Rattle.gate_pool.specs.Scores.{AreBounded, least_of};
+ghost use Rattle.gate_pool.specs.Distinct.{AreDistinct};
+ghost use Rattle.gate_pool.specs.Search.{IsChild};
+
+use crate::choice::Test;
+use crate::closures::Sums;
+use crate::entry::{Entry, MOST_ENTRIES};
+use crate::naming::{list_parents, node_id, txids_of};
+use crate::places::{drop_each, drop_entry, put_entry};
+use crate::reading::{choose, index_each, oldest_of, sort_by_place, txids_in};
+use crate::scores::Score;
+use gate_bytes::{Kept, Memory};
+use gate_graph::{NodeId, Nodes, Totals};
+use gate_tx::{OutPoint, TxIn, Txid, Wtxid};
+use indexmap::IndexMap;
+use std::alloc::Global;
+use std::hash::BuildHasher;
+use std::marker::Model;
+
+/// Entries in order of admission, each with its families, found by their ids and by what they spend.
+#[derive(Drop)]
+pub(crate) struct Store<S: BuildHasher + Copy + Drop> {
+    /// Each entry with its families: a node that names the transactions whose outputs it spends.
+    nodes: Nodes<Entry, S>,
+    /// The entry that has a witness id, by its id.
+    wtxids: IndexMap<Wtxid, Txid, S>,
+    /// The entry that spends an outpoint, by its id.
+    spent: IndexMap<OutPoint, Txid, S>,
+    /// Room for what the next entry names.
+    parents: Vec<NodeId>,
+    /// Room for entries that go; none is there between calls.
+    gone: Vec<Entry>,
+    room: usize,
+}
+
+impl<S: BuildHasher + Copy + Drop> Model for Store<S> {
+    ghost use Rattle.std.specs.Prelude.{length};
+    ghost use Rattle.std.specs.Str.{bytes_eq};
+    ghost use Rattle.std.specs.Vec.{vec_len, vec_capacity};
+    ghost use Rattle.gate_tx.specs.Coins.{point_eq};
+    ghost use Rattle.indexmap.specs.IndexMap.{get, spare};
+    ghost use Rattle.gate_pool.specs.Pool.{Pooled};
+    ghost use Rattle.gate_pool.specs.Keeping.{entries_in, IsCarried, IsIndexed, HasRoom};
+
+    ghost Value = { Pooled };
+
+    ghost view = { λ s. record { entries = entries_in s.nodes.nodes; room = s.room } };
+
+    ghost invariant = { λ s. IsCarried s.nodes.nodes × IsIndexed (entries_in s.nodes.nodes) (get bytes_eq s.wtxids) (get point_eq s.spent) × HasRoom s.room (length (entries_in s.nodes.nodes)) s.nodes.room (spare s.wtxids) (spare s.spent) (vec_capacity s.parents) (vec_len s.gone) (vec_capacity s.gone) };
+}
+
+impl<S: BuildHasher + Copy + Drop> Store<S> {
+    /// No entries, in tables that hash by what is handed in.
+    pub(crate) fn new(alloc: Global, hasher: S) -> Store<S>
+        ensures entries { result.entries ≡ [] }
+        ensures room { result.room ≡ 0 }
+    {
+        Store {
+            nodes: Nodes::new(alloc, hasher),
+            wtxids: IndexMap::with_hasher(alloc, hasher),
+            spent: IndexMap::with_hasher(alloc, hasher),
+            parents: Vec::new(alloc),
+            gone: Vec::new(alloc),
+            room: 0,
+        }
+    }
+
+    pub(crate) fn entry(&self, txid: &Txid) -> Option<&Entry>
+        ensures { option_copied result ≡ entry_by_txid self.now.entries txid.now }
+    {
+        self.nodes.load(&node_id(txid))
+    }
+
+    pub(crate) fn by_wtxid(&self, wtxid: &Wtxid) -> Option<&Entry>
+        ensures { option_copied result ≡ entry_by_wtxid self.now.entries wtxid.now }
+    {
+        match self.wtxids.get(wtxid) {
+            Some(txid) => self.entry(txid),
+            None => None,
+        }
+    }
+
+    pub(crate) fn spender(&self, point: &OutPoint) -> Option<&Entry>
+        ensures { option_copied result ≡ spender_of self.now.entries point.now }
+    {
+        match self.spent.get(point) {
+            Some(txid) => self.entry(txid),
+            None => None,
+        }
+    }
+
+    pub(crate) fn totals(&self, txid: &Txid) -> Option<&Totals>
+        ensures found { is_some result ≡ is_some (entry_by_txid self.now.entries txid.now) }
+        ensures totals { IfSome result (λ totals. totals.now ≡ totals_of self.now.entries txid.now) }
+        ensures small { IfSome result (λ totals. totals.now.below.size < 2 ^ 100) }
+    {
+        self.nodes.totals(&node_id(txid))
+    }
+
+    pub(crate) fn count(&self) -> usize
+        ensures { result ≡ length self.now.entries }
+    {
+        self.nodes.count()
+    }
+
+    pub(crate) fn size(&self) -> u128
+        ensures { result ≡ size_of self.now.entries }
+    {
+        self.nodes.size()
+    }
+
+    pub(crate) fn listing(&self, alloc: Global) -> Result<Kept<Txid>, Memory>
+        ensures { IfOk result (λ txids. txids ≡ listing_of self.now.entries) }
+    {
+        let txids = txids_in(alloc, self.nodes.as_slice(), self.count())?;
+        Ok(Kept::from_vec(txids))
+    }
+
+    pub(crate) fn sort_by_admission(&self, txids: &mut [Txid])
+        ensures order { (test : Admitted → Bool) → AreIdsOf txids.old (filter test self.now.entries) → txids.new ≡ listing_of (filter test self.now.entries) }
+        ensures same { IsPermutation txids.old txids.new }
+        ensures len { length txids.new ≡ length txids.old }
+    {
+        let _slots = self.nodes.as_slice();
+        sort_by_place(&self.nodes, txids);
+    }
+
+    /// The ids of the entries that spend outputs of a transaction.
+    pub(crate) fn children(&self, alloc: Global, txid: &Txid) -> Result<Vec<Txid>, Memory>
+        ensures { IfOk result (λ ids. AreIdsOf ids.items (children_of self.now.entries txid.now)) }
+    {
+        let found = self.nodes.children(alloc, &node_id(txid))?;
+        txids_of(alloc, found.as_slice())
+    }
+
+    /// The second at which the oldest entry was admitted, and the last second of all where there is none.
+    pub(crate) fn oldest(&self) -> u64
+        ensures { (e : Admitted) → Contains self.now.entries e → result ≤ e.time }
+    {
+        oldest_of(self.nodes.as_slice())
+    }
+
+    /// The least score of all, of equals that of the entry which was admitted last.
+    fn least(&self) -> Option<Score>
+        ensures value { result ≡ least_of self.now.entries }
+        ensures bounded { IfSome result (λ score. AreBounded score.family) }
+    {
+        match self.nodes.least() {
+            Some(held) => Some(Score::of(&held.load, Sums::from(held.totals.below))),
+            None => None,
+        }
+    }
+
+    /// The ids of the entries that pass a test, in a list with room.
+    pub(crate) fn choose<T: Test>(&self, test: &T, chosen: &mut Vec<NodeId>)
+        requires { length self.now.entries ≤ vec_capacity chosen.old }
+        ensures ids { chosen.new.items ≡ listing_of (filter (T.chosen test.now) self.now.entries) }
+        ensures capacity { vec_capacity chosen.new ≡ vec_capacity chosen.old }
+    {
+        choose(self.nodes.as_slice(), test, chosen);
+    }
+
+    /// The state that the hashers are made from.
+    pub(crate) fn hasher(&self) -> S {
+        *self.wtxids.hasher()
+    }
+
+    pub(crate) fn allocator(&self) -> Global {
+        *self.wtxids.allocator()
+    }
+
+    /// That no two entries share an id or spend one outpoint: it does nothing.
+    pub(crate) fn tells_distinct(&self)
+        ensures { AreDistinct self.now.entries }
+    {
+        let _room = self.room;
+    }
+
+    /// Takes the memory for an entry of this many inputs. Where there are `MOST_ENTRIES` entries there is none for another.
+    pub(crate) fn reserve(&mut self, inputs: usize) -> Result<(), Memory>
+        ensures entries { self.new.entries ≡ self.old.entries }
+        ensures room { OnOk result (inputs < self.new.room) }
+    {
+        self.room = 0;
+        let Some(room) = inputs.checked_add(1) else {
+            return Err(Memory);
+        };
+        let count = self.nodes.count();
+        if count >= MOST_ENTRIES {
+            return Err(Memory);
+        }
+        self.gone.reserve(count + 1)?;
+        self.parents.clear();
+        self.parents.reserve(inputs)?;
+        self.wtxids.reserve(1)?;
+        self.spent.reserve(inputs)?;
+        self.nodes.reserve(inputs)?;
+        self.room = room;
+        Ok(())
+    }
+
+    /// Puts an entry at the end, for which there is room.
+    pub(crate) fn put(&mut self, entry: Entry)
+        requires room { length entry.tx.inputs < self.old.room }
+        requires new { IsNew self.old.entries entry }
+        ensures { self.new.entries ≡ self.old.entries ++ entry ∷ [] }
+    {
+        self.room = 0;
+        entry.tells_bounds();
+        put_entry(&mut self.wtxids, &mut self.spent, &entry);
+        list_parents(&mut self.parents, entry.transaction().inputs());
+        let none = Vec::new(*self.wtxids.allocator());
+        let parents = std::mem::replace(&mut self.parents, none);
+        let id = node_id(&entry.txid());
+        let size = entry.vsize();
+        let fee = entry.fee();
+        self.nodes.put(id, parents, size, fee, entry);
+    }
+
+    /// Takes out the entry of an id and all that is below the id.
+    pub(crate) fn take_out(&mut self, id: &NodeId)
+        ensures rest { self.new.entries ≡ without_family self.old.entries id.now }
+        ensures room { self.new.room ≡ self.old.room }
+    {
+        self.nodes.take_family(id, &mut self.gone);
+        drop_each(&mut self.wtxids, &mut self.spent, self.gone.as_slice());
+        self.gone.clear();
+    }
+
+    /// Takes out the entry that spends an outpoint, and all below it.
+    fn take_spender(&mut self, point: &OutPoint)
+        ensures rest { (test : Admitted → Bool) → ((e : Admitted) → spends e.tx.inputs point.now ≡ true → test e ≡ true) → without_below test self.new.entries ≡ without_below test self.old.entries }
+        ensures gone { spender_of self.new.entries point.now ≡ None }
+        ensures still { (p : Point) → spender_of self.old.entries p ≡ None → spender_of self.new.entries p ≡ None }
+        ensures room { self.new.room ≡ self.old.room }
+    {
+        self.tells_distinct();
+        match self.spender(point) {
+            Some(entry) => {
+                let id = node_id(&entry.txid());
+                self.take_out(&id);
+            }
+            None => {}
+        }
+    }
+
+    /// Takes out the entries that spend what the inputs spend, and all below them.
+    pub(crate) fn take_conflicts(&mut self, inputs: &[TxIn])
+        ensures rest { self.new.entries ≡ without_below (spends_one_of inputs.now) self.old.entries }
+        ensures gone { (i : Input) → Contains inputs.now i → spender_of self.new.entries i.prevout ≡ None }
+        ensures room { self.new.room ≡ self.old.room }
+    {
+        for input in inputs {
+            self.take_spender(&input.prevout);
+        }
+    }
+
+    /// The id of an entry that spends outputs of a transaction, whether that is an entry or not.
+    fn child(&self, id: &NodeId) -> Option<NodeId>
+        ensures some { IfSome result (λ child. IsChild self.now.entries id.now child) }
+        ensures none { IfNone result ((e : Admitted) → Contains self.now.entries e → names e id.now ≡ false) }
+    {
+        self.nodes.child(id).copied()
+    }
+
+    /// Takes out the entries that spend outputs of a transaction, whether that is an entry or not, and all below them.
+    pub(crate) fn take_children(&mut self, txid: &Txid)
+        ensures { self.new.entries ≡ without_below (λ e. names e txid.now) self.old.entries }
+    {
+        let id = node_id(txid);
+        while let Some(child) = self.child(&id) {
+            self.take_out(&child);
+        }
+    }
+
+    /// Takes out the entries that were chosen, and all below them.
+    pub(crate) fn take_chosen(&mut self, chosen: &[NodeId])
+        ensures { (test : Admitted → Bool) → chosen.now ≡ listing_of (filter test self.old.entries) → self.new.entries ≡ without_below test self.old.entries }
+    {
+        for id in chosen {
+            self.take_out(id);
+        }
+    }
+
+    /// Takes out the entry of an id alone.
+    pub(crate) fn take_one(&mut self, txid: &Txid)
+        ensures { self.new.entries ≡ filter (λ e. not (has_txid e txid.now)) self.old.entries }
+    {
+        self.room = 0;
+        match self.nodes.take_one(&node_id(txid)) {
+            Some(entry) => drop_entry(&mut self.wtxids, &mut self.spent, &entry),
+            None => {}
+        }
+    }
+
+    /// Closes holes where they are more than half, gives up the room that was taken, and tells the least score.
+    pub(crate) fn settle(&mut self) -> Option<Score>
+        ensures entries { self.new.entries ≡ self.old.entries }
+        ensures room { self.new.room ≡ 0 }
+        ensures value { result ≡ least_of self.old.entries }
+        ensures bounded { IfSome result (λ score. AreBounded score.family) }
+    {
+        self.tidy();
+        self.least()
+    }
+
+    /// Closes holes where they are more than half, and gives up the room that was taken.
+    fn tidy(&mut self)
+        ensures entries { self.new.entries ≡ self.old.entries }
+        ensures room { self.new.room ≡ 0 }
+    {
+        self.room = 0;
+        self.nodes.tidy();
+    }
+
+    /// The same entries, in tables that hash alike. The transactions are shared, and no totals are found anew.
+    pub(crate) fn copy(&self, alloc: Global) -> Result<Store<S>, Memory>
+        ensures entries { IfOk result (λ copy. copy.entries ≡ self.now.entries) }
+        ensures room { IfOk result (λ copy. copy.room ≡ 0) }
+    {
+        let mut wtxids = IndexMap::with_hasher(alloc, self.hasher());
+        let mut spent = IndexMap::with_hasher(alloc, self.hasher());
+        self.tells_distinct();
+        index_each(self.nodes.as_slice(), &mut wtxids, &mut spent)?;
+        let gone = Vec::with_capacity(alloc, self.count())?;
+        let nodes = self.nodes.copy(alloc)?;
+        Ok(Store {
+            nodes,
+            wtxids,
+            spent,
+            parents: Vec::new(alloc),
+            gone,
+            room: 0,
+        })
+    }
+}
