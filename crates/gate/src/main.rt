@@ -6,7 +6,7 @@
 use gate_causes::{Behind, Heard, Limit, Place, Watched, digits_told, refusal_told};
 use gate_explain::{Telling, run_gate_explained};
 use gate_prog::{ArgsFault, Job, LaneFault, read_args, run_job};
-use std::alloc::{AllocError, AllocFailed};
+use std::alloc::{AllocError, AllocFailed, Global};
 use std::fs::Files;
 use std::hash::RandomState;
 use std::io::{BufReader, BufWriter, ErrorKind, IsTerminal};
@@ -223,6 +223,13 @@ fn run_told<
     Ok(status)
 }
 
+/// What these words ask for.
+// Where it stood within its caller, what it takes of the stack would lie below each job.
+#[inline(never)]
+fn job_of<'a>(alloc: Global, words: &'a [&'a str]) -> Result<Job, ArgsFault> {
+    read_args(alloc, words)
+}
+
 /// The status of what these words ask for.
 fn answer<
     R: AllocGlobal + Files + Clock + Input + Print + Eprint + RandomSource + Threads + Wait + Sync,
@@ -235,7 +242,7 @@ fn answer<
     if asks_for_help(args) {
         words.truncate(1);
     }
-    match read_args(alloc, words.as_slice()) {
+    match job_of(alloc, words.as_slice()) {
         Ok(job) => run_told(rt, &job, terminals),
         Err(ArgsFault::Help(text)) => printed(rt.print(text), 0),
         Err(ArgsFault::Usage(text)) => printed(rt.eprint(text), 2),

@@ -173,6 +173,8 @@ fn run_explained<T: Clock + Eprint, S: BuildHasher + Copy + Drop, R: Source, W: 
 /// Opens a gate from the front of the input, and runs a lane over the rest, as `run_gate` of `gate_prog` does: what is written
 /// is the same. What it says on standard error of denials, by the line where the reader stands, is by its form apart from
 /// that: it is given each state to read alone.
+// Where it stood within its caller, other jobs would keep its part of the stack, too.
+#[inline(never)]
 pub fn run_gate_explained<T: Clock + Eprint, S: BuildHasher + Copy + Drop, R: Source, W: Sink>(
     rt: &T,
     alloc: Global,
