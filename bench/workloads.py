@@ -242,7 +242,7 @@ def trimming(pool):
     """A pool at its budget: each submission pays a little more than the least entry, which then goes."""
 
     def make(count):
-        before = (submission(payment(number, 2000 + number)) for number in range(1, pool + 1))
+        before = (submission(payment(number, 2000 + min(number, 90000))) for number in range(1, pool + 1))
         events = (submission(payment(pool + number, 2120 + number)) for number in range(1, count + 1))
         return opened(coins(pool + count), before, pool * SIZE), events
 
@@ -366,13 +366,13 @@ def admissions():
         grown("a replacement", replacements, 200, 5000, "admitted", "the same in any pool"),
         grown("a replacement of a chain of 25", replacements_of_chains, 10, 200, "admitted", "within 1.5 in any pool"),
         Stream("a replacement of 100 entries", replacements_of_many, 5, 50, "admitted"),
-        *(trimmed(pool, count) for pool, count in ((1000, 20), (10000, 5))),
+        *(trimmed(pool, count) for pool, count in ((1000, 200), (10000, 200), (100000, 1000))),
     ]
 
 
 def trimmed(pool, count):
     name = "a submission to a full pool of %s entries, of which one goes" % format(pool, ",")
-    return Stream(name, trimming(pool), count, 5 * count, "admitted", limit="1.5 times an independent one, in any pool")
+    return Stream(name, trimming(pool), count, 20 * count, "admitted", limit="1.5 times an independent one, in any pool")
 
 
 def answers():

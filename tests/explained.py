@@ -232,6 +232,19 @@ def test_replaced_by_a_call(gate):
     same("the summary", last, "gate: 3 events: 2 admitted, 1 replaced, 0 denied, 0 refused lines; pool 1 entries, 82 of 300000000 virtual bytes, floor 0")
 
 
+def all_told(terminal):
+    """What was written to a terminal that nobody has open any more."""
+    told = b""
+    while True:
+        try:
+            part = os.read(terminal, 10000)
+        except OSError:
+            return told.decode()
+        if not part:
+            return told.decode()
+        told += part
+
+
 def test_progress(gate):
     """At a terminal a run that takes more than five seconds says how far it is. It waits here for its replies to be read."""
     ours, theirs = os.openpty()
@@ -242,7 +255,7 @@ def test_progress(gate):
             os.close(theirs)
             time.sleep(5.5)
             replies, _ = running.communicate(timeout=SECONDS)
-    told = os.read(ours, 10000).decode().splitlines()
+    told = all_told(ours).splitlines()
     os.close(ours)
     same("replies", replies, 60000 * b"set\n")
     true("progress and a summary: %r" % told, len(told) == 2)

@@ -4,7 +4,7 @@ ghost use Rattle.std.specs.Prelude.{◌≡◌};
 use crate::passes::{Hasher, called, opened};
 use gate_bytes::Memory;
 use gate_core::{Caller, Event, State};
-use gate_shared::{Base, FinishFault, Gate, Pass, SettleFault, Unsettled, finish};
+use gate_shared::{Base, FinishFault, Gate, Pass, SettleFault, Settled, Unsettled, finish};
 use std::alloc::Global;
 use std::marker::Brand;
 use std::sync::Wait;
@@ -98,6 +98,11 @@ fn a_gate_goes_on_where_a_pass_is_lacking(rt: HostRuntime) -> Result<(), Fail> {
     Ok(())
 }
 
+/// How many calls settled, and the floor of the state.
+fn count_and_floor(end: &(Settled, State<Hasher>)) -> (u64, u64) {
+    (end.0.count, end.1.floor().rate())
+}
+
 /// How many calls settle at the end of a gate, and the floor that it has then.
 fn finished<N: Base>(
     alloc: Global,
@@ -105,8 +110,15 @@ fn finished<N: Base>(
     passes: Vec<Pass<N>>,
 ) -> Option<(u64, u64)> {
     match finish(alloc, gate, passes) {
-        Ok((settled, state)) => Some((settled.count, state.floor().rate())),
-        Err(_) => None,
+        Ok(end) => {
+            let told = count_and_floor(&end);
+            drop(end);
+            Some(told)
+        }
+        Err(fault) => {
+            drop(fault);
+            None
+        }
     }
 }
 
