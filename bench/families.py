@@ -123,7 +123,7 @@ class Sized:
 
         return [self.stream(make, self.many, "admitted", self.size, self.size)]
 
-    def asked(self, event, wanted, parts=1, counted=10, limit=1000):
+    def asked(self, event, wanted, parts=1, counted=100, limit=1000):
         """An event again and again, over some thousand entries. It is told the first of the families."""
 
         def make(count):
