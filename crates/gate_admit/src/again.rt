@@ -76,7 +76,7 @@ fn fits_with<V: FamilyView>(
     ensures { IfOk result (λ fits. fits ≡ fits_again policy.now (V.entries pool.now) newcomer.now.tx newcomer.now.vsize) }
 {
     let joined = Joined::new(pool, newcomer);
-    joined.tells_apart();
+    joined.recall_apart();
     let txid = newcomer.txid();
     let inputs = newcomer.transaction().inputs();
     let Some(above) = ancestors(alloc, &joined, inputs, policy.most_ancestors())? else {

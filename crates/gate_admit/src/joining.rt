@@ -69,7 +69,7 @@ impl<'a, V: FamilyView> FamilyView for Joined<'a, V> {
         Ok(children)
     }
 
-    fn tells_apart(&self) {
-        self.pool.tells_apart();
+    fn recall_apart(&self) {
+        self.pool.recall_apart();
     }
 }

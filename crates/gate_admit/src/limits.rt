@@ -56,7 +56,7 @@ fn first_limits<S: BuildHasher + Copy + Drop>(
     ensures small { result.descendants_size < 2 ^ 101 }
     ensures few { result.descendants ≤ 1001 }
 {
-    policy.tells_bounds();
+    policy.recall_bounds();
     let usual = usual_limits(policy);
     let Some(conflict) = direct.only() else {
         return usual;
@@ -176,7 +176,7 @@ fn check_first<S: BuildHasher + Copy + Drop>(
 ) -> Result<Option<Denial>, Memory>
     ensures { IfOk result (λ found. found ≡ first_failing (limit_rules First policy.now direct.now.entries direct.now.tx vsize)) }
 {
-    policy.tells_bounds();
+    policy.recall_bounds();
     let Some(above) = ancestors_of(alloc, direct, policy.most_ancestors())? else {
         return Ok(Some(Denial::TooLongChain));
     };

@@ -53,7 +53,7 @@ impl Policy {
     }
 
     /// The bounds of its numbers: it does nothing.
-    pub fn tells_bounds(&self)
+    pub fn recall_bounds(&self)
         ensures { IsPolicy self.now }
     {
         let _ancestors = self.ancestors;

@@ -95,7 +95,7 @@ fn sigop_cost(tx: &Transaction, answers: &[Answers]) -> u128
     requires { length answers.now ≡ length tx.now.inputs }
     ensures { result ≡ sigop_cost answers.now tx.now.outputs }
 {
-    tx.tells_invariant();
+    tx.recall_invariant();
     let mut cost: u128 = 0;
     for answer in answers {
         cost += u128::from(answer.sigop_cost);

@@ -103,7 +103,7 @@ fn enter<S: BuildHasher + Copy + Drop>(
     if !found {
         return Err(ChainFault::Denied(ChainDenial::BlockInputs));
     }
-    tx.tells_invariant();
+    tx.recall_invariant();
     match make(alloc, coins, id, height, coinbase, tx.outputs()) {
         Ok(()) => {
             note(txids, id);

@@ -44,7 +44,7 @@ pub fn steps_give_the_run()
 {}
 
 /// From a good state, a run whose transactions are told apart by their ids ends in a good state, whatever was answered.
-/// That the transactions of an event have a text is told by `Event::tells_spelled`.
+/// That the transactions of an event have a text is told by `Event::recall_spelled`.
 pub fn runs_end_good()
     ensures { RunsEndGood }
 {}

@@ -230,7 +230,7 @@ impl<S: BuildHasher + Copy + Drop> State<S> {
         ensures err { OnErr result (self.new ≡ self.old) }
         ensures exact { IfOk result (λ reply. (reply, self.new) ≡ step_of self.old event.now) }
     {
-        event.tells_spelled();
+        event.recall_spelled();
         let reply = self.apply(alloc, event)?;
         Ok(reply)
     }
@@ -251,7 +251,7 @@ impl<S: BuildHasher + Copy + Drop> State<S> {
         ensures copies { IfOk result AreCopies }
         ensures err { OnErr result (self.new ≡ self.old) }
     {
-        event.tells_spelled();
+        event.recall_spelled();
         let replies = self.record(alloc, event, prepared)?;
         Ok(replies)
     }

@@ -89,7 +89,7 @@ fn count_below_all<S: BuildHasher + Copy + Drop>(pool: &Pool<S>, ids: &[Txid]) -
     requires { (test : Admitted → Bool) × AreIdsOf ids.now (filter test pool.now.entries) }
     ensures { (test : Admitted → Bool) → AreIdsOf ids.now (filter test pool.now.entries) → result ≡ descendant_count pool.now.entries (filter test pool.now.entries) }
 {
-    pool.tells_distinct();
+    pool.recall_distinct();
     let mut sum: u128 = 0;
     for id in ids {
         sum += u128::from(count_below(pool, id));

@@ -73,7 +73,7 @@ fn coins_value(coins: &[LentCoin<'_>]) -> u128
 fn outputs_value(tx: &Transaction) -> u128
     ensures { result ≡ outputs_value tx.now }
 {
-    tx.tells_invariant();
+    tx.recall_invariant();
     let mut sum: u128 = 0;
     for output in tx.outputs() {
         sum += output_amount(output);
@@ -107,7 +107,7 @@ fn sigop_cost(tx: &Transaction, answers: &[Answers]) -> u128
     requires { length answers.now ≤ length tx.now.inputs }
     ensures { result ≡ sigop_cost answers.now tx.now.outputs }
 {
-    tx.tells_invariant();
+    tx.recall_invariant();
     let mut cost: u128 = 0;
     for answer in answers {
         cost += u128::from(answer.sigop_cost);

@@ -26,7 +26,7 @@ pub(crate) fn doubted<S: BuildHasher + Copy + Drop>(
 {
     let wtxid = tx.wtxid();
     let transaction = tx.transaction();
-    transaction.tells_invariant();
+    transaction.recall_invariant();
     let mut input = 0u32;
     for _input in transaction.inputs() {
         if !is_good(verdicts.on(&wtxid, input)) {

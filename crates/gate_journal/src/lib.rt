@@ -14,4 +14,4 @@ pub use entry::Entry;
 pub use journal::{Journal, MAX_ENTRIES};
 pub use law::{legal_journals_begin_legal, legal_journals_go_on, rounds_are_one_journal};
 pub use replay::replay_check;
-pub use spelling::tells_spelled;
+pub use spelling::recall_spelled;

@@ -6,10 +6,10 @@ ghost use Rattle.gate_journal.specs.Legal.{events_of};
 use crate::entry::Entry;
 
 /// That the transactions of these entries have texts, as laws on runs ask of events: it does nothing.
-pub fn tells_spelled(entries: &[Entry])
+pub fn recall_spelled(entries: &[Entry])
     ensures { All IsSpelled (events_of entries.now) }
 {
     for entry in entries {
-        entry.event.tells_spelled();
+        entry.event.recall_spelled();
     }
 }

@@ -45,7 +45,7 @@ fn pieces_of(
     let identified = candidate.identified().get();
     let wtxid = identified.wtxid();
     let transaction = identified.transaction();
-    transaction.tells_invariant();
+    transaction.recall_invariant();
     let inputs = transaction.inputs();
     let mut coins = coins.into_iter();
     let mut pieces = Vec::new(alloc);

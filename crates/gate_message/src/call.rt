@@ -104,12 +104,12 @@ impl Call {
     ghost use Rattle.gate_message.specs.Spelled.{offered};
 
     /// That the transaction that it offers has a text: it does nothing.
-    pub(crate) fn tells_spelled(&self)
+    pub(crate) fn recall_spelled(&self)
         ensures { IfSome (offered (request_of self.now.json)) IsTx }
     {
         if let Ok(request) = &self.request {
             if let Command::SendRawTransaction(transaction) = &request.command {
-                transaction.tells_spelled();
+                transaction.recall_spelled();
             }
         }
     }

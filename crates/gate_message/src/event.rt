@@ -7,7 +7,7 @@ use crate::switch::Switch;
 use gate_bytes::{Copied, Counted, Kept, Memory, Text};
 use gate_chain::Block;
 use gate_net::Address;
-use gate_submission::{Prepared, tells_spelled};
+use gate_submission::{Prepared, recall_spelled};
 use std::alloc::Global;
 
 /// One request to the gate. A peer is named by a number that its first `Enter` takes for good.
@@ -142,13 +142,13 @@ impl Event {
     ghost use Rattle.gate_message.specs.Spelled.{IsSpelled};
 
     /// That its transactions have a text: it does nothing.
-    pub fn tells_spelled(&self)
+    pub fn recall_spelled(&self)
         ensures { IsSpelled self.now }
     {
         match self {
-            Event::Tx { transaction, .. } => transaction.tells_spelled(),
-            Event::Rpc(call) => call.get().tells_spelled(),
-            Event::Chain { blocks, .. } => tells_spelled(blocks.as_slice()),
+            Event::Tx { transaction, .. } => transaction.recall_spelled(),
+            Event::Rpc(call) => call.get().recall_spelled(),
+            Event::Chain { blocks, .. } => recall_spelled(blocks.as_slice()),
             _ => (),
         }
     }

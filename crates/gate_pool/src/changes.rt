@@ -54,7 +54,7 @@ impl<S: BuildHasher + Copy + Drop> Pool<S> {
         requires { IsSome (entry_by_txid self.now.entries txid.now) }
         ensures { IfOk result (λ txids. txids.items ≡ listing_of (descendants_of self.now.entries txid.now)) }
     {
-        self.tells_distinct();
+        self.recall_distinct();
         let found = descendants(alloc, self, &[*txid], self.count())?;
         let mut txids = found.unwrap();
         self.sort_by_admission(txids.as_mut_slice());

@@ -108,7 +108,7 @@ pub fn ancestors<V: FamilyView>(
     ensures few { IfOk result (λ found. IfSome found (λ ids. vec_len ids ≤ most)) }
     ensures many { IfOk result (λ found. found ≡ None → most < length (ancestors_above (V.entries pool.now) inputs.now)) }
 {
-    pool.tells_apart();
+    pool.recall_apart();
     let mut found = Vec::new(alloc);
     if !add_parents(pool, &mut found, inputs, most)? {
         return Ok(None);
@@ -135,7 +135,7 @@ pub fn ancestors_with<V: FamilyView>(
     ensures found { IfOk result (λ found. IfSome found (λ ids. AreIdsOf ids.items (ancestors_of (V.entries pool.now) txid.now))) }
     ensures many { IfOk result (λ found. found ≡ None → most < length (ancestors_of (V.entries pool.now) txid.now)) }
 {
-    pool.tells_apart();
+    pool.recall_apart();
     let entry = pool.entry(txid).unwrap();
     let Some(mut found) = ancestors(alloc, pool, entry.transaction().inputs(), most)? else {
         return Ok(None);
@@ -181,7 +181,7 @@ pub fn add_up<V: FamilyView>(pool: &V, ids: &[Txid]) -> Sums
     ensures sums { (test : Admitted → Bool) → AreIdsOf ids.now (filter test (V.entries pool.now)) → result ≡ sums_of (filter test (V.entries pool.now)) }
     ensures small { result.size < 2 ^ 100 }
 {
-    pool.tells_apart();
+    pool.recall_apart();
     let mut sums = Sums {
         count: 0,
         size: 0,

@@ -51,7 +51,7 @@ impl Entry {
     }
 
     /// The bounds of its numbers: it does nothing.
-    pub fn tells_bounds(&self)
+    pub fn recall_bounds(&self)
         ensures { IsBounded self.now }
     {
         let _fee = self.fee;

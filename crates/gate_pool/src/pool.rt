@@ -124,10 +124,10 @@ impl<S: BuildHasher + Copy + Drop> Pool<S> {
     }
 
     /// That no two entries share an id or spend one outpoint: it does nothing.
-    pub fn tells_distinct(&self)
+    pub fn recall_distinct(&self)
         ensures { AreDistinct self.now.entries }
     {
-        self.store.tells_distinct();
+        self.store.recall_distinct();
     }
 
     /// Takes the memory for an entry of this many inputs. A pool of `MOST_ENTRIES` entries has none for another.
@@ -247,7 +247,7 @@ impl<S: BuildHasher + Copy + Drop> FamilyView for Pool<S> {
         self.store.children(alloc, txid)
     }
 
-    fn tells_apart(&self) {
-        self.store.tells_distinct();
+    fn recall_apart(&self) {
+        self.store.recall_distinct();
     }
 }

@@ -180,7 +180,7 @@ impl<S: BuildHasher + Copy + Drop> Store<S> {
     }
 
     /// That no two entries share an id or spend one outpoint: it does nothing.
-    pub(crate) fn tells_distinct(&self)
+    pub(crate) fn recall_distinct(&self)
         ensures { AreDistinct self.now.entries }
     {
         let _room = self.room;
@@ -216,7 +216,7 @@ impl<S: BuildHasher + Copy + Drop> Store<S> {
         ensures { self.new.entries ≡ self.old.entries ++ entry ∷ [] }
     {
         self.room = 0;
-        entry.tells_bounds();
+        entry.recall_bounds();
         put_entry(&mut self.wtxids, &mut self.spent, &entry);
         list_parents(&mut self.parents, entry.transaction().inputs());
         let none = Vec::new(*self.wtxids.allocator());
@@ -244,7 +244,7 @@ impl<S: BuildHasher + Copy + Drop> Store<S> {
         ensures still { (p : Point) → spender_of self.old.entries p ≡ None → spender_of self.new.entries p ≡ None }
         ensures room { self.new.room ≡ self.old.room }
     {
-        self.tells_distinct();
+        self.recall_distinct();
         match self.spender(point) {
             Some(entry) => {
                 let id = node_id(&entry.txid());
@@ -330,7 +330,7 @@ impl<S: BuildHasher + Copy + Drop> Store<S> {
     {
         let mut wtxids = IndexMap::with_hasher(alloc, self.hasher());
         let mut spent = IndexMap::with_hasher(alloc, self.hasher());
-        self.tells_distinct();
+        self.recall_distinct();
         index_each(self.nodes.as_slice(), &mut wtxids, &mut spent)?;
         let gone = Vec::with_capacity(alloc, self.count())?;
         let nodes = self.nodes.copy(alloc)?;

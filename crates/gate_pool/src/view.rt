@@ -22,6 +22,6 @@ pub trait FamilyView {
         ensures { IfOk result (λ ids. AreIdsOf ids.items (children_of (entries self.now) txid.now)) };
 
     /// That no two entries share an id: it does nothing.
-    fn tells_apart(&self)
+    fn recall_apart(&self)
         ensures { AllPairs (λ (a : Admitted) (b : Admitted). txid_of a.tx ≢ txid_of b.tx) (entries self.now) };
 }

@@ -49,7 +49,7 @@ pub(crate) fn with_descendants<S: BuildHasher + Copy + Drop>(
     requires { IsSome (entry_by_txid pool.now.entries txid.now) }
     ensures { IfOk result (λ txids. txids.items ≡ listing_of (descendants_of pool.now.entries txid.now)) }
 {
-    pool.tells_distinct();
+    pool.recall_distinct();
     let found = descendants(alloc, pool, &[*txid], pool.count())?;
     let mut txids = found.unwrap();
     pool.sort_by_admission(txids.as_mut_slice());

@@ -22,7 +22,7 @@ const MIN_RELAY_RATE: u64 = 1_000;
 fn is_signalling<S: BuildHasher + Copy + Drop>(pool: &Pool<S>, txid: &Txid) -> bool
     ensures { result ≡ list_any (λ (e : Admitted). has_txid e txid.now && is_replaceable e) pool.now.entries }
 {
-    pool.tells_distinct();
+    pool.recall_distinct();
     match pool.entry(txid) {
         Some(entry) => signals(entry.transaction()),
         None => false,
@@ -63,7 +63,7 @@ fn info<S: BuildHasher + Copy + Drop>(
     requires { entry_by_txid pool.now.entries txid.now ≡ Some entry.now }
     ensures { IfOk result (λ info. info ≡ info_from pool.now.entries txid.now entry.now) }
 {
-    pool.tells_distinct();
+    pool.recall_distinct();
     let above = with_ancestors(alloc, pool, txid)?;
     let totals = pool.totals(txid).unwrap();
     let is_replaceable = one_signals(pool, above.as_slice());

@@ -22,7 +22,7 @@ fn pays(entry: &Entry, rate: u64) -> bool
 fn is_paying<S: BuildHasher + Copy + Drop>(pool: &Pool<S>, rate: u64, txid: &Txid) -> bool
     ensures { result ≡ list_any (λ (e : Admitted). has_txid e txid.now && pays rate e) pool.now.entries }
 {
-    pool.tells_distinct();
+    pool.recall_distinct();
     match pool.entry(txid) {
         Some(entry) => pays(entry, rate),
         None => false,
@@ -49,7 +49,7 @@ pub fn listing_at<S: BuildHasher + Copy + Drop>(
 ) -> Result<Kept<Txid>, Memory>
     ensures { IfOk result (λ txids. txids ≡ listing_at rate pool.now.entries) }
 {
-    pool.tells_distinct();
+    pool.recall_distinct();
     let txids = pool.listing(alloc)?;
     if rate == 0 {
         return Ok(txids);

@@ -18,7 +18,7 @@ fn admitted<S: BuildHasher + Copy + Drop>(
 ) -> Result<Vec<Txid>, Memory>
     ensures { IfOk result (λ found. AreIdsOf found.items (filter (is_among ids.now) pool.now.entries)) }
 {
-    pool.tells_distinct();
+    pool.recall_distinct();
     let mut found = Vec::new(alloc);
     for id in ids {
         match pool.entry(id) {

@@ -29,7 +29,7 @@ fn has_few_descendants<S: BuildHasher + Copy + Drop>(pool: &Pool<S>, ids: &[Txid
     requires { (test : Admitted → Bool) × AreIdsOf ids.now (filter test pool.now.entries) }
     ensures { (test : Admitted → Bool) → AreIdsOf ids.now (filter test pool.now.entries) → result ≡ not (nat_lt 100 (descendant_count pool.now.entries (filter test pool.now.entries))) }
 {
-    pool.tells_distinct();
+    pool.recall_distinct();
     let mut left = MOST_DESCENDANTS;
     for id in ids {
         let count = count_below(pool, id);

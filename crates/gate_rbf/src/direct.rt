@@ -79,7 +79,7 @@ fn find_rivals<'a, S: BuildHasher + Copy + Drop>(
 ) -> Result<Vec<Rival<'a>>, Memory>
     ensures { IfOk result (λ found. AreThese found.items (conflicts_of pool.now.entries tx.now)) }
 {
-    pool.tells_distinct();
+    pool.recall_distinct();
     let mut found = Vec::new(alloc);
     for input in tx.inputs() {
         match pool.spender(&input.prevout) {
@@ -168,7 +168,7 @@ impl<'a, S: BuildHasher + Copy + Drop> DirectConflicts<'a, S> {
         ensures one { IfSome result (λ txid. (c : Admitted) × (conflicts_of self.now.entries self.now.tx ≡ c ∷ []) × (txid_of c.tx ≡ txid)) }
         ensures other { result ≡ None → (c : Admitted) → conflicts_of self.now.entries self.now.tx ≢ c ∷ [] }
     {
-        self.pool.tells_distinct();
+        self.pool.recall_distinct();
         match self.found.first() {
             Some(rival) => {
                 let txid = rival.txid();
@@ -185,7 +185,7 @@ impl<'a, S: BuildHasher + Copy + Drop> DirectConflicts<'a, S> {
     pub fn has_one_of(&self, ids: &[Txid]) -> bool
         ensures { (test : Admitted → Bool) → AreIdsOf ids.now (filter test self.now.entries) → result ≡ list_any (is_conflict self.now.tx) (filter test self.now.entries) }
     {
-        self.pool.tells_distinct();
+        self.pool.recall_distinct();
         self.found.iter().any(|rival| rival.is_among(ids))
     }
 

@@ -26,7 +26,7 @@ fn spends_from(inputs: &[TxIn], parent: &Txid) -> bool
 fn is_child<S: BuildHasher + Copy + Drop>(pool: &Pool<S>, id: &Txid, parent: &Txid) -> bool
     ensures { result ≡ list_any (λ (e : Admitted). has_txid e id.now && names e parent.now) pool.now.entries }
 {
-    pool.tells_distinct();
+    pool.recall_distinct();
     match pool.entry(id) {
         Some(entry) => spends_from(entry.transaction().inputs(), parent),
         None => false,
@@ -52,7 +52,7 @@ fn parents_of<S: BuildHasher + Copy + Drop>(
 ) -> Result<Vec<Txid>, Memory>
     ensures { IfOk result (λ ids. AreIdsOf ids.items (filter (is_parent tx.now.inputs) pool.now.entries)) }
 {
-    pool.tells_distinct();
+    pool.recall_distinct();
     let mut ids = Vec::new(alloc);
     for input in tx.inputs() {
         match pool.entry(&input.prevout.txid) {
@@ -73,7 +73,7 @@ pub(crate) fn adds_parents<S: BuildHasher + Copy + Drop>(
 ) -> Result<bool, Memory>
     ensures { (test : Admitted → Bool) → AreIdsOf direct.now (filter test pool.now.entries) → IfOk result (λ adds. adds ≡ list_any (adds_parent pool.now.entries (filter test pool.now.entries)) tx.now.inputs) }
 {
-    pool.tells_distinct();
+    pool.recall_distinct();
     let parents = parents_of(alloc, pool, tx)?;
     Ok(
         parents

@@ -170,7 +170,7 @@ impl<'a, S: BuildHasher + Copy + Drop> Changing<'a, S> {
         ensures denied { IfErr result (λ fault. Tells fault (first_failing (switch_rules self.old.chain.now 0 blocks.items))) }
     {
         let _way = switch(alloc, self.chain, 0, blocks)?;
-        self.pool.tells_distinct();
+        self.pool.recall_distinct();
         let before = self.pool.count();
         confirm_all(self.pool, landings);
         Ok(Moved {

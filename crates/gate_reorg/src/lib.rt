@@ -13,7 +13,7 @@ mod staleness;
 mod terms;
 
 pub use event::chain_event;
-pub use gate_submission::{Moved, tells_spelled};
+pub use gate_submission::{Moved, recall_spelled};
 pub use law::{
     blocks_come_back, blocks_only_take, entries_are_unconfirmed, events_bring_nothing_else,
     events_keep_pools_good, events_keep_the_budget, events_spend_once, floors_never_fall,

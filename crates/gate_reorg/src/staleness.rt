@@ -170,7 +170,7 @@ pub(crate) fn take_premature<S: BuildHasher + Copy + Drop>(
 ) -> Result<(), Memory>
     ensures { OnOk result (pool.new.entries ≡ without_premature chain.now pool.old.entries) }
 {
-    pool.tells_distinct();
+    pool.recall_distinct();
     let ids = premature_ids(alloc, chain, pool)?;
     pool.take_below(&Among { ids });
     Ok(())

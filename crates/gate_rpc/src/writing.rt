@@ -114,7 +114,7 @@ fn listed(alloc: Global, item: &str) -> Result<String, AllocError>
 }
 
 /// That a list of bytes has bytes: it does nothing.
-fn tells_bytes(bytes: &[u8])
+fn recall_bytes(bytes: &[u8])
     ensures { IsBytes bytes.now }
 {}
 
@@ -122,7 +122,7 @@ fn tells_bytes(bytes: &[u8])
 fn txid_after(alloc: Global, before: &str, txid: &Txid) -> Result<String, AllocError>
     ensures { IfOk result (λ text. string_bytes text ≡ before.now ++ quoted (id_text txid.now)) }
 {
-    tells_bytes(txid.as_bytes());
+    recall_bytes(txid.as_bytes());
     format!(in alloc; "{before}\"{txid}\"")
 }
 
@@ -135,7 +135,7 @@ fn txid_text(alloc: Global, txid: &Txid) -> Result<String, AllocError>
 fn wtxid_text(alloc: Global, wtxid: &Wtxid) -> Result<String, AllocError>
     ensures { IfOk result (λ text. string_bytes text ≡ quoted (id_text wtxid.now)) }
 {
-    tells_bytes(wtxid.as_bytes());
+    recall_bytes(wtxid.as_bytes());
     format!(in alloc; "\"{wtxid}\"")
 }
 

@@ -55,7 +55,7 @@ impl<N: Base, S: BuildHasher + Copy + Drop> Gate<N, S> {
     {
         let Gate { shared } = self;
         let shared = shared.into_inner();
-        shared.tells_held();
+        shared.recall_held();
         shared
     }
 
@@ -80,7 +80,7 @@ impl<N: Base, S: BuildHasher + Copy + Drop> Gate<N, S> {
         ensures { IfOk result (λ coins. Looked N.base submission.now coins.items) }
     {
         let shared = self.shared.lock(rt);
-        shared.tells_held();
+        shared.recall_held();
         shared.look(alloc, submission)
     }
 

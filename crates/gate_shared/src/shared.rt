@@ -138,7 +138,7 @@ impl<N: Base, S: BuildHasher + Copy + Drop> Shared<N, S> {
     }
 
     /// What it keeps: it does nothing.
-    pub fn tells_held(&self)
+    pub fn recall_held(&self)
         ensures { IsHeld N.base self.now }
     {
         let _passes = &self.passes;
@@ -238,11 +238,11 @@ impl<N: Base, S: BuildHasher + Copy + Drop> Shared<N, S> {
         ensures was { IsHeld N.base self.old }
         ensures is { IsHeld N.base self.new }
     {
-        self.tells_held();
+        self.recall_held();
         self.fault(alloc, pass, event)?;
         match self.enter(alloc, pass, event, prepared) {
             Ok(receipt) => {
-                self.tells_held();
+                self.recall_held();
                 Ok(receipt)
             }
             Err(Memory) => Err(CallFault::Memory),
@@ -256,7 +256,7 @@ impl<N: Base, S: BuildHasher + Copy + Drop> Shared<N, S> {
         ensures was { IsHeld N.base self.old }
         ensures is { IsHeld N.base self.new }
     {
-        self.tells_held();
+        self.recall_held();
         let caller = caller.copy(alloc)?;
         self.passes = self.passes.saturating_add(1);
         Ok(Pass {

@@ -11,4 +11,4 @@ mod spelling;
 pub use gate_inputs::InputReport;
 pub use moved::Moved;
 pub use prepared::{Candidate, Prepared};
-pub use spelling::tells_spelled;
+pub use spelling::recall_spelled;

@@ -172,11 +172,11 @@ impl Prepared {
     }
 
     /// That the transaction has a text: it does nothing.
-    pub fn tells_spelled(&self)
+    pub fn recall_spelled(&self)
         ensures { IfSome self.now IsTx }
     {
         if let Some(identified) = &self.identified {
-            identified.get().transaction().tells_invariant();
+            identified.get().transaction().recall_invariant();
         }
     }
 

@@ -7,21 +7,21 @@ ghost use Rattle.gate_submission.specs.Blocks.{present, transactions_of};
 use gate_chain::Block;
 use gate_tx::Transaction;
 
-fn tells_all(transactions: &[Transaction])
+fn recall_all(transactions: &[Transaction])
     ensures { (tx : Tx) → Contains transactions.now tx → IsTx tx }
 {
     for transaction in transactions {
-        transaction.tells_invariant();
+        transaction.recall_invariant();
     }
 }
 
 /// That the transactions of blocks have texts: it does nothing.
-pub fn tells_spelled(blocks: &[Option<Block>])
+pub fn recall_spelled(blocks: &[Option<Block>])
     ensures { (tx : Tx) → Contains (transactions_of (present blocks.now)) tx → IsTx tx }
 {
     for block in blocks {
         if let Some(block) = block {
-            tells_all(block.transactions.as_slice());
+            recall_all(block.transactions.as_slice());
         }
     }
 }

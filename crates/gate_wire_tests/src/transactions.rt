@@ -311,7 +311,7 @@ fn is_one_to_one(alloc: Global, transaction: &Transaction) -> Result<bool, Fail>
 }
 
 fn has_its_parts(alloc: Global, transaction: &Transaction) -> Result<bool, Fail> {
-    transaction.tells_invariant();
+    transaction.recall_invariant();
     Ok(
         is_one_to_one(alloc, transaction)?
             && has_copy(alloc, transaction)?

@@ -25,7 +25,7 @@ returns-in_default g c =
     let inputs = c.inputs-inputs.ensures ∙ ap (λ (t : Tx). t.inputs) c.transaction.ensures in
     let same = fits_behind c.args.policy.now entries c.args.newcomer.now.tx c.args.newcomer.now.vsize es n c.new-joined.ensures c.requires.plain in
     let many = subst (λ (k : ℕ). k < length (ancestors_above es n.tx.inputs)) c.most_ancestors.ensures (subst (λ (i : List TxIn). c.most_ancestors.result < length (ancestors_above es i)) inputs (c.in_ok-above.ensures.many c.in_default.is)) in
-    sym (too_many_above c.args.policy.now es c.tells_apart.ensures n m many) ∙ same
+    sym (too_many_above c.args.policy.now es c.recall_apart.ensures n m many) ∙ same
 
 pub all_limited-requires : goal.all_limited-requires
 all_limited-requires g c =
@@ -46,11 +46,11 @@ returns-then-contains g c =
     let are = subst (λ (i : List TxIn). AreIdsOf c.in-Some.above.items (ancestors_above es i)) inputs found in
     let has = c.contains.ensures.value ∙ ap (list_any (λ y. bytes_eq y c.txid-txid.result)) c.deref.ensures.value ∙ ap (λ t. list_any (λ y. bytes_eq y t) c.in-Some.above.items) c.txid-txid.ensures in
     elim c.then-contains.branch [
-      | then-contains-via-then-contains w ↦ sym (below_itself c.args.policy.now es c.tells_apart.ensures n m c.in-Some.above.items are (sym has ∙ w.if-contains.true)) ∙ same
+      | then-contains-via-then-contains w ↦ sym (below_itself c.args.policy.now es c.recall_apart.ensures n m c.in-Some.above.items are (sym has ∙ w.if-contains.true)) ∙ same
       | then-contains-via-else-contains+in_ok-all_limited+then-not-branch w ↦
           let ids = subst (λ l. AreIdsOf l (ancestors_above es n.tx.inputs)) (sym w.deref-else-contains.ensures.value) are in
           let fails = sym (w.in_ok-all_limited.ensures (λ e. is_above es n.tx.inputs (txid_of e.tx)) ids) ∙ w.if-not-branch.true in
-          sym (some_above_fails c.args.policy.now es c.tells_apart.ensures n m fails) ∙ same
+          sym (some_above_fails c.args.policy.now es c.recall_apart.ensures n m fails) ∙ same
     ]
 
 pub all_limited-requires-in-Some-2 : goal.all_limited-requires-in-Some-2
@@ -80,7 +80,7 @@ returns-in-Some-2 g c =
     let below : AreIdsOf c.in-Some-2.below.items (all_below test es) = rw c.in-Some-2.is at c.in_ok-below.ensures.found test (AreIdsOf-one es n c.txid-txid.result m (sym c.txid-txid.ensures)) in
     let under = subst (λ l. AreIdsOf l (all_below test es)) (sym c.deref-in-Some-2.ensures.value) below in
     let decided = ap (list_all (λ e. is_limited c.args.policy.now es (txid_of e.tx))) (below_one es n c.txid-txid.result m (sym c.txid-txid.ensures))
-    ∙ below_decide c.args.policy.now es c.tells_apart.ensures n m c.in-Some.above.items are (sym has ∙ c.if-contains.false) passes ∙ same in
+    ∙ below_decide c.args.policy.now es c.recall_apart.ensures n m c.in-Some.above.items are (sym has ∙ c.if-contains.false) passes ∙ same in
     subst (λ b. IfOk c.all_limited-in-Some-2.result (λ fits. fits ≡ b)) decided (c.all_limited-in-Some-2.ensures (is_below_some test es) under)
 
 pub returns : goal.returns
@@ -93,4 +93,4 @@ returns g c =
     let test : Admitted → Bool = λ e. has_txid e c.txid-txid.result in
     let most = most_descendants c.args.policy.now in
     let many : most < length (all_below test es) = subst (λ (k : ℕ). k < length (all_below test es)) c.most_descendants.ensures (c.in_ok-below.ensures.many test (AreIdsOf-one es n c.txid-txid.result m (sym c.txid-txid.ensures)) c.in-None.is) in
-    sym (too_many_below c.args.policy.now es c.tells_apart.ensures n m (subst (λ (l : List Admitted). most < length l) (below_one es n c.txid-txid.result m (sym c.txid-txid.ensures)) many)) ∙ same
+    sym (too_many_below c.args.policy.now es c.recall_apart.ensures n m (subst (λ (l : List Admitted). most < length l) (below_one es n c.txid-txid.result m (sym c.txid-txid.ensures)) many)) ∙ same

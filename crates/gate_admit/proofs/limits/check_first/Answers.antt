@@ -10,4 +10,4 @@ returns-then-is_empty g c =
     let above = ancestors_above direct.entries direct.tx.inputs in
     let found : AreIdsOf c.in-Some.above.items above = rw c.in-Some.is at c.in_ok-above.ensures.found in
     let empty : c.in-Some.above.items ≡ [] = nil_from_length c.in-Some.above.items (grind (arith)) in
-    sym (alone_passes c.args.policy.now direct.entries direct.tx c.args.vsize c.tells_bounds.ensures.ancestors (none_are above (rw empty at found)))
+    sym (alone_passes c.args.policy.now direct.entries direct.tx c.args.vsize c.recall_bounds.ensures.ancestors (none_are above (rw empty at found)))

@@ -14,7 +14,7 @@ returns-clause-sums g c = λ test ids.
     let entries = g.V.FamilyView.entries c.args.pool.now in
     let all : take c.loop-id.id-index c.args.ids.now ≡ c.args.ids.now = take_all c.loop-id.id-index c.args.ids.now (omega (arith, c.loop-id-test.false)) in
     let sum : (w : Admitted → ℕ) → weigh w entries (take c.loop-id.id-index c.args.ids.now) ≡ sum_by w (filter test entries) =
-    λ w. ap (weigh w entries) all ∙ weighed w entries c.tells_apart.ensures c.args.ids.now test ids in
+    λ w. ap (weigh w entries) all ∙ weighed w entries c.recall_apart.ensures c.args.ids.now test ids in
     made _ _
     (c.loop-id.invariant.0 ∙ sum (λ (e : Admitted). 1) ∙ length-ones (filter test entries))
     (c.loop-id.invariant.1 ∙ sum (λ (e : Admitted). e.vsize))

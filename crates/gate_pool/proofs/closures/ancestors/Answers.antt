@@ -23,7 +23,7 @@ returns-then-not-branch-2-clause-many g c = λ none.
     let entries = g.V.FamilyView.entries c.args.pool.now in
     let walk = c.loop-opened.invariant.walk in
     let lt : c.loop-opened.opened < length c.loop-opened.found.items = omega (arith, c.loop-opened-test.true, c.len.ensures, c.loop-opened.found.ok) in
-    let next = next_entry entries c.args.inputs.now c.tells_apart.ensures walk c.index.result.now lt c.index.ensures in
+    let next = next_entry entries c.args.inputs.now c.recall_apart.ensures walk c.index.result.now lt c.index.ensures in
     WalkUp-over_next entries c.args.inputs.now walk c.index.result.now lt c.index.ensures next.0 next.1 (c.in_ok-add_parents_of.ensures next.0 next.1) c.if-not-branch-2.true
 
 pub loop-opened-preserved : goal.loop-opened-preserved
@@ -31,11 +31,11 @@ loop-opened-preserved g c =
     let entries = g.V.FamilyView.entries c.args.pool.now in
     let walk = c.loop-opened.invariant.walk in
     let lt : c.loop-opened.opened < length c.loop-opened.found.items = omega (arith, c.loop-opened-test.true, c.len.ensures, c.loop-opened.found.ok) in
-    let next = next_entry entries c.args.inputs.now c.tells_apart.ensures walk c.index.result.now lt c.index.ensures in
+    let next = next_entry entries c.args.inputs.now c.recall_apart.ensures walk c.index.result.now lt c.index.ensures in
     let found = c.in_ok-add_parents_of.ensures next.0 next.1 in
     let few : length c.add_parents_of.new.found.items ≤ c.args.most = found.few c.if-not-branch-2.false (omega (arith, c.loop-opened.invariant.few, c.loop-opened.found.ok)) in
     record {
-      walk = WalkUp-open entries c.args.inputs.now c.tells_apart.ensures walk c.index.result.now lt c.index.ensures next.0 next.1 found c.if-not-branch-2.false;
+      walk = WalkUp-open entries c.args.inputs.now c.recall_apart.ensures walk c.index.result.now lt c.index.ensures next.0 next.1 found c.if-not-branch-2.false;
       few = omega (arith, few, c.add_parents_of.new.found.ok);
     }
 

@@ -19,7 +19,7 @@ pub unwrap-entry-requires : goal.unwrap-entry-requires
 unwrap-entry-requires g c =
     let entries = g.V.FamilyView.entries c.args.pool.now in
     let has = c.requires in
-    sym (copied_some c.entry.result) ∙ ap is_some (c.entry.ensures ∙ ap (entry_by_txid entries) (sym has.2) ∙ found_by_id entries c.tells_apart.ensures has.0 has.1)
+    sym (copied_some c.entry.result) ∙ ap is_some (c.entry.ensures ∙ ap (entry_by_txid entries) (sym has.2) ∙ found_by_id entries c.recall_apart.ensures has.0 has.1)
 
 pub returns-in_default-clause-many : goal.returns-in_default-clause-many
 returns-in_default-clause-many g c = λ none.
@@ -28,7 +28,7 @@ returns-in_default-clause-many g c = λ none.
     let e = c.unwrap-entry.result.now in
     let here = found_here entries x e (sym c.entry.ensures ∙ ap option_copied c.unwrap-entry.ensures) in
     let inputs = c.inputs.ensures ∙ ap (λ (t : Tx). t.inputs) c.transaction.ensures in
-    omega (arith, c.in_ok-found.ensures.many c.in_default.is, ap (λ i. length (ancestors_above entries i)) inputs, above_few entries c.tells_apart.ensures e here.0 x here.1)
+    omega (arith, c.in_ok-found.ensures.many c.in_default.is, ap (λ i. length (ancestors_above entries i)) inputs, above_few entries c.recall_apart.ensures e here.0 x here.1)
 
 pub returns-clause-found : goal.returns-clause-found
 returns-clause-found g c =
@@ -41,9 +41,9 @@ returns-clause-found g c =
     let has = c.contains.ensures.value ∙ ap (list_any (λ y. bytes_eq y x)) c.deref.ensures.value in
     elim c.if-not-contains.branch [
       | then-not-contains+in_ok-push w ↦
-          own_pushed entries c.tells_apart.ensures e here.0 x here.1 are (sym has ∙ w.if-not-contains.true) (ap (λ v. v.items) w.found-is ∙ w.in_ok-push.ensures.items)
+          own_pushed entries c.recall_apart.ensures e here.0 x here.1 are (sym has ∙ w.if-not-contains.true) (ap (λ v. v.items) w.found-is ∙ w.in_ok-push.ensures.items)
       | else-not-contains w ↦
-          subst (λ l. AreIdsOf l (ancestors_of entries x)) (sym (ap (λ v. v.items) w.found-is)) (own_kept entries c.tells_apart.ensures e here.0 x here.1 are (sym has ∙ w.if-not-contains.false))
+          subst (λ l. AreIdsOf l (ancestors_of entries x)) (sym (ap (λ v. v.items) w.found-is)) (own_kept entries c.recall_apart.ensures e here.0 x here.1 are (sym has ∙ w.if-not-contains.false))
     ]
 
 pub returns-then-len-most-clause-many : goal.returns-then-len-most-clause-many
@@ -58,9 +58,9 @@ returns-then-len-most-clause-many g c = λ none.
     let after : AreIdsOf c.if-not-contains.found.items (ancestors_of entries x) =
     elim c.if-not-contains.branch [
       | then-not-contains+in_ok-push w ↦
-          own_pushed entries c.tells_apart.ensures e here.0 x here.1 are (sym has ∙ w.if-not-contains.true) (ap (λ v. v.items) w.found-is ∙ w.in_ok-push.ensures.items)
+          own_pushed entries c.recall_apart.ensures e here.0 x here.1 are (sym has ∙ w.if-not-contains.true) (ap (λ v. v.items) w.found-is ∙ w.in_ok-push.ensures.items)
       | else-not-contains w ↦
-          subst (λ l. AreIdsOf l (ancestors_of entries x)) (sym (ap (λ v. v.items) w.found-is)) (own_kept entries c.tells_apart.ensures e here.0 x here.1 are (sym has ∙ w.if-not-contains.false))
+          subst (λ l. AreIdsOf l (ancestors_of entries x)) (sym (ap (λ v. v.items) w.found-is)) (own_kept entries c.recall_apart.ensures e here.0 x here.1 are (sym has ∙ w.if-not-contains.false))
     ] in
-    let apart = AllPairs-filter DifferById (λ (d : Admitted). reaches (steps entries) (txid_of d.tx) x) entries c.tells_apart.ensures in
+    let apart = AllPairs-filter DifferById (λ (d : Admitted). reaches (steps entries) (txid_of d.tx) x) entries c.recall_apart.ensures in
     omega (arith, c.if-len-most.true, c.len.ensures, c.if-not-contains.found.ok, ids_length c.if-not-contains.found.items (ancestors_of entries x) apart after)

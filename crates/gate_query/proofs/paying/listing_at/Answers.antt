@@ -17,4 +17,4 @@ returns g c =
     let rate = c.args.rate in
     c.paying_among.ensures
     ∙ ap (filter (λ (id : List ℕ). list_any (λ (e : Admitted). has_txid e id && pays rate e) entries)) (c.into_vec.ensures ∙ c.in_ok-txids.ensures)
-    ∙ passing_listed (pays rate) entries c.tells_distinct.ensures
+    ∙ passing_listed (pays rate) entries c.recall_distinct.ensures

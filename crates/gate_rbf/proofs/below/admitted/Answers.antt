@@ -19,7 +19,7 @@ loop-id-preserved g c =
     elim c.match-entry.branch [
       | in-Some+in_ok-put-in-Some w ↦
           subst (λ f. AreIdsOf f.items (filter (is_among (take (k + 1) ids)) entries)) (sym w.found-is)
-          (AreIdsOf-entry entries c.tells_distinct.ensures ids k c.id-item.result c.loop-id-test.true (sym c.id-item.is) w.in-Some.entry.now (sym w.in-Some.ensures)
+          (AreIdsOf-entry entries c.recall_distinct.ensures ids k c.id-item.result c.loop-id-test.true (sym c.id-item.is) w.in-Some.entry.now (sym w.in-Some.ensures)
           (subst (λ (t : List ℕ). IsPut c.loop-id.found.items t w.put.new.ids.items) w.txid.ensures w.in_ok-put-in-Some.ensures.ok) c.loop-id.invariant)
       | in-None w ↦
           subst (λ f. AreIdsOf f.items (filter (is_among (take (k + 1) ids)) entries)) (sym w.found-is)

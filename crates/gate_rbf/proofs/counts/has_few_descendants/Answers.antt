@@ -6,12 +6,12 @@ use Rattle.gate_rbf.proofs.Counted.{counted, next_entry, counted-all, counted-pa
 use Rattle.gate_rbf.proofs.counts.has_few_descendants.Goals as goal
 
 pub count_below-count-requires : goal.count_below-count-requires
-count_below-count-requires g c = next_entry c.args.pool.now.entries c.tells_distinct.ensures c.args.ids.now c.requires.0 c.requires.1 c.loop-id.id-index c.id-item.result c.loop-id-test.true (sym c.id-item.is)
+count_below-count-requires g c = next_entry c.args.pool.now.entries c.recall_distinct.ensures c.args.ids.now c.requires.0 c.requires.1 c.loop-id.id-index c.id-item.result c.loop-id-test.true (sym c.id-item.is)
 
 pub returns-then-count-left : goal.returns-then-count-left
 returns-then-count-left g c = λ test are.
     let entries = c.args.pool.now.entries in
-    let distinct = c.tells_distinct.ensures in
+    let distinct = c.recall_distinct.ensures in
     let ids = c.args.ids.now in
     let k = c.loop-id.id-index in
     let id = c.id-item.result in
@@ -22,7 +22,7 @@ returns-then-count-left g c = λ test are.
 pub loop-id-preserved : goal.loop-id-preserved
 loop-id-preserved g c = λ test are.
     let entries = c.args.pool.now.entries in
-    let more = counted-more entries c.tells_distinct.ensures c.args.ids.now test are c.loop-id.id-index c.id-item.result c.loop-id-test.true (sym c.id-item.is) in
+    let more = counted-more entries c.recall_distinct.ensures c.args.ids.now test are c.loop-id.id-index c.id-item.result c.loop-id-test.true (sym c.id-item.is) in
     omega (arith, c.count_below-count.ensures, c.if-count-left.false, more, c.loop-id.invariant test are)
 
 pub returns : goal.returns
@@ -32,4 +32,4 @@ returns g c = λ test are.
     let k = c.loop-id.id-index in
     let whole = ap (counted entries) (take_all k ids (omega (arith, c.loop-id-test.false))) in
     sym (ap not (is_within 100 (descendant_count entries (filter test entries))
-    (omega (arith, whole, counted-all entries c.tells_distinct.ensures ids test are, c.loop-id.invariant test are))))
+    (omega (arith, whole, counted-all entries c.recall_distinct.ensures ids test are, c.loop-id.invariant test are))))

@@ -22,7 +22,7 @@ loop-input-preserved g c =
     elim c.match-spender.branch [
       | in-Some+in_ok-push-in-Some w ↦
           subst (λ f. AreThese f.items (filter (spends_one_of (take (k + 1) items)) entries)) (sym w.found-is)
-          (AreThese-more entries items k c.input-item.result c.loop-input-test.true (sym c.input-item.is) c.tells_distinct.ensures w.in-Some.spender.now (sym w.in-Some.ensures)
+          (AreThese-more entries items k c.input-item.result c.loop-input-test.true (sym c.input-item.is) c.recall_distinct.ensures w.in-Some.spender.now (sym w.in-Some.ensures)
           c.loop-input.found.items w.push.new.self.items (w.in_ok-push-in-Some.ensures.items ∙ ap (λ (e : Admitted). c.loop-input.found.items ++ e ∷ []) w.of.ensures) c.loop-input.invariant)
       | in-None w ↦
           subst (λ f. AreThese f.items (filter (spends_one_of (take (k + 1) items)) entries)) (sym w.found-is)

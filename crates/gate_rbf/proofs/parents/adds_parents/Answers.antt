@@ -13,4 +13,4 @@ returns g c = λ test are.
     let given = c.args.direct.now in
     let ids = c.in_ok-parents.parents.items in
     any_from_yields_List (λ (id : List ℕ). not (list_any (λ (e : Admitted). is_among given e && names e id) entries)) _ _ c.any.result c.any.ensures.ran (YieldsList-from_slice ids cc) (λ x b q k. search (rules, tests))
-    ∙ any_new_parent entries c.tells_distinct.ensures test given are c.args.tx.now.inputs ids c.in_ok-parents.ensures
+    ∙ any_new_parent entries c.recall_distinct.ensures test given are c.args.tx.now.inputs ids c.in_ok-parents.ensures

@@ -21,7 +21,7 @@ loop-input-preserved g c =
     elim c.match-entry.branch [
       | in-Some+in_ok-put-in-Some w ↦
           subst (λ f. AreIdsOf f.items (filter (is_parent (take (k + 1) items)) entries)) (sym w.ids-is)
-          (AreIdsOf-parent entries c.tells_distinct.ensures items k c.input-item.result c.loop-input-test.true (sym c.input-item.is) w.in-Some.entry.now (sym w.in-Some.ensures)
+          (AreIdsOf-parent entries c.recall_distinct.ensures items k c.input-item.result c.loop-input-test.true (sym c.input-item.is) w.in-Some.entry.now (sym w.in-Some.ensures)
           (subst (λ (t : List ℕ). IsPut c.loop-input.ids.items t w.put.new.ids.items) w.txid.ensures w.in_ok-put-in-Some.ensures.ok) c.loop-input.invariant)
       | in-None w ↦
           subst (λ f. AreIdsOf f.items (filter (is_parent (take (k + 1) items)) entries)) (sym w.ids-is)

@@ -5,4 +5,4 @@ use Rattle.gate_rpc.proofs.Digits.{quoted_id}
 use Rattle.gate_rpc.proofs.writing.txid_after.Goals as goal
 
 pub returns : goal.returns
-returns c = IfOk-weaker c.format.result _ _ (λ text is. is ∙ ap (λ t. c.args.before.now ++ t) (quoted_id c.args.txid.now (subst IsBytes c.as_bytes.ensures.bytes c.tells_bytes.ensures))) c.format.ensures.ok
+returns c = IfOk-weaker c.format.result _ _ (λ text is. is ∙ ap (λ t. c.args.before.now ++ t) (quoted_id c.args.txid.now (subst IsBytes c.as_bytes.ensures.bytes c.recall_bytes.ensures))) c.format.ensures.ok

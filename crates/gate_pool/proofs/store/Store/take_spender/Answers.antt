@@ -20,7 +20,7 @@ pub returns-in-Some-clause-gone : goal.returns-in-Some-clause-gone
 returns-in-Some-clause-gone g c =
     let es = c.args.self.now.entries in
     let e = c.in-Some.entry.now in
-    ap (λ l. spender_of l c.args.point.now) (c.take_out.ensures.rest ∙ ap (without_family es) (c.node_id-id.ensures ∙ c.txid.ensures)) ∙ spender_gone es c.args.point.now e c.tells_distinct.ensures (sym c.in-Some.ensures)
+    ap (λ l. spender_of l c.args.point.now) (c.take_out.ensures.rest ∙ ap (without_family es) (c.node_id-id.ensures ∙ c.txid.ensures)) ∙ spender_gone es c.args.point.now e c.recall_distinct.ensures (sym c.in-Some.ensures)
 
 pub returns-in-Some-clause-still : goal.returns-in-Some-clause-still
 returns-in-Some-clause-still g c = λ p none.

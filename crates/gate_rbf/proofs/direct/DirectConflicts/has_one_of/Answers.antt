@@ -20,4 +20,4 @@ returns g c = λ test.
     any_from_yields_List (λ (e : Admitted). is_among ids e) _ _ c.any.result c.any.ensures.ran (YieldsList-from_slice direct.found.items cc) (λ x b q k. search (rules, tests))
     ∙ any_of_these (is_among ids) direct.found.items (conflicts_of entries tx) c.self.invariant
     ∙ any_filter (is_among ids) (is_conflict tx) entries
-    ∙ any_among_last (is_conflict tx) entries test ids c.tells_distinct.ensures are)
+    ∙ any_among_last (is_conflict tx) entries test ids c.recall_distinct.ensures are)

@@ -43,7 +43,7 @@ returns-else-any-clause-one g c =
     let asked = any_from_yields_List (λ (e : Admitted). not (has_txid e txid)) _ _ c.any.result c.any.ensures.ran (YieldsList-from_slice found cc) (λ x b q k. search (rules, tests)) in
     subst (λ (b : Beside). (d : Admitted) × (conflicts_of b.entries b.tx ≡ d ∷ []) × (txid_of d.tx ≡ txid)) c.self.view_is (
       rival,
-      alone (is_conflict tx) entries c.tells_distinct.ensures rival txid (c.self.invariant.only rival (first_found found rival (ap (λ (l : List Admitted). slice_get l 0) (sym c.deref.ensures.value) ∙ sym c.in-Some.ensures.value))) (sym c.txid-txid.ensures)
+      alone (is_conflict tx) entries c.recall_distinct.ensures rival txid (c.self.invariant.only rival (first_found found rival (ap (λ (l : List Admitted). slice_get l 0) (sym c.deref.ensures.value) ∙ sym c.in-Some.ensures.value))) (sym c.txid-txid.ensures)
           (sym (others (is_conflict tx) entries found txid c.self.invariant) ∙ sym asked ∙ c.if-any.false),
       sym c.txid-txid.ensures,
     )

@@ -1,9 +1,9 @@
 use Rattle.gate_submission.proofs.Telling.{spelled_next, spelled_last}
-use Rattle.gate_submission.proofs.spelling.tells_all.Goals as goal
+use Rattle.gate_submission.proofs.spelling.recall_all.Goals as goal
 
 pub loop-transaction-preserved : goal.loop-transaction-preserved
 loop-transaction-preserved c = λ rest.
-    c.loop-transaction.invariant (spelled_next c.args.transactions.now c.loop-transaction.transaction-index c.transaction-item.result c.loop-transaction-test.true c.transaction-item.is c.tells_invariant.ensures.is_tx rest)
+    c.loop-transaction.invariant (spelled_next c.args.transactions.now c.loop-transaction.transaction-index c.transaction-item.result c.loop-transaction-test.true c.transaction-item.is c.recall_invariant.ensures.is_tx rest)
 
 pub returns : goal.returns
 returns c = c.loop-transaction.invariant (spelled_last c.args.transactions.now c.loop-transaction.transaction-index c.loop-transaction-test.false)

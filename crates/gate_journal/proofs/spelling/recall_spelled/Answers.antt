@@ -4,12 +4,12 @@ use Rattle.std.proofs.lemmas.List.Elements.{All-map, All-more}
 use Rattle.std.specs.List.{All}
 use Rattle.gate_message.specs.Spelled.{IsSpelled}
 use Rattle.gate_journal.specs.declared.entry.Entry.{Entry}
-use Rattle.gate_journal.proofs.spelling.tells_spelled.Goals as goal
+use Rattle.gate_journal.proofs.spelling.recall_spelled.Goals as goal
 
 pub loop-entry-preserved : goal.loop-entry-preserved
 loop-entry-preserved c =
     All-more (λ (e : Entry). IsSpelled e.event) c.args.entries.now c.loop-entry.entry-index c.entry-item.result c.loop-entry-test.true c.loop-entry.invariant
-    (subst (λ (e : Entry). IsSpelled e.event) c.entry-item.is c.tells_spelled.ensures)
+    (subst (λ (e : Entry). IsSpelled e.event) c.entry-item.is c.recall_spelled.ensures)
 
 pub returns : goal.returns
 returns c =
