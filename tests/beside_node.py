@@ -79,6 +79,18 @@ def test_pools_and_trials(gate):
     same("standard error and status", (said, status), ("", 0))
 
 
+def test_full_replacement_is_told(gate):
+    """A node that replaces whatever pays more is followed in it, and no other is."""
+    recorded = calls(NODES[0])
+    told = result_of(recorded, "getmempoolinfo")
+    for is_on, wanted in ((True, ["mempoolfullrbf 1"]), (False, [])):
+        told["fullrbf"] = is_on
+        with tempfile.TemporaryDirectory() as folder:
+            lines, said, status = ran("opening", "--from", written(folder, recorded))
+        same("standard error and status", (said, status), ("", 0))
+        same_lines([it for it in lines[: lines.index("---")] if it.startswith("mempoolfullrbf")], wanted)
+
+
 def test_a_running_node(gate):
     """A node that is asked by its command answers as its recording does. The pool is cut to three entries, since each
     question starts a process."""

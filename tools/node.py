@@ -349,6 +349,8 @@ def opening(view, entries, candidates):
     yield "# from a node: chain %s, tip %d, %d transactions of its pool" % (view.chain, view.tip, len(entries))
     yield "# scripts are not run: what the node took is taken to be right"
     yield "budget %d" % view.budget
+    if view.replaces_all:
+        yield "mempoolfullrbf 1"
     yield from times_of(view, heights)
     yield from dict.fromkeys(verdicts_of(candidates))
     yield "verdict * ok"
