@@ -27,6 +27,8 @@ pub mod Refreshing
 pub mod Alone
 pub mod Easing
 pub mod Roots
+pub mod Burdening
+pub mod Crowning
 pub mod Writes
 pub mod Going
 pub mod Naming

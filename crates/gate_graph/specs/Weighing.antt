@@ -37,6 +37,13 @@ module _ {T : Type 0} where
   abbrev pub eased_of : List (List ℕ) → ℕ → ℕ → Held T → Held T
   eased_of ids size fee h = cond (among ids h.id) (eased size fee h) h
 
+  -- a node with one more above it
+  abbrev pub burdened : ℕ → ℕ → Held T → Held T
+  burdened size fee h = record h { totals = record { above = more size fee h.totals.above; below = h.totals.below } }
+
+  abbrev pub burdened_of : List (List ℕ) → ℕ → ℕ → Held T → Held T
+  burdened_of ids size fee h = cond (among ids h.id) (burdened size fee h) h
+
   -- such a node, if its id is among these
   abbrev pub lowered_of : List (List ℕ) → ℕ → ℕ → Held T → Held T
   lowered_of ids size fee h = cond (among ids h.id) (lowered size fee h) h

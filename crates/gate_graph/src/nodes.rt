@@ -177,7 +177,8 @@ impl<T: Drop, S: BuildHasher + Copy + Drop> Nodes<T, S> {
     }
 
     /// Puts a node at the end, below those that it names and above those that name it. It takes no memory, and uses up the
-    /// room that was taken.
+    /// room that was taken. Where nothing names the node it costs what is above it, and where it names no node what is below
+    /// it; else the totals of what is above it and below it are found afresh.
     pub fn put(&mut self, id: NodeId, parents: Vec<NodeId>, size: u64, fee: u64, load: T)
         requires room { length parents.items < self.old.room }
         requires new { has (nodes_in self.old.nodes) id ≡ false }

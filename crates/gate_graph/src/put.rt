@@ -6,15 +6,16 @@ ghost use Rattle.gate_graph.specs.Holding.{id_at, nodes_of, loaded};
 ghost use Rattle.gate_graph.specs.Slots.{at};
 ghost use Rattle.gate_graph.specs.Linking.{IsLinked, AreWith};
 ghost use Rattle.gate_graph.specs.Walking.{AreClear};
-ghost use Rattle.gate_graph.specs.Weighing.{AreSmall, IsLeafLast, IsWeighed};
+ghost use Rattle.gate_graph.specs.Weighing.{AreSmall, IsLeafLast, IsNewLast, IsRoot, IsWeighed};
 
 use crate::held::{Held, Sums, Totals, Weight};
 use crate::id::NodeId;
 use crate::links::Links;
 use crate::refresh::refresh_around;
 use crate::slots::Slots;
+use crate::take::is_root;
 use crate::walk::{Heading, Scratch, Way, walk};
-use crate::weigh::{raise_all, weigh};
+use crate::weigh::{burden_all, raise_all, weigh};
 use std::hash::BuildHasher;
 
 /// Puts an id at the end of the lists of others, for which there is room.
@@ -74,8 +75,90 @@ pub(crate) fn settle<T: Drop, S: BuildHasher + Drop>(
     slots.set_totals(place, totals);
 }
 
+/// Gives the last node, which names no node, its totals, and adds it to what is above each node below it.
+fn settle_root<T: Drop, S: BuildHasher + Drop>(
+    slots: &mut Slots<T, S>,
+    links: &Links<S>,
+    scratch: &mut Scratch,
+    place: usize,
+)
+    requires found { length slots.old.held ≤ vec_capacity scratch.old.found }
+    requires apart { are_apart (nodes_of slots.old.held) ≡ true }
+    requires linked { IsLinked (nodes_of slots.old.held) links.now }
+    requires small { AreSmall (nodes_of slots.old.held) }
+    requires stands { is_some (at slots.old.spots place) ≡ true }
+    requires clear { AreClear (length slots.old.spots) scratch.old.marks.items }
+    requires last { IsNewLast slots.old.held (id_at slots.old.spots place) }
+    requires root { IsRoot (nodes_of slots.old.held) (id_at slots.old.spots place) }
+    ensures loaded { loaded slots.new.held ≡ loaded slots.old.held }
+    ensures weighed { IsWeighed slots.new.held }
+    ensures spots { slots.new.spots ≡ slots.old.spots }
+    ensures clear { AreClear (length slots.old.spots) scratch.new.marks.items }
+    ensures marks { vec_capacity scratch.new.marks ≡ vec_capacity scratch.old.marks }
+    ensures found { vec_capacity scratch.new.found ≡ vec_capacity scratch.old.found }
+    ensures above { vec_capacity scratch.new.above ≡ vec_capacity scratch.old.above }
+{
+    let _count = slots.count();
+    let held = slots.at(place);
+    let size = held.size;
+    let fee = held.fee;
+    walk(
+        slots,
+        links,
+        &mut scratch.marks,
+        &mut scratch.found,
+        Heading {
+            place,
+            way: Way::Down,
+        },
+    );
+    let sums = weigh(slots, scratch.found.as_slice());
+    // The walk finds the node too, so that it is added to what is above itself.
+    let totals = Totals {
+        above: Sums {
+            count: 0,
+            size: 0,
+            fees: 0,
+        },
+        below: sums,
+    };
+    slots.set_totals(place, totals);
+    burden_all(slots, scratch.found.as_slice(), size, fee);
+}
+
+/// Gives the last node, which others name, its totals, and mends those of what is around it: by differences where it names no
+/// node, else afresh.
+fn settle_named<T: Drop, S: BuildHasher + Drop>(
+    slots: &mut Slots<T, S>,
+    links: &Links<S>,
+    scratch: &mut Scratch,
+    place: usize,
+)
+    requires found { length slots.old.held ≤ vec_capacity scratch.old.found }
+    requires above { length slots.old.held ≤ vec_capacity scratch.old.above }
+    requires apart { are_apart (nodes_of slots.old.held) ≡ true }
+    requires linked { IsLinked (nodes_of slots.old.held) links.now }
+    requires small { AreSmall (nodes_of slots.old.held) }
+    requires stands { is_some (at slots.old.spots place) ≡ true }
+    requires clear { AreClear (length slots.old.spots) scratch.old.marks.items }
+    requires last { IsNewLast slots.old.held (id_at slots.old.spots place) }
+    ensures loaded { loaded slots.new.held ≡ loaded slots.old.held }
+    ensures weighed { IsWeighed slots.new.held }
+    ensures spots { slots.new.spots ≡ slots.old.spots }
+    ensures clear { AreClear (length slots.old.spots) scratch.new.marks.items }
+    ensures marks { vec_capacity scratch.new.marks ≡ vec_capacity scratch.old.marks }
+    ensures found { vec_capacity scratch.new.found ≡ vec_capacity scratch.old.found }
+    ensures above { vec_capacity scratch.new.above ≡ vec_capacity scratch.old.above }
+{
+    if is_root(slots, place) {
+        settle_root(slots, links, scratch, place);
+    } else {
+        refresh_around(slots, links, scratch, place);
+    }
+}
+
 /// Puts a node below those that it names and above those that name it, for which there is room: the totals of what is around
-/// it are changed by differences where nothing names it, and are found afresh where something does. It takes no memory.
+/// it are changed by differences where nothing names it or it names no node, and else are found afresh. It takes no memory.
 pub(crate) fn put_node<T: Drop, S: BuildHasher + Drop>(
     slots: &mut Slots<T, S>,
     links: &mut Links<S>,
@@ -118,6 +201,6 @@ pub(crate) fn put_node<T: Drop, S: BuildHasher + Drop>(
     if links.count(&id) == 0 {
         settle(slots, links, scratch, place, weight);
     } else {
-        refresh_around(slots, links, scratch, place);
+        settle_named(slots, links, scratch, place);
     }
 }

@@ -236,7 +236,7 @@ fn take_root<T: Drop, S: BuildHasher + Drop>(
 }
 
 /// Whether a node names no node.
-fn is_root<T: Drop, S: BuildHasher + Drop>(slots: &Slots<T, S>, place: usize) -> bool
+pub(crate) fn is_root<T: Drop, S: BuildHasher + Drop>(slots: &Slots<T, S>, place: usize) -> bool
     requires apart { are_apart (nodes_of slots.now.held) ≡ true }
     requires stands { is_some (at slots.now.spots place) ≡ true }
     ensures { IsTrue result → IsRoot (nodes_of slots.now.held) (id_at slots.now.spots place) }

@@ -9,7 +9,7 @@ ghost use Rattle.gate_graph.specs.Holding.{at_id, id_at, ids_at, nodes_of, loade
 ghost use Rattle.gate_graph.specs.Slots.{at};
 ghost use Rattle.gate_graph.specs.Linking.{IsLinked};
 ghost use Rattle.gate_graph.specs.Walking.{AreClear, AreStanding};
-ghost use Rattle.gate_graph.specs.Weighing.{lowered, lowered_of, eased, eased_of, raised, raised_of, less as one_less, more as one_more, sums_of, IsWithin, Fits, AreSmall, IsCounted};
+ghost use Rattle.gate_graph.specs.Weighing.{lowered, lowered_of, eased, eased_of, burdened, burdened_of, raised, raised_of, less as one_less, more as one_more, sums_of, IsWithin, Fits, AreSmall, IsCounted};
 
 use crate::held::{Sums, Totals};
 use crate::links::Links;
@@ -142,6 +142,45 @@ pub(crate) fn raise_all<T: Drop, S: BuildHasher + Drop>(
 {
     for place in places {
         raise(slots, *place, size, fee);
+    }
+}
+
+/// Adds one of this size and fee to what is above a node.
+fn burden<T: Drop, S: BuildHasher + Drop>(
+    slots: &mut Slots<T, S>,
+    place: usize,
+    size: u64,
+    fee: u64,
+)
+    requires apart { are_apart (nodes_of slots.old.held) ≡ true }
+    requires stands { is_some (at slots.old.spots place) ≡ true }
+    requires fits { (h : Kept T) → Contains slots.old.held h → bytes_eq h.id (id_at slots.old.spots place) ≡ true → Fits size fee h.totals.above }
+    ensures burdened { slots.new.held ≡ map (at_id (id_at slots.old.spots place) (burdened size fee)) slots.old.held }
+    ensures spots { slots.new.spots ≡ slots.old.spots }
+{
+    let held = slots.at(place);
+    let totals = Totals {
+        above: more(held.totals.above, size, fee),
+        below: held.totals.below,
+    };
+    slots.set_totals(place, totals);
+}
+
+/// The same for each of these nodes.
+pub(crate) fn burden_all<T: Drop, S: BuildHasher + Drop>(
+    slots: &mut Slots<T, S>,
+    places: &[usize],
+    size: u64,
+    fee: u64,
+)
+    requires apart { are_apart (nodes_of slots.old.held) ≡ true }
+    requires standing { AreStanding slots.old.spots places.now }
+    requires fits { (h : Kept T) → Contains slots.old.held h → among (ids_at slots.old.spots places.now) h.id ≡ true → Fits size fee h.totals.above }
+    ensures burdened { slots.new.held ≡ map (burdened_of (ids_at slots.old.spots places.now) size fee) slots.old.held }
+    ensures spots { slots.new.spots ≡ slots.old.spots }
+{
+    for place in places {
+        burden(slots, *place, size, fee);
     }
 }
 

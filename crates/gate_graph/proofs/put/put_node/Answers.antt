@@ -76,8 +76,8 @@ settle-requires-clause-small g c =
     let small : AreSmall (nodes_of c.put-place.new.self.held) = subst (λ l. AreSmall (nodes_of l)) (sym is) (small_put hs h c.requires.new c.requires.small c.requires.sized c.requires.paid) in
     small
 
-pub refresh_around-requires-clause-apart : goal.refresh_around-requires-clause-apart
-refresh_around-requires-clause-apart g c =
+pub settle_named-requires-clause-apart : goal.settle_named-requires-clause-apart
+settle_named-requires-clause-apart g c =
     let hs = c.args.slots.now.held in
     let h = c.args.held in
     let is : c.put-place.new.self.held ≡ hs ++ h ∷ [] = c.put-place.ensures.held in
@@ -86,8 +86,8 @@ refresh_around-requires-clause-apart g c =
     let small : AreSmall (nodes_of c.put-place.new.self.held) = subst (λ l. AreSmall (nodes_of l)) (sym is) (small_put hs h c.requires.new c.requires.small c.requires.sized c.requires.paid) in
     apart
 
-pub refresh_around-requires-clause-linked : goal.refresh_around-requires-clause-linked
-refresh_around-requires-clause-linked g c =
+pub settle_named-requires-clause-linked : goal.settle_named-requires-clause-linked
+settle_named-requires-clause-linked g c =
     let hs = c.args.slots.now.held in
     let h = c.args.held in
     let is : c.put-place.new.self.held ≡ hs ++ h ∷ [] = c.put-place.ensures.held in
@@ -100,8 +100,8 @@ refresh_around-requires-clause-linked g c =
     let linked : IsLinked (nodes_of c.put-place.new.self.held) c.link.new.links = subst (λ l. IsLinked (nodes_of l) c.link.new.links) (sym is) (IsLinked-put hs h c.args.links.now c.link.new.links c.requires.linked with_it) in
     linked
 
-pub refresh_around-requires-clause-small : goal.refresh_around-requires-clause-small
-refresh_around-requires-clause-small g c =
+pub settle_named-requires-clause-small : goal.settle_named-requires-clause-small
+settle_named-requires-clause-small g c =
     let hs = c.args.slots.now.held in
     let h = c.args.held in
     let is : c.put-place.new.self.held ≡ hs ++ h ∷ [] = c.put-place.ensures.held in
@@ -134,8 +134,8 @@ settle-requires-clause-last g c =
       unnamed = subst (λ y. (b : List ℕ) → Contains (steps_of (nodes_of c.put-place.new.self.held)) (y, b) → ⊥) (sym id) (unnamed_by (nodes_of c.put-place.new.self.held) c.link.new.links h.id linked (sym c.count.ensures ∙ c.if-count-eq0.true));
     }
 
-pub refresh_around-requires-clause-last : goal.refresh_around-requires-clause-last
-refresh_around-requires-clause-last g c =
+pub settle_named-requires-clause-last : goal.settle_named-requires-clause-last
+settle_named-requires-clause-last g c =
     let hs = c.args.slots.now.held in
     let h = c.args.held in
     let is : c.put-place.new.self.held ≡ hs ++ h ∷ [] = c.put-place.ensures.held in
@@ -195,7 +195,7 @@ returns-else-count-eq0-clause-loaded g c =
     let h = c.args.held in
     let is : c.put-place.new.self.held ≡ hs ++ h ∷ [] = c.put-place.ensures.held in
     let found : find (λ k. has_id k h.id) c.put-place.new.self.held ≡ Some h = ap (find (λ k. has_id k h.id)) is ∙ found_last hs h c.requires.new in
-    c.refresh_around.ensures.loaded ∙ ap loaded is
+    c.settle_named.ensures.loaded ∙ ap loaded is
 
 pub returns-else-count-eq0-clause-apart : goal.returns-else-count-eq0-clause-apart
 returns-else-count-eq0-clause-apart g c =
@@ -205,7 +205,7 @@ returns-else-count-eq0-clause-apart g c =
     let found : find (λ k. has_id k h.id) c.put-place.new.self.held ≡ Some h = ap (find (λ k. has_id k h.id)) is ∙ found_last hs h c.requires.new in
     let apart : are_apart (nodes_of c.put-place.new.self.held) ≡ true = ap (λ l. are_apart (nodes_of l)) is ∙ apart_put hs h c.requires.new c.requires.apart in
     let small : AreSmall (nodes_of c.put-place.new.self.held) = subst (λ l. AreSmall (nodes_of l)) (sym is) (small_put hs h c.requires.new c.requires.small c.requires.sized c.requires.paid) in
-    let same : nodes_of c.refresh_around.new.slots.held ≡ nodes_of c.put-place.new.self.held = sym (nodes_loaded c.refresh_around.new.slots.held) ∙ ap nodes_in c.refresh_around.ensures.loaded ∙ nodes_loaded c.put-place.new.self.held in
+    let same : nodes_of c.settle_named.new.slots.held ≡ nodes_of c.put-place.new.self.held = sym (nodes_loaded c.settle_named.new.slots.held) ∙ ap nodes_in c.settle_named.ensures.loaded ∙ nodes_loaded c.put-place.new.self.held in
     ap are_apart same ∙ apart
 
 pub returns-else-count-eq0-clause-linked : goal.returns-else-count-eq0-clause-linked
@@ -220,7 +220,7 @@ returns-else-count-eq0-clause-linked g c =
     let named = c.as_slice-parents.ensures.value ∙ ap (λ (z : Held g.row.T.Denot). z.parents.items) got in
     let with_it : AreWith h.parents.items h.id c.args.links.now c.link.new.links = subst (λ l. AreWith l h.id c.args.links.now c.link.new.links) named c.link.ensures in
     let linked : IsLinked (nodes_of c.put-place.new.self.held) c.link.new.links = subst (λ l. IsLinked (nodes_of l) c.link.new.links) (sym is) (IsLinked-put hs h c.args.links.now c.link.new.links c.requires.linked with_it) in
-    let same : nodes_of c.refresh_around.new.slots.held ≡ nodes_of c.put-place.new.self.held = sym (nodes_loaded c.refresh_around.new.slots.held) ∙ ap nodes_in c.refresh_around.ensures.loaded ∙ nodes_loaded c.put-place.new.self.held in
+    let same : nodes_of c.settle_named.new.slots.held ≡ nodes_of c.put-place.new.self.held = sym (nodes_loaded c.settle_named.new.slots.held) ∙ ap nodes_in c.settle_named.ensures.loaded ∙ nodes_loaded c.put-place.new.self.held in
     subst (λ l. IsLinked l c.link.new.links) (sym same) linked
 
 pub returns-else-count-eq0-clause-small : goal.returns-else-count-eq0-clause-small
@@ -231,7 +231,7 @@ returns-else-count-eq0-clause-small g c =
     let found : find (λ k. has_id k h.id) c.put-place.new.self.held ≡ Some h = ap (find (λ k. has_id k h.id)) is ∙ found_last hs h c.requires.new in
     let apart : are_apart (nodes_of c.put-place.new.self.held) ≡ true = ap (λ l. are_apart (nodes_of l)) is ∙ apart_put hs h c.requires.new c.requires.apart in
     let small : AreSmall (nodes_of c.put-place.new.self.held) = subst (λ l. AreSmall (nodes_of l)) (sym is) (small_put hs h c.requires.new c.requires.small c.requires.sized c.requires.paid) in
-    let same : nodes_of c.refresh_around.new.slots.held ≡ nodes_of c.put-place.new.self.held = sym (nodes_loaded c.refresh_around.new.slots.held) ∙ ap nodes_in c.refresh_around.ensures.loaded ∙ nodes_loaded c.put-place.new.self.held in
+    let same : nodes_of c.settle_named.new.slots.held ≡ nodes_of c.put-place.new.self.held = sym (nodes_loaded c.settle_named.new.slots.held) ∙ ap nodes_in c.settle_named.ensures.loaded ∙ nodes_loaded c.put-place.new.self.held in
     subst AreSmall (sym same) small
 
 pub settle-requires-clause-stands : goal.settle-requires-clause-stands
@@ -243,12 +243,12 @@ settle-requires-clause-clear g c =
     subst (λ s. AreClear (length s) c.push_reserved.new.self.items) (sym c.put-place.ensures.spots)
     (subst (AreClear (length (c.args.slots.now.spots ++ Some c.args.held.id ∷ []))) (sym c.push_reserved.ensures.items) (clear_push c.args.slots.now.spots c.args.held.id c.args.scratch.now.marks.items c.requires.clear))
 
-pub refresh_around-requires-clause-stands : goal.refresh_around-requires-clause-stands
-refresh_around-requires-clause-stands g c =
+pub settle_named-requires-clause-stands : goal.settle_named-requires-clause-stands
+settle_named-requires-clause-stands g c =
     ap is_some (ap (λ s. at s c.put-place.result) c.put-place.ensures.spots ∙ place_stands c.args.slots.now.spots c.args.held.id c.put-place.result c.put-place.ensures.place)
 
-pub refresh_around-requires-clause-clear : goal.refresh_around-requires-clause-clear
-refresh_around-requires-clause-clear g c =
+pub settle_named-requires-clause-clear : goal.settle_named-requires-clause-clear
+settle_named-requires-clause-clear g c =
     subst (λ s. AreClear (length s) c.push_reserved.new.self.items) (sym c.put-place.ensures.spots)
     (subst (AreClear (length (c.args.slots.now.spots ++ Some c.args.held.id ∷ []))) (sym c.push_reserved.ensures.items) (clear_push c.args.slots.now.spots c.args.held.id c.args.scratch.now.marks.items c.requires.clear))
 
@@ -256,4 +256,4 @@ pub returns-then-count-eq0-clause-clear : goal.returns-then-count-eq0-clause-cle
 returns-then-count-eq0-clause-clear g c = subst (λ s. AreClear (length s) c.settle.new.scratch.marks.items) (sym c.settle.ensures.spots) c.settle.ensures.clear
 
 pub returns-else-count-eq0-clause-clear : goal.returns-else-count-eq0-clause-clear
-returns-else-count-eq0-clause-clear g c = subst (λ s. AreClear (length s) c.refresh_around.new.scratch.marks.items) (sym c.refresh_around.ensures.spots) c.refresh_around.ensures.clear
+returns-else-count-eq0-clause-clear g c = subst (λ s. AreClear (length s) c.settle_named.new.scratch.marks.items) (sym c.settle_named.ensures.spots) c.settle_named.ensures.clear

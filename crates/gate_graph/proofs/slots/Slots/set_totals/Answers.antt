@@ -1,5 +1,4 @@
-use Rattle.std.proofs.Common.{◌≡◌, Some, true, ap, sym, subst, refl, ◌∙◌, map, arith, is_some}
-use Rattle.std.specs.Option.{option_map}
+use Rattle.std.proofs.Common.{◌≡◌, true, ap, sym, subst, refl, ◌∙◌, map, arith, is_some}
 use Rattle.gate_graph.specs.Slots.{at}
 use Rattle.gate_graph.specs.Holding.{Stored, id_at, at_id, with_totals, spots_of}
 use Rattle.gate_graph.proofs.Placing.{held_written, IsPlaced-written, place_look, slot_filled, spots_of-write}
