@@ -1,10 +1,10 @@
 -- The children of an id are those that its list has.
-use Rattle.std.proofs.Common.{◌≡◌, ◌<◌, ℕ, true, List, [], ◌∷◌, length, get_or, refl, sym, ap, subst, ◌∙◌, arith}
+use Rattle.std.proofs.Common.{◌≡◌, ◌<◌, ℕ, List, [], ◌∷◌, length, get_or, refl, sym, subst, arith}
 use Rattle.std.specs.Prelude.{Contains, filter}
 use Rattle.std.specs.Str.{bytes_eq}
 use Rattle.indexmap.specs.IndexSet.{insert_all}
 use Rattle.gate_graph.specs.Family.{Node, steps_of}
-use Rattle.gate_graph.specs.Families.{among, ids_of, children_of}
+use Rattle.gate_graph.specs.Families.{among, children_of}
 use Rattle.gate_graph.specs.Linking.{Lists, IsLinked, listing}
 use Rattle.gate_graph.proofs.Members.{Contains-head, not_in_none}
 use Rattle.gate_graph.proofs.Apart.{among_from, Contains-among}

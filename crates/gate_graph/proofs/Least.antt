@@ -5,9 +5,8 @@ use Rattle.std.specs.Option.{option_copied, option_map}
 use Rattle.std.specs.Ordering.{is_lt}
 use Rattle.std.specs.declared.cmp.Ordering.{Ordering}
 use Rattle.std.proofs.lemmas.Option.{none-some, same_Some}
-use Rattle.gate_ranking.specs.Rate.{Fraction, rate_cmp}
+use Rattle.gate_ranking.specs.Rate.{rate_cmp}
 use Rattle.gate_ranking.specs.Lesser.{lesser, least_by}
-use Rattle.gate_graph.specs.Family.{Node}
 use Rattle.gate_graph.specs.declared.held.Held.{Held}
 use Rattle.gate_graph.specs.declared.held.Totals.{Totals}
 use Rattle.gate_graph.specs.Holding.{node_of, nodes_of, nodes_in, loaded}

@@ -1,9 +1,8 @@
-use Rattle.std.proofs.Common.{◌≡◌, ◌≤◌, ◌<◌, ◌+◌, ◌∙◌, ◌++◌, ◌∷◌, [], sym, ap, subst, take, length, rules, arith}
+use Rattle.std.proofs.Common.{◌≤◌, ◌∙◌, ◌++◌, ◌∷◌, [], sym, ap, take, length, rules, arith}
 use Rattle.std.specs.Prelude.{sum_by}
 use Rattle.std.proofs.lemmas.List.{take_all}
 use Rattle.gate_graph.specs.Families.{has}
-use Rattle.gate_graph.specs.Holding.{nodes_of, seen_of}
-use Rattle.gate_graph.specs.Linking.{IsLinked}
+use Rattle.gate_graph.specs.Holding.{seen_of}
 use Rattle.gate_graph.specs.Slots.{entries_of}
 use Rattle.gate_graph.proofs.Copying.{same_nodes, seen_more, prefix_fits}
 use Rattle.gate_graph.proofs.Loading.{new_before}

@@ -1,4 +1,4 @@
-use Rattle.std.proofs.Common.{◌≡◌, ◌+◌, arith, Some, Result, Ok, Err, is_some, true, false, if◌then◌else◌, refl, ap, sym, subst, ◌∙◌, true≢false, IsOk, OnErr, Option, None}
+use Rattle.std.proofs.Common.{◌≡◌, ◌+◌, arith, Some, Result, Ok, Err, is_some, true, if◌then◌else◌, refl, ap, sym, subst, ◌∙◌, true≢false, IsOk, OnErr, Option, None}
 use Rattle.std.specs.Str.{bytes_eq}
 use Rattle.std.specs.Cmp.Lexicographic.{bytes_decides}
 use Rattle.indexmap.specs.IndexMap.{get, index_map_len}

@@ -1,5 +1,4 @@
-use Rattle.std.proofs.Common.{◌≡◌, ◌≤◌, ap, subst, sym, length, take, is_some, arith}
-use Rattle.std.specs.Prelude.{filter}
+use Rattle.std.proofs.Common.{◌≤◌, ap, subst, sym, length, take, is_some, arith}
 use Rattle.gate_graph.specs.Walking.{AreClear}
 use Rattle.gate_graph.proofs.Finding.{shorter}
 use Rattle.gate_graph.proofs.Marking.{clear_take}

@@ -1,8 +1,7 @@
-use Rattle.std.proofs.Common.{◌≡◌, ◌∙◌, sym, ap, subst, length, true, arith}
-use Rattle.std.proofs.lemmas.List.{length-map}
+use Rattle.std.proofs.Common.{◌≡◌, ◌∙◌, sym, ap, subst, arith}
 use Rattle.std.specs.Prelude.{sum_by}
 use Rattle.gate_graph.specs.Families.{are_apart}
-use Rattle.gate_graph.specs.Holding.{Carried, loaded, nodes_of, seen, seen_of}
+use Rattle.gate_graph.specs.Holding.{Carried, nodes_of, seen_of}
 use Rattle.gate_graph.specs.Linking.{IsLinked}
 use Rattle.gate_graph.specs.Walking.{AreClear}
 use Rattle.gate_graph.specs.Weighing.{AreSmall}

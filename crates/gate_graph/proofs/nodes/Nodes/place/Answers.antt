@@ -1,4 +1,4 @@
-use Rattle.std.proofs.Common.{◌≡◌, ap, subst, sym, ◌∙◌, Some, ℕ}
+use Rattle.std.proofs.Common.{◌≡◌, ap, subst, ◌∙◌, Some}
 use Rattle.std.specs.Prelude.{IfSome}
 use Rattle.gate_graph.specs.Slots.{at}
 use Rattle.gate_graph.specs.Holding.{Carried}

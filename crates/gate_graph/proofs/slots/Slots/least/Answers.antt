@@ -1,4 +1,4 @@
-use Rattle.std.proofs.Common.{◌≡◌, Some, true, ap, sym, subst, ◌∙◌, is_some}
+use Rattle.std.proofs.Common.{◌≡◌, true, ap, sym, subst, ◌∙◌, is_some}
 use Rattle.gate_ranking.specs.Rate.{rate_cmp}
 use Rattle.gate_ranking.specs.Lesser.{least_by}
 use Rattle.gate_graph.specs.Slots.{at}
