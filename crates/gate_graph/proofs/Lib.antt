@@ -14,10 +14,12 @@ pub mod Ranks
 pub mod Finding
 pub mod Marking
 pub mod Holdings
+pub mod Including
 pub mod Listing
 pub mod Lowering
 pub mod Leaving
 pub mod Pulling
+pub mod Reversing
 pub mod Loading
 pub mod Raising
 pub mod Weighings

@@ -14,7 +14,10 @@ use Rattle.gate_graph.proofs.Members.{Contains-cons_cases, Contains-head, not_in
 use Rattle.std.specs.Map.{lookup}
 use Rattle.std.proofs.lemmas.List.{get_or_append_left, get_or_default}
 use Rattle.std.proofs.Math.Seq.{get_or-append_seam}
-use Rattle.gate_graph.specs.Linking.{Lists, IsListed, listed, listing, count_in, link, link_eq, IsWithout}
+use Rattle.gate_graph.specs.Families.{among}
+use Rattle.gate_graph.specs.Linking.{Lists, IsListed, IsOnce, listed, listing, count_in, link, link_eq, IsWithout}
+use Rattle.gate_graph.proofs.Apart.{among_from, Contains-among}
+use Rattle.gate_graph.proofs.Including.{once_ne, moved_apart, moved_off, moved_in, once_push}
 
 abbrev Id : Type 0
 Id = List ℕ
@@ -167,96 +170,106 @@ module _ (old new : Lists) (id : Id) (number last : ℕ) (there : (a : Id) (n : 
       ap (listed (λ n. lookup (link_eq (link a n)) new.links)) (count_there a ne)
       ∙ listed_same (λ n. lookup (link_eq (link a n)) new.links) (λ n. lookup (link_eq (link a n)) old.links) (count_in old a) (λ k l. look_there a k ne)
 
--- what stays true while an id is taken out of a list, from its end down to `number`
-pub record Removing (parent child : Id) (before now : Lists) (number : ℕ) : Type 0 where
-  pub fewer : (a b : Id) → Contains (listing now a) b → Contains (listing before a) b
-  pub still : (a b : Id) → Contains (listing before a) b → Contains (listing now a) b ⊎ ((a ≡ parent) × (b ≡ child))
-  pub clean : (k : ℕ) (d : Id) → number ≤ k → k < length (listing now parent) → get_or (listing now parent) k d ≢ child
-  pub within : number ≤ length (listing now parent)
+  len_here : length (listing new id) ≡ last
+  len_here = length-listed (λ n. lookup (link_eq (link id n)) new.links) (count_in new id) (swapped_there id) ∙ count_here
 
-pub Removing-start : (parent child : Id) (lists : Lists) (number : ℕ) → number ≡ length (listing lists parent) → Removing parent child lists lists number
-Removing-start parent child lists number e = record {
+  abbrev from : ℕ → ℕ
+  from k = if k == number then length (listing new id) else k
+
+  from_in : (k : ℕ) → k < length (listing new id) → from k < length (listing old id)
+  from_in k l = omega (arith, moved_in k number (length (listing new id)) l, swapped_len)
+
+  -- each stands at one place still
+  pub swapped_once : ((a : Id) → IsOnce (listing old a)) → (a : Id) → IsOnce (listing new a)
+  swapped_once once a =
+      elim (cases_id a id) [
+        | inl e ↦ subst (λ z. IsOnce (listing new z)) (sym e) here
+        | inr ne ↦ subst IsOnce (sym (swapped_others a ne)) (once a)
+      ]
+    where
+      here : IsOnce (listing new id)
+      here i j d lt l same =
+          let m : i < length (listing new id) = omega (arith, lt, l) in
+          once_ne (listing old id) (once id) (from i) (from j) d (from_in i m) (from_in j l) (moved_apart i j number (length (listing new id)) lt l) (sym (swapped_this i d m) ∙ same ∙ swapped_this j d l)
+
+  -- what stood there stands nowhere any more
+  pub swapped_gone : IsOnce (listing old id) → among (listing new id) (get_or (listing old id) number []) ≡ false
+  swapped_gone once = false_from_ne_true _ (λ t.
+      let x = get_or (listing old id) number [] in
+      let c = Contains-among (listing new id) x t in
+      let w : number < length (listing old id) = omega (arith, within, swapped_len, len_here) in
+      once_ne (listing old id) once (from c.0) number x (from_in c.0 c.1) w (moved_off c.0 number (length (listing new id)) c.1) (sym (swapped_this c.0 x c.1) ∙ c.2 ∙ get_or_default (listing old id) number [] x w))
+
+-- an id stands nowhere in a list from a place on
+abbrev pub NotFrom : Id → List Id → ℕ → Type 0
+NotFrom x ids number = (k : ℕ) (d : Id) → number ≤ k → k < length ids → get_or ids k d ≢ x
+
+pub not_from_end : (x : Id) (ids : List Id) (number : ℕ) → number ≡ length ids → NotFrom x ids number
+not_from_end x ids number e k d l m = absurd (omega (arith, e, l, m))
+
+pub not_from_start : (x : Id) (ids : List Id) (n : ℕ) → n ≡ 0 → NotFrom x ids n → among ids x ≡ false
+not_from_start x ids n e r = false_from_ne_true _ (λ t. let c = Contains-among ids x t in r c.0 x (omega (arith, e)) c.1 c.2)
+
+-- nothing is taken out where there is nothing
+pub IsWithout-none : (parent child : Id) (lists : Lists) → among (listing lists parent) child ≡ false → IsWithout parent child lists lists
+IsWithout-none parent child lists none = record {
   fewer = λ a b c. c;
   still = λ a b c. inl c;
-  clean = λ k d l m. absurd (omega (arith, e, l, m));
-  within = omega (arith, e);
+  gone = λ c. true≢false (sym (among_from (listing lists parent) child c) ∙ none);
 }
 
-pub Removing-skip : (parent child : Id) (before now : Lists) (n : ℕ) (x : Id) → Removing parent child before now (n + 1) → get_or (listing now parent) n x ≡ x → (x ≡ child → ⊥) → Removing parent child before now n
-Removing-skip parent child before now n x r at ne = record {
-  fewer = r.fewer;
-  still = r.still;
-  clean = λ k d l m.
-      elim (cases_eq k n) [
-        | inl e ↦ λ c. ne (sym at ∙ get_or_default (listing now parent) n x d (omega (arith, r.within)) ∙ ap (λ j. get_or (listing now parent) j d) (sym e) ∙ c)
-        | inr q ↦ r.clean k d (omega (arith, l, q)) m
-      ];
-  within = omega (arith, r.within);
-}
-
-pub Removing-end : (parent child : Id) (before now : Lists) (number : ℕ) → Removing parent child before now number → number ≡ 0 → IsWithout parent child before now
-Removing-end parent child before now number r e = record {
-  fewer = r.fewer;
-  still = r.still;
-  gone = λ c. r.clean c.0 child (omega (arith, e)) c.1 c.2;
-}
-
-pub Removing-swap : (parent child : Id) (before now after : Lists) (n : ℕ) (x : Id) → Removing parent child before now (n + 1) → get_or (listing now parent) n x ≡ x → x ≡ child
-    → length (listing after parent) + 1 ≡ length (listing now parent)
-    → ((k : ℕ) (d : Id) → k < length (listing after parent) → get_or (listing after parent) k d ≡ get_or (listing now parent) (if k == n then length (listing after parent) else k) d)
-    → ((a : Id) → (a ≢ parent) → listing after a ≡ listing now a) → Removing parent child before after n
-Removing-swap parent child before now after n x r at is len this others = record {
-  fewer = λ a b c. r.fewer a b (back a b c);
-  still = λ a b c. elim (r.still a b c) [ inl q ↦ forth a b q | inr q ↦ inr q ];
-  clean = λ k d l m.
-      elim (cases_eq k n) [
-        | inl e ↦ λ q. r.clean (length (listing after parent)) d (omega (arith, e, m)) (omega (arith, len)) (sym (this k d m ∙ ap (λ b. get_or (listing now parent) (if b then length (listing after parent) else k) d) (ap (λ j. j == n) e ∙ eqb-same n)) ∙ q)
-        | inr ne ↦ λ q. r.clean k d (omega (arith, l, ne)) (omega (arith, len, m)) (sym (this k d m ∙ ap (λ b. get_or (listing now parent) (if b then length (listing after parent) else k) d) (not_equal k n ne)) ∙ q)
-      ];
-  within = omega (arith, r.within, len);
+pub IsWithout-swap : (parent child : Id) (before after : Lists) (n : ℕ) → n < length (listing before parent) → get_or (listing before parent) n [] ≡ child
+    → length (listing after parent) + 1 ≡ length (listing before parent)
+    → ((k : ℕ) (d : Id) → k < length (listing after parent) → get_or (listing after parent) k d ≡ get_or (listing before parent) (if k == n then length (listing after parent) else k) d)
+    → among (listing after parent) (get_or (listing before parent) n []) ≡ false
+    → ((a : Id) → (a ≢ parent) → listing after a ≡ listing before a) → IsWithout parent child before after
+IsWithout-swap parent child before after n within is len this gone others = record {
+  fewer = back;
+  still = forth;
+  gone = λ c. true≢false (sym (among_from (listing after parent) child c) ∙ ap (among (listing after parent)) (sym is) ∙ gone);
 }
   where
-    back : (a b : Id) → Contains (listing after a) b → Contains (listing now a) b
+    back : (a b : Id) → Contains (listing after a) b → Contains (listing before a) b
     back a b c =
         elim (cases_id a parent) [
           | inl e ↦
-              subst (λ z. Contains (listing now z) b) (sym e)
+              subst (λ z. Contains (listing before z) b) (sym e)
               (let d : Contains (listing after parent) b = subst (λ z. Contains (listing after z) b) e c in
               let j = if d.0 == n then length (listing after parent) else d.0 in
               (j, place d.0 d.1 (d.0 == n), sym (this d.0 b d.1) ∙ d.2))
           | inr ne ↦ subst (λ l. Contains l b) (others a ne) c
         ]
       where
-        place : (k : ℕ) → k < length (listing after parent) → (t : Bool) → (if t then length (listing after parent) else k) < length (listing now parent)
+        place : (k : ℕ) → k < length (listing after parent) → (t : Bool) → (if t then length (listing after parent) else k) < length (listing before parent)
         place k l true = omega (arith, len)
         place k l false = omega (arith, l, len)
 
-    forth : (a b : Id) → Contains (listing now a) b → Contains (listing after a) b ⊎ ((a ≡ parent) × (b ≡ child))
+    forth : (a b : Id) → Contains (listing before a) b → Contains (listing after a) b ⊎ ((a ≡ parent) × (b ≡ child))
     forth a b c =
         elim (cases_id a parent) [
-          | inl e ↦ here (subst (λ z. Contains (listing now z) b) e c) e
+          | inl e ↦ here (subst (λ z. Contains (listing before z) b) e c) e
           | inr ne ↦ inl (subst (λ l. Contains l b) (sym (others a ne)) c)
         ]
       where
-        here : Contains (listing now parent) b → a ≡ parent → Contains (listing after a) b ⊎ ((a ≡ parent) × (b ≡ child))
+        here : Contains (listing before parent) b → a ≡ parent → Contains (listing after a) b ⊎ ((a ≡ parent) × (b ≡ child))
         here c e =
             elim (cases_eq c.0 n) [
-              | inl same ↦ inr (e, sym c.2 ∙ ap (λ j. get_or (listing now parent) j b) same ∙ get_or_default (listing now parent) n b x (omega (arith, r.within)) ∙ at ∙ is)
+              | inl same ↦ inr (e, sym c.2 ∙ ap (λ j. get_or (listing before parent) j b) same ∙ get_or_default (listing before parent) n b [] within ∙ is)
               | inr ne ↦
                   elim (cases_eq c.0 (length (listing after parent))) [
                     | inl last ↦
-                        let m : n < length (listing after parent) = omega (arith, r.within, len, ne, last) in
+                        let m : n < length (listing after parent) = omega (arith, within, len, ne, last) in
                         inl (subst (λ z. Contains (listing after z) b) (sym e) (
                           n,
                           m,
-                          this n b m ∙ ap (λ t. get_or (listing now parent) (if t then length (listing after parent) else n) b) (eqb-same n) ∙ ap (λ j. get_or (listing now parent) j b) (sym last) ∙ c.2,
+                          this n b m ∙ ap (λ t. get_or (listing before parent) (if t then length (listing after parent) else n) b) (eqb-same n) ∙ ap (λ j. get_or (listing before parent) j b) (sym last) ∙ c.2,
                         ))
-                    | inr before ↦
-                        let m : c.0 < length (listing after parent) = omega (arith, c.1, len, before) in
+                    | inr below ↦
+                        let m : c.0 < length (listing after parent) = omega (arith, c.1, len, below) in
                         inl (subst (λ z. Contains (listing after z) b) (sym e) (
                           c.0,
                           m,
-                          this c.0 b m ∙ ap (λ t. get_or (listing now parent) (if t then length (listing after parent) else c.0) b) (not_equal c.0 n ne) ∙ c.2,
+                          this c.0 b m ∙ ap (λ t. get_or (listing before parent) (if t then length (listing after parent) else c.0) b) (not_equal c.0 n ne) ∙ c.2,
                         ))
                   ]
             ]
@@ -348,3 +361,28 @@ module _ (old new : Lists) (id child : Id) (there : (a : Id) (n : ℕ) → n < c
   put_others a ne =
       ap (listed (λ n. lookup (link_eq (link a n)) new.links)) (put_count_there a ne)
       ∙ listed_same (λ n. lookup (link_eq (link a n)) new.links) (λ n. lookup (link_eq (link a n)) old.links) (count_in old a) (λ k l. put_look_there a k ne)
+
+  pub put_once : ((a : Id) → IsOnce (listing old a)) → among (listing old id) child ≡ false → (a : Id) → IsOnce (listing new a)
+  put_once once not_there a =
+      elim (cases_id a id) [
+        | inl e ↦ subst (λ z. IsOnce (listing new z)) (sym e) (subst IsOnce (sym put_this) (once_push (listing old id) child (once id) not_there))
+        | inr ne ↦ subst IsOnce (sym (put_others a ne)) (once a)
+      ]
+
+-- lists that are empty
+pub once_empty : (lists : Lists) → lists.counts ≡ [] → (a : Id) → IsOnce (listing lists a)
+once_empty lists e a i j d lt l =
+    let none : length (listing lists a) ≡ 0 = ap (λ k. length (listed (λ n. lookup (link_eq (link a n)) lists.links) (unwrap_or (lookup (bytes_eq a) k) 0))) e in
+    absurd (omega (arith, l, none))
+
+-- the same lists
+pub once_same : (lists lists' : Lists) → lists'.links ≡ lists.links → lists'.counts ≡ lists.counts → ((a : Id) → IsOnce (listing lists a)) → (a : Id) → IsOnce (listing lists' a)
+once_same lists lists' e f once a =
+    let same : listing lists' a ≡ listing lists a = λ i. listed (λ n. lookup (link_eq (link a n)) (e i)) (unwrap_or (lookup (bytes_eq a) (f i)) 0) in
+    subst IsOnce (sym same) (once a)
+
+pub there_same : (lists lists' : Lists) → lists'.links ≡ lists.links → lists'.counts ≡ lists.counts → ((a : Id) (n : ℕ) → n < count_in lists a → IsSome (lookup (link_eq (link a n)) lists.links))
+    → (a : Id) (n : ℕ) → n < count_in lists' a → IsSome (lookup (link_eq (link a n)) lists'.links)
+there_same lists lists' e f there a n l =
+    let same : count_in lists' a ≡ count_in lists a = λ i. unwrap_or (lookup (bytes_eq a) (f i)) 0 in
+    subst (λ k. IsSome (lookup (link_eq (link a n)) k)) (sym e) (there a n (omega (arith, l, same)))

@@ -1,10 +1,10 @@
 -- Nodes that are put, and the lists of what names what.
-use Rattle.std.proofs.Common.{◌≡◌, ◌≢◌, ◌<◌, ◌≤◌, ◌^◌, length, Some, None, ℕ, true, false, List, [], ◌∷◌, ◌++◌, sym, ap, ◌∙◌, subst, ◌⊎◌, inl, inr, arith}
+use Rattle.std.proofs.Common.{◌≡◌, ◌≢◌, ◌<◌, ◌≤◌, ◌^◌, length, Some, None, ℕ, true, false, List, [], ◌∷◌, ◌++◌, sym, ap, ◌∙◌, subst, ◌⊎◌, inl, inr, arith, true≢false}
 use Rattle.std.specs.Prelude.{Contains, find}
 use Rattle.std.specs.Str.{bytes_eq}
-use Rattle.std.proofs.lemmas.Bool.{or_parts, cond-true, cond-false}
-use Rattle.gate_graph.specs.Families.{has, are_apart}
-use Rattle.gate_graph.proofs.Apart.{same_id, are_apart-push}
+use Rattle.std.proofs.lemmas.Bool.{false_from_ne_true, or_parts, cond-true, cond-false}
+use Rattle.gate_graph.specs.Families.{among, has, are_apart}
+use Rattle.gate_graph.proofs.Apart.{Contains-among, has-node, same_id, are_apart-push}
 use Rattle.gate_graph.specs.Weighing.{AreSmall}
 use Rattle.std.proofs.lemmas.List.{map-append}
 use Rattle.std.proofs.lemmas.List.Elements.{Contains-append_cases, Contains-append_left, Contains-append_right}
@@ -15,7 +15,8 @@ use Rattle.gate_graph.specs.declared.held.Held.{Held}
 use Rattle.gate_graph.specs.Holding.{has_id, node_of, nodes_of}
 use Rattle.std.specs.Map.{lookup}
 use Rattle.std.specs.Option.{unwrap_or}
-use Rattle.gate_graph.specs.Linking.{Lists, IsLinked, AreWith, listing, listed, link, link_eq}
+use Rattle.gate_graph.specs.Linking.{Lists, IsLinked, IsOnlyLast, AreWith, including, listing, listed, link, link_eq}
+use Rattle.gate_graph.proofs.Including.{including_it, including_only, including_still, only_including}
 
 abbrev Id : Type 0
 Id = List ℕ
@@ -23,26 +24,23 @@ Id = List ℕ
 pub AreWith-none : (child : Id) (lists : Lists) → AreWith [] child lists lists
 AreWith-none child lists = record { still = λ a b c. c; more = λ a c. not_in_none a c; only = λ a b c. inl c }
 
-pub AreWith-more : (parents : List Id) (p child : Id) (before mid after : Lists) → AreWith parents child before mid → listing after p ≡ listing mid p ++ child ∷ [] → ((a : Id) → a ≢ p → listing after a ≡ listing mid a) → AreWith (parents ++ p ∷ []) child before after
+pub AreWith-more : (parents : List Id) (p child : Id) (before mid after : Lists) → AreWith parents child before mid → listing after p ≡ including child (listing mid p) → ((a : Id) → a ≢ p → listing after a ≡ listing mid a) → AreWith (parents ++ p ∷ []) child before after
 AreWith-more parents p child before mid after w this others = record {
   still = λ a b c. goes a b (w.still a b c);
   more = λ a c.
       elim (Contains-append_cases parents (p ∷ []) a c) [
         | inl old ↦ goes a child (w.more a old)
         | inr new ↦ elim (Contains-cons_cases p [] a new) [
-          | inl e ↦ subst (λ z. Contains (listing after z) child) e (subst (λ l. Contains l child) (sym this) (Contains-append_right (listing mid p) (child ∷ []) child (Contains-head child [])))
+          | inl e ↦ subst (λ z. Contains (listing after z) child) e (subst (λ l. Contains l child) (sym this) (including_it child (listing mid p)))
           | inr none ↦ not_in_none a none
         ]
       ];
   only = λ a b c.
       elim (cases_id a p) [
         | inl e ↦
-            elim (Contains-append_cases (listing mid p) (child ∷ []) b (subst (λ l. Contains l b) this (subst (λ z. Contains (listing after z) b) e c))) [
+            elim (including_only child (listing mid p) b (subst (λ l. Contains l b) this (subst (λ z. Contains (listing after z) b) e c))) [
               | inl old ↦ wider a b (w.only a b (subst (λ z. Contains (listing mid z) b) (sym e) old))
-              | inr new ↦ elim (Contains-cons_cases child [] b new) [
-                | inl s ↦ inr (subst (Contains (parents ++ p ∷ [])) (sym e) (Contains-append_right parents (p ∷ []) p (Contains-head p [])), sym s)
-                | inr none ↦ not_in_none b none
-              ]
+              | inr it ↦ inr (subst (Contains (parents ++ p ∷ [])) (sym e) (Contains-append_right parents (p ∷ []) p (Contains-head p [])), it)
             ]
         | inr ne ↦ wider a b (w.only a b (subst (λ l. Contains l b) (others a ne) c))
       ];
@@ -51,13 +49,27 @@ AreWith-more parents p child before mid after w this others = record {
     goes : (a b : Id) → Contains (listing mid a) b → Contains (listing after a) b
     goes a b c =
         elim (cases_id a p) [
-          | inl e ↦ subst (λ z. Contains (listing after z) b) (sym e) (subst (λ l. Contains l b) (sym this) (Contains-append_left (listing mid p) (child ∷ []) b (subst (λ z. Contains (listing mid z) b) e c)))
+          | inl e ↦ subst (λ z. Contains (listing after z) b) (sym e) (subst (λ l. Contains l b) (sym this) (including_still child (listing mid p) b (subst (λ z. Contains (listing mid z) b) e c)))
           | inr ne ↦ subst (λ l. Contains l b) (sym (others a ne)) c
         ]
 
     wider : (a b : Id) → Contains (listing before a) b ⊎ (Contains parents a × (b ≡ child)) → Contains (listing before a) b ⊎ (Contains (parents ++ p ∷ []) a × (b ≡ child))
     wider a b (inl c) = inl c
     wider a b (inr q) = inr (Contains-append_left parents (p ∷ []) a q.0, q.1)
+
+-- an id stands nowhere in the lists but at the end of those where it was put
+pub only_more : (p child : Id) (mid after : Lists) → ((a : Id) → IsOnlyLast child (listing mid a)) → listing after p ≡ including child (listing mid p) → ((a : Id) → a ≢ p → listing after a ≡ listing mid a) → (a : Id) → IsOnlyLast child (listing after a)
+only_more p child mid after only this others a =
+    elim (cases_id a p) [
+      | inl e ↦ subst (λ z. IsOnlyLast child (listing after z)) (sym e) (subst (IsOnlyLast child) (sym this) (only_including child (listing mid p) (only p)))
+      | inr ne ↦ subst (IsOnlyLast child) (sym (others a ne)) (only a)
+    ]
+
+-- an id that no node has is in no list
+pub unlisted_new : (g : List Node) (x : Id) (lists : Lists) → IsLinked g lists → has g x ≡ false → (a : Id) → among (listing lists a) x ≡ false
+unlisted_new g x lists l new a = false_from_ne_true _ (λ t.
+    let s = step_node g a x ((l.linked a x).0 (Contains-among (listing lists a) x t)) in
+    true≢false (sym (has-node g s.0 s.1) ∙ ap (has g) s.2 ∙ new))
 
 -- a node that is put is listed by those that it names
 pub IsLinked-put : {T : Type 0} (hs : List (Held T)) (h : Held T) (before after : Lists) → IsLinked (nodes_of hs) before → AreWith h.parents.items h.id before after → IsLinked (nodes_of (hs ++ h ∷ [])) after

@@ -20,7 +20,7 @@ use Rattle.gate_graph.proofs.Members.{Contains-cons_cases, Contains-head, Contai
 use Rattle.gate_graph.proofs.Steps.{step_node, node_step, cases_id}
 use Rattle.gate_graph.proofs.Apart.{same_id, has-node, one_node, among_from, among-push, Contains-among}
 use Rattle.gate_graph.proofs.Filters.{Contains-map, Contains-from_map, Contains-filter, Contains-from_filter}
-use Rattle.gate_graph.proofs.Holdings.{find_is, node_in}
+use Rattle.gate_graph.proofs.Holdings.{find_is, node_in, up_listed}
 use Rattle.gate_graph.proofs.Naming.{totals_unnamed}
 use Rattle.gate_graph.proofs.Root.{differs, not_same, without_id_none, without_id_twice}
 
@@ -198,6 +198,11 @@ module _ {T : Type 0} (hs : List (Held T)) (x : Id) (h : Held T) (apart : are_ap
       by : (n : Node) (b : Bool) → (b ≡ true → among n.parents p ≡ false) → cond b (record n { parents = n.parents ++ p ∷ [] }) n ≡ cond (b && not (among n.parents p)) (record n { parents = n.parents ++ p ∷ [] }) n
       by n true e = sym (cond-true (not (among n.parents p)) (record n { parents = n.parents ++ p ∷ [] }) n (ap not (e refl)))
       by n false e = refl
+
+  -- what it does not name does not list it
+  pub unlisted_name : (p : Id) (lists : Lists) → IsLinked (nodes_of hs) lists → among h.parents.items p ≡ false → among (listing lists p) x ≡ false
+  unlisted_name p lists l f = false_from_ne_true _ (λ t.
+      true≢false (sym (among_from h.parents.items p (up_listed hs x h apart here p ((l.linked p x).0 (Contains-among (listing lists p) x t)))) ∙ f))
 
   -- the lists with it at the end of one
   pub linked_pushed : (p : Id) (before after : Lists) → IsLinked (nodes_of hs) before → listing after p ≡ listing before p ++ x ∷ [] → ((a : Id) → a ≢ p → listing after a ≡ listing before a) → IsLinked (map (pushing p x) (nodes_of hs)) after

@@ -1,10 +1,11 @@
-//! Lists of ids, one for each id, which share their room.
-ghost use Rattle.std.specs.Prelude.{◌≡◌, ◌≢◌, ◌<◌, ◌+◌, ◌==◌, ℕ, List, length, get_or, cond, ◌≤◌, Some, None, IsSome, if◌then◌else◌, ◌++◌, ◌∷◌, [], OnOk};
+//! Lists of ids, one for each id, which share their room. Each list has each id once.
+ghost use Rattle.std.specs.Prelude.{◌≡◌, ◌≢◌, ◌<◌, ◌+◌, ℕ, List, length, get_or, cond, ◌≤◌, false, Some, None, IsSome, IfSome, IfNone, ◌++◌, ◌∷◌, [], OnOk};
 ghost use Rattle.std.specs.Str.{bytes_eq};
 ghost use Rattle.std.specs.Option.{unwrap_or};
 ghost use Rattle.indexmap.specs.IndexMap.{get, spare};
 ghost use Rattle.gate_graph.specs.declared.links.Link.{Link as ALink};
-ghost use Rattle.gate_graph.specs.Linking.{IsWithout, listing, link, link_eq};
+ghost use Rattle.gate_graph.specs.Families.{among};
+ghost use Rattle.gate_graph.specs.Linking.{HasLastAt, IsOnlyLast, IsWithout, including, listing, link, link_eq, moved};
 
 use crate::id::NodeId;
 use gate_bytes::Memory;
@@ -52,7 +53,7 @@ fn move_last<S: BuildHasher>(
     requires last { IsSome (get link_eq links.old (link id.now last)) }
     requires place { IsSome (get link_eq links.old (link id.now number)) }
     ensures room { spare links.old ≤ spare links.new }
-    ensures look { (k : ALink) → get link_eq links.new k ≡ cond (link_eq (link id.now last) k) None (cond (link_eq (link id.now number) k) (get link_eq links.old (link id.now last)) (get link_eq links.old k)) }
+    ensures look { (k : ALink) → get link_eq links.new k ≡ moved (get link_eq links.old) (link id.now last) (link id.now number) k }
 {
     let end = Link {
         parent: *id,
@@ -153,15 +154,16 @@ impl<S: BuildHasher + Drop> Links<S> {
         Ok(())
     }
 
-    /// Puts an id at the end of the list of another, for which there is room.
-    pub(crate) fn put(&mut self, parent: &NodeId, child: &NodeId)
-        requires { 0 < self.old.room }
+    /// Puts an id at the end of the list of another, which has so many and not this one, for which there is room.
+    fn push(&mut self, parent: &NodeId, number: u64, child: &NodeId)
+        requires room { 0 < self.old.room }
+        requires end { number ≡ length (listing self.old parent.now) }
+        requires new { among (listing self.old parent.now) child.now ≡ false }
         ensures room { self.new.room + 1 ≡ self.old.room }
         ensures this { listing self.new parent.now ≡ listing self.old parent.now ++ child.now ∷ [] }
         ensures others { (a : List ℕ) → a ≢ parent.now → listing self.new a ≡ listing self.old a }
     {
         let _links = self.links.len();
-        let number = self.count(parent);
         self.room -= 1;
         let link = Link {
             parent: *parent,
@@ -173,12 +175,39 @@ impl<S: BuildHasher + Drop> Links<S> {
         let _ = put_count.unwrap();
     }
 
+    /// Whether the list of an id, which has so many, has another, which stands nowhere in it but at its end.
+    fn ends_with(&self, parent: &NodeId, number: u64, child: &NodeId) -> bool
+        requires end { number ≡ length (listing self.now parent.now) }
+        requires last { IsOnlyLast child.now (listing self.now parent.now) }
+        ensures { result ≡ among (listing self.now parent.now) child.now }
+    {
+        if number == 0 {
+            return false;
+        }
+        *self.at(parent, number - 1) == *child
+    }
+
+    /// Puts an id at the end of the list of another, for which there is room, unless it stands there already.
+    pub(crate) fn put(&mut self, parent: &NodeId, child: &NodeId)
+        requires room { 0 < self.old.room }
+        requires last { IsOnlyLast child.now (listing self.old parent.now) }
+        ensures room { self.old.room ≤ self.new.room + 1 }
+        ensures this { listing self.new parent.now ≡ including child.now (listing self.old parent.now) }
+        ensures others { (a : List ℕ) → a ≢ parent.now → listing self.new a ≡ listing self.old a }
+    {
+        let number = self.count(parent);
+        if !self.ends_with(parent, number, child) {
+            self.push(parent, number, child);
+        }
+    }
+
     /// Takes one out of the list of an id; the last of the list takes its place.
     fn swap_out(&mut self, id: &NodeId, number: u64)
         requires { number < length (listing self.old id.now) }
         ensures room { self.new.room ≡ self.old.room }
         ensures len { length (listing self.new id.now) + 1 ≡ length (listing self.old id.now) }
-        ensures this { (k : ℕ) (d : List ℕ) → k < length (listing self.new id.now) → get_or (listing self.new id.now) k d ≡ get_or (listing self.old id.now) (if k == number then length (listing self.new id.now) else k) d }
+        ensures this { HasLastAt number (listing self.old id.now) (listing self.new id.now) }
+        ensures gone { among (listing self.new id.now) (get_or (listing self.old id.now) number []) ≡ false }
         ensures others { (a : List ℕ) → a ≢ id.now → listing self.new a ≡ listing self.old a }
     {
         let last = self.count(id) - 1;
@@ -199,17 +228,29 @@ impl<S: BuildHasher + Drop> Links<S> {
         }
     }
 
-    /// Takes an id out of the list of another.
-    pub(crate) fn remove(&mut self, parent: &NodeId, child: &NodeId)
-        ensures lists { IsWithout parent.now child.now self.old self.new }
-        ensures room { self.new.room ≡ self.old.room }
+    /// Where an id stands in the list of another, looked for from its end.
+    fn place_in(&self, parent: &NodeId, child: &NodeId) -> Option<u64>
+        ensures within { IfSome result (λ number. number < length (listing self.now parent.now)) }
+        ensures there { IfSome result (λ number. get_or (listing self.now parent.now) number [] ≡ child.now) }
+        ensures none { IfNone result (among (listing self.now parent.now) child.now ≡ false) }
     {
         let mut number = self.count(parent);
         while number > 0 {
             number -= 1;
             if *self.at(parent, number) == *child {
-                self.swap_out(parent, number);
+                return Some(number);
             }
+        }
+        None
+    }
+
+    /// Takes an id out of the list of another, which has it once.
+    pub(crate) fn remove(&mut self, parent: &NodeId, child: &NodeId)
+        ensures lists { IsWithout parent.now child.now self.old self.new }
+        ensures room { self.new.room ≡ self.old.room }
+    {
+        if let Some(number) = self.place_in(parent, child) {
+            self.swap_out(parent, number);
         }
     }
 }

@@ -103,15 +103,16 @@ impl<T: Drop, S: BuildHasher + Copy + Drop> Nodes<T, S> {
         }
     }
 
-    /// One of the nodes that name an id, whether a node has that id or not.
+    /// One of the nodes that name an id, whether a node has that id or not: the one that `take_one` unlists at the least cost.
     pub fn child(&self, id: &NodeId) -> Option<&NodeId>
         ensures some { IfSome result (λ child. Contains (children_of (nodes_in self.now.nodes) id.now) child.now) }
         ensures none { IfNone result (children_of (nodes_in self.now.nodes) id.now ≡ []) }
     {
-        if self.links.count(id) == 0 {
+        let count = self.links.count(id);
+        if count == 0 {
             None
         } else {
-            Some(self.links.at(id, 0))
+            Some(self.links.at(id, count - 1))
         }
     }
 

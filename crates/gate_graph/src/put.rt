@@ -4,7 +4,7 @@ ghost use Rattle.std.specs.Vec.{vec_capacity};
 ghost use Rattle.gate_graph.specs.Families.{has, are_apart};
 ghost use Rattle.gate_graph.specs.Holding.{id_at, nodes_of, loaded};
 ghost use Rattle.gate_graph.specs.Slots.{at};
-ghost use Rattle.gate_graph.specs.Linking.{IsLinked, AreWith};
+ghost use Rattle.gate_graph.specs.Linking.{IsLinked, IsUnlisted, AreWith};
 ghost use Rattle.gate_graph.specs.Walking.{AreClear};
 ghost use Rattle.gate_graph.specs.Weighing.{AreSmall, IsLeafLast, IsNewLast, IsRoot, IsWeighed};
 
@@ -18,9 +18,11 @@ use crate::walk::{Heading, Scratch, Way, walk};
 use crate::weigh::{burden_all, raise_all, weigh};
 use std::hash::BuildHasher;
 
-/// Puts an id at the end of the lists of others, for which there is room.
+/// Puts an id that is in no list at the end of the lists of others, for which there is room: once in each, however often the
+/// other stands among these.
 pub(crate) fn link<S: BuildHasher + Drop>(links: &mut Links<S>, parents: &[NodeId], child: &NodeId)
-    requires { length parents.now ≤ links.old.room }
+    requires room { length parents.now ≤ links.old.room }
+    requires new { IsUnlisted child.now links.old }
     ensures { AreWith parents.now child.now links.old links.new }
 {
     for parent in parents {

@@ -113,6 +113,8 @@ pub(crate) fn take_family<T: Drop, S: BuildHasher + Drop>(
     ensures capacity { vec_capacity gone.new ≡ vec_capacity gone.old }
 {
     walk_below(slots, links, &mut scratch.marks, &mut scratch.found, id);
+    // A walk finds what names a node in the order of its list. From the end each stands last in the list when it is taken out.
+    scratch.found.reverse();
     lower_above_each(
         slots,
         links,

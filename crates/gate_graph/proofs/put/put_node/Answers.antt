@@ -11,7 +11,7 @@ use Rattle.gate_graph.specs.Slots.{at}
 use Rattle.gate_graph.specs.Walking.{AreClear}
 use Rattle.gate_graph.specs.Weighing.{AreSmall}
 use Rattle.gate_graph.proofs.Marking.{id_from, clear_push}
-use Rattle.gate_graph.proofs.Putting.{IsLinked-put, found_last, apart_put, small_put, unnamed_by}
+use Rattle.gate_graph.proofs.Putting.{IsLinked-put, found_last, apart_put, small_put, unlisted_new, unnamed_by}
 use Rattle.gate_graph.proofs.Ranks.{total_small}
 use Rattle.gate_graph.proofs.put.put_node.Goals as goal
 
@@ -30,8 +30,8 @@ pub at-requires : goal.at-requires
 at-requires g c =
     ap is_some (ap (λ s. at s c.put-place.result) c.put-place.ensures.spots ∙ place_stands c.args.slots.now.spots c.args.held.id c.put-place.result c.put-place.ensures.place)
 
-pub link-requires : goal.link-requires
-link-requires g c =
+pub link-requires-clause-room : goal.link-requires-clause-room
+link-requires-clause-room g c =
     let hs = c.args.slots.now.held in
     let h = c.args.held in
     let is : c.put-place.new.self.held ≡ hs ++ h ∷ [] = c.put-place.ensures.held in
@@ -41,6 +41,9 @@ link-requires g c =
     let got : c.at.result.now ≡ h = same_Some _ _ (sym c.at.ensures ∙ ap (λ y. find (λ k. has_id k y) c.put-place.new.self.held) id ∙ found) in
     let named = c.as_slice-parents.ensures.value ∙ ap (λ (z : Held g.row.T.Denot). z.parents.items) got in
     omega (arith, c.requires.lists, ap length named)
+
+pub link-requires-clause-new : goal.link-requires-clause-new
+link-requires-clause-new g c = unlisted_new (nodes_of c.args.slots.now.held) c.args.held.id c.args.links.now c.requires.linked c.requires.new
 
 pub settle-requires-clause-apart : goal.settle-requires-clause-apart
 settle-requires-clause-apart g c =
