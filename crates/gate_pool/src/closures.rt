@@ -133,6 +133,7 @@ pub fn ancestors_with<V: FamilyView>(
 ) -> Result<Option<Vec<Txid>>, Memory>
     requires { IsEntry (V.entries pool.now) txid.now }
     ensures found { IfOk result (λ found. IfSome found (λ ids. AreIdsOf ids.items (ancestors_of (V.entries pool.now) txid.now))) }
+    ensures few { IfOk result (λ found. IfSome found (λ ids. vec_len ids ≤ most)) }
     ensures many { IfOk result (λ found. found ≡ None → most < length (ancestors_of (V.entries pool.now) txid.now)) }
 {
     pool.recall_apart();
