@@ -14,6 +14,7 @@ pub mod Points
 pub mod Removals
 pub mod Scoring
 pub mod Searching
+pub mod Lending
 pub mod Standing
 pub mod Walking
 pub mod Weighed

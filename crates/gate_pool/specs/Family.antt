@@ -86,6 +86,13 @@ pub record AreIdsOf (txids : List (List ℕ)) (entries : List Admitted) : Type 0
   pub all : (e : Admitted) → Contains entries e → Contains txids (txid_of e.tx)
   pub only : (txid : List ℕ) → Contains txids txid → (e : Admitted) × Contains entries e × (txid_of e.tx ≡ txid)
 
+-- a fact of those entries whose ids these are, and of these with all that are below them
+abbrev pub OfThese : List Admitted → List (List ℕ) → (List Admitted → Type 0) → Type 0
+OfThese entries txids fact = (test : Admitted → Bool) → AreIdsOf txids (filter test entries) → fact (filter test entries)
+
+abbrev pub BelowThese : List Admitted → List (List ℕ) → (List Admitted → Type 0) → Type 0
+BelowThese entries txids fact = (test : Admitted → Bool) → AreIdsOf txids (filter test entries) → fact (all_below test entries)
+
 -- the sum of the fees, in satoshi
 abbrev pub fees_of : List Admitted → ℕ
 fees_of entries = sum_by (λ e. e.fee) entries

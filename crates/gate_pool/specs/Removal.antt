@@ -1,5 +1,7 @@
 -- What leaves with the entry of an id.
-use Rattle.std.specs.Prelude.{ℕ, List, [], is_some, if◌then◌else◌}
+use Rattle.std.specs.Prelude.{◌≡◌, ℕ, Bool, true, List, [], is_some, if◌then◌else◌}
+use Rattle.gate_tx.specs.declared.OutPoint.{OutPoint}
+use Rattle.gate_tx.specs.Coins.{spends}
 use Rattle.gate_pool.specs.Pool.{Admitted, entry_by_txid}
 use Rattle.gate_pool.specs.Family.{descendants_of, without_family}
 
@@ -10,3 +12,7 @@ family_of_entry entries txid = if is_some (entry_by_txid entries txid) then desc
 -- the entries that are left without these
 abbrev pub without_entry : List Admitted → List ℕ → List Admitted
 without_entry entries txid = if is_some (entry_by_txid entries txid) then without_family entries txid else entries
+
+-- what spends an outpoint passes a test
+abbrev pub PassesSpenders : (Admitted → Bool) → OutPoint → Type 0
+PassesSpenders test point = (e : Admitted) → spends e.tx.inputs point ≡ true → test e ≡ true

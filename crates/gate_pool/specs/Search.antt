@@ -3,7 +3,7 @@ use Rattle.std.specs.Prelude.{◌≡◌, ◌≢◌, ℕ, ◌<◌, ◌≤◌, Boo
 use Rattle.std.specs.List.{AllPairs}
 use Rattle.gate_tx.specs.declared.TxIn.{TxIn}
 use Rattle.gate_tx.specs.Ids.{txid_of}
-use Rattle.gate_pool.specs.Pool.{Admitted}
+use Rattle.gate_pool.specs.Pool.{Admitted, listing_of}
 use Rattle.gate_pool.specs.Family.{names}
 
 -- the ids of the transactions whose outputs the inputs spend, one for each input
@@ -33,3 +33,8 @@ pub record IsFound (most : ℕ) (entries : List Admitted) (txids before after : 
   pub all : within ≡ true → (txid : List ℕ) → Contains txids txid → IsEntry entries txid → Contains after txid
   pub few : within ≡ true → length before ≤ most → length after ≤ most
   pub many : within ≡ false → most < length after
+
+-- these entries stand beside the ids that were found
+pub record AreLent (entries : List Admitted) (found : List (List ℕ)) (lent : List Admitted) : Type 0 where
+  pub listed : found ≡ listing_of lent
+  pub only : (e : Admitted) → Contains lent e → Contains entries e

@@ -1,13 +1,16 @@
 //! Families over any view of a pool: found by walking from entry to entry, so that no search goes through the pool.
-ghost use Rattle.std.specs.Prelude.{◌≡◌, ◌<◌, ◌^◌, ◌≤◌, Bool, Some, None, [], ◌∷◌, IfOk, IfSome, length, filter, vec_len};
-ghost use Rattle.gate_pool.specs.Pool.{Admitted, entry_by_txid};
-ghost use Rattle.gate_pool.specs.Family.{ancestors_of, ancestors_above, all_below, AreIdsOf, sums_of};
-ghost use Rattle.gate_pool.specs.Search.{parents_of, IsEntry, IsFound};
+ghost use Rattle.std.specs.Prelude.{◌≡◌, ◌<◌, ◌^◌, ◌≤◌, None, [], ◌∷◌, IfOk, IfSome, OnOk, length, vec_len};
+ghost use Rattle.gate_tx.specs.Money.{max_money};
+ghost use Rattle.gate_pool.specs.Pool.{largest_vsize};
+ghost use Rattle.gate_pool.specs.Family.{ancestors_of, ancestors_above, AreIdsOf, OfThese, BelowThese, sums_of};
+ghost use Rattle.gate_pool.specs.Search.{parents_of, AreLent, IsEntry, IsFound};
 
+use crate::entry::Entry;
 use crate::view::FamilyView;
 use gate_bytes::Memory;
 use gate_tx::{TxIn, Txid};
 use std::alloc::Global;
+use std::marker::Model;
 
 /// What entries come to.
 #[derive(Clone, Copy, Debug, PartialEq, Eq)]
@@ -18,6 +21,13 @@ pub struct Sums {
     pub size: u128,
     /// Their fees, in satoshi.
     pub fees: u128,
+}
+
+/// Entries above a transaction: their ids, each once, and what they come to.
+#[derive(Drop)]
+pub struct Above {
+    pub ids: Vec<Txid>,
+    pub sums: Sums,
 }
 
 impl From<gate_graph::Sums> for Sums {
@@ -32,6 +42,48 @@ impl From<gate_graph::Sums> for Sums {
     }
 }
 
+/// An entry that was found: contracts see the entry.
+#[derive(Drop)]
+struct Lent<'a> {
+    entry: &'a Entry,
+}
+
+impl<'a> Model for Lent<'a> {
+    ghost use Rattle.gate_pool.specs.Pool.{Admitted};
+
+    ghost Value = { Admitted };
+
+    ghost view = { λ l. l.entry.now };
+}
+
+impl<'a> Lent<'a> {
+    fn of(entry: &'a Entry) -> Lent<'a>
+        ensures { result ≡ entry.now }
+    {
+        Lent { entry }
+    }
+
+    fn inputs(&self) -> &'a [TxIn]
+        ensures { result.now ≡ self.now.tx.inputs }
+    {
+        self.entry.transaction().inputs()
+    }
+
+    fn vsize(&self) -> u64
+        ensures value { result ≡ self.now.vsize }
+        ensures most { result ≤ largest_vsize }
+    {
+        self.entry.vsize()
+    }
+
+    fn fee(&self) -> u64
+        ensures value { result ≡ self.now.fee }
+        ensures most { result ≤ max_money }
+    {
+        self.entry.fee()
+    }
+}
+
 /// Adds the id of an entry, unless it was found before. Tells whether there are no more than `most`.
 fn add<V: FamilyView>(
     pool: &V,
@@ -43,6 +95,26 @@ fn add<V: FamilyView>(
 {
     if !found.contains(txid) && pool.entry(txid).is_some() {
         found.push(*txid)?;
+    }
+    Ok(found.len() <= most)
+}
+
+/// The same, with the entry beside its id.
+fn add_lent<'a, V: FamilyView>(
+    pool: &'a V,
+    found: &mut Vec<Txid>,
+    lent: &mut Vec<Lent<'a>>,
+    txid: &Txid,
+    most: usize,
+) -> Result<bool, Memory>
+    ensures found { IfOk result (λ few. IsFound most (V.entries pool.now) (txid.now ∷ []) found.old.items found.new.items few) }
+    ensures lent { AreLent (V.entries pool.now) found.old.items lent.old.items → OnOk result (AreLent (V.entries pool.now) found.new.items lent.new.items) }
+{
+    if !found.contains(txid) {
+        if let Some(entry) = pool.entry(txid) {
+            found.push(*txid)?;
+            lent.push(Lent::of(entry))?;
+        }
     }
     Ok(found.len() <= most)
 }
@@ -64,36 +136,73 @@ fn add_all<V: FamilyView>(
     Ok(true)
 }
 
-/// Adds those of the ids that the inputs name that are entries', until there are more than `most`.
-fn add_parents<V: FamilyView>(
-    pool: &V,
+/// Adds those of the ids that the inputs name that are entries', each with its entry, until there are more than `most`.
+fn add_parents<'a, V: FamilyView>(
+    pool: &'a V,
     found: &mut Vec<Txid>,
+    lent: &mut Vec<Lent<'a>>,
     inputs: &[TxIn],
     most: usize,
 ) -> Result<bool, Memory>
-    ensures { IfOk result (λ few. IsFound most (V.entries pool.now) (parents_of inputs.now) found.old.items found.new.items few) }
+    ensures found { IfOk result (λ few. IsFound most (V.entries pool.now) (parents_of inputs.now) found.old.items found.new.items few) }
+    ensures lent { AreLent (V.entries pool.now) found.old.items lent.old.items → OnOk result (AreLent (V.entries pool.now) found.new.items lent.new.items) }
 {
     for input in inputs {
-        if !add(pool, found, &input.prevout.txid, most)? {
+        if !add_lent(pool, found, lent, &input.prevout.txid, most)? {
             return Ok(false);
         }
     }
     Ok(true)
 }
 
-/// The same for the inputs of an entry.
-fn add_parents_of<V: FamilyView>(
-    pool: &V,
-    found: &mut Vec<Txid>,
-    child: &Txid,
-    most: usize,
-) -> Result<bool, Memory>
-    ensures { (e : Admitted) → entry_by_txid (V.entries pool.now) child.now ≡ Some e → IfOk result (λ few. IsFound most (V.entries pool.now) (parents_of e.tx.inputs) found.old.items found.new.items few) }
+/// What entries come to.
+fn sum(lent: &[Lent<'_>]) -> Sums
+    ensures sums { result ≡ sums_of lent.now }
+    ensures small { result.size < 2 ^ 100 }
 {
-    match pool.entry(child) {
-        Some(entry) => add_parents(pool, found, entry.transaction().inputs(), most),
-        None => Ok(true),
+    let mut sums = Sums {
+        count: 0,
+        size: 0,
+        fees: 0,
+    };
+    for entry in lent {
+        sums.count += 1;
+        sums.size += u128::from(entry.vsize());
+        sums.fees += u128::from(entry.fee());
     }
+    sums
+}
+
+/// The entries above a transaction with these inputs: its parents in the pool, their parents, and so on, by their ids, and what
+/// they come to. None where there are more than `most`.
+pub fn family_above<V: FamilyView>(
+    alloc: Global,
+    pool: &V,
+    inputs: &[TxIn],
+    most: usize,
+) -> Result<Option<Above>, Memory>
+    ensures found { IfOk result (λ found. IfSome found (λ above. AreIdsOf above.ids.items (ancestors_above (V.entries pool.now) inputs.now))) }
+    ensures sums { IfOk result (λ found. IfSome found (λ above. above.sums ≡ sums_of (ancestors_above (V.entries pool.now) inputs.now))) }
+    ensures few { IfOk result (λ found. IfSome found (λ above. vec_len above.ids ≤ most)) }
+    ensures small { IfOk result (λ found. IfSome found (λ above. above.sums.size < 2 ^ 100)) }
+    ensures many { IfOk result (λ found. found ≡ None → most < length (ancestors_above (V.entries pool.now) inputs.now)) }
+{
+    pool.recall_apart();
+    let mut found = Vec::new(alloc);
+    let mut lent = Vec::new(alloc);
+    if !add_parents(pool, &mut found, &mut lent, inputs, most)? {
+        return Ok(None);
+    }
+    let mut opened = 0;
+    while opened < lent.len() {
+        let parents = lent[opened].inputs();
+        if !add_parents(pool, &mut found, &mut lent, parents, most)? {
+            return Ok(None);
+        }
+        opened += 1;
+    }
+    let sums = sum(&lent);
+    Ok(Some(Above { ids: found, sums }))
 }
 
 /// The ids of the entries above a transaction with these inputs: its parents in the pool, their parents, and so on. None
@@ -108,20 +217,10 @@ pub fn ancestors<V: FamilyView>(
     ensures few { IfOk result (λ found. IfSome found (λ ids. vec_len ids ≤ most)) }
     ensures many { IfOk result (λ found. found ≡ None → most < length (ancestors_above (V.entries pool.now) inputs.now)) }
 {
-    pool.recall_apart();
-    let mut found = Vec::new(alloc);
-    if !add_parents(pool, &mut found, inputs, most)? {
+    let Some(above) = family_above(alloc, pool, inputs, most)? else {
         return Ok(None);
-    }
-    let mut opened = 0;
-    while opened < found.len() {
-        let child = found[opened];
-        if !add_parents_of(pool, &mut found, &child, most)? {
-            return Ok(None);
-        }
-        opened += 1;
-    }
-    Ok(Some(found))
+    };
+    Ok(Some(above.ids))
 }
 
 /// The ids of the entry of an id and of all that are above it. None where there are more than `most`.
@@ -157,9 +256,9 @@ pub fn descendants<V: FamilyView>(
     roots: &[Txid],
     most: usize,
 ) -> Result<Option<Vec<Txid>>, Memory>
-    ensures found { (test : Admitted → Bool) → AreIdsOf roots.now (filter test (V.entries pool.now)) → IfOk result (λ found. IfSome found (λ ids. AreIdsOf ids.items (all_below test (V.entries pool.now)))) }
+    ensures found { BelowThese (V.entries pool.now) roots.now (λ below. IfOk result (λ found. IfSome found (λ ids. AreIdsOf ids.items below))) }
     ensures few { IfOk result (λ found. IfSome found (λ ids. vec_len ids ≤ most)) }
-    ensures many { (test : Admitted → Bool) → AreIdsOf roots.now (filter test (V.entries pool.now)) → IfOk result (λ found. found ≡ None → most < length (all_below test (V.entries pool.now))) }
+    ensures many { BelowThese (V.entries pool.now) roots.now (λ below. IfOk result (λ found. found ≡ None → most < length below)) }
 {
     let mut found = Vec::new(alloc);
     if !add_all(pool, &mut found, roots, most)? {
@@ -179,7 +278,7 @@ pub fn descendants<V: FamilyView>(
 
 /// What entries, given by their ids, come to.
 pub fn add_up<V: FamilyView>(pool: &V, ids: &[Txid]) -> Sums
-    ensures sums { (test : Admitted → Bool) → AreIdsOf ids.now (filter test (V.entries pool.now)) → result ≡ sums_of (filter test (V.entries pool.now)) }
+    ensures sums { OfThese (V.entries pool.now) ids.now (λ these. result ≡ sums_of these) }
     ensures small { result.size < 2 ^ 100 }
 {
     pool.recall_apart();

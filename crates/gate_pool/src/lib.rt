@@ -17,7 +17,7 @@ mod store;
 mod view;
 
 pub use choice::Test;
-pub use closures::{Sums, add_up, ancestors, ancestors_with, descendants};
+pub use closures::{Above, Sums, add_up, ancestors, ancestors_with, descendants, family_above};
 pub use entry::{Entry, LARGEST_VSIZE, MOST_ENTRIES};
 pub use pool::Pool;
 pub use scores::Score;

@@ -6,6 +6,7 @@ ghost use Rattle.gate_tx.specs.Coins.{point_eq, spends};
 ghost use Rattle.gate_tx.specs.declared.OutPoint.{OutPoint as Point};
 ghost use Rattle.gate_tx.specs.Ids.{txid_of};
 ghost use Rattle.gate_pool.specs.Pool.{has_wtxid, has_point};
+ghost use Rattle.gate_pool.specs.Places.{written};
 ghost use Rattle.indexmap.specs.IndexMap.{get, spare};
 
 use crate::entry::Entry;
@@ -32,8 +33,8 @@ pub(crate) fn put_entry<S: BuildHasher>(
 )
     requires wtxid_room { 0 < spare wtxids.old }
     requires point_room { length entry.now.tx.inputs ≤ spare spent.old }
-    ensures wtxids { (id : List ℕ) → get bytes_eq wtxids.new id ≡ cond (has_wtxid entry.now id) (Some (txid_of entry.now.tx)) (get bytes_eq wtxids.old id) }
-    ensures points { (point : Point) → get point_eq spent.new point ≡ cond (has_point entry.now point) (Some (txid_of entry.now.tx)) (get point_eq spent.old point) }
+    ensures wtxids { (id : List ℕ) → get bytes_eq wtxids.new id ≡ written entry.now (has_wtxid entry.now id) (get bytes_eq wtxids.old id) }
+    ensures points { (point : Point) → get point_eq spent.new point ≡ written entry.now (has_point entry.now point) (get point_eq spent.old point) }
 {
     let txid = entry.txid();
     let put: Result<_, _> = wtxids.insert(entry.wtxid(), txid);

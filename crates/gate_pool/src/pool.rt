@@ -3,7 +3,7 @@ ghost use Rattle.std.specs.List.Sorted.{IsPermutation};
 ghost use Rattle.std.specs.Option.{option_copied};
 ghost use Rattle.gate_tx.specs.Ids.{txid_of, wtxid_of};
 ghost use Rattle.gate_pool.specs.Pool.{Admitted, entry_by_txid, entry_by_wtxid, spender_of, has_txid, listing_of, size_of, is_before};
-ghost use Rattle.gate_pool.specs.Family.{names, spends_one_of, totals_of, without_family, without_below, entered, AreIdsOf};
+ghost use Rattle.gate_pool.specs.Family.{names, spends_one_of, totals_of, without_family, without_below, entered, OfThese};
 ghost use Rattle.gate_pool.specs.Scores.{AreBounded, least_of};
 ghost use Rattle.gate_pool.specs.Distinct.{AreDistinct};
 
@@ -107,7 +107,7 @@ impl<S: BuildHasher + Copy + Drop> Pool<S> {
 
     /// Puts the ids of entries in order of admission, in place.
     pub fn sort_by_admission(&self, txids: &mut [Txid])
-        ensures order { (test : Admitted → Bool) → AreIdsOf txids.old (filter test self.now.entries) → txids.new ≡ listing_of (filter test self.now.entries) }
+        ensures order { OfThese self.now.entries txids.old (λ these. txids.new ≡ listing_of these) }
         ensures same { IsPermutation txids.old txids.new }
         ensures len { length txids.new ≡ length txids.old }
     {

@@ -11,7 +11,7 @@ ghost use Rattle.indexmap.specs.IndexMap.{get};
 ghost use Rattle.gate_pool.specs.Pool.{Admitted, has_point, has_wtxid, listing_of};
 ghost use Rattle.gate_pool.specs.Distinct.{AreDistinct};
 ghost use Rattle.gate_pool.specs.Keeping.{IsIndexed};
-ghost use Rattle.gate_pool.specs.Places.{place_in, standing};
+ghost use Rattle.gate_pool.specs.Places.{place_in, standing, written};
 
 use crate::choice::Test;
 use crate::entry::Entry;
@@ -88,8 +88,8 @@ fn index_one<S: BuildHasher>(
     wtxids: &mut IndexMap<Wtxid, Txid, S>,
     spent: &mut IndexMap<OutPoint, Txid, S>,
 ) -> Result<(), Memory>
-    ensures wtxids { OnOk result ((id : List ℕ) → get bytes_eq wtxids.new id ≡ cond (has_wtxid entry.now id) (Some (txid_of entry.now.tx)) (get bytes_eq wtxids.old id)) }
-    ensures points { OnOk result ((point : Point) → get point_eq spent.new point ≡ cond (has_point entry.now point) (Some (txid_of entry.now.tx)) (get point_eq spent.old point)) }
+    ensures wtxids { OnOk result ((id : List ℕ) → get bytes_eq wtxids.new id ≡ written entry.now (has_wtxid entry.now id) (get bytes_eq wtxids.old id)) }
+    ensures points { OnOk result ((p : Point) → get point_eq spent.new p ≡ written entry.now (has_point entry.now p) (get point_eq spent.old p)) }
 {
     wtxids.reserve(1)?;
     spent.reserve(entry.transaction().inputs().len())?;

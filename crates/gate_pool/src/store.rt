@@ -7,9 +7,10 @@ ghost use Rattle.gate_tx.specs.declared.OutPoint.{OutPoint as Point};
 ghost use Rattle.gate_tx.specs.Coins.{spends};
 ghost use Rattle.gate_pool.specs.Pool.{Admitted, entry_by_txid, entry_by_wtxid, spender_of, has_txid, listing_of, size_of};
 ghost use Rattle.gate_pool.specs.Keeping.{IsNew};
-ghost use Rattle.gate_pool.specs.Family.{names, children_of, spends_one_of, totals_of, without_family, without_below, AreIdsOf};
+ghost use Rattle.gate_pool.specs.Family.{names, children_of, spends_one_of, totals_of, without_family, without_below, AreIdsOf, OfThese};
 ghost use Rattle.gate_pool.specs.Scores.{AreBounded, least_of};
 ghost use Rattle.gate_pool.specs.Distinct.{AreDistinct};
+ghost use Rattle.gate_pool.specs.Removal.{PassesSpenders};
 ghost use Rattle.gate_pool.specs.Search.{IsChild};
 
 use crate::choice::Test;
@@ -127,7 +128,7 @@ impl<S: BuildHasher + Copy + Drop> Store<S> {
     }
 
     pub(crate) fn sort_by_admission(&self, txids: &mut [Txid])
-        ensures order { (test : Admitted → Bool) → AreIdsOf txids.old (filter test self.now.entries) → txids.new ≡ listing_of (filter test self.now.entries) }
+        ensures order { OfThese self.now.entries txids.old (λ these. txids.new ≡ listing_of these) }
         ensures same { IsPermutation txids.old txids.new }
         ensures len { length txids.new ≡ length txids.old }
     {
@@ -239,7 +240,7 @@ impl<S: BuildHasher + Copy + Drop> Store<S> {
 
     /// Takes out the entry that spends an outpoint, and all below it.
     fn take_spender(&mut self, point: &OutPoint)
-        ensures rest { (test : Admitted → Bool) → ((e : Admitted) → spends e.tx.inputs point.now ≡ true → test e ≡ true) → without_below test self.new.entries ≡ without_below test self.old.entries }
+        ensures rest { (test : Admitted → Bool) → PassesSpenders test point.now → without_below test self.new.entries ≡ without_below test self.old.entries }
         ensures gone { spender_of self.new.entries point.now ≡ None }
         ensures still { (p : Point) → spender_of self.old.entries p ≡ None → spender_of self.new.entries p ≡ None }
         ensures room { self.new.room ≡ self.old.room }
