@@ -10,6 +10,7 @@ pub mod Found
 pub mod Ids
 pub mod Leaving
 pub mod OwnAncestors
+pub mod Parented
 pub mod Points
 pub mod Removals
 pub mod Scoring

@@ -41,6 +41,10 @@ descendants_of entries txid = filter (λ e. reaches (steps entries) txid (txid_o
 abbrev pub ancestors_above : List Admitted → List TxIn → List Admitted
 ancestors_above entries inputs = filter (λ e. list_any (λ (i : TxIn). reaches (steps entries) (txid_of e.tx) i.prevout.txid) inputs) entries
 
+-- the entries whose outputs these inputs spend, in order of admission
+abbrev pub parents_above : List Admitted → List TxIn → List Admitted
+parents_above entries inputs = filter (λ e. list_any (λ (i : TxIn). bytes_eq i.prevout.txid (txid_of e.tx)) inputs) entries
+
 -- the entries that are left without an id and all that is below it
 abbrev pub without_family : List Admitted → List ℕ → List Admitted
 without_family entries txid = filter (λ e. not (reaches (steps entries) txid (txid_of e.tx))) entries

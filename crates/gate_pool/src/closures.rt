@@ -2,7 +2,7 @@
 ghost use Rattle.std.specs.Prelude.{◌≡◌, ◌<◌, ◌^◌, ◌≤◌, None, [], ◌∷◌, IfOk, IfSome, OnOk, length, vec_len};
 ghost use Rattle.gate_tx.specs.Money.{max_money};
 ghost use Rattle.gate_pool.specs.Pool.{largest_vsize};
-ghost use Rattle.gate_pool.specs.Family.{ancestors_of, ancestors_above, AreIdsOf, OfThese, BelowThese, sums_of};
+ghost use Rattle.gate_pool.specs.Family.{ancestors_of, ancestors_above, parents_above, AreIdsOf, OfThese, BelowThese, sums_of};
 ghost use Rattle.gate_pool.specs.Search.{parents_of, AreLent, IsEntry, IsFound};
 
 use crate::entry::Entry;
@@ -247,6 +247,16 @@ pub fn ancestors_with<V: FamilyView>(
         return Ok(None);
     }
     Ok(Some(found))
+}
+
+/// The ids of the entries whose outputs these inputs spend, each once.
+pub fn parents<V: FamilyView>(alloc: Global, pool: &V, inputs: &[TxIn]) -> Result<Vec<Txid>, Memory>
+    ensures { IfOk result (λ ids. AreIdsOf ids.items (parents_above (V.entries pool.now) inputs.now)) }
+{
+    let mut found = Vec::new(alloc);
+    let mut lent = Vec::new(alloc);
+    let _few = add_parents(pool, &mut found, &mut lent, inputs, usize::MAX)?;
+    Ok(found)
 }
 
 /// The ids of entries, given by theirs, with those of all that are below them. None where there are more than `most`.

@@ -17,7 +17,9 @@ mod store;
 mod view;
 
 pub use choice::Test;
-pub use closures::{Above, Sums, add_up, ancestors, ancestors_with, descendants, family_above};
+pub use closures::{
+    Above, Sums, add_up, ancestors, ancestors_with, descendants, family_above, parents,
+};
 pub use entry::{Entry, LARGEST_VSIZE, MOST_ENTRIES};
 pub use pool::Pool;
 pub use scores::Score;

@@ -2,8 +2,9 @@
 ghost use Rattle.std.specs.Prelude.{◌≡◌, IfOk, IsSome};
 ghost use Rattle.gate_pool.specs.Pool.{entry_by_txid, listing_of};
 ghost use Rattle.gate_pool.specs.Family.{ancestors_of, descendants_of, children_of};
+ghost use Rattle.gate_query.specs.Answers.{parents_of};
 
-use gate_admit::Pool;
+use gate_admit::{Entry, Pool};
 use gate_bytes::{Kept, Memory};
 use gate_pool::{FamilyView, ancestors, descendants};
 use gate_tx::{OutPoint, TxIn, Txid, Witness};
@@ -52,6 +53,20 @@ pub(crate) fn with_descendants<S: BuildHasher + Copy + Drop>(
     pool.recall_distinct();
     let found = descendants(alloc, pool, &[*txid], pool.count())?;
     let mut txids = found.unwrap();
+    pool.sort_by_admission(txids.as_mut_slice());
+    Ok(txids)
+}
+
+/// The ids of the entries whose outputs an entry spends.
+pub(crate) fn parents<S: BuildHasher + Copy + Drop>(
+    alloc: Global,
+    pool: &Pool<S>,
+    entry: &Entry,
+) -> Result<Vec<Txid>, Memory>
+    ensures { IfOk result (λ txids. txids.items ≡ listing_of (parents_of pool.now.entries entry.now)) }
+{
+    let inputs = entry.transaction().inputs();
+    let mut txids = gate_pool::parents(alloc, pool, inputs)?;
     pool.sort_by_admission(txids.as_mut_slice());
     Ok(txids)
 }

@@ -1,11 +1,11 @@
 //! What is known of an entry, and of the pool.
-ghost use Rattle.std.specs.Prelude.{◌≡◌, ◌&&◌, IfOk, Some, filter};
+ghost use Rattle.std.specs.Prelude.{◌≡◌, ◌&&◌, IfOk, Some};
 ghost use Rattle.std.specs.List.{list_any};
 ghost use Rattle.gate_pool.specs.Pool.{Admitted, entry_by_txid, has_txid};
-ghost use Rattle.gate_pool.specs.Family.{names, is_among};
+ghost use Rattle.gate_pool.specs.Family.{ancestors_of, is_among};
 ghost use Rattle.gate_query.specs.Answers.{info_of, info_from, is_replaceable, pool_info};
 
-use crate::family::{children, with_ancestors};
+use crate::family::{children, parents, with_ancestors};
 use gate_admit::{Entry, Floor, Pool};
 use gate_bytes::{Kept, Memory};
 use gate_rbf::signals;
@@ -36,22 +36,22 @@ fn one_signals<S: BuildHasher + Copy + Drop>(pool: &Pool<S>, txids: &[Txid]) -> 
     txids.iter().any(|txid| is_signalling(pool, txid))
 }
 
-fn names(entry: &Entry, txid: &Txid) -> bool
-    ensures { result ≡ names entry.now txid.now }
+/// Whether the entry of an id or one above it says so. What says it of itself needs no walk.
+fn is_replaceable<S: BuildHasher + Copy + Drop>(
+    alloc: Global,
+    pool: &Pool<S>,
+    txid: &Txid,
+    entry: &Entry,
+) -> Result<bool, Memory>
+    requires { entry_by_txid pool.now.entries txid.now ≡ Some entry.now }
+    ensures { IfOk result (λ is. is ≡ list_any is_replaceable (ancestors_of pool.now.entries txid.now)) }
 {
-    entry
-        .transaction()
-        .inputs()
-        .iter()
-        .any(|input| input.prevout.txid == *txid)
-}
-
-/// Those of the ids whose transactions' outputs the entry spends.
-fn parents_among(mut txids: Vec<Txid>, entry: &Entry) -> Kept<Txid>
-    ensures { result ≡ filter (names entry.now) txids.items }
-{
-    txids.retain(|txid| names(entry, txid));
-    Kept::from_vec(txids)
+    if signals(entry.transaction()) {
+        return Ok(true);
+    }
+    pool.recall_distinct();
+    let above = with_ancestors(alloc, pool, txid)?;
+    Ok(one_signals(pool, above.as_slice()))
 }
 
 fn info<S: BuildHasher + Copy + Drop>(
@@ -63,10 +63,9 @@ fn info<S: BuildHasher + Copy + Drop>(
     requires { entry_by_txid pool.now.entries txid.now ≡ Some entry.now }
     ensures { IfOk result (λ info. info ≡ info_from pool.now.entries txid.now entry.now) }
 {
-    pool.recall_distinct();
-    let above = with_ancestors(alloc, pool, txid)?;
     let totals = pool.totals(txid).unwrap();
-    let is_replaceable = one_signals(pool, above.as_slice());
+    let is_replaceable = is_replaceable(alloc, pool, txid, entry)?;
+    let depends = Kept::from_vec(parents(alloc, pool, entry)?);
     let spent_by = Kept::from_vec(children(alloc, pool, txid)?);
     Ok(EntryInfo {
         wtxid: entry.wtxid(),
@@ -81,7 +80,7 @@ fn info<S: BuildHasher + Copy + Drop>(
         descendant_size: totals.below.size,
         descendant_fees: totals.below.fees,
         is_replaceable,
-        depends: parents_among(above, entry),
+        depends,
         spent_by,
     })
 }
