@@ -1,5 +1,5 @@
 -- Limits of families, over ids and over parts of a pool.
-use Rattle.std.proofs.Common.{not, None, ◌≡◌, ◌≢◌, ℕ, ◌+◌, ◌<◌, ◌≤◌, Bool, true, false, cond, ◌&&◌, ◌||◌, List, [], ◌∷◌, length, refl, sym, ap, ◌∙◌, ◌⊎◌, inl, inr, arith}
+use Rattle.std.proofs.Common.{not, None, Some, ◌≡◌, ◌≢◌, ℕ, ◌+◌, ◌<◌, ◌≤◌, Bool, true, false, cond, ◌&&◌, ◌||◌, List, [], ◌∷◌, length, refl, sym, ap, ◌∙◌, ◌⊎◌, inl, inr, arith}
 use Rattle.std.specs.Prelude.{Contains, filter, sum_by, nat_le, nat_lt, ◌==◌}
 use Rattle.std.specs.List.{list_all, list_any}
 use Rattle.std.proofs.lemmas.Bool.{and_from, true≢false}
@@ -80,7 +80,8 @@ too_many_above limits entries above vsize h =
     too_many : (n m : ℕ) → m < n + 1 → nat_le (n + 1) m ≡ false
     too_many n m h = grind (arith, nat_tests)
 
-pub no_try : (policy : Policy) (entries : List Admitted) (tx : Tx) (vsize : ℕ) → most_ancestors policy < length (ancestors_above entries tx.inputs) → fits_families policy entries tx vsize ≡ false
+-- a transaction has as many ancestors as there may be with it
+pub no_try : (policy : Policy) (entries : List Admitted) (tx : Tx) (vsize : ℕ) → most_ancestors policy ≤ length (ancestors_above entries tx.inputs) → fits_families policy entries tx vsize ≡ false
 no_try policy entries tx vsize many =
     let above = ancestors_above entries tx.inputs in
     let limits = grown entries (conflicts_of entries tx) (usual_limits policy) in
@@ -106,6 +107,12 @@ alone_fits policy entries tx vsize least none =
 pub none_are : (entries : List Admitted) → AreIdsOf [] entries → entries ≡ []
 none_are [] h = refl
 none_are (e ∷ entries) h = not_in_none (txid_of e.tx) (h.all e (Contains-head e entries))
+
+-- the rule on chains is the first that fails of it
+pub long_fails : (policy : Policy) (entries : List Admitted) (tx : Tx) (vsize : ℕ) → most_ancestors policy ≤ length (ancestors_above entries tx.inputs) → first_failing (limit_rules First policy entries tx vsize) ≡ Some TooLongChain
+unfolding limit_rules
+long_fails policy entries tx vsize many =
+    ap (λ b. first_failing ((TooLongChain, not b) ∷ (SpendsConflicting, list_any (is_conflict tx) (ancestors_above entries tx.inputs)) ∷ [])) (no_try policy entries tx vsize many)
 
 -- what the second try says where the first failed
 pub second_try : (first small second : Bool) → first ≡ false → small ≡ true → second ≡ (first || (small && second))

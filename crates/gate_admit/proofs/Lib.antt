@@ -3,6 +3,7 @@ pub mod Rows
 pub mod Valuing
 mod Examples
 pub mod Families
+pub mod Parents
 pub mod Found
 pub mod Finding
 pub mod Weighing

@@ -1,10 +1,10 @@
 //! Families: A36, and A37.
-ghost use Rattle.std.specs.Prelude.{◌≡◌, ◌<◌, ◌≤◌, ◌^◌, Bool, true, None, IfOk, IfSome, filter, length, Contains};
+ghost use Rattle.std.specs.Prelude.{◌≡◌, ◌<◌, ◌≤◌, ◌^◌, Bool, true, None, [], IfOk, IfSome, filter, length, Contains};
 ghost use Rattle.std.specs.List.{list_all};
 ghost use Rattle.gate_bytes.specs.Order.{first_failing};
 ghost use Rattle.gate_tx.specs.Ids.{txid_of};
 ghost use Rattle.gate_pool.specs.Pool.{Admitted, entry_by_txid, largest_vsize};
-ghost use Rattle.gate_pool.specs.Family.{ancestors_above, conflicts_of, AreIdsOf};
+ghost use Rattle.gate_pool.specs.Family.{ancestors_of, ancestors_above, conflicts_of, sums_of, AreIdsOf, OfThese};
 ghost use Rattle.gate_admit.specs.Limits.{usual_limits, grown, is_within, fits_families, has_room, has_room_below, limit_rules};
 ghost use Rattle.gate_admit.specs.declared.attempt.Attempt.TheVariants.{First, Again};
 
@@ -12,10 +12,10 @@ use crate::again::fits_again;
 use crate::attempt::Attempt;
 use crate::policy::Policy;
 use gate_bytes::{Counted, Memory};
-use gate_pool::{Pool, add_up, ancestors};
+use gate_pool::{Above, Pool, ancestors, family_above};
 use gate_rbf::DirectConflicts;
 use gate_standard::Denial;
-use gate_tx::{Identified, Txid};
+use gate_tx::{Identified, TxIn, Txid};
 use std::alloc::Global;
 use std::hash::BuildHasher;
 
@@ -96,7 +96,7 @@ fn each_has_room<S: BuildHasher + Copy + Drop>(
     vsize: u64,
     limits: FamilyLimits,
 ) -> bool
-    ensures { (test : Admitted → Bool) → AreIdsOf above.now (filter test pool.now.entries) → result ≡ list_all (has_room_below limits pool.now.entries vsize) (filter test pool.now.entries) }
+    ensures { OfThese pool.now.entries above.now (λ these. result ≡ list_all (has_room_below limits pool.now.entries vsize) these) }
 {
     for txid in above {
         if !has_room_below(pool, txid, vsize, limits) {
@@ -109,30 +109,33 @@ fn each_has_room<S: BuildHasher + Copy + Drop>(
 /// Whether a transaction of this size, with these ancestors, is within the limits.
 fn is_within<S: BuildHasher + Copy + Drop>(
     pool: &Pool<S>,
-    above: &[Txid],
+    above: &Above,
     vsize: u64,
     limits: FamilyLimits,
 ) -> bool
-    ensures { (test : Admitted → Bool) → AreIdsOf above.now (filter test pool.now.entries) → result ≡ is_within limits pool.now.entries (filter test pool.now.entries) vsize }
+    requires { above.now.sums.size < 2 ^ 100 }
+    ensures { OfThese pool.now.entries above.now.ids.items (λ these. above.now.sums ≡ sums_of these → result ≡ is_within limits pool.now.entries these vsize) }
 {
-    let sums = add_up(pool, above);
+    let sums = above.sums;
     if sums.count >= limits.ancestors {
         return false;
     }
     if sums.count > 0 && sums.size + u128::from(vsize) > limits.ancestors_size {
         return false;
     }
-    each_has_room(pool, above, vsize, limits)
+    each_has_room(pool, &above.ids, vsize, limits)
 }
 
 /// Whether one of the two tries succeeds.
 fn fits_families<S: BuildHasher + Copy + Drop>(
     policy: &Policy,
     direct: &DirectConflicts<'_, S>,
-    above: &[Txid],
+    above: &Above,
     vsize: u64,
 ) -> bool
-    requires { AreIdsOf above.now (ancestors_above direct.now.entries direct.now.tx.inputs) }
+    requires ids { AreIdsOf above.now.ids.items (ancestors_above direct.now.entries direct.now.tx.inputs) }
+    requires sums { above.now.sums ≡ sums_of (ancestors_above direct.now.entries direct.now.tx.inputs) }
+    requires small { above.now.sums.size < 2 ^ 100 }
     ensures { result ≡ fits_families policy.now direct.now.entries direct.now.tx vsize }
 {
     let pool = direct.pool();
@@ -152,6 +155,22 @@ fn fits_families<S: BuildHasher + Copy + Drop>(
     is_within(pool, above, vsize, carved_out)
 }
 
+/// The transaction's ancestors in the pool, and what they come to. None where there are more than `most`.
+fn family_of<S: BuildHasher + Copy + Drop>(
+    alloc: Global,
+    direct: &DirectConflicts<'_, S>,
+    most: usize,
+) -> Result<Option<Above>, Memory>
+    ensures ids { IfOk result (λ found. IfSome found (λ above. AreIdsOf above.ids.items (ancestors_above direct.now.entries direct.now.tx.inputs))) }
+    ensures sums { IfOk result (λ found. IfSome found (λ above. above.sums ≡ sums_of (ancestors_above direct.now.entries direct.now.tx.inputs))) }
+    ensures small { IfOk result (λ found. IfSome found (λ above. above.sums.size < 2 ^ 100)) }
+    ensures many { IfOk result (λ found. found ≡ None → most < length (ancestors_above direct.now.entries direct.now.tx.inputs)) }
+{
+    let inputs = direct.transaction().inputs();
+    let found = family_above(alloc, direct.pool(), inputs, most)?;
+    Ok(found)
+}
+
 /// The ids of the transaction's ancestors in the pool. None where there are more than `most`.
 fn ancestors_of<S: BuildHasher + Copy + Drop>(
     alloc: Global,
@@ -166,7 +185,31 @@ fn ancestors_of<S: BuildHasher + Copy + Drop>(
     Ok(found)
 }
 
-/// The first of A36 and A37 that fails at a first attempt.
+/// How many ancestors the entry of an id has, itself among them; 0 where no entry has the id.
+fn count_above<S: BuildHasher + Copy + Drop>(pool: &Pool<S>, txid: &Txid) -> u64
+    ensures { result ≡ length (ancestors_of pool.now.entries txid.now) }
+{
+    match pool.totals(txid) {
+        Some(totals) => totals.above.count,
+        None => 0,
+    }
+}
+
+/// How many ancestors a transaction with these inputs has at least, by what the pool keeps of its parents. It has none where
+/// this is 0.
+fn fewest_ancestors<S: BuildHasher + Copy + Drop>(pool: &Pool<S>, inputs: &[TxIn]) -> u64
+    ensures least { result ≤ length (ancestors_above pool.now.entries inputs.now) }
+    ensures none { result ≡ 0 → ancestors_above pool.now.entries inputs.now ≡ [] }
+{
+    let mut fewest = 0;
+    for input in inputs {
+        fewest = fewest.max(count_above(pool, &input.prevout.txid));
+    }
+    fewest
+}
+
+/// The first of A36 and A37 that fails at a first attempt. A transaction with a parent that has as many ancestors as there may
+/// be is denied without a walk.
 #[tactic(auto, unfolding(crate::specs::Limits::limit_rules))]
 fn check_first<S: BuildHasher + Copy + Drop>(
     alloc: Global,
@@ -177,16 +220,21 @@ fn check_first<S: BuildHasher + Copy + Drop>(
     ensures { IfOk result (λ found. found ≡ first_failing (limit_rules First policy.now direct.now.entries direct.now.tx vsize)) }
 {
     policy.recall_bounds();
-    let Some(above) = ancestors_of(alloc, direct, policy.most_ancestors())? else {
-        return Ok(Some(Denial::TooLongChain));
-    };
-    if above.is_empty() {
+    let most = policy.most_ancestors();
+    let fewest = fewest_ancestors(direct.pool(), direct.transaction().inputs());
+    if fewest == 0 {
         return Ok(None);
     }
+    if fewest >= most as u64 {
+        return Ok(Some(Denial::TooLongChain));
+    }
+    let Some(above) = family_of(alloc, direct, most)? else {
+        return Ok(Some(Denial::TooLongChain));
+    };
     if !fits_families(policy, direct, &above, vsize) {
         return Ok(Some(Denial::TooLongChain));
     }
-    if direct.has_one_of(&above) {
+    if direct.has_one_of(&above.ids) {
         return Ok(Some(Denial::SpendsConflicting));
     }
     Ok(None)
