@@ -1,5 +1,5 @@
 -- What conflicts with a transaction is gone once none spends what it spends.
-use Rattle.std.proofs.Common.{◌≡◌, ◌+◌, ℕ, Bool, true, false, cond, List, [], ◌∷◌, ◌++◌, None, Some, sym, ap, ◌∙◌, refl, true≢false, not}
+use Rattle.std.proofs.Common.{◌≡◌, ℕ, Bool, false, cond, List, [], ◌∷◌, ◌++◌, None, Some, sym, ap, ◌∙◌, refl, true≢false, not}
 use Rattle.std.specs.Prelude.{Contains, find}
 use Rattle.std.specs.List.{list_any}
 use Rattle.std.proofs.lemmas.Bool.{false_from_ne_true}

@@ -1,4 +1,4 @@
-use Rattle.std.proofs.Common.{◌<◌, ◌+◌, is_some, length, refl, sym, ap, subst, ◌∙◌, ◌++◌, ◌∷◌, [], arith, length-append}
+use Rattle.std.proofs.Common.{◌<◌, is_some, length, refl, sym, ap, subst, ◌∙◌, ◌++◌, ◌∷◌, [], arith, length-append}
 use Rattle.std.proofs.lemmas.List.{length-map}
 use Rattle.gate_tx.specs.declared.TxIn.{TxIn}
 use Rattle.gate_tx.specs.Ids.{txid_of}
