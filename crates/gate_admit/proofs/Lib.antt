@@ -24,5 +24,7 @@ pub mod Submitting
 pub mod Submissions
 pub mod Behind
 pub mod OwnLimits
+pub mod Newcomer
+pub mod NewLimits
 pub mod Readmitted
 mod Everyone

@@ -111,7 +111,7 @@ module _ (policy : Policy) (es : List Admitted) (apart : AllPairs DifferById es)
         let is : is_below_itself es n.tx ≡ true = subst (λ z. list_any (λ (i : TxIn). reaches (steps es) z i.prevout.txid) n.tx.inputs ≡ true) v.2 (passed stands es v.0 v.1) in
         first_fails _ _ (ap not is)
 
-    not_below : list_any (λ y. bytes_eq y (txid_of n.tx)) ids ≡ false → is_below_itself es n.tx ≡ false
+    pub not_below : list_any (λ y. bytes_eq y (txid_of n.tx)) ids ≡ false → is_below_itself es n.tx ≡ false
     not_below h = false_from_ne_true _ (λ t.
         let own : Contains ids (txid_of n.tx) = are.all n (Contains-filter stands es n m t) in
         true≢false (sym (list_any_of (λ y. bytes_eq y (txid_of n.tx)) ids (txid_of n.tx) own ((bytes_decides (txid_of n.tx) (txid_of n.tx)).1 refl)) ∙ h))

@@ -1,6 +1,6 @@
 -- Limits of families (A36, with the growth that a replacement is given, and those of a transaction that is tried again), and what a
 -- transaction may not be above (A37).
-use Rattle.std.specs.Prelude.{ℕ, ◌+◌, ◌==◌, nat_le, Bool, ◌&&◌, ◌||◌, not, List, [], ◌∷◌, ◌++◌, length}
+use Rattle.std.specs.Prelude.{◌≡◌, ℕ, ◌+◌, ◌==◌, nat_le, Bool, ◌&&◌, ◌||◌, not, List, [], ◌∷◌, ◌++◌, length, is_some}
 use Rattle.std.specs.List.{list_any, list_all}
 use Rattle.gate_bytes.specs.Order.{Rule}
 use Rattle.gate_tx.specs.declared.TxIn.{TxIn}
@@ -9,7 +9,7 @@ use Rattle.gate_tx.specs.Tx.{Tx}
 use Rattle.gate_graph.specs.Family.{reaches}
 use Rattle.gate_standard.specs.declared.Denial.{Denial}
 use Rattle.gate_standard.specs.declared.Denial.TheVariants.{TooLongChain, SpendsConflicting}
-use Rattle.gate_pool.specs.Pool.{Admitted, size_of}
+use Rattle.gate_pool.specs.Pool.{Admitted, entry_by_txid, size_of}
 use Rattle.gate_admit.specs.declared.attempt.Attempt.{Attempt}
 use Rattle.gate_admit.specs.declared.attempt.Attempt.TheVariants.{First, Again}
 use Rattle.gate_admit.specs.declared.limits.FamilyLimits.{FamilyLimits}
@@ -64,6 +64,14 @@ is_limited policy entries txid =
     && (nat_le (length (descendants_of entries txid)) (most_descendants policy)
     && nat_le (size_of (descendants_of entries txid)) 111000))
 
+-- the same within any limits
+abbrev pub fits_within : FamilyLimits → List Admitted → List ℕ → Bool
+fits_within limits entries txid =
+    nat_le (length (ancestors_of entries txid)) limits.ancestors
+    && (nat_le (size_of (ancestors_of entries txid)) limits.ancestors_size
+    && (nat_le (length (descendants_of entries txid)) limits.descendants
+    && nat_le (size_of (descendants_of entries txid)) limits.descendants_size))
+
 -- the entries with a transaction of this size behind them; what it would replace is still there
 abbrev pub joined : List Admitted → Tx → ℕ → List Admitted
 joined entries tx vsize = entries ++ record { tx = tx; fee = 0; vsize = vsize; time = 0 } ∷ []
@@ -71,6 +79,24 @@ joined entries tx vsize = entries ++ record { tx = tx; fee = 0; vsize = vsize; t
 -- a chain of steps leads from it to a transaction of which it spends an output
 abbrev pub is_below_itself : List Admitted → Tx → Bool
 is_below_itself entries tx = list_any (λ (i : TxIn). reaches (steps entries) (txid_of tx) i.prevout.txid) tx.inputs
+
+-- it spends an output of an entry
+abbrev pub has_parent : List Admitted → Tx → Bool
+has_parent entries tx = list_any (λ (i : TxIn). is_some (entry_by_txid entries i.prevout.txid)) tx.inputs
+
+-- the limits of a transaction's ancestors without it: each has it as one descendant more, of this size
+pub record LeavesRoomBelow (policy : Policy) (vsize : ℕ) (limits : FamilyLimits) : Type 0 where
+  pub ancestors : limits.ancestors ≡ most_ancestors policy
+  pub ancestors_size : limits.ancestors_size ≡ 101000
+  pub descendants : limits.descendants + 1 ≡ most_descendants policy
+  pub descendants_size : limits.descendants_size + vsize ≡ 111000
+
+-- those of its descendants without it: each has it as one ancestor more
+pub record LeavesRoomAbove (policy : Policy) (vsize : ℕ) (limits : FamilyLimits) : Type 0 where
+  pub ancestors : limits.ancestors + 1 ≡ most_ancestors policy
+  pub ancestors_size : limits.ancestors_size + vsize ≡ 101000
+  pub descendants : limits.descendants ≡ most_descendants policy
+  pub descendants_size : limits.descendants_size ≡ 111000
 
 -- with it, it doesn't descend from itself, and each of its ancestors and descendants, itself among them, is within the limits
 abbrev pub fits_again : Policy → List Admitted → Tx → ℕ → Bool

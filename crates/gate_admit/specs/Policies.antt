@@ -1,5 +1,5 @@
 -- What an operator asks of families and of replacements.
-use Rattle.std.specs.Prelude.{◌≤◌, ◌+◌, ℕ, nat_le, max, Bool, true, false, ◌&&◌, Option, Some, None, if◌then◌else◌}
+use Rattle.std.specs.Prelude.{◌≤◌, ◌+◌, ℕ, nat_le, max, Bool, false, ◌&&◌, Option, Some, None, if◌then◌else◌}
 
 -- how many ancestors and descendants a transaction may have at its first try, itself among each, and whether it may replace
 -- what doesn't signal

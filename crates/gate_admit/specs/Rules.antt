@@ -10,7 +10,7 @@ use Rattle.gate_tx.specs.Ids.{txid_of, wtxid_of}
 use Rattle.gate_standard.specs.declared.Denial.{Denial}
 use Rattle.gate_standard.specs.declared.Denial.TheVariants.{Decode, NonFinal, AlreadyInMempool, SameNonWitnessData, MempoolConflict, AlreadyKnown, MissingOrSpent, NonBip68Final, PrematureSpend, InputValues, InBelowOut, FeeOutOfRange, MempoolMinFee, MinRelayFee}
 use Rattle.gate_standard.specs.Amounts.{required_fee}
-use Rattle.gate_submission.specs.Alone.{alone_rules, first_denial}
+use Rattle.gate_submission.specs.Alone.{alone_rules}
 use Rattle.gate_chain.specs.History.{History}
 use Rattle.gate_chain.specs.Coins.{coin_of, opened_with_of}
 use Rattle.gate_chain.specs.Times.{tip_of}

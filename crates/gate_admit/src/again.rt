@@ -1,18 +1,20 @@
 //! Families of a transaction that is tried again: its own limits in the place of A36.
-ghost use Rattle.std.specs.Prelude.{◌≡◌, ◌≤◌, Bool, true, None, IfOk, filter, Contains};
+ghost use Rattle.std.specs.Prelude.{◌≡◌, ◌≤◌, Bool, true, false, None, [], IfOk, IfSome, is_some, filter, Contains};
 ghost use Rattle.std.specs.List.{list_all};
 ghost use Rattle.gate_tx.specs.Ids.{txid_of};
 ghost use Rattle.gate_pool.specs.Pool.{Admitted, entry_by_txid, largest_vsize};
 ghost use Rattle.gate_pool.specs.Search.{IsEntry, AreEntries};
-ghost use Rattle.gate_pool.specs.Family.{AreIdsOf};
-ghost use Rattle.gate_admit.specs.Limits.{is_limited, fits_again};
+ghost use Rattle.gate_pool.specs.Family.{names, children_of, ancestors_above, AreIdsOf};
+ghost use Rattle.gate_admit.specs.Limits.{is_limited, fits_within, fits_again, has_parent, LeavesRoomBelow, LeavesRoomAbove};
 
-use crate::joining::Joined;
+use crate::joining::{Joined, names};
+use crate::limits::FamilyLimits;
 use crate::policy::Policy;
 use gate_bytes::{Copied, Counted, Memory};
-use gate_pool::{Entry, FamilyView, add_up, ancestors, ancestors_with, descendants};
+use gate_pool::{Entry, FamilyView, Pool, add_up, ancestors, ancestors_with, descendants};
 use gate_tx::{Identified, Txid};
 use std::alloc::Global;
+use std::hash::BuildHasher;
 
 /// How many virtual bytes the ancestors of an entry may have, itself among them.
 const MOST_ANCESTORS_SIZE: u128 = 101_000;
@@ -64,49 +66,215 @@ fn all_limited<V: FamilyView>(
     Ok(true)
 }
 
-/// Whether the families that an entry would join are within the limits with it, and it isn't among its own ancestors.
-fn fits_with<V: FamilyView>(
+/// The ids of the pool's ancestors of a newcomer, where the families that it would join are within the limits with it, and it
+/// isn't among its own ancestors. Each family is walked with the newcomer beside the pool.
+fn fits_among_others<V: FamilyView>(
     alloc: Global,
     policy: &Policy,
     pool: &V,
     newcomer: &Entry,
-) -> Result<bool, Memory>
+) -> Result<Option<Vec<Txid>>, Memory>
     requires new { entry_by_txid (V.entries pool.now) (txid_of newcomer.now.tx) ≡ None }
     requires plain { newcomer.now ≡ record { tx = newcomer.now.tx; fee = 0; vsize = newcomer.now.vsize; time = 0 } }
-    ensures { IfOk result (λ fits. fits ≡ fits_again policy.now (V.entries pool.now) newcomer.now.tx newcomer.now.vsize) }
+    ensures fits { IfOk result (λ found. is_some found ≡ fits_again policy.now (V.entries pool.now) newcomer.now.tx newcomer.now.vsize) }
+    ensures above { IfOk result (λ found. IfSome found (λ ids. AreIdsOf ids.items (ancestors_above (V.entries pool.now) newcomer.now.tx.inputs))) }
 {
     let joined = Joined::new(pool, newcomer);
     joined.recall_apart();
     let txid = newcomer.txid();
     let inputs = newcomer.transaction().inputs();
     let Some(above) = ancestors(alloc, &joined, inputs, policy.most_ancestors())? else {
-        return Ok(false);
+        return Ok(None);
     };
     if above.contains(&txid) || !all_limited(alloc, policy, &joined, &above)? {
-        return Ok(false);
+        return Ok(None);
     }
-    match descendants(alloc, &joined, &[txid], policy.most_descendants())? {
-        Some(below) => all_limited(alloc, policy, &joined, &below),
-        None => Ok(false),
+    let Some(below) = descendants(alloc, &joined, &[txid], policy.most_descendants())? else {
+        return Ok(None);
+    };
+    if !all_limited(alloc, policy, &joined, &below)? {
+        return Ok(None);
+    }
+    Ok(Some(above))
+}
+
+/// Whether the families of the entry with this id, whose totals the pool keeps, are within limits.
+fn fits_within<S: BuildHasher + Copy + Drop>(
+    pool: &Pool<S>,
+    txid: &Txid,
+    limits: FamilyLimits,
+) -> bool
+    ensures { (a : Admitted) → Contains pool.now.entries a → txid_of a.tx ≡ txid.now → result ≡ fits_within limits pool.now.entries (txid_of a.tx) }
+{
+    match pool.totals(txid) {
+        Some(totals) => {
+            (totals.above.count <= limits.ancestors as u64)
+                & (totals.above.size <= limits.ancestors_size)
+                & (totals.below.count <= limits.descendants as u64)
+                & (totals.below.size <= limits.descendants_size)
+        }
+        None => true,
     }
 }
 
-/// Whether the families that a transaction of this size would join are within the limits with it, and it isn't among its own
-/// ancestors.
-pub(crate) fn fits_again<V: FamilyView>(
+/// The same for each of some entries.
+fn all_fit_within<S: BuildHasher + Copy + Drop>(
+    pool: &Pool<S>,
+    txids: &[Txid],
+    limits: FamilyLimits,
+) -> bool
+    ensures { (test : Admitted → Bool) → AreIdsOf txids.now (filter test pool.now.entries) → result ≡ list_all (λ e. fits_within limits pool.now.entries (txid_of e.tx)) (filter test pool.now.entries) }
+{
+    for txid in txids {
+        if !fits_within(pool, txid, limits) {
+            return false;
+        }
+    }
+    true
+}
+
+/// The limits of the ancestors of a newcomer of this size: each has it as one descendant more.
+fn limits_above(policy: &Policy, vsize: u128) -> FamilyLimits
+    requires { vsize ≤ 111000 }
+    ensures { LeavesRoomBelow policy.now vsize result }
+{
+    FamilyLimits {
+        ancestors: policy.most_ancestors(),
+        ancestors_size: MOST_ANCESTORS_SIZE,
+        descendants: policy.most_descendants() - 1,
+        descendants_size: MOST_DESCENDANTS_SIZE - vsize,
+    }
+}
+
+/// Those of its descendants: each has it as one ancestor more.
+fn limits_below(policy: &Policy, vsize: u128) -> FamilyLimits
+    requires { vsize ≤ 101000 }
+    ensures { LeavesRoomAbove policy.now vsize result }
+{
+    FamilyLimits {
+        ancestors: policy.most_ancestors() - 1,
+        ancestors_size: MOST_ANCESTORS_SIZE - vsize,
+        descendants: policy.most_descendants(),
+        descendants_size: MOST_DESCENDANTS_SIZE,
+    }
+}
+
+/// What `fits_among_others` finds, for a newcomer that no entry names: the totals of its ancestors decide.
+fn fits_as_leaf<S: BuildHasher + Copy + Drop>(
     alloc: Global,
     policy: &Policy,
-    pool: &V,
+    pool: &Pool<S>,
+    newcomer: &Entry,
+) -> Result<Option<Vec<Txid>>, Memory>
+    requires new { entry_by_txid pool.now.entries (txid_of newcomer.now.tx) ≡ None }
+    requires plain { newcomer.now ≡ record { tx = newcomer.now.tx; fee = 0; vsize = newcomer.now.vsize; time = 0 } }
+    requires own { names newcomer.now (txid_of newcomer.now.tx) ≡ false }
+    requires childless { children_of pool.now.entries (txid_of newcomer.now.tx) ≡ [] }
+    ensures fits { IfOk result (λ found. is_some found ≡ fits_again policy.now pool.now.entries newcomer.now.tx newcomer.now.vsize) }
+    ensures above { IfOk result (λ found. IfSome found (λ ids. AreIdsOf ids.items (ancestors_above pool.now.entries newcomer.now.tx.inputs))) }
+{
+    pool.recall_apart();
+    let inputs = newcomer.transaction().inputs();
+    let Some(above) = ancestors(alloc, pool, inputs, policy.most_ancestors() - 1)? else {
+        return Ok(None);
+    };
+    let vsize = u128::from(newcomer.vsize());
+    if add_up(pool, &above).size + vsize > MOST_ANCESTORS_SIZE {
+        return Ok(None);
+    }
+    if !all_fit_within(pool, &above, limits_above(policy, vsize)) {
+        return Ok(None);
+    }
+    Ok(Some(above))
+}
+
+/// Whether an entry spends an output of one of a pool's.
+fn has_parent<S: BuildHasher + Copy + Drop>(pool: &Pool<S>, newcomer: &Entry) -> bool
+    ensures { result ≡ has_parent pool.now.entries newcomer.now.tx }
+{
+    newcomer
+        .transaction()
+        .inputs()
+        .iter()
+        .any(|input| pool.entry(&input.prevout.txid).is_some())
+}
+
+/// Whether a newcomer fits that names no entry, where these entries name it: the totals of its descendants decide.
+fn fits_as_root<S: BuildHasher + Copy + Drop>(
+    alloc: Global,
+    policy: &Policy,
+    pool: &Pool<S>,
+    newcomer: &Entry,
+    children: &[Txid],
+) -> Result<bool, Memory>
+    requires new { entry_by_txid pool.now.entries (txid_of newcomer.now.tx) ≡ None }
+    requires plain { newcomer.now ≡ record { tx = newcomer.now.tx; fee = 0; vsize = newcomer.now.vsize; time = 0 } }
+    requires own { names newcomer.now (txid_of newcomer.now.tx) ≡ false }
+    requires orphan { has_parent pool.now.entries newcomer.now.tx ≡ false }
+    requires children { AreIdsOf children.now (children_of pool.now.entries (txid_of newcomer.now.tx)) }
+    ensures { IfOk result (λ fits. fits ≡ fits_again policy.now pool.now.entries newcomer.now.tx newcomer.now.vsize) }
+{
+    pool.recall_apart();
+    let vsize = u128::from(newcomer.vsize());
+    if vsize > MOST_ANCESTORS_SIZE {
+        return Ok(false);
+    }
+    let most = policy.most_descendants() - 1;
+    let Some(below) = descendants(alloc, pool, children, most)? else {
+        return Ok(false);
+    };
+    if add_up(pool, &below).size + vsize > MOST_DESCENDANTS_SIZE {
+        return Ok(false);
+    }
+    Ok(all_fit_within(pool, &below, limits_below(policy, vsize)))
+}
+
+/// What `fits_among_others` finds, by the totals that the pool keeps where nothing is above the newcomer or nothing below it.
+fn fits_with<S: BuildHasher + Copy + Drop>(
+    alloc: Global,
+    policy: &Policy,
+    pool: &Pool<S>,
+    newcomer: &Entry,
+) -> Result<Option<Vec<Txid>>, Memory>
+    requires new { entry_by_txid pool.now.entries (txid_of newcomer.now.tx) ≡ None }
+    requires plain { newcomer.now ≡ record { tx = newcomer.now.tx; fee = 0; vsize = newcomer.now.vsize; time = 0 } }
+    ensures fits { IfOk result (λ found. is_some found ≡ fits_again policy.now pool.now.entries newcomer.now.tx newcomer.now.vsize) }
+    ensures above { IfOk result (λ found. IfSome found (λ ids. AreIdsOf ids.items (ancestors_above pool.now.entries newcomer.now.tx.inputs))) }
+{
+    let txid = newcomer.txid();
+    if names(newcomer, &txid) {
+        return Ok(None);
+    }
+    let children = pool.children(alloc, &txid)?;
+    if children.is_empty() {
+        return fits_as_leaf(alloc, policy, pool, newcomer);
+    }
+    if has_parent(pool, newcomer) {
+        return fits_among_others(alloc, policy, pool, newcomer);
+    }
+    if !fits_as_root(alloc, policy, pool, newcomer, &children)? {
+        return Ok(None);
+    }
+    Ok(Some(Vec::new(alloc)))
+}
+
+/// The ids of a transaction's ancestors in the pool, where the families that it would join are within the limits with one of
+/// this size, and it isn't among its own ancestors. None where it doesn't fit.
+pub(crate) fn fits_again<S: BuildHasher + Copy + Drop>(
+    alloc: Global,
+    policy: &Policy,
+    pool: &Pool<S>,
     identified: &Counted<Identified>,
     vsize: u64,
-) -> Result<bool, Memory>
-    requires new { entry_by_txid (V.entries pool.now) (txid_of identified.now) ≡ None }
+) -> Result<Option<Vec<Txid>>, Memory>
+    requires new { entry_by_txid pool.now.entries (txid_of identified.now) ≡ None }
     requires least { 1 ≤ vsize }
     requires most { vsize ≤ largest_vsize }
-    ensures { IfOk result (λ fits. fits ≡ fits_again policy.now (V.entries pool.now) identified.now vsize) }
+    ensures fits { IfOk result (λ found. is_some found ≡ fits_again policy.now pool.now.entries identified.now vsize) }
+    ensures above { IfOk result (λ found. IfSome found (λ ids. AreIdsOf ids.items (ancestors_above pool.now.entries identified.now.inputs))) }
 {
     let newcomer = Entry::new(identified.copy(alloc)?, 0, vsize, 0);
-    let fits = fits_with(alloc, policy, pool, &newcomer);
+    let found = fits_with(alloc, policy, pool, &newcomer);
     drop(newcomer);
-    fits
+    found
 }

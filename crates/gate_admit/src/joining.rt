@@ -40,7 +40,7 @@ impl<'a, V: FamilyView> Joined<'a, V> {
 }
 
 /// Whether an entry spends an output of a transaction.
-fn names(entry: &Entry, txid: &Txid) -> bool
+pub(crate) fn names(entry: &Entry, txid: &Txid) -> bool
     ensures { result ≡ names entry.now txid.now }
 {
     entry

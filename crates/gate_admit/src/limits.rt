@@ -21,11 +21,11 @@ use std::hash::BuildHasher;
 
 /// How many ancestors and descendants there may be, each with the transaction itself, and how many virtual bytes they have.
 #[derive(Clone, Copy)]
-struct FamilyLimits {
-    ancestors: usize,
-    ancestors_size: u128,
-    descendants: usize,
-    descendants_size: u128,
+pub(crate) struct FamilyLimits {
+    pub(crate) ancestors: usize,
+    pub(crate) ancestors_size: u128,
+    pub(crate) descendants: usize,
+    pub(crate) descendants_size: u128,
 }
 
 /// How many virtual bytes a transaction's ancestors may have, and its descendants, itself among each (Bitcoin Core's
@@ -255,12 +255,9 @@ fn check_again<S: BuildHasher + Copy + Drop>(
     requires most { vsize ≤ largest_vsize }
     ensures { IfOk result (λ found. found ≡ first_failing (limit_rules Again policy.now direct.now.entries direct.now.tx vsize)) }
 {
-    let pool = direct.pool();
-    if !fits_again(alloc, policy, pool, identified, vsize)? {
+    let Some(above) = fits_again(alloc, policy, direct.pool(), identified, vsize)? else {
         return Ok(Some(Denial::TooLongChain));
-    }
-    let found = ancestors_of(alloc, direct, pool.count())?;
-    let above = found.unwrap();
+    };
     if direct.has_one_of(&above) {
         return Ok(Some(Denial::SpendsConflicting));
     }
