@@ -134,8 +134,8 @@ module _ (policy : Policy) (entries : List Admitted) (n : Admitted) (new : (a : 
       leaf_decides limits room few small = sym (
           leaf_fit
           ∙ own_passes (list_all passes above) true (is_limited policy all (txid_of n.tx))
-              (leaf_own ∙ all_yes (nat_le (length (above ++ n ∷ [])) (most_ancestors policy)) (nat_le (size_of (above ++ n ∷ [])) 101000) (nat_le 1 (most_descendants policy)) (nat_le (0 + n.vsize) 111000)
-              (at_most _ _ (omega (arith, longer above n, few))) (at_most _ _ (omega (arith, larger above n, small))) (at_most _ _ (omega (arith, room.descendants))) (at_most _ _ (omega (arith, small))))
+          (leaf_own ∙ all_yes (nat_le (length (above ++ n ∷ [])) (most_ancestors policy)) (nat_le (size_of (above ++ n ∷ [])) 101000) (nat_le 1 (most_descendants policy)) (nat_le (0 + n.vsize) 111000)
+          (at_most _ _ (omega (arith, longer above n, few))) (at_most _ _ (omega (arith, larger above n, small))) (at_most _ _ (omega (arith, room.descendants))) (at_most _ _ (omega (arith, small))))
           ∙ with_yes (list_all passes above)
           ∙ list_all-same passes (λ (e : Admitted). fits_within limits entries (txid_of e.tx)) above (λ a m. one a m))
         where
@@ -152,10 +152,10 @@ module _ (policy : Policy) (entries : List Admitted) (n : Admitted) (new : (a : 
               let down = descendants_of entries (txid_of a.tx) in
               limits_by policy all (txid_of a.tx) up (down ++ n ∷ []) (leaf_ancestors entries n new own childless (txid_of a.tx) (new a old)) (leaf_descendants entries n new own childless (txid_of a.tx) led)
               ∙ each _ _ _ _ _ _ _ _
-                  (ap (nat_le (length up)) (sym room.ancestors))
-                  (ap (nat_le (size_of up)) (sym room.ancestors_size))
-                  (ap (λ k. nat_le k (most_descendants policy)) (longer down n) ∙ shifted (length down) 1 limits.descendants (most_descendants policy) room.descendants)
-                  (ap (λ k. nat_le k 111000) (larger down n) ∙ shifted (size_of down) n.vsize limits.descendants_size 111000 room.descendants_size)
+              (ap (nat_le (length up)) (sym room.ancestors))
+              (ap (nat_le (size_of up)) (sym room.ancestors_size))
+              (ap (λ k. nat_le k (most_descendants policy)) (longer down n) ∙ shifted (length down) 1 limits.descendants (most_descendants policy) room.descendants)
+              (ap (λ k. nat_le k 111000) (larger down n) ∙ shifted (size_of down) n.vsize limits.descendants_size 111000 room.descendants_size)
 
     -- ---- where it names no entry
     module _ (orphan : has_parent entries n.tx ≡ false) where
@@ -202,8 +202,8 @@ module _ (policy : Policy) (entries : List Admitted) (n : Admitted) (new : (a : 
       root_decides limits room few small = sym (
           root_fit
           ∙ own_passes true (list_all passes below) (is_limited policy all (txid_of n.tx))
-              (root_own ∙ all_yes (nat_le 1 (most_ancestors policy)) (nat_le (0 + n.vsize) 101000) (nat_le (length (below ++ n ∷ [])) (most_descendants policy)) (nat_le (size_of (below ++ n ∷ [])) 111000)
-              (at_most _ _ (omega (arith, room.ancestors))) (at_most _ _ (omega (arith, room.ancestors_size))) (at_most _ _ (omega (arith, longer below n, few))) (at_most _ _ (omega (arith, larger below n, small))))
+          (root_own ∙ all_yes (nat_le 1 (most_ancestors policy)) (nat_le (0 + n.vsize) 101000) (nat_le (length (below ++ n ∷ [])) (most_descendants policy)) (nat_le (size_of (below ++ n ∷ [])) 111000)
+          (at_most _ _ (omega (arith, room.ancestors))) (at_most _ _ (omega (arith, room.ancestors_size))) (at_most _ _ (omega (arith, longer below n, few))) (at_most _ _ (omega (arith, larger below n, small))))
           ∙ list_all-same passes (λ (e : Admitted). fits_within limits entries (txid_of e.tx)) below (λ d m. one d m))
         where
           one : (d : Admitted) → Contains below d → is_limited policy all (txid_of d.tx) ≡ fits_within limits entries (txid_of d.tx)
@@ -215,7 +215,7 @@ module _ (policy : Policy) (entries : List Admitted) (n : Admitted) (new : (a : 
               let down = descendants_of entries (txid_of d.tx) in
               limits_by policy all (txid_of d.tx) (up ++ n ∷ []) down (root_ancestors entries n new own orphan (txid_of d.tx) led) (root_descendants entries n new own orphan d old)
               ∙ each _ _ _ _ _ _ _ _
-                  (ap (λ k. nat_le k (most_ancestors policy)) (longer up n) ∙ shifted (length up) 1 limits.ancestors (most_ancestors policy) room.ancestors)
-                  (ap (λ k. nat_le k 101000) (larger up n) ∙ shifted (size_of up) n.vsize limits.ancestors_size 101000 room.ancestors_size)
-                  (ap (nat_le (length down)) (sym room.descendants))
-                  (ap (nat_le (size_of down)) (sym room.descendants_size))
+              (ap (λ k. nat_le k (most_ancestors policy)) (longer up n) ∙ shifted (length up) 1 limits.ancestors (most_ancestors policy) room.ancestors)
+              (ap (λ k. nat_le k 101000) (larger up n) ∙ shifted (size_of up) n.vsize limits.ancestors_size 101000 room.ancestors_size)
+              (ap (nat_le (length down)) (sym room.descendants))
+              (ap (nat_le (size_of down)) (sym room.descendants_size))

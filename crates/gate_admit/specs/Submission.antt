@@ -1,15 +1,18 @@
 -- A submission: the decision, and what the pool and its floor are after it.
-use Rattle.std.specs.Prelude.{ℕ, Bool, is_some, if◌then◌else◌, List, Option, Some, None, Result, Ok, Err}
+use Rattle.std.specs.Prelude.{◌≡◌, ℕ, Bool, is_some, if◌then◌else◌, List, ◌++◌, Option, Some, None, Result, Ok, Err}
+use Rattle.std.specs.Option.{option_to_list}
 use Rattle.gate_tx.specs.Tx.{Tx}
 use Rattle.gate_tx.specs.Ids.{txid_of}
 use Rattle.gate_standard.specs.declared.Denial.{Denial}
 use Rattle.gate_standard.specs.declared.Denial.TheVariants.{MempoolFull}
+use Rattle.gate_chain.specs.History.{History}
 use Rattle.gate_pool.specs.Pool.{Admitted, entry_by_txid}
 use Rattle.gate_pool.specs.Family.{entered}
 use Rattle.gate_trim.specs.Expiry.{expired}
 use Rattle.gate_trim.specs.Trimming.{Trimmed, trim_of}
 use Rattle.gate_admit.specs.declared.attempt.Attempt.TheVariants.{First}
 use Rattle.gate_admit.specs.declared.grant.Grant.{Grant}
+use Rattle.gate_admit.specs.Good.{Limits, IsGood, IsSettled, AreApart, connected_transactions}
 use Rattle.gate_admit.specs.Rules.{decision_of}
 use Rattle.gate_admit.specs.Standing.{Standing}
 
@@ -48,3 +51,12 @@ submitted_by over (Some tx) now budget (Ok grant) = entered_by grant (txid_of tx
 -- the submission at this second, with this budget of virtual bytes
 unfoldable pub submit_of : Standing → Option Tx → ℕ → ℕ → Submitted
 submit_of over tx now budget = submitted_by over tx now budget (decision_of First over tx)
+
+-- what a submission leaves: its decision, the entries and the floor
+abbrev pub Leaves : Standing → Option Tx → ℕ → ℕ → List Admitted → ℕ → Result Grant Denial → Type 0
+Leaves over tx now budget entries floor decision = submit_of over tx now budget ≡ record { decision = decision; entries = entries; floor = floor }
+
+-- where the transactions are told apart by their ids, a pool that is good is so still after the submission
+abbrev pub StaysGood : Limits → History → Option Tx → List Admitted → List Admitted → Type 0
+StaysGood limits chain tx before after =
+    IsSettled chain → AreApart (option_to_list tx ++ connected_transactions chain) → IsGood limits chain before → IsGood limits chain after
