@@ -16,7 +16,8 @@ use Rattle.gate_pool.proofs.Ids.{same_entry}
 use Rattle.gate_pool.proofs.Removals.{filter_twice}
 use Rattle.gate_pool.proofs.Walking.{Contains-filter, Contains-from_filter}
 use Rattle.gate_reorg.specs.Reorganisation.{without_txid, confirmed, all_confirmed}
-use Rattle.gate_reorg.specs.Events.{count_beyond}
+use Rattle.gate_submission.specs.declared.moved.Moved.{Moved}
+use Rattle.gate_reorg.specs.Events.{count_beyond, moved_from}
 
 -- ---- counted by ids
 
@@ -98,3 +99,11 @@ fewer_part after before distinct h = record {
 
 pub fewer_confirmed : (before : List Admitted) (txs : List Tx) → AreDistinct before → IsFewer before (all_confirmed before txs)
 fewer_confirmed before txs distinct = fewer_part (all_confirmed before txs) before distinct (all_confirmed_part txs before before (IsPart-self before))
+
+-- a change by which no id is new comes to what was lost
+pub only_taken : (before after : List Admitted) (tip under lost : ℕ) → tip ≡ under → lost ≡ count_beyond before after → count_beyond after before ≡ 0
+    → moved_from under before after ≡ record { tip = tip; removed = lost; entered = 0 }
+only_taken before after tip under lost top gone none =
+    let moved : Moved = record { tip = tip; removed = lost; entered = 0 } in
+    let same : moved ≡ moved_from under before after = λ j. record { tip = top j; removed = gone j; entered = sym none j } in
+    sym same

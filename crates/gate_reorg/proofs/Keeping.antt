@@ -30,10 +30,10 @@ use Rattle.gate_admit.specs.Good.{AreApart, IsGood, IsSettled, IsSound, Limits, 
 use Rattle.gate_admit.specs.Standing.{Standing}
 use Rattle.gate_admit.proofs.Removing.{below_sound, family_sound}
 use Rattle.gate_submission.specs.declared.moved.Moved.{Moved}
-use Rattle.gate_reorg.specs.Events.{Happened, event_rules, event_of}
+use Rattle.gate_reorg.specs.Events.{Happened, event_rules, happening, terms_after, event_of}
 use Rattle.gate_submission.specs.Blocks.{present}
 use Rattle.gate_reorg.specs.Goodness.{IsReadyFor, StaysGood, EventsKeepPoolsGood, EntriesAreUnconfirmed, BlocksComeBack, met_by}
-use Rattle.gate_reorg.specs.Reorganisation.{all_confirmed, has_id, unconfirmed, all_tried_again, is_premature, without_premature, returned, pool_after}
+use Rattle.gate_reorg.specs.Reorganisation.{all_confirmed, has_id, unconfirmed, brought_back, is_premature, without_premature, returned, pool_after}
 use Rattle.gate_submission.specs.Blocks.{transactions_of}
 use Rattle.gate_reorg.proofs.Awaiting.{AreTold, IsSoundBut, LeavesPending, sound_at_last, switched_sound, told_apart}
 use Rattle.gate_reorg.proofs.Knowing.{blocks_cases, Contains-first_blocks, Contains-last_blocks}
@@ -120,14 +120,15 @@ module _ (over : Standing) (depth : ℕ) (blocks : List Block) (now budget : ℕ
   -- where blocks went
   pub returned_good :
       IsGood (limits_for over.policy budget) (switched over.chain depth blocks)
-      (returned (switched over.chain depth blocks) over.verdicts over.policy now budget over.entries over.floor (transactions_of blocks) (transactions_of (last_blocks over.chain depth))).entries
+      (returned (terms_after over depth blocks now budget) over.entries over.floor (transactions_of blocks) (transactions_of (last_blocks over.chain depth))).entries
   unfolding returned
   returned_good =
-      let chain = switched over.chain depth blocks in
-      let tried = all_tried_again chain over.verdicts over.policy now (all_confirmed over.entries (transactions_of blocks)) (unconfirmed (transactions_of blocks) (transactions_of (last_blocks over.chain depth))) in
+      let under = terms_after over depth blocks now budget in
+      let chain = under.chain in
+      let tried = brought_back under over.entries (transactions_of blocks) (transactions_of (last_blocks over.chain depth)) in
       let settled : IsSettled chain = settled_by (without_last over.chain depth) blocks (settled_without over.chain depth ready.settled) rules ready.blocks_spelled in
       let sound : IsSound over.policy chain tried =
-      sound_at_last over.policy chain tried (all_tried_kept chain over.verdicts over.policy now settled (all_confirmed over.entries (transactions_of blocks)) (unconfirmed (transactions_of blocks) (transactions_of (last_blocks over.chain depth)))
+      sound_at_last over.policy chain tried (all_tried_kept under settled (all_confirmed over.entries (transactions_of blocks)) (unconfirmed (transactions_of blocks) (transactions_of (last_blocks over.chain depth)))
       (tried_spelled ready depth) (tried_apart ready depth) confirmed_kept) in
       let left = expired now (without_premature chain tried) in
       record {
@@ -140,14 +141,14 @@ none_gone depth h = grind (arith, nat_tests)
 
 pool_good : (over : Standing) (depth : ℕ) (blocks : List Block) (now budget : ℕ) → first_failing (switch_rules over.chain depth blocks) ≡ None → Ready over blocks budget
     → IsGood (limits_for over.policy budget) (switched over.chain depth blocks)
-    (pool_after depth (switched over.chain depth blocks) over.verdicts over.policy now budget over.entries over.floor (transactions_of blocks) (transactions_of (last_blocks over.chain depth))).entries
+    (pool_after depth (terms_after over depth blocks now budget) over.entries over.floor (transactions_of blocks) (transactions_of (last_blocks over.chain depth))).entries
 unfolding pool_after
 pool_good over depth blocks now budget passes ready = go (depth == 0) refl
   where
     go : (b : Bool) → (depth == 0) ≡ b
         → IsGood (limits_for over.policy budget) (switched over.chain depth blocks)
         (cond b (record { entries = all_confirmed over.entries (transactions_of blocks); floor = over.floor })
-        (returned (switched over.chain depth blocks) over.verdicts over.policy now budget over.entries over.floor (transactions_of blocks) (transactions_of (last_blocks over.chain depth)))).entries
+        (returned (terms_after over depth blocks now budget) over.entries over.floor (transactions_of blocks) (transactions_of (last_blocks over.chain depth)))).entries
     go true e = plain_good over depth blocks now budget (switched_rules over.chain depth blocks passes) ready (none_gone depth e)
     go false e = returned_good over depth blocks now budget (switched_rules over.chain depth blocks passes) ready
 
@@ -170,7 +171,7 @@ switch_passes h depth blocks passes = rest_passes (list_any is_none blocks) Bloc
 
 -- what a call answers
 pub answers_keep : (over : Standing) (depth : ℕ) (blocks : List (Option Block)) (now budget floor : ℕ) (chain : History) (entries : List Admitted) (result : Result Moved ChainFault)
-    → IfOk result (λ moved. event_of over depth (present blocks) now budget ≡ record { chain = chain; entries = entries; floor = floor; moved = moved })
+    → IfOk result (λ moved. event_of over depth (present blocks) now budget ≡ happening chain entries floor moved)
     → OnOk result (first_failing (event_rules over.chain depth blocks) ≡ None) → OnErr result (chain ≡ over.chain) → OnErr result (entries ≡ over.entries)
     → IsReadyFor (limits_for over.policy budget) over.chain over.entries (present blocks) → StaysGood (limits_for over.policy budget) chain entries
 answers_keep over depth blocks now budget floor chain entries (Ok moved) is passes same kept ready =

@@ -17,18 +17,15 @@ use Rattle.gate_pool.proofs.Entries.{Contains-map, Contains-from_map}
 use Rattle.gate_pool.proofs.Walking.{Contains-from_filter}
 use Rattle.gate_trim.specs.Expiry.{expired, is_stale}
 use Rattle.gate_trim.proofs.Trimmings.{trim_keeps, trim_rises}
-use Rattle.gate_admit.specs.Policies.{Policy}
 use Rattle.gate_admit.specs.declared.Attempt.TheVariants.{Again}
 use Rattle.gate_admit.specs.declared.Grant.{Grant}
 use Rattle.gate_admit.specs.Good.{connected_transactions}
 use Rattle.gate_admit.specs.Rules.{decision_of}
-use Rattle.gate_admit.specs.Standing.{standing}
 use Rattle.gate_admit.specs.Submission.{admitted}
-use Rattle.gate_admit.specs.Verdicts.{VerdictTable}
 use Rattle.gate_admit.proofs.Staying.{stays_within}
-use Rattle.gate_reorg.specs.Events.{event_of}
+use Rattle.gate_reorg.specs.Events.{terms_after, event_of}
 use Rattle.gate_reorg.specs.Goodness.{BlocksOnlyTake, EventsBringNothingElse, FloorsNeverFall, met_by}
-use Rattle.gate_reorg.specs.Reorganisation.{all_confirmed, has_id, unconfirmed, tried, tried_again, all_tried_again, is_premature, without_premature, returned, pool_after}
+use Rattle.gate_reorg.specs.Reorganisation.{Terms, standing_again, all_confirmed, has_id, unconfirmed, tried, tried_again, all_tried_again, brought_back, is_premature, without_premature, returned, pool_after}
 use Rattle.gate_submission.specs.Blocks.{transactions_of}
 use Rattle.gate_reorg.proofs.Knowing.{blocks_cases, Contains-first_blocks, Contains-last_blocks}
 use Rattle.gate_reorg.proofs.Leaving.{all_confirmed_leaves}
@@ -46,39 +43,37 @@ tried_came entries t now (Ok grant) e m =
     (Contains-push_cases (without_below (is_conflict t) entries) (admitted t grant now) e m)
 tried_came entries t now (Err denial) e m = inl (stays_within (λ a. names a (txid_of t)) entries e m)
 
-all_tried_came : (chain : History) (verdicts : VerdictTable) (policy : Policy) (now : ℕ) (entries : List Admitted) (txs : List Tx) (e : Admitted) → Contains (all_tried_again chain verdicts policy now entries txs) e → Came entries txs e
+all_tried_came : (under : Terms) (entries : List Admitted) (txs : List Tx) (e : Admitted) → Contains (all_tried_again under entries txs) e → Came entries txs e
 unfolding tried_again
-all_tried_came chain verdicts policy now entries [] e m = inl m
-all_tried_came chain verdicts policy now entries (t ∷ txs) e m =
+all_tried_came under entries [] e m = inl m
+all_tried_came under entries (t ∷ txs) e m =
     ⊎_elim
-    (λ (k : Contains (tried_again chain verdicts policy now entries t) e). ⊎_elim (λ (l : Contains entries e). inl l) (λ (same : t ≡ e.tx). inr (subst (λ (u : Tx). Contains (t ∷ txs) u) same (Contains-head t txs)))
-    (tried_came entries t now (decision_of Again (standing chain entries 0 verdicts policy) (Some t)) e k))
+    (λ (k : Contains (tried_again under entries t) e). ⊎_elim (λ (l : Contains entries e). inl l) (λ (same : t ≡ e.tx). inr (subst (λ (u : Tx). Contains (t ∷ txs) u) same (Contains-head t txs)))
+    (tried_came entries t under.second (decision_of Again (standing_again under entries) (Some t)) e k))
     (λ (k : Contains txs e.tx). inr (Contains-rest t txs e.tx k))
-    (all_tried_came chain verdicts policy now (tried_again chain verdicts policy now entries t) txs e m)
+    (all_tried_came under (tried_again under entries t) txs e m)
 
-returned_came : (chain : History) (verdicts : VerdictTable) (policy : Policy) (now budget : ℕ) (entries : List Admitted) (floor : ℕ) (new old : List Tx) (e : Admitted)
-    → Contains (returned chain verdicts policy now budget entries floor new old).entries e → Came entries old e
+returned_came : (under : Terms) (entries : List Admitted) (floor : ℕ) (new old : List Tx) (e : Admitted) → Contains (returned under entries floor new old).entries e → Came entries old e
 unfolding returned
-returned_came chain verdicts policy now budget entries floor new old e m =
-    let left = all_tried_again chain verdicts policy now (all_confirmed entries new) (unconfirmed new old) in
-    let ripe = without_premature chain left in
+returned_came under entries floor new old e m =
+    let left = brought_back under entries new old in
+    let ripe = without_premature under.chain left in
     let within : Contains left e =
-    stays_within (λ (a : Admitted). is_premature chain left a.tx) left e
-    (stays_within (is_stale now) ripe e
-    (trim_keeps (λ (l : List Admitted). (a : Admitted) → Contains l a → Contains (expired now ripe) a)
-    (λ l txid h a k. h a (Contains-from_filter (λ (x : Admitted). not (reaches (steps l) txid (txid_of x.tx))) l a k)) budget (expired now ripe) floor (λ a k. k) e m)) in
+    stays_within (λ (a : Admitted). is_premature under.chain left a.tx) left e
+    (stays_within (is_stale under.second) ripe e
+    (trim_keeps (λ (l : List Admitted). (a : Admitted) → Contains l a → Contains (expired under.second ripe) a)
+    (λ l txid h a k. h a (Contains-from_filter (λ (x : Admitted). not (reaches (steps l) txid (txid_of x.tx))) l a k)) under.budget (expired under.second ripe) floor (λ a k. k) e m)) in
     ⊎_elim (λ (k : Contains (all_confirmed entries new) e). inl ((all_confirmed_leaves entries new).within e k))
     (λ (k : Contains (unconfirmed new old) e.tx). inr (Contains-from_filter (λ (u : Tx). not (has_id new (txid_of u))) old e.tx k))
-    (all_tried_came chain verdicts policy now (all_confirmed entries new) (unconfirmed new old) e within)
+    (all_tried_came under (all_confirmed entries new) (unconfirmed new old) e within)
 
-after_came : (depth : ℕ) (chain : History) (verdicts : VerdictTable) (policy : Policy) (now budget : ℕ) (entries : List Admitted) (floor : ℕ) (new old : List Tx) (e : Admitted)
-    → Contains (pool_after depth chain verdicts policy now budget entries floor new old).entries e → Came entries old e
+after_came : (depth : ℕ) (under : Terms) (entries : List Admitted) (floor : ℕ) (new old : List Tx) (e : Admitted) → Contains (pool_after depth under entries floor new old).entries e → Came entries old e
 unfolding pool_after
-after_came depth chain verdicts policy now budget entries floor new old e = go (depth == 0)
+after_came depth under entries floor new old e = go (depth == 0)
   where
-    go : (b : Bool) → Contains (cond b (record { entries = all_confirmed entries new; floor = floor }) (returned chain verdicts policy now budget entries floor new old)).entries e → Came entries old e
+    go : (b : Bool) → Contains (cond b (record { entries = all_confirmed entries new; floor = floor }) (returned under entries floor new old)).entries e → Came entries old e
     go true m = inl ((all_confirmed_leaves entries new).within e m)
-    go false m = returned_came chain verdicts policy now budget entries floor new old e m
+    go false m = returned_came under entries floor new old e m
 
 -- ---- transactions
 
@@ -92,7 +87,7 @@ events_bring_nothing_else over depth blocks now budget tx m =
     let entries = map (λ (e : Admitted). e.tx) over.entries in
     let new = transactions_of blocks in
     let front = take (left_of h depth) h.blocks in
-    let after = pool_after depth (switched h depth blocks) over.verdicts over.policy now budget over.entries over.floor new (transactions_of (last_blocks h depth)) in
+    let after = pool_after depth (terms_after over depth blocks now budget) over.entries over.floor new (transactions_of (last_blocks h depth)) in
     let before : Contains (connected_transactions h) tx → Contains (met_by h over.entries blocks) tx =
     λ k. Contains-append_left (connected_transactions h ++ entries) new tx (Contains-append_left (connected_transactions h) entries tx k) in
     ⊎_elim
@@ -109,27 +104,27 @@ events_bring_nothing_else over depth blocks now budget tx m =
     (λ (l : Contains (transactions_of (last_blocks h depth)) w.item.tx).
     before (subst (λ (t : Tx). Contains (connected_transactions h) t) w.is
     (subst (λ (bs : List Block). Contains (transactions_of bs) w.item.tx) (sym (front_back h depth)) (Contains-last_blocks front (last_blocks h depth) w.item.tx l))))
-    (after_came depth (switched h depth blocks) over.verdicts over.policy now budget over.entries over.floor new (transactions_of (last_blocks h depth)) w.item w.among))
+    (after_came depth (terms_after over depth blocks now budget) over.entries over.floor new (transactions_of (last_blocks h depth)) w.item w.among))
     (Contains-append_cases (connected_transactions (switched h depth blocks)) (map (λ (e : Admitted). e.tx) after.entries) tx m)
 
 -- ---- the floor
 
-returned_floor : (chain : History) (verdicts : VerdictTable) (policy : Policy) (now budget : ℕ) (entries : List Admitted) (floor : ℕ) (new old : List Tx) → floor ≤ (returned chain verdicts policy now budget entries floor new old).floor
+returned_floor : (under : Terms) (entries : List Admitted) (floor : ℕ) (new old : List Tx) → floor ≤ (returned under entries floor new old).floor
 unfolding returned
-returned_floor chain verdicts policy now budget entries floor new old = trim_rises budget (expired now (without_premature chain (all_tried_again chain verdicts policy now (all_confirmed entries new) (unconfirmed new old)))) floor
+returned_floor under entries floor new old = trim_rises under.budget (expired under.second (without_premature under.chain (brought_back under entries new old))) floor
 
-after_floor : (depth : ℕ) (chain : History) (verdicts : VerdictTable) (policy : Policy) (now budget : ℕ) (entries : List Admitted) (floor : ℕ) (new old : List Tx) → floor ≤ (pool_after depth chain verdicts policy now budget entries floor new old).floor
+after_floor : (depth : ℕ) (under : Terms) (entries : List Admitted) (floor : ℕ) (new old : List Tx) → floor ≤ (pool_after depth under entries floor new old).floor
 unfolding pool_after
-after_floor depth chain verdicts policy now budget entries floor new old = go (depth == 0)
+after_floor depth under entries floor new old = go (depth == 0)
   where
-    go : (b : Bool) → floor ≤ (cond b (record { entries = all_confirmed entries new; floor = floor }) (returned chain verdicts policy now budget entries floor new old)).floor
+    go : (b : Bool) → floor ≤ (cond b (record { entries = all_confirmed entries new; floor = floor }) (returned under entries floor new old)).floor
     go true = omega arith
-    go false = returned_floor chain verdicts policy now budget entries floor new old
+    go false = returned_floor under entries floor new old
 
 pub floors_never_fall : FloorsNeverFall
 unfolding event_of
 floors_never_fall over depth blocks now budget =
-    after_floor depth (switched over.chain depth blocks) over.verdicts over.policy now budget over.entries over.floor (transactions_of blocks) (transactions_of (last_blocks over.chain depth))
+    after_floor depth (terms_after over depth blocks now budget) over.entries over.floor (transactions_of blocks) (transactions_of (last_blocks over.chain depth))
 
 -- ---- where no block goes
 

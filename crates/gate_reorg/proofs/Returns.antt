@@ -1,17 +1,13 @@
 -- Transactions that are tried again one after another.
-use Rattle.std.proofs.Common.{◌≡◌, ℕ, Bool, true, false, not, cond, List, [], ◌∷◌, ◌++◌, Option, Some, Result, refl, ap, ◌∙◌}
+use Rattle.std.proofs.Common.{◌≡◌, Bool, true, false, not, cond, List, [], ◌∷◌, ◌++◌, Option, Some, Result, refl, ap, ◌∙◌}
 use Rattle.gate_tx.specs.Ids.{txid_of}
 use Rattle.gate_tx.specs.Tx.{Tx}
-use Rattle.gate_chain.specs.History.{History}
 use Rattle.gate_pool.specs.Pool.{Admitted}
 use Rattle.gate_standard.specs.declared.Denial.{Denial}
-use Rattle.gate_admit.specs.Policies.{Policy}
 use Rattle.gate_admit.specs.declared.Attempt.TheVariants.{Again}
 use Rattle.gate_admit.specs.declared.Grant.{Grant}
 use Rattle.gate_admit.specs.Rules.{decision_of}
-use Rattle.gate_admit.specs.Standing.{standing}
-use Rattle.gate_admit.specs.Verdicts.{VerdictTable}
-use Rattle.gate_reorg.specs.Reorganisation.{has_id, unconfirmed, tried, tried_again, all_tried_again}
+use Rattle.gate_reorg.specs.Reorganisation.{Terms, standing_again, has_id, unconfirmed, tried, tried_again, all_tried_again}
 
 module _ (landed : List Tx) where
   pub unconfirmed_skip : (tx : Tx) (rest : List Tx) → has_id landed (txid_of tx) ≡ true → unconfirmed landed (tx ∷ rest) ≡ unconfirmed landed rest
@@ -29,21 +25,21 @@ module _ (landed : List Tx) where
       go true ih = ap (λ l. tx ∷ l) ih
       go false ih = ih
 
-module _ (chain : History) (verdicts : VerdictTable) (policy : Policy) (now : ℕ) where
-  all_tried_append : (txs rest : List Tx) (entries : List Admitted) → all_tried_again chain verdicts policy now entries (txs ++ rest) ≡ all_tried_again chain verdicts policy now (all_tried_again chain verdicts policy now entries txs) rest
+module _ (under : Terms) where
+  all_tried_append : (txs rest : List Tx) (entries : List Admitted) → all_tried_again under entries (txs ++ rest) ≡ all_tried_again under (all_tried_again under entries txs) rest
   all_tried_append [] rest entries = refl
-  all_tried_append (tx ∷ txs) rest entries = all_tried_append txs rest (tried_again chain verdicts policy now entries tx)
+  all_tried_append (tx ∷ txs) rest entries = all_tried_append txs rest (tried_again under entries tx)
 
   -- a block's transactions, and then those of others
   pub returned_more : (landed txs rest : List Tx) (entries : List Admitted)
-      → all_tried_again chain verdicts policy now entries (unconfirmed landed (txs ++ rest)) ≡ all_tried_again chain verdicts policy now (all_tried_again chain verdicts policy now entries (unconfirmed landed txs)) (unconfirmed landed rest)
-  returned_more landed txs rest entries = ap (all_tried_again chain verdicts policy now entries) (unconfirmed_append landed txs rest) ∙ all_tried_append (unconfirmed landed txs) (unconfirmed landed rest) entries
+      → all_tried_again under entries (unconfirmed landed (txs ++ rest)) ≡ all_tried_again under (all_tried_again under entries (unconfirmed landed txs)) (unconfirmed landed rest)
+  returned_more landed txs rest entries = ap (all_tried_again under entries) (unconfirmed_append landed txs rest) ∙ all_tried_append (unconfirmed landed txs) (unconfirmed landed rest) entries
 
 -- ---- one of them
 
-module _ (chain : History) (verdicts : VerdictTable) (policy : Policy) (now : ℕ) (entries : List Admitted) (tx : Tx) where
+module _ (under : Terms) (entries : List Admitted) (tx : Tx) where
   -- what a decision comes to, where it is the one on the transaction
-  pub tried_from : (prepared : Option Tx) (decision : Result Grant Denial) → decision ≡ decision_of Again (standing chain entries 0 verdicts policy) prepared → prepared ≡ Some tx
-      → tried entries tx now decision ≡ tried_again chain verdicts policy now entries tx
+  pub tried_from : (prepared : Option Tx) (decision : Result Grant Denial) → decision ≡ decision_of Again (standing_again under entries) prepared → prepared ≡ Some tx
+      → tried entries tx under.second decision ≡ tried_again under entries tx
   unfolding tried_again
-  tried_from prepared decision h is = ap (tried entries tx now) (h ∙ ap (decision_of Again (standing chain entries 0 verdicts policy)) is)
+  tried_from prepared decision h is = ap (tried entries tx under.second) (h ∙ ap (decision_of Again (standing_again under entries)) is)

@@ -16,7 +16,7 @@ use Rattle.gate_chain.specs.History.{History}
 use Rattle.gate_chain.specs.Times.{tip_of}
 use Rattle.gate_locks.specs.Finality.{is_final_at}
 use Rattle.gate_locks.specs.Locks.{median_at, sequence_locks_met_by}
-use Rattle.gate_block.specs.Switching.{last_blocks, switched}
+use Rattle.gate_block.specs.Switching.{last_blocks}
 use Rattle.gate_pool.specs.Pool.{Admitted, has_txid}
 use Rattle.gate_pool.specs.Family.{steps}
 use Rattle.gate_pool.proofs.Entries.{Id, entry_step}
@@ -25,14 +25,12 @@ use Rattle.gate_pool.proofs.Walking.{Contains-from_filter}
 use Rattle.gate_trim.specs.Expiry.{expired, is_stale}
 use Rattle.gate_trim.specs.Trimming.{Trimmed}
 use Rattle.gate_trim.proofs.Trimmings.{trim_keeps}
-use Rattle.gate_admit.specs.Policies.{Policy}
 use Rattle.gate_admit.specs.Coins.{view_coin}
-use Rattle.gate_admit.specs.Verdicts.{VerdictTable}
 use Rattle.gate_admit.proofs.Filtering.{find-filter_same}
 use Rattle.gate_admit.proofs.Staying.{is_below, below_some_closed, stays_apart}
-use Rattle.gate_reorg.specs.Events.{event_of}
+use Rattle.gate_reorg.specs.Events.{terms_after, event_of}
 use Rattle.gate_reorg.specs.Goodness.{IsRipe, ReturnsLeaveTheRipe}
-use Rattle.gate_reorg.specs.Reorganisation.{all_confirmed, unconfirmed, all_tried_again, height_of, input_heights, is_young_coin, spends_young_coin, is_premature, without_premature, returned, pool_after}
+use Rattle.gate_reorg.specs.Reorganisation.{Terms, all_confirmed, brought_back, height_of, input_heights, is_young_coin, spends_young_coin, is_premature, without_premature, returned, pool_after}
 use Rattle.gate_submission.specs.Blocks.{transactions_of}
 
 -- ---- the same coins
@@ -83,12 +81,14 @@ first_mature chain entries e m =
     same_premature chain (without_premature chain entries) entries e.tx (λ i c. same_coin chain (is_below test entries) entries (below_some_closed test entries) e m i c)
     ∙ stays_apart test entries e m
 
-returned_mature : (chain : History) (verdicts : VerdictTable) (policy : Policy) (now budget : ℕ) (entries : List Admitted) (floor : ℕ) (new old : List Tx) → AreMature chain (returned chain verdicts policy now budget entries floor new old).entries
+returned_mature : (under : Terms) (entries : List Admitted) (floor : ℕ) (new old : List Tx) → AreMature under.chain (returned under entries floor new old).entries
 unfolding returned
-returned_mature chain verdicts policy now budget entries floor new old =
-    let tried = all_tried_again chain verdicts policy now (all_confirmed entries new) (unconfirmed new old) in
-    trim_keeps (AreMature chain) (λ l txid. kept_mature chain (reaches (steps l) txid) l (below_closed l txid)) budget (expired now (without_premature chain tried)) floor
-    (kept_mature chain (is_below (is_stale now) (without_premature chain tried)) (without_premature chain tried) (below_some_closed (is_stale now) (without_premature chain tried)) (first_mature chain tried))
+returned_mature under entries floor new old =
+    let chain = under.chain in
+    let tried = brought_back under entries new old in
+    let ripe = without_premature chain tried in
+    trim_keeps (AreMature chain) (λ l txid. kept_mature chain (reaches (steps l) txid) l (below_closed l txid)) under.budget (expired under.second ripe) floor
+    (kept_mature chain (is_below (is_stale under.second) ripe) ripe (below_some_closed (is_stale under.second) ripe) (first_mature chain tried))
 
 true_from_not : (b : Bool) → not b ≡ false → b ≡ true
 true_from_not true h = refl
@@ -104,18 +104,18 @@ ripe chain entries tx h =
 some_gone : (depth : ℕ) → depth ≢ 0 → (depth == 0) ≡ false
 some_gone depth h = grind (arith, nat_tests)
 
-after_mature : (depth : ℕ) (chain : History) (verdicts : VerdictTable) (policy : Policy) (now budget : ℕ) (entries : List Admitted) (floor : ℕ) (new old : List Tx) → depth ≢ 0
-    → AreMature chain (pool_after depth chain verdicts policy now budget entries floor new old).entries
+after_mature : (depth : ℕ) (under : Terms) (entries : List Admitted) (floor : ℕ) (new old : List Tx) → depth ≢ 0 → AreMature under.chain (pool_after depth under entries floor new old).entries
 unfolding pool_after
-after_mature depth chain verdicts policy now budget entries floor new old some =
-    subst (λ (after : Trimmed). AreMature chain after.entries)
-    (sym (cond-false (depth == 0) (record { entries = all_confirmed entries new; floor = floor }) (returned chain verdicts policy now budget entries floor new old) (some_gone depth some)))
-    (returned_mature chain verdicts policy now budget entries floor new old)
+after_mature depth under entries floor new old some =
+    subst (λ (after : Trimmed). AreMature under.chain after.entries)
+    (sym (cond-false (depth == 0) (record { entries = all_confirmed entries new; floor = floor }) (returned under entries floor new old) (some_gone depth some)))
+    (returned_mature under entries floor new old)
 
 pub returns_leave_the_ripe : ReturnsLeaveTheRipe
 unfolding event_of
 returns_leave_the_ripe over depth blocks now budget some k d l =
-    let chain = switched over.chain depth blocks in
-    let after = pool_after depth chain over.verdicts over.policy now budget over.entries over.floor (transactions_of blocks) (transactions_of (last_blocks over.chain depth)) in
-    ripe chain after.entries (get_or after.entries k d).tx
-    (after_mature depth chain over.verdicts over.policy now budget over.entries over.floor (transactions_of blocks) (transactions_of (last_blocks over.chain depth)) some (get_or after.entries k d) (Contains-get_or after.entries k d l))
+    let under = terms_after over depth blocks now budget in
+    let old = transactions_of (last_blocks over.chain depth) in
+    let after = pool_after depth under over.entries over.floor (transactions_of blocks) old in
+    ripe under.chain after.entries (get_or after.entries k d).tx
+    (after_mature depth under over.entries over.floor (transactions_of blocks) old some (get_or after.entries k d) (Contains-get_or after.entries k d l))

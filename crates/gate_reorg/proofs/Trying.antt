@@ -29,16 +29,15 @@ use Rattle.gate_admit.specs.Coins.{view_coin}
 use Rattle.gate_admit.specs.Good.{AreApart, IsLimited, IsSettled, connected_transactions}
 use Rattle.gate_admit.specs.Granting.{IsGrantable}
 use Rattle.gate_admit.specs.Rules.{admission_rules, decision_of, grant_of}
-use Rattle.gate_admit.specs.Standing.{Standing, standing}
+use Rattle.gate_admit.specs.Standing.{Standing}
 use Rattle.gate_admit.specs.Submission.{admitted}
-use Rattle.gate_admit.specs.Verdicts.{VerdictTable}
 use Rattle.gate_admit.proofs.Granted.{Differ, decided_live, granted}
 use Rattle.gate_admit.proofs.Lists.{AllPairs-one, AllPairs-append, All-one}
 use Rattle.gate_admit.proofs.Readmitted.{again_limited}
 use Rattle.gate_admit.proofs.Removing.{DifferByTxid, DifferByWtxid}
 use Rattle.gate_admit.proofs.Staying.{is_below, below_some_closed, stays_apart, stays_beside, stays_within}
 use Rattle.gate_admit.proofs.Unconnected.{unconnected}
-use Rattle.gate_reorg.specs.Reorganisation.{tried, tried_again, all_tried_again}
+use Rattle.gate_reorg.specs.Reorganisation.{Terms, standing_again, tried, tried_again, all_tried_again}
 use Rattle.gate_reorg.proofs.Leaving.{AreOrderly, orderly_part}
 use Rattle.gate_reorg.proofs.Making.{makes, makes_by, MadeBy, PoolMakes, view_cases, view_chain, view_pool}
 use Rattle.gate_reorg.proofs.Awaiting.{IsSoundBut}
@@ -196,21 +195,22 @@ granted_new over t grant settled fresh is_tx apart d =
     unknown over.chain (txid_of t) (decided_live Again over t grant d).fresh
     (unconnected Again over t settled (λ k e l. fresh (get_or over.entries k e) (Contains-get_or over.entries k e l)) is_tx apart passes)
 
-module _ (chain : History) (verdicts : VerdictTable) (policy : Policy) (now : ℕ) (settled : IsSettled chain) where
-  tried_kept : (entries : List Admitted) (t : Tx) (ts : List Tx) → IsTx t → AreApart (t ∷ connected_transactions chain) → IsSoundBut policy (t ∷ ts) chain entries → IsSoundBut policy ts chain (tried_again chain verdicts policy now entries t)
+module _ (under : Terms) (settled : IsSettled under.chain) where
+  tried_kept : (entries : List Admitted) (t : Tx) (ts : List Tx) → IsTx t → AreApart (t ∷ connected_transactions under.chain) → IsSoundBut under.policy (t ∷ ts) under.chain entries
+      → IsSoundBut under.policy ts under.chain (tried_again under entries t)
   unfolding tried_again
-  tried_kept entries t ts is_tx apart h = go (decision_of Again (standing chain entries 0 verdicts policy) (Some t)) refl
+  tried_kept entries t ts is_tx apart h = go (decision_of Again (standing_again under entries) (Some t)) refl
     where
-      go : (d : Result Grant Denial) → decision_of Again (standing chain entries 0 verdicts policy) (Some t) ≡ d → IsSoundBut policy ts chain (tried entries t now d)
+      go : (d : Result Grant Denial) → decision_of Again (standing_again under entries) (Some t) ≡ d → IsSoundBut under.policy ts under.chain (tried entries t under.second d)
       go (Ok grant) e =
-          granted_kept (standing chain entries 0 verdicts policy) t ts grant now h (decided_live Again (standing chain entries 0 verdicts policy) t grant e)
-          (granted_new (standing chain entries 0 verdicts policy) t grant settled h.fresh is_tx apart e)
-          (again_limited (standing chain entries 0 verdicts policy) t grant now h.orderly.limited e)
-      go (Err denial) e = refused_kept policy chain entries t ts h
+          granted_kept (standing_again under entries) t ts grant under.second h (decided_live Again (standing_again under entries) t grant e)
+          (granted_new (standing_again under entries) t grant settled h.fresh is_tx apart e)
+          (again_limited (standing_again under entries) t grant under.second h.orderly.limited e)
+      go (Err denial) e = refused_kept under.policy under.chain entries t ts h
 
-  pub all_tried_kept : (entries : List Admitted) (ts : List Tx) → ((t : Tx) → Contains ts t → IsTx t) → ((t : Tx) → Contains ts t → AreApart (t ∷ connected_transactions chain)) → IsSoundBut policy ts chain entries
-      → IsSoundBut policy [] chain (all_tried_again chain verdicts policy now entries ts)
+  pub all_tried_kept : (entries : List Admitted) (ts : List Tx) → ((t : Tx) → Contains ts t → IsTx t) → ((t : Tx) → Contains ts t → AreApart (t ∷ connected_transactions under.chain))
+      → IsSoundBut under.policy ts under.chain entries → IsSoundBut under.policy [] under.chain (all_tried_again under entries ts)
   all_tried_kept entries [] spelled apart h = h
   all_tried_kept entries (t ∷ ts) spelled apart h =
-      all_tried_kept (tried_again chain verdicts policy now entries t) ts (λ u m. spelled u (Contains-rest t ts u m)) (λ u m. apart u (Contains-rest t ts u m))
+      all_tried_kept (tried_again under entries t) ts (λ u m. spelled u (Contains-rest t ts u m)) (λ u m. apart u (Contains-rest t ts u m))
       (tried_kept entries t ts (spelled t (Contains-head t ts)) (apart t (Contains-head t ts)) h)

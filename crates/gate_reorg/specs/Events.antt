@@ -13,7 +13,7 @@ use Rattle.gate_pool.specs.Pool.{Admitted, entry_by_txid}
 use Rattle.gate_trim.specs.Trimming.{Trimmed}
 use Rattle.gate_admit.specs.Standing.{Standing}
 use Rattle.gate_submission.specs.declared.moved.Moved.{Moved}
-use Rattle.gate_reorg.specs.Reorganisation.{pool_after}
+use Rattle.gate_reorg.specs.Reorganisation.{Terms, pool_after}
 use Rattle.gate_submission.specs.Blocks.{present, transactions_of}
 
 -- what is asked of an event: that each block could be read, and then what is asked of the switch
@@ -31,17 +31,33 @@ pub record Happened : Type 0 where
   pub floor : ℕ
   pub moved : Moved
 
--- an event that leaves this chain, these entries and this floor, where those entries stood before it
+-- what a change from entries to others comes to, under a tip of this height
+abbrev pub moved_from : ℕ → List Admitted → List Admitted → Moved
+moved_from tip before after =
+    record { tip = tip; removed = count_beyond before after; entered = count_beyond after before }
+
+-- an event that leaves this chain, these entries and this floor
+abbrev pub happening : History → List Admitted → ℕ → Moved → Happened
+happening chain entries floor moved = record { chain = chain; entries = entries; floor = floor; moved = moved }
+
+-- the same, where those entries stood before it
 abbrev pub happened : List Admitted → History → Trimmed → Happened
-happened before chain after = record {
-  chain = chain;
-  entries = after.entries;
-  floor = after.floor;
-  moved = record { tip = tip_of chain; removed = count_beyond before after.entries; entered = count_beyond after.entries before };
+happened before chain after =
+    happening chain after.entries after.floor (moved_from (tip_of chain) before after.entries)
+
+-- the terms once so many of the last blocks are disconnected and these connected in their place
+abbrev pub terms_after : Standing → ℕ → List Block → ℕ → ℕ → Terms
+terms_after over depth blocks now budget = record {
+  chain = switched over.chain depth blocks;
+  verdicts = over.verdicts;
+  policy = over.policy;
+  second = now;
+  budget = budget;
 }
 
 -- the last blocks are disconnected, so many, and these connected in their place, at this second; the budget is in virtual bytes
 unfoldable pub event_of : Standing → ℕ → List Block → ℕ → ℕ → Happened
 event_of over depth blocks now budget =
-    let chain = switched over.chain depth blocks in
-    happened over.entries chain (pool_after depth chain over.verdicts over.policy now budget over.entries over.floor (transactions_of blocks) (transactions_of (last_blocks over.chain depth)))
+    let under = terms_after over depth blocks now budget in
+    let old = transactions_of (last_blocks over.chain depth) in
+    happened over.entries under.chain (pool_after depth under over.entries over.floor (transactions_of blocks) old)

@@ -3,13 +3,30 @@ use Rattle.std.specs.Prelude.{ℕ, List}
 use Rattle.gate_tx.specs.Tx.{Tx}
 use Rattle.gate_pool.specs.Pool.{Admitted}
 use Rattle.gate_trim.specs.Trimming.{Trimmed}
+use Rattle.gate_reorg.specs.declared.event.Draft.{Draft}
 use Rattle.gate_reorg.specs.declared.terms.Switched.{Switched}
-use Rattle.gate_reorg.specs.declared.terms.Terms.{Terms}
-use Rattle.gate_reorg.specs.Reorganisation.{all_tried_again, returned}
+use Rattle.gate_reorg.specs.declared.terms.Terms.{Terms as Lent}
+use Rattle.gate_reorg.specs.Reorganisation.{Terms, unconfirmed, all_tried_again, returned}
 use Rattle.gate_submission.specs.Blocks.{transactions_of}
 
-abbrev pub returns_of : {S H : Type 0} → Terms S H → List Admitted → List Tx → List Admitted
-returns_of under entries txs = all_tried_again under.chain.now under.verdicts.now under.policy.now under.second entries txs
+-- the terms that are lent
+abbrev pub terms_of : {S H : Type 0} → Lent S H → Terms
+terms_of under = record {
+  chain = under.chain.now;
+  verdicts = under.verdicts.now;
+  policy = under.policy.now;
+  second = under.second;
+  budget = under.budget;
+}
 
-abbrev pub left_by : {S H : Type 0} → Terms S H → Switched → List Admitted → ℕ → Trimmed
-left_by under change entries floor = returned under.chain.now under.verdicts.now under.policy.now under.second under.budget entries floor change.landings.now (transactions_of change.gone.now)
+-- these entries after some transactions were tried again, those that landed left out
+abbrev pub returns_of : {S H : Type 0} → Lent S H → List Admitted → List Tx → List Tx → List Admitted
+returns_of under entries landed txs = all_tried_again (terms_of under) entries (unconfirmed landed txs)
+
+abbrev pub left_by : {S H : Type 0} → Lent S H → Switched → List Admitted → ℕ → Trimmed
+left_by under change entries floor =
+    returned (terms_of under) entries floor change.landings.now (transactions_of change.gone.now)
+
+-- the entries and the floor of a draft
+abbrev pub drafted : {S H : Type 0} → Draft S H → Trimmed
+drafted d = record { entries = d.pool.entries; floor = d.floor }

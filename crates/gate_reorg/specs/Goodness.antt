@@ -40,8 +40,11 @@ pub record StaysGood (limits : Limits) (chain : History) (entries : List Admitte
 
 -- an event that no rule refuses keeps the chain settled and the pool good
 abbrev pub EventsKeepPoolsGood : Type 0
-EventsKeepPoolsGood = (over : Standing) (depth : ℕ) (blocks : List Block) (now budget : ℕ) → first_failing (switch_rules over.chain depth blocks) ≡ None
-    → IsReadyFor (limits_for over.policy budget) over.chain over.entries blocks → StaysGood (limits_for over.policy budget) (event_of over depth blocks now budget).chain (event_of over depth blocks now budget).entries
+EventsKeepPoolsGood = (over : Standing) (depth : ℕ) (blocks : List Block) (now budget : ℕ) →
+    let limits = limits_for over.policy budget in
+    let after = event_of over depth blocks now budget in
+    first_failing (switch_rules over.chain depth blocks) ≡ None → IsReadyFor limits over.chain over.entries blocks
+    → StaysGood limits after.chain after.entries
 
 -- the next block may have the transaction: it is final there, its relative locks are met, and it spends no coin of a coinbase
 -- that is less than 100 blocks below
@@ -52,14 +55,17 @@ pub record IsRipe (chain : History) (entries : List Admitted) (tx : Tx) : Type 0
 
 -- after an event that disconnects blocks, so each entry is
 abbrev pub ReturnsLeaveTheRipe : Type 0
-ReturnsLeaveTheRipe = (over : Standing) (depth : ℕ) (blocks : List Block) (now budget : ℕ) → depth ≢ 0
-    → All (λ (e : Admitted). IsRipe (event_of over depth blocks now budget).chain (event_of over depth blocks now budget).entries e.tx) (event_of over depth blocks now budget).entries
+ReturnsLeaveTheRipe = (over : Standing) (depth : ℕ) (blocks : List Block) (now budget : ℕ) →
+    let after = event_of over depth blocks now budget in
+    depth ≢ 0 → All (λ (e : Admitted). IsRipe after.chain after.entries e.tx) after.entries
 
 -- after any event, no connected block has the transaction of an entry
 abbrev pub EntriesAreUnconfirmed : Type 0
-EntriesAreUnconfirmed = (over : Standing) (depth : ℕ) (blocks : List Block) (now budget : ℕ) → first_failing (switch_rules over.chain depth blocks) ≡ None
+EntriesAreUnconfirmed = (over : Standing) (depth : ℕ) (blocks : List Block) (now budget : ℕ) →
+    let after = event_of over depth blocks now budget in
+    first_failing (switch_rules over.chain depth blocks) ≡ None
     → IsReadyFor (limits_for over.policy budget) over.chain over.entries blocks
-    → All (λ (e : Admitted). list_any (has_transaction (txid_of e.tx)) (event_of over depth blocks now budget).chain.blocks ≡ false) (event_of over depth blocks now budget).entries
+    → All (λ (e : Admitted). list_any (has_transaction (txid_of e.tx)) after.chain.blocks ≡ false) after.entries
 
 -- blocks that go and come again leave the chain as it was, all its coins and times
 abbrev pub BlocksComeBack : Type 0
@@ -67,8 +73,9 @@ BlocksComeBack = (chain : History) (depth : ℕ) (blocks : List Block) → switc
 
 -- each transaction of the chain and of an entry after an event was one of them before, or is one of the new blocks
 abbrev pub EventsBringNothingElse : Type 0
-EventsBringNothingElse = (over : Standing) (depth : ℕ) (blocks : List Block) (now budget : ℕ) (tx : Tx)
-    → Contains (connected_transactions (event_of over depth blocks now budget).chain ++ map (λ (e : Admitted). e.tx) (event_of over depth blocks now budget).entries) tx
+EventsBringNothingElse = (over : Standing) (depth : ℕ) (blocks : List Block) (now budget : ℕ) (tx : Tx) →
+    let after = event_of over depth blocks now budget in
+    Contains (connected_transactions after.chain ++ map (λ (e : Admitted). e.tx) after.entries) tx
     → Contains (met_by over.chain over.entries blocks) tx
 
 -- no event lowers the floor
@@ -78,13 +85,16 @@ FloorsNeverFall = (over : Standing) (depth : ℕ) (blocks : List Block) (now bud
 -- an event that disconnects no block leaves the floor, and no entry comes by it
 pub record BlocksOnlyTake : Type 0 where
   pub floor : (over : Standing) (blocks : List Block) (now budget : ℕ) → (event_of over 0 blocks now budget).floor ≡ over.floor
-  pub entries : (over : Standing) (blocks : List Block) (now budget : ℕ) (e : Admitted) → Contains (event_of over 0 blocks now budget).entries e → Contains over.entries e
+  pub entries : (over : Standing) (blocks : List Block) (now budget : ℕ) (e : Admitted)
+      → Contains (event_of over 0 blocks now budget).entries e → Contains over.entries e
 
 -- whatever the blocks are, no outpoint is spent by two entries, or twice by one
 abbrev pub EventsSpendOnce : Type 0
-EventsSpendOnce = (over : Standing) (depth : ℕ) (blocks : List Block) (now budget : ℕ) → AllPairs (λ (p : OutPoint) (q : OutPoint). p ≢ q) (spent_by over.entries)
+EventsSpendOnce = (over : Standing) (depth : ℕ) (blocks : List Block) (now budget : ℕ)
+    → AllPairs (λ (p : OutPoint) (q : OutPoint). p ≢ q) (spent_by over.entries)
     → AllPairs (λ (p : OutPoint) (q : OutPoint). p ≢ q) (spent_by (event_of over depth blocks now budget).entries)
 
 -- and the entries stay within the budget
 abbrev pub EventsKeepTheBudget : Type 0
-EventsKeepTheBudget = (over : Standing) (depth : ℕ) (blocks : List Block) (now budget : ℕ) → size_of over.entries ≤ budget → size_of (event_of over depth blocks now budget).entries ≤ budget
+EventsKeepTheBudget = (over : Standing) (depth : ℕ) (blocks : List Block) (now budget : ℕ)
+    → size_of over.entries ≤ budget → size_of (event_of over depth blocks now budget).entries ≤ budget

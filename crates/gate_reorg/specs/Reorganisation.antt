@@ -19,11 +19,25 @@ use Rattle.gate_admit.specs.declared.Attempt.TheVariants.{Again}
 use Rattle.gate_admit.specs.declared.Grant.{Grant}
 use Rattle.gate_admit.specs.Coins.{view_coin}
 use Rattle.gate_admit.specs.Rules.{decision_of, is_immature}
-use Rattle.gate_admit.specs.Standing.{standing}
+use Rattle.gate_admit.specs.Standing.{Standing, standing}
 use Rattle.gate_admit.specs.Submission.{admitted}
 use Rattle.gate_admit.specs.Policies.{Policy}
 use Rattle.gate_admit.specs.Verdicts.{VerdictTable}
-use Rattle.gate_submission.specs.Blocks.{transactions_of}
+
+-- ---- What a pool follows
+
+-- the terms of a change: the chain that it came to, the verdicts on scripts, what the operator asks of families and of
+-- replacements, the second, and the budget in virtual bytes
+pub record Terms : Type 0 where
+  pub chain : History
+  pub verdicts : VerdictTable
+  pub policy : Policy
+  pub second : ℕ
+  pub budget : ℕ
+
+-- what a transaction is tried again over; no fee is asked for, so that the pool's floor does not matter
+abbrev pub standing_again : Terms → List Admitted → Standing
+standing_again under entries = standing under.chain entries 0 under.verdicts under.policy
 
 -- ---- Transactions of blocks that are connected
 
@@ -57,14 +71,14 @@ abbrev pub tried : List Admitted → Tx → ℕ → Result Grant Denial → List
 tried entries tx now (Ok grant) = entered entries (admitted tx grant now)
 tried entries tx now (Err denial) = without_below (λ e. names e (txid_of tx)) entries
 
--- it is tried again over the chain; no fee is asked for, so that the pool's floor does not matter
-unfoldable pub tried_again : History → VerdictTable → Policy → ℕ → List Admitted → Tx → List Admitted
-tried_again chain verdicts policy now entries tx = tried entries tx now (decision_of Again (standing chain entries 0 verdicts policy) (Some tx))
+-- it is tried again over the chain
+unfoldable pub tried_again : Terms → List Admitted → Tx → List Admitted
+tried_again under entries tx = tried entries tx under.second (decision_of Again (standing_again under entries) (Some tx))
 
 -- one after another
-abbrev pub all_tried_again : History → VerdictTable → Policy → ℕ → List Admitted → List Tx → List Admitted
-all_tried_again chain verdicts policy now entries [] = entries
-all_tried_again chain verdicts policy now entries (tx ∷ txs) = all_tried_again chain verdicts policy now (tried_again chain verdicts policy now entries tx) txs
+abbrev pub all_tried_again : Terms → List Admitted → List Tx → List Admitted
+all_tried_again under entries [] = entries
+all_tried_again under entries (tx ∷ txs) = all_tried_again under (tried_again under entries tx) txs
 
 -- ---- Entries that the next block cannot have
 
@@ -98,14 +112,17 @@ without_premature chain entries = without_below (λ e. is_premature chain entrie
 
 -- ---- The whole
 
--- Over a chain that was changed, the entries and the floor after these transactions were confirmed and those returned. The
--- budget is in virtual bytes.
-unfoldable pub returned : History → VerdictTable → Policy → ℕ → ℕ → List Admitted → ℕ → List Tx → List Tx → Trimmed
-returned chain verdicts policy now budget entries floor new old =
-    trim_of budget (expired now (without_premature chain (all_tried_again chain verdicts policy now (all_confirmed entries new) (unconfirmed new old)))) floor
+-- the entries after the new transactions were confirmed and the old ones tried again
+abbrev pub brought_back : Terms → List Admitted → List Tx → List Tx → List Admitted
+brought_back under entries new old = all_tried_again under (all_confirmed entries new) (unconfirmed new old)
+
+-- the entries and the floor after that, without what the next block cannot have, what is too old and what pays too little
+unfoldable pub returned : Terms → List Admitted → ℕ → List Tx → List Tx → Trimmed
+returned under entries floor new old =
+    trim_of under.budget (expired under.second (without_premature under.chain (brought_back under entries new old))) floor
 
 -- the same where so many blocks were disconnected: where none was, entries are confirmed and nothing else is done
-unfoldable pub pool_after : ℕ → History → VerdictTable → Policy → ℕ → ℕ → List Admitted → ℕ → List Tx → List Tx → Trimmed
-pool_after depth chain verdicts policy now budget entries floor new old =
+unfoldable pub pool_after : ℕ → Terms → List Admitted → ℕ → List Tx → List Tx → Trimmed
+pool_after depth under entries floor new old =
     if depth == 0 then record { entries = all_confirmed entries new; floor = floor }
-    else returned chain verdicts policy now budget entries floor new old
+    else returned under entries floor new old

@@ -1,9 +1,8 @@
 //! What new blocks confirm and contradict.
-ghost use Rattle.std.specs.Prelude.{◌≡◌, ◌++◌, List, ℕ, IfOk, OnOk};
-ghost use Rattle.std.specs.Str.{bytes_eq};
-ghost use Rattle.indexmap.specs.IndexSet.{contains};
+ghost use Rattle.std.specs.Prelude.{◌≡◌, ◌++◌, IfOk, OnOk};
 ghost use Rattle.gate_tx.specs.Ids.{txid_of};
-ghost use Rattle.gate_reorg.specs.Reorganisation.{confirmed, all_confirmed, has_id};
+ghost use Rattle.gate_reorg.specs.Picking.{HasIdsOf};
+ghost use Rattle.gate_reorg.specs.Reorganisation.{confirmed, all_confirmed};
 ghost use Rattle.gate_submission.specs.Blocks.{transactions_of};
 ghost use Rattle.gate_submission.specs.Blocks.{present};
 
@@ -86,7 +85,7 @@ pub(crate) fn ids_of<S: BuildHasher + Copy + Drop>(
     hasher: S,
     landings: &[Landing<'_>],
 ) -> Result<IndexSet<Txid, S>, Memory>
-    ensures { IfOk result (λ ids. (id : List ℕ) → contains bytes_eq ids id ≡ has_id landings.now id) }
+    ensures { IfOk result (λ ids. HasIdsOf ids landings.now) }
 {
     let mut ids = IndexSet::with_capacity_and_hasher(alloc, landings.len(), hasher)?;
     for landing in landings {

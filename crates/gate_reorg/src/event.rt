@@ -5,15 +5,14 @@ ghost use Rattle.gate_bytes.specs.Order.{first_failing};
 ghost use Rattle.gate_chain.specs.Connecting.{Tells};
 ghost use Rattle.gate_chain.specs.declared.ChainDenial.TheVariants.{BlockDecode as Unreadable};
 ghost use Rattle.gate_chain.specs.Times.{tip_of};
-ghost use Rattle.gate_block.specs.Switching.{switched, last_blocks, switch_rules};
+ghost use Rattle.gate_block.specs.Switching.{switched, switch_rules};
 ghost use Rattle.gate_admit.specs.Good.{limits_for};
 ghost use Rattle.gate_admit.specs.Standing.{standing};
-ghost use Rattle.gate_reorg.specs.Reorganisation.{all_confirmed, returned};
-ghost use Rattle.gate_reorg.specs.Changing.{HoldsTheSame, stands};
-ghost use Rattle.gate_reorg.specs.Following.{left_by};
-ghost use Rattle.gate_submission.specs.Blocks.{transactions_of};
+ghost use Rattle.gate_reorg.specs.Reorganisation.{all_confirmed};
+ghost use Rattle.gate_reorg.specs.Changing.{HoldsTheSame, held, left_after, moved_between, event_in, happened_in};
+ghost use Rattle.gate_reorg.specs.Following.{left_by, drafted};
 ghost use Rattle.gate_reorg.specs.Goodness.{IsReadyFor, StaysGood};
-ghost use Rattle.gate_reorg.specs.Events.{event_rules, event_of, count_beyond};
+ghost use Rattle.gate_reorg.specs.Events.{event_rules, event_of, happening, moved_from};
 ghost use Rattle.gate_submission.specs.Blocks.{present};
 
 use crate::confirming::{Landing, confirm_all, ids_of, landings};
@@ -64,7 +63,7 @@ impl<S: BuildHasher + Copy + Drop> Draft<S> {
         under: &Terms<'_, S>,
         change: &Switched<'_, '_, '_>,
     ) -> Result<(), Memory>
-        ensures { OnOk result (left_by under.now change.now self.old.pool.entries self.old.floor ≡ record { entries = self.new.pool.entries; floor = self.new.floor }) }
+        ensures { OnOk result (left_by under.now change.now self.old.pool.entries self.old.floor ≡ drafted self.new) }
     {
         let new = ids_of(alloc, self.pool.hasher(), change.landings)?;
         confirm_all(&mut self.pool, change.landings);
@@ -99,7 +98,7 @@ fn redraft<S: BuildHasher + Copy + Drop>(
     pool: &Pool<S>,
     floor: &Floor,
 ) -> Result<Draft<S>, Memory>
-    ensures { IfOk result (λ draft. left_by under.now change.now pool.now.entries floor.now ≡ record { entries = draft.pool.entries; floor = draft.floor }) }
+    ensures { IfOk result (λ draft. left_by under.now change.now pool.now.entries floor.now ≡ drafted draft) }
 {
     let mut draft = Draft {
         pool: pool.copy(alloc)?,
@@ -121,7 +120,7 @@ fn moved<S: BuildHasher + Copy + Drop>(
     before: &Pool<S>,
     after: &Pool<S>,
 ) -> Result<Moved, Memory>
-    ensures { IfOk result (λ moved. moved ≡ record { tip = tip; removed = count_beyond before.now.entries after.now.entries; entered = count_beyond after.now.entries before.now.entries }) }
+    ensures { IfOk result (λ moved. moved ≡ moved_from tip before.now.entries after.now.entries) }
 {
     Ok(Moved {
         tip,
@@ -138,8 +137,8 @@ fn follow_up<S: BuildHasher + Copy + Drop>(
     pool: &Pool<S>,
     floor: &Floor,
 ) -> Result<(Draft<S>, Moved), Memory>
-    ensures draft { IfOk result (λ found. left_by under.now change.now pool.now.entries floor.now ≡ record { entries = found.0.pool.entries; floor = found.0.floor }) }
-    ensures moved { IfOk result (λ found. found.1 ≡ record { tip = tip_of under.now.chain.now; removed = count_beyond pool.now.entries found.0.pool.entries; entered = count_beyond found.0.pool.entries pool.now.entries }) }
+    ensures draft { IfOk result (λ found. left_by under.now change.now pool.now.entries floor.now ≡ drafted found.0) }
+    ensures moved { IfOk result (λ found. found.1 ≡ moved_from (tip_of under.now.chain.now) pool.now.entries found.0.pool.entries) }
 {
     let draft = redraft(alloc, under, change, pool, floor)?;
     match moved(alloc, under.chain.tip(), pool, &draft.pool) {
@@ -163,7 +162,7 @@ impl<'a, S: BuildHasher + Copy + Drop> Changing<'a, S> {
         ensures chain { OnOk result (self.new.chain.now ≡ switched self.old.chain.now 0 blocks.items) }
         ensures entries { OnOk result (self.new.pool.now.entries ≡ all_confirmed self.old.pool.now.entries landings.now) }
         ensures floor { self.new.floor.now ≡ self.old.floor.now }
-        ensures moved { IfOk result (λ moved. moved ≡ record { tip = tip_of self.new.chain.now; removed = count_beyond self.old.pool.now.entries self.new.pool.now.entries; entered = count_beyond self.new.pool.now.entries self.old.pool.now.entries }) }
+        ensures moved { IfOk result (λ moved. moved ≡ moved_between self.old self.new) }
         ensures chain_kept { OnErr result (self.new.chain.now ≡ self.old.chain.now) }
         ensures pool_kept { OnErr result (self.new.pool.now.entries ≡ self.old.pool.now.entries) }
         ensures passes { OnOk result (first_failing (switch_rules self.old.chain.now 0 blocks.items) ≡ None) }
@@ -190,8 +189,8 @@ impl<'a, S: BuildHasher + Copy + Drop> Changing<'a, S> {
     ) -> Result<Moved, ChainFault>
         ensures same { HoldsTheSame self.old self.new }
         ensures chain { OnOk result (self.new.chain.now ≡ switched self.old.chain.now depth blocks.items) }
-        ensures pool { OnOk result (returned self.new.chain.now self.old.verdicts.now self.old.policy.now self.old.second self.old.budget self.old.pool.now.entries self.old.floor.now landings.now (transactions_of (last_blocks self.old.chain.now depth)) ≡ record { entries = self.new.pool.now.entries; floor = self.new.floor.now }) }
-        ensures moved { IfOk result (λ moved. moved ≡ record { tip = tip_of self.new.chain.now; removed = count_beyond self.old.pool.now.entries self.new.pool.now.entries; entered = count_beyond self.new.pool.now.entries self.old.pool.now.entries }) }
+        ensures pool { OnOk result (left_after self.old self.new.chain.now depth landings.now ≡ held self.new) }
+        ensures moved { IfOk result (λ moved. moved ≡ moved_between self.old self.new) }
         ensures chain_kept { OnErr result (self.new.chain.now ≡ self.old.chain.now) }
         ensures pool_kept { OnErr result (self.new.pool.now.entries ≡ self.old.pool.now.entries) }
         ensures floor_kept { OnErr result (self.new.floor.now ≡ self.old.floor.now) }
@@ -232,7 +231,7 @@ impl<'a, S: BuildHasher + Copy + Drop> Changing<'a, S> {
         blocks: &[Option<Block>],
     ) -> Result<Moved, ChainFault>
         ensures same { HoldsTheSame self.old self.new }
-        ensures ok { IfOk result (λ moved. event_of (stands self.old) disconnect (present blocks.now) self.old.second self.old.budget ≡ record { chain = self.new.chain.now; entries = self.new.pool.now.entries; floor = self.new.floor.now; moved = moved }) }
+        ensures ok { IfOk result (λ moved. event_in self.old disconnect (present blocks.now) ≡ happened_in self.new moved) }
         ensures chain_kept { OnErr result (self.new.chain.now ≡ self.old.chain.now) }
         ensures pool_kept { OnErr result (self.new.pool.now.entries ≡ self.old.pool.now.entries) }
         ensures floor_kept { OnErr result (self.new.floor.now ≡ self.old.floor.now) }
@@ -268,14 +267,16 @@ pub fn chain_event<S: BuildHasher + Copy + Drop>(
     now: u64,
     budget: u64,
 ) -> Result<Moved, ChainFault>
-    ensures ok { IfOk result (λ moved. event_of (standing chain.old pool.old.entries floor.old verdicts.now policy.now) disconnect (present blocks.now) now budget ≡ record { chain = chain.new; entries = pool.new.entries; floor = floor.new; moved = moved }) }
+    ensures ok { let over = standing chain.old pool.old.entries floor.old verdicts.now policy.now in
+        IfOk result (λ moved. event_of over disconnect (present blocks.now) now budget ≡ happening chain.new pool.new.entries floor.new moved) }
     ensures chain_kept { OnErr result (chain.new ≡ chain.old) }
     ensures pool_kept { OnErr result (pool.new.entries ≡ pool.old.entries) }
     ensures floor_kept { OnErr result (floor.new ≡ floor.old) }
     ensures passes { OnOk result (first_failing (event_rules chain.old disconnect blocks.now) ≡ None) }
     ensures denied { IfErr result (λ fault. Tells fault (first_failing (event_rules chain.old disconnect blocks.now))) }
     // Where the transactions are told apart by their ids, the pool stays good.
-    ensures good { IsReadyFor (limits_for policy.now budget) chain.old pool.old.entries (present blocks.now) → StaysGood (limits_for policy.now budget) chain.new pool.new.entries }
+    ensures good { IsReadyFor (limits_for policy.now budget) chain.old pool.old.entries (present blocks.now) →
+        StaysGood (limits_for policy.now budget) chain.new pool.new.entries }
 {
     let mut changing = Changing {
         chain,

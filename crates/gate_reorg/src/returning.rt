@@ -1,10 +1,9 @@
 //! Transactions of blocks that were disconnected: each that no new block has is tried again.
-ghost use Rattle.std.specs.Prelude.{◌≡◌, List, ℕ, OnOk};
-ghost use Rattle.std.specs.Str.{bytes_eq};
-ghost use Rattle.indexmap.specs.IndexSet.{contains};
+ghost use Rattle.std.specs.Prelude.{◌≡◌, List, OnOk};
 ghost use Rattle.gate_tx.specs.Tx.{Tx};
-ghost use Rattle.gate_reorg.specs.Following.{returns_of};
-ghost use Rattle.gate_reorg.specs.Reorganisation.{has_id, unconfirmed, tried_again};
+ghost use Rattle.gate_reorg.specs.Following.{returns_of, terms_of};
+ghost use Rattle.gate_reorg.specs.Picking.{HasIdsOf};
+ghost use Rattle.gate_reorg.specs.Reorganisation.{tried_again};
 ghost use Rattle.gate_submission.specs.Blocks.{transactions_of};
 
 use crate::terms::Terms;
@@ -26,7 +25,7 @@ fn try_again<S: BuildHasher + Copy + Drop>(
     pool: &mut Pool<S>,
     transaction: &Transaction,
 ) -> Result<(), Memory>
-    ensures { OnOk result (pool.new.entries ≡ tried_again under.now.chain.now under.now.verdicts.now under.now.policy.now under.now.second pool.old.entries transaction.now) }
+    ensures { OnOk result (pool.new.entries ≡ tried_again (terms_of under.now) pool.old.entries transaction.now) }
 {
     let identified = Identified::new(alloc, transaction.copy(alloc)?)?;
     let txid = identified.txid();
@@ -54,7 +53,8 @@ fn return_block<S: BuildHasher + Copy + Drop>(
     new: &IndexSet<Txid, S>,
     transactions: &[Transaction],
 ) -> Result<(), Memory>
-    ensures { (landed : List Tx) → ((id : List ℕ) → contains bytes_eq new.now id ≡ has_id landed id) → OnOk result (pool.new.entries ≡ returns_of under.now pool.old.entries (unconfirmed landed transactions.now)) }
+    ensures { (landed : List Tx) → HasIdsOf new.now landed →
+        OnOk result (pool.new.entries ≡ returns_of under.now pool.old.entries landed transactions.now) }
 {
     for transaction in transactions {
         if !new.contains(&transaction.txid(alloc)?) {
@@ -72,7 +72,8 @@ pub(crate) fn return_all<S: BuildHasher + Copy + Drop>(
     new: &IndexSet<Txid, S>,
     gone: &[Block],
 ) -> Result<(), Memory>
-    ensures { (landed : List Tx) → ((id : List ℕ) → contains bytes_eq new.now id ≡ has_id landed id) → OnOk result (pool.new.entries ≡ returns_of under.now pool.old.entries (unconfirmed landed (transactions_of gone.now))) }
+    ensures { (landed : List Tx) → HasIdsOf new.now landed →
+        OnOk result (pool.new.entries ≡ returns_of under.now pool.old.entries landed (transactions_of gone.now)) }
 {
     for block in gone {
         return_block(alloc, under, pool, new, block.transactions.as_slice())?;

@@ -1,14 +1,12 @@
 //! Entries that the next block cannot have: locks that are not met any more, and coinbases that are too young again.
-ghost use Rattle.std.specs.Prelude.{◌≡◌, ◌≤◌, ◌+◌, ◌&&◌, ℕ, List, IfOk, OnOk, All, length};
-ghost use Rattle.std.specs.List.{list_any};
+ghost use Rattle.std.specs.Prelude.{◌≡◌, ◌≤◌, ◌+◌, ℕ, List, IfOk, OnOk, All, length};
 ghost use Rattle.std.specs.Str.{bytes_eq};
 ghost use Rattle.indexmap.specs.IndexSet.{contains};
 ghost use Rattle.gate_chain.specs.Times.{tip_of};
 ghost use Rattle.gate_locks.specs.Locks.{median_at};
 ghost use Rattle.gate_admit.specs.Coins.{view_coin};
 ghost use Rattle.gate_reorg.specs.Reorganisation.{is_young_coin, height_of, input_heights, spends_young_coin, is_premature, without_premature};
-ghost use Rattle.gate_reorg.specs.Picking.{is_premature_id};
-ghost use Rattle.gate_pool.specs.Pool.{listing_of};
+ghost use Rattle.gate_reorg.specs.Picking.{is_premature_id, is_listed_premature};
 
 use gate_admit::view_coin;
 use gate_bytes::Memory;
@@ -132,7 +130,7 @@ fn premature_ids<S: BuildHasher + Copy + Drop>(
     chain: &Chain<S>,
     pool: &Pool<S>,
 ) -> Result<IndexSet<Txid, S>, Memory>
-    ensures { IfOk result (λ ids. (id : List ℕ) → contains bytes_eq ids id ≡ list_any (λ (x : List ℕ). bytes_eq x id && is_premature_id chain.now pool.now.entries x) (listing_of pool.now.entries)) }
+    ensures { IfOk result (λ ids. (id : List ℕ) → contains bytes_eq ids id ≡ is_listed_premature chain.now pool.now.entries id) }
 {
     let listing = pool.listing(alloc)?;
     let mut ids = IndexSet::with_hasher(alloc, pool.hasher());
