@@ -1,5 +1,5 @@
 //! Who makes events.
-use gate_bytes::{Copied, Memory, Text};
+use gate_bytes::{Copied, Exact, Memory, Text};
 use std::alloc::Global;
 
 /// The one that makes an event.
@@ -24,4 +24,13 @@ impl Copied for Caller {
             Caller::Chain => Ok(Caller::Chain),
         }
     }
+}
+
+impl Exact for Caller {
+    ghost use Rattle.std.proofs.lemmas.Bool.Decides.{Decides-eqb};
+    ghost use Rattle.std.proofs.lemmas.Slice.Eq.{bytes_eq-Decides};
+    ghost use Rattle.gate_rpc.specs.Equality.{enum_decides, ◌or◌, none_decides, last_decides};
+    ghost use Rattle.gate_message.specs.contracts.caller.Caller.{enum};
+
+    ghost exact = { enum_decides enum _ (last_decides Decides-eqb or last_decides bytes_eq-Decides or none_decides or none_decides or tt) };
 }

@@ -4,7 +4,7 @@ ghost use Rattle.std.specs.Prelude.{◌≡◌, ◌↔◌, IsTrue, IfOk};
 use crate::call::Call;
 use crate::caller::Caller;
 use crate::switch::Switch;
-use gate_bytes::{Copied, Counted, Kept, Memory, Text};
+use gate_bytes::{Copied, Counted, Exact, Kept, Memory, Text};
 use gate_chain::Block;
 use gate_net::Address;
 use gate_submission::{Prepared, recall_spelled};
@@ -201,4 +201,32 @@ impl Copied for Event {
             }),
         }
     }
+}
+
+impl Exact for Event {
+    ghost use Rattle.std.specs.Cmp.{booleans_Decides};
+    ghost use Rattle.std.proofs.lemmas.Bool.Decides.{Decides-eqb};
+    ghost use Rattle.std.proofs.lemmas.Slice.Eq.{bytes_eq-Decides};
+    ghost use Rattle.gate_tx.specs.contracts.transaction.TransactionExact.TheImpl.Laws.{exact-law as transaction_decides};
+    ghost use Rattle.gate_chain.specs.contracts.block.Block.{the_type as block};
+    ghost use Rattle.gate_submission.specs.Equality.{option_decides};
+    ghost use Rattle.gate_submission.specs.contracts.prepared.PreparedExact.TheImpl.Laws.{exact-law as prepared_decides};
+    ghost use Rattle.gate_rpc.specs.Equality.{struct_decides, enum_decides, ◌or◌, ◌&◌, last_decides, bare_decides};
+    ghost use Rattle.gate_message.specs.Equality.{address_decides, call_decides, list_decides};
+    ghost use Rattle.gate_message.specs.contracts.switch.Switch.{enum as switches};
+    ghost use Rattle.gate_message.specs.contracts.event.Event.{enum};
+
+    ghost exact = { enum_decides enum _ (Decides-eqb & last_decides address_decides
+        or last_decides Decides-eqb
+        or Decides-eqb & Decides-eqb & last_decides prepared_decides
+        or last_decides Decides-eqb
+        or Decides-eqb & last_decides Decides-eqb
+        or Decides-eqb & last_decides Decides-eqb
+        or Decides-eqb & last_decides Decides-eqb
+        or last_decides call_decides
+        or last_decides Decides-eqb
+        or bare_decides switches tt & last_decides booleans_Decides
+        or Decides-eqb & Decides-eqb
+        & last_decides (list_decides (option_decides (struct_decides block (bytes_eq-Decides & last_decides (list_decides transaction_decides)))))
+        or tt) };
 }

@@ -2,7 +2,7 @@
 ghost use Rattle.std.specs.Prelude.{◌≡◌, ◌++◌, OnOk, codes, string_bytes};
 ghost use Rattle.gate_message.specs.Refusals.{closing, rule_text, refusal_token, then_of, then_text};
 
-use gate_bytes::Memory;
+use gate_bytes::{Exact, Memory};
 use gate_net::Permissions;
 use gate_standard::Denial;
 
@@ -126,4 +126,14 @@ impl Refusal {
             _ => Then::Keep,
         }
     }
+}
+
+impl Exact for Refusal {
+    ghost use Rattle.gate_standard.specs.contracts.denial.Denial.{enum as denials};
+    ghost use Rattle.gate_rpc.specs.Equality.{enum_decides, ◌or◌, none_decides, last_decides, bare_decides};
+    ghost use Rattle.gate_message.specs.contracts.refusal.Refusal.{enum};
+
+    ghost exact = { enum_decides enum _ (none_decides or none_decides or none_decides or none_decides or none_decides
+        or none_decides or none_decides or none_decides or none_decides or none_decides
+        or last_decides (bare_decides denials tt) or tt) };
 }

@@ -1,12 +1,12 @@
 -- A user's list is the intersection of his entries.
-use Rattle.std.proofs.Common.{◌≡◌, ℕ, Bool, true, false, cond, ◌&&◌, List, [], ◌∷◌, filter, Option, Some, None, refl, ap, sym, ◌∙◌}
+use Rattle.std.proofs.Common.{◌≡◌, ℕ, Bool, true, false, ◌&&◌, List, [], ◌∷◌, filter, Option, Some, None, refl, ap, ◌∙◌}
 use Rattle.std.specs.Prelude.{fold}
 use Rattle.std.specs.List.{list_all}
 use Rattle.std.specs.Option.{option_map}
 use Rattle.std.specs.Str.{bytes_eq}
 use Rattle.gate_rpc.specs.declared.entry.RpcEntry.{RpcEntry}
-use Rattle.gate_rpc.specs.Lists.{is_among, list_after, list_with, list_of}
-use Rattle.gate_rpc.specs.Laws.{entries_of, has_methods, leaves, is_left, ListsAreIntersections}
+use Rattle.gate_rpc.specs.Lists.{is_among, list_with, list_of}
+use Rattle.gate_rpc.specs.Laws.{entries_of, leaves, is_left, ListsAreIntersections}
 use Rattle.gate_rpc.proofs.Listings.{among_both}
 
 and_true : (a : Bool) → a ≡ (a && true)

@@ -6,3 +6,4 @@ pub mod Replies
 pub mod Texts
 pub mod Faults
 pub mod Laws
+pub mod Equality

@@ -2,6 +2,7 @@
 ghost use Rattle.std.specs.Prelude.{◌≡◌};
 ghost use Rattle.gate_rpc.specs.Replies.{status_of, code_of, message_of};
 
+use gate_bytes::Exact;
 use gate_standard::Denial;
 
 /// Why a call has no result, as its answer tells it: by the codes of JSON-RPC 2.0 and of Bitcoin Core 22.0.
@@ -56,4 +57,13 @@ impl RpcError {
             RpcError::Denied(denial) => denial.token(),
         }
     }
+}
+
+impl Exact for RpcError {
+    ghost use Rattle.gate_standard.specs.contracts.denial.Denial.{enum as denials};
+    ghost use Rattle.gate_rpc.specs.contracts.error.RpcError.{enum};
+    ghost use Rattle.gate_rpc.specs.Equality.{enum_decides, ◌or◌, none_decides, last_decides, bare_decides};
+
+    ghost exact = { enum_decides enum _ (none_decides or none_decides or none_decides or none_decides or none_decides
+        or last_decides (bare_decides denials tt) or tt) };
 }

@@ -7,7 +7,7 @@ use crate::error::RpcError;
 use crate::id::Id;
 use crate::method::Method;
 use crate::reply::RpcReply;
-use gate_bytes::{Copied, Memory, Text};
+use gate_bytes::{Copied, Exact, Memory, Text};
 use std::alloc::Global;
 use thiserror::Error;
 
@@ -103,4 +103,15 @@ impl From<CallError> for RpcFault {
     fn from(error: CallError) -> RpcFault {
         RpcFault::Call(error)
     }
+}
+
+impl Exact for CallError {
+    ghost use Rattle.std.proofs.lemmas.Slice.Eq.{bytes_eq-Decides};
+    ghost use Rattle.gate_rpc.specs.contracts.id.IdExact.TheImpl.Laws.{exact-law as id_decides};
+    ghost use Rattle.gate_rpc.specs.contracts.method.MethodExact.TheImpl.Laws.{exact-law as method_decides};
+    ghost use Rattle.gate_rpc.specs.contracts.fault.CallError.{enum};
+    ghost use Rattle.gate_rpc.specs.Equality.{enum_decides, ◌or◌, ◌&◌, none_decides, last_decides};
+
+    ghost exact = { enum_decides enum _ (none_decides or none_decides
+        or id_decides & last_decides bytes_eq-Decides or id_decides & last_decides method_decides or tt) };
 }

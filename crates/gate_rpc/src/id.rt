@@ -1,5 +1,5 @@
 //! The id of a call.
-use gate_bytes::{Copied, Memory, Text};
+use gate_bytes::{Copied, Exact, Memory, Text};
 use std::alloc::Global;
 
 /// What a caller names its call by (JSON-RPC 2.0): the answer has it as it came.
@@ -23,4 +23,13 @@ impl Copied for Id {
             Id::Signed(number) => Ok(Id::Signed(*number)),
         }
     }
+}
+
+impl Exact for Id {
+    ghost use Rattle.std.proofs.lemmas.Bool.Decides.{Decides-eqb, Decides-int_eq};
+    ghost use Rattle.std.proofs.lemmas.Slice.Eq.{bytes_eq-Decides};
+    ghost use Rattle.gate_rpc.specs.contracts.id.Id.{enum};
+    ghost use Rattle.gate_rpc.specs.Equality.{enum_decides, ◌or◌, none_decides, last_decides};
+
+    ghost exact = { enum_decides enum _ (none_decides or last_decides bytes_eq-Decides or last_decides Decides-eqb or last_decides Decides-int_eq or tt) };
 }

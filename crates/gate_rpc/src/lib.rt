@@ -15,7 +15,6 @@ mod reading;
 mod reply;
 mod request;
 mod result;
-mod same;
 mod whitelist;
 mod writing;
 
@@ -28,5 +27,4 @@ pub use method::Method;
 pub use reply::{RpcReply, reply_text};
 pub use request::{Command, Request};
 pub use result::{EntryInfo, RpcResult};
-pub use same::is_same_answer;
 pub use whitelist::RpcWhitelist;

@@ -2,6 +2,8 @@
 ghost use Rattle.std.specs.Prelude.{◌≡◌};
 ghost use Rattle.gate_rpc.specs.Methods.{method_named, method_name};
 
+use gate_bytes::Exact;
+
 /// What can be called, under the names of Bitcoin Core 22.0.
 #[derive(Clone, Copy, Debug, PartialEq, Eq)]
 pub enum Method {
@@ -51,4 +53,11 @@ impl Method {
             Method::GetMempoolInfo => "getmempoolinfo",
         }
     }
+}
+
+impl Exact for Method {
+    ghost use Rattle.gate_rpc.specs.contracts.method.Method.{enum};
+    ghost use Rattle.gate_rpc.specs.Equality.{bare_decides};
+
+    ghost exact = { bare_decides enum tt };
 }

@@ -6,7 +6,7 @@ use crate::error::RpcError;
 use crate::id::Id;
 use crate::result::RpcResult;
 use crate::writing::{error_json, id_json, result_json};
-use gate_bytes::{Copied, Memory};
+use gate_bytes::{Copied, Exact, Memory};
 use std::alloc::Global;
 
 /// The answer to a call.
@@ -72,4 +72,14 @@ pub fn reply_text(alloc: Global, reply: &RpcReply) -> Result<String, Memory>
             Ok(format!(in alloc; "{{\"error\":{error},\"id\":{id},\"result\":null}}")?)
         }
     }
+}
+
+impl Exact for RpcReply {
+    ghost use Rattle.gate_rpc.specs.contracts.id.IdExact.TheImpl.Laws.{exact-law as id_decides};
+    ghost use Rattle.gate_rpc.specs.contracts.result.RpcResultExact.TheImpl.Laws.{exact-law as result_decides};
+    ghost use Rattle.gate_rpc.specs.contracts.error.RpcErrorExact.TheImpl.Laws.{exact-law as error_decides};
+    ghost use Rattle.gate_rpc.specs.contracts.reply.RpcReply.{enum};
+    ghost use Rattle.gate_rpc.specs.Equality.{enum_decides, ◌or◌, ◌&◌, none_decides, last_decides};
+
+    ghost exact = { enum_decides enum _ (none_decides or id_decides & last_decides result_decides or id_decides & last_decides error_decides or tt) };
 }

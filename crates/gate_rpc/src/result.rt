@@ -1,5 +1,5 @@
 //! What calls result in.
-use gate_bytes::{Copied, Kept, Memory};
+use gate_bytes::{Copied, Exact, Kept, Memory};
 use gate_standard::Denial;
 use gate_tx::{Txid, Wtxid};
 use std::alloc::Global;
@@ -125,4 +125,35 @@ impl Copied for RpcResult {
             }),
         }
     }
+}
+
+impl Exact for EntryInfo {
+    ghost use Rattle.std.specs.Cmp.{booleans_Decides};
+    ghost use Rattle.std.proofs.lemmas.Bool.Decides.{Decides-eqb};
+    ghost use Rattle.std.proofs.lemmas.Slice.Eq.{bytes_eq-Decides};
+    ghost use Rattle.gate_tx.specs.Equality.{items_decides};
+    ghost use Rattle.gate_rpc.specs.contracts.result.EntryInfo.{the_type};
+    ghost use Rattle.gate_rpc.specs.Equality.{struct_decides, ◌&◌, last_decides};
+
+    ghost exact = { struct_decides the_type (bytes_eq-Decides & Decides-eqb & Decides-eqb & Decides-eqb & Decides-eqb
+        & Decides-eqb & Decides-eqb & Decides-eqb & Decides-eqb & Decides-eqb & Decides-eqb
+        & booleans_Decides & items_decides & last_decides items_decides) };
+}
+
+impl Exact for RpcResult {
+    ghost use Rattle.std.proofs.lemmas.Bool.Decides.{Decides-eqb};
+    ghost use Rattle.std.proofs.lemmas.Slice.Eq.{bytes_eq-Decides};
+    ghost use Rattle.gate_tx.specs.Equality.{items_decides};
+    ghost use Rattle.gate_standard.specs.contracts.denial.Denial.{enum as denials};
+    ghost use Rattle.gate_rpc.specs.contracts.result.EntryInfoExact.TheImpl.Laws.{exact-law as entry_decides};
+    ghost use Rattle.gate_rpc.specs.contracts.result.RpcResult.{enum};
+    ghost use Rattle.gate_rpc.specs.Equality.{enum_decides, ◌or◌, ◌&◌, last_decides, bare_decides};
+
+    ghost exact = { enum_decides enum _ (last_decides bytes_eq-Decides
+        or bytes_eq-Decides & bytes_eq-Decides & Decides-eqb & last_decides Decides-eqb
+        or bytes_eq-Decides & bytes_eq-Decides & last_decides (bare_decides denials tt)
+        or last_decides items_decides
+        or last_decides entry_decides
+        or Decides-eqb & Decides-eqb & Decides-eqb & Decides-eqb & last_decides Decides-eqb
+        or tt) };
 }
