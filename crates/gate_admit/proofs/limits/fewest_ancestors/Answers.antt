@@ -8,7 +8,7 @@ use Rattle.gate_admit.proofs.Parents.{above_one, above_none, greater_is}
 use Rattle.gate_admit.proofs.limits.fewest_ancestors.Goals as goal
 
 pub loop-input-init : goal.loop-input-init
-loop-input-init g c = record { least = omega arith; each = λ i m. absurd (omega (arith, m.1)); }
+loop-input-init g c = record { least = omega arith; each = λ i m. absurd (omega (arith, m.1)) }
 
 pub loop-input-preserved : goal.loop-input-preserved
 loop-input-preserved g c =
