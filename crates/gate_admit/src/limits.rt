@@ -12,7 +12,7 @@ use crate::again::fits_again;
 use crate::attempt::Attempt;
 use crate::policy::Policy;
 use gate_bytes::{Counted, Memory};
-use gate_pool::{Above, Pool, ancestors, family_above};
+use gate_pool::{Above, Pool, family_above};
 use gate_rbf::DirectConflicts;
 use gate_standard::Denial;
 use gate_tx::{Identified, TxIn, Txid};
@@ -168,20 +168,6 @@ fn family_of<S: BuildHasher + Copy + Drop>(
 {
     let inputs = direct.transaction().inputs();
     let found = family_above(alloc, direct.pool(), inputs, most)?;
-    Ok(found)
-}
-
-/// The ids of the transaction's ancestors in the pool. None where there are more than `most`.
-fn ancestors_of<S: BuildHasher + Copy + Drop>(
-    alloc: Global,
-    direct: &DirectConflicts<'_, S>,
-    most: usize,
-) -> Result<Option<Vec<Txid>>, Memory>
-    ensures found { IfOk result (λ found. IfSome found (λ ids. AreIdsOf ids.items (ancestors_above direct.now.entries direct.now.tx.inputs))) }
-    ensures many { IfOk result (λ found. found ≡ None → most < length (ancestors_above direct.now.entries direct.now.tx.inputs)) }
-{
-    let inputs = direct.transaction().inputs();
-    let found = ancestors(alloc, direct.pool(), inputs, most)?;
     Ok(found)
 }
 
