@@ -1,6 +1,6 @@
 -- What the parents of a transaction in the pool say of its ancestors.
-use Rattle.std.proofs.Common.{◌≡◌, ℕ, ◌≤◌, Bool, true, false, is_some, List, [], ◌∷◌, length, max, refl, arith}
-use Rattle.std.specs.Prelude.{Contains, filter}
+use Rattle.std.proofs.Common.{◌≡◌, ℕ, ◌≤◌, false, is_some, List, [], ◌∷◌, length, max, refl, arith}
+use Rattle.std.specs.Prelude.{Contains}
 use Rattle.std.specs.List.{list_any}
 use Rattle.std.specs.Ordering.{nat_cmp, ord_max}
 use Rattle.gate_tx.specs.declared.TxIn.{TxIn}

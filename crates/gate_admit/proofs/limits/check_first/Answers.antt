@@ -3,7 +3,6 @@ use Rattle.gate_tx.specs.declared.TxIn.{TxIn}
 use Rattle.gate_tx.specs.Tx.{Tx}
 use Rattle.gate_pool.specs.Pool.{Admitted}
 use Rattle.gate_pool.specs.Family.{ancestors_above}
-use Rattle.gate_admit.specs.Policies.{most_ancestors}
 use Rattle.gate_admit.proofs.Families.{alone_passes, long_fails}
 use Rattle.gate_admit.proofs.limits.check_first.Goals as goal
 

@@ -1,4 +1,4 @@
-use Rattle.std.proofs.Common.{◌≡◌, sym, ap, length, List}
+use Rattle.std.proofs.Common.{sym, ap, length, List}
 use Rattle.gate_graph.specs.declared.held.Totals.{Totals}
 use Rattle.gate_pool.specs.Pool.{Admitted}
 use Rattle.gate_admit.proofs.Parents.{none_above}

@@ -1,8 +1,8 @@
-use Rattle.std.proofs.Common.{◌≡◌, ◌≤◌, length, max, sym, ap, subst, take, inl, inr, arith}
+use Rattle.std.proofs.Common.{◌≡◌, length, max, sym, ap, subst, take, inl, inr, arith}
 use Rattle.std.specs.Prelude.{Contains}
 use Rattle.std.proofs.lemmas.List.{take_all}
 use Rattle.gate_tx.specs.declared.TxIn.{TxIn}
-use Rattle.gate_pool.specs.Family.{ancestors_of, ancestors_above}
+use Rattle.gate_pool.specs.Family.{ancestors_of}
 use Rattle.gate_pool.proofs.Points.{Contains-take_more}
 use Rattle.gate_admit.proofs.Parents.{above_one, above_none, greater_is}
 use Rattle.gate_admit.proofs.limits.fewest_ancestors.Goals as goal
