@@ -64,6 +64,9 @@ is_limited policy entries txid =
     && (nat_le (length (descendants_of entries txid)) (most_descendants policy)
     && nat_le (size_of (descendants_of entries txid)) 111000))
 
+abbrev pub are_limited : Policy → List Admitted → List Admitted → Bool
+are_limited policy entries these = list_all (λ e. is_limited policy entries (txid_of e.tx)) these
+
 -- the same within any limits
 abbrev pub fits_within : FamilyLimits → List Admitted → List ℕ → Bool
 fits_within limits entries txid =
@@ -71,6 +74,9 @@ fits_within limits entries txid =
     && (nat_le (size_of (ancestors_of entries txid)) limits.ancestors_size
     && (nat_le (length (descendants_of entries txid)) limits.descendants
     && nat_le (size_of (descendants_of entries txid)) limits.descendants_size))
+
+abbrev pub all_fit_within : FamilyLimits → List Admitted → List Admitted → Bool
+all_fit_within limits entries these = list_all (λ e. fits_within limits entries (txid_of e.tx)) these
 
 -- the entries with a transaction of this size behind them; what it would replace is still there
 abbrev pub joined : List Admitted → Tx → ℕ → List Admitted
@@ -103,14 +109,13 @@ abbrev pub fits_again : Policy → List Admitted → Tx → ℕ → Bool
 fits_again policy entries tx vsize =
     let all = joined entries tx vsize in
     not (is_below_itself all tx)
-    && (list_all (λ e. is_limited policy all (txid_of e.tx)) (ancestors_of all (txid_of tx))
-    && list_all (λ e. is_limited policy all (txid_of e.tx)) (descendants_of all (txid_of tx)))
+    && (are_limited policy all (ancestors_of all (txid_of tx)) && are_limited policy all (descendants_of all (txid_of tx)))
 
 -- the same of every entry, as a node's operator would say it: with it, none passes the limits
 abbrev pub fits_among : Policy → List Admitted → Tx → ℕ → Bool
 fits_among policy entries tx vsize =
     let all = joined entries tx vsize in
-    not (is_below_itself all tx) && list_all (λ e. is_limited policy all (txid_of e.tx)) all
+    not (is_below_itself all tx) && are_limited policy all all
 
 -- ---- the rules
 

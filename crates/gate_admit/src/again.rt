@@ -1,11 +1,10 @@
 //! Families of a transaction that is tried again: its own limits in the place of A36.
 ghost use Rattle.std.specs.Prelude.{◌≡◌, ◌≤◌, Bool, true, false, None, [], IfOk, IfSome, is_some, filter, Contains};
-ghost use Rattle.std.specs.List.{list_all};
 ghost use Rattle.gate_tx.specs.Ids.{txid_of};
 ghost use Rattle.gate_pool.specs.Pool.{Admitted, entry_by_txid, largest_vsize};
 ghost use Rattle.gate_pool.specs.Search.{IsEntry, AreEntries};
-ghost use Rattle.gate_pool.specs.Family.{names, children_of, ancestors_above, AreIdsOf};
-ghost use Rattle.gate_admit.specs.Limits.{is_limited, fits_within, fits_again, has_parent, LeavesRoomBelow, LeavesRoomAbove};
+ghost use Rattle.gate_pool.specs.Family.{names, children_of, ancestors_above, AreIdsOf, OfThese};
+ghost use Rattle.gate_admit.specs.Limits.{is_limited, are_limited, fits_within, all_fit_within, fits_again, has_parent, LeavesRoomBelow, LeavesRoomAbove};
 
 use crate::joining::{Joined, names};
 use crate::limits::FamilyLimits;
@@ -56,7 +55,7 @@ fn all_limited<V: FamilyView>(
     txids: &[Txid],
 ) -> Result<bool, Memory>
     requires { AreEntries (V.entries pool.now) txids.now }
-    ensures { (test : Admitted → Bool) → AreIdsOf txids.now (filter test (V.entries pool.now)) → IfOk result (λ limited. limited ≡ list_all (λ e. is_limited policy.now (V.entries pool.now) (txid_of e.tx)) (filter test (V.entries pool.now))) }
+    ensures { OfThese (V.entries pool.now) txids.now (λ these. IfOk result (λ limited. limited ≡ are_limited policy.now (V.entries pool.now) these)) }
 {
     for txid in txids {
         if !is_limited(alloc, policy, pool, txid)? {
@@ -123,7 +122,7 @@ fn all_fit_within<S: BuildHasher + Copy + Drop>(
     txids: &[Txid],
     limits: FamilyLimits,
 ) -> bool
-    ensures { (test : Admitted → Bool) → AreIdsOf txids.now (filter test pool.now.entries) → result ≡ list_all (λ e. fits_within limits pool.now.entries (txid_of e.tx)) (filter test pool.now.entries) }
+    ensures { OfThese pool.now.entries txids.now (λ these. result ≡ all_fit_within limits pool.now.entries these) }
 {
     for txid in txids {
         if !fits_within(pool, txid, limits) {
