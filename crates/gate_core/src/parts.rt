@@ -1,5 +1,5 @@
 //! What a state is made of, and its step in two: a plan that takes all memory and changes nothing, and its change.
-ghost use Rattle.std.specs.Prelude.{◌≡◌, ◌≢◌, IfOk, Ok};
+ghost use Rattle.std.specs.Prelude.{◌≡◌, ◌≢◌, IfOk};
 ghost use Rattle.std.specs.Option.{option_copied};
 ghost use Rattle.gate_core.specs.Submissions.{StandsFor, submission_of};
 ghost use Rattle.gate_message.specs.Callers.{caller_of};
