@@ -14,7 +14,7 @@ returns g c =
     let e = c.args.entry.now in
     let found = c.in_ok-txids.txids in
     let sorted = c.sort_by_admission.new.txids in
-    let inputs = c.inputs.ensures ∙ ap (λ (t : Tx). t.inputs) c.transaction.ensures in
+    let inputs = c.inputs-inputs.ensures ∙ ap (λ (t : Tx). t.inputs) c.transaction.ensures in
     let ids : AreIdsOf found.items (parents_of entries e) = subst (λ i. AreIdsOf found.items (parents_above entries i)) inputs c.in_ok-txids.ensures in
     let long : found.len ≡ length sorted = omega (arith, found.ok, c.sort_by_admission.ensures.len, ap length c.as_mut_slice.ensures.value) in
     ap (λ n. take n (sorted ++ drop (length sorted) found.items)) long ∙ take-append_seam sorted (drop (length sorted) found.items)

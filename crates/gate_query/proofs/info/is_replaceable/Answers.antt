@@ -1,4 +1,4 @@
-use Rattle.std.proofs.Common.{Bool, true, sym, ap, subst, ◌∙◌}
+use Rattle.std.proofs.Common.{◌≡◌, Bool, true, sym, ap, subst, ◌∙◌}
 use Rattle.std.specs.List.{list_any}
 use Rattle.std.specs.Cmp.Lexicographic.{bytes_decides}
 use Rattle.gate_tx.specs.Ids.{txid_of}
@@ -27,8 +27,8 @@ returns-then-signals g c =
     (Contains-filter is_above entries e here.0 (subst (λ z. reaches (steps entries) z txid ≡ true) (sym own) (reaches-same (steps entries) txid)))
     (ap signals (sym c.transaction.ensures) ∙ sym c.signals.ensures ∙ c.if-signals.true))
 
-pub returns-in_default : goal.returns-in_default
-returns-in_default g c =
+pub returns : goal.returns
+returns g c =
     let entries = c.args.pool.now.entries in
     let txid = c.args.txid.now in
     let distinct = c.recall_distinct.ensures in
