@@ -2,7 +2,7 @@
 
 import resource
 
-from bitcoin import coin, payment
+from bitcoin import Input, Output, Transaction, coin, compact, number_hash, payment
 from gate import lines, same, same_lines
 from growths import ASKED, row
 from heights import block
@@ -24,7 +24,7 @@ def block_of(number, digits):
     bare = block(number)
     text = bare.hex()
     head, coinbase = text[:160], text[162:]
-    return head + "%02x" % (1 + len(digits)) + coinbase + "".join(digits)
+    return head + compact(1 + len(digits)).hex() + coinbase + "".join(digits)
 
 
 def test_a_block_that_spends_what_ninety_nine_rest_on(gate):
@@ -77,6 +77,36 @@ def test_a_reorganisation_over_a_thousand(gate):
 @long
 def test_a_reorganisation_over_a_hundred_thousand(gate):
     over(gate, 100000)
+
+
+def test_a_chain_of_a_thousand_comes_back(gate):
+    """A chain of a thousand, which the opening's limits allow, is confirmed and comes back whole, and then its first alone above
+    the others."""
+    made, spent, value = [], number_hash(1), 10**9
+    for _ in range(1000):
+        value -= 1000
+        made.append(Transaction([Input(spent)], [Output(value)]))
+        spent = made[-1].hash()
+    listed = [tx.txid() for tx in made]
+    listing = "listing 1000 "
+    limits = ["limitancestorcount 1000", "limitdescendantcount 1000"]
+    events = [ENTER] + [(submitted(tx), admitted(tx, 1000)) for tx in made]
+    events += [("chain 0 5000 " + block_of(1, [tx.hex() for tx in made]), "chain 101 removed 1000 entered 0"), ("peer 1 mempool", "listing 0")]
+    events += [("chain 1 5000", "chain 100 removed 0 entered 1000"), ("peer 1 mempool", listing + " ".join(listed))]
+    events += [("chain 0 5000 " + block_of(1, [made[0].hex()]), "chain 101 removed 1 entered 0")]
+    events += [("chain 1 5000", "chain 100 removed 0 entered 1"), ("peer 1 mempool", listing + " ".join(listed[1:] + listed[:1]))]
+    gate.answers(opening(*limits, coin(1, 10**9)), events)
+
+
+def test_a_payment_to_many_entries_goes(gate):
+    """A block that pays to 1,600 entries goes: its payment has too many descendants to come back, so they leave too."""
+    value = 10000
+    paying = Transaction([Input(number_hash(1))], [Output(value)] * 1600)
+    made = [Transaction([Input(paying.hash(), index)], [Output(value - 1000)]) for index in range(1600)]
+    events = [ENTER, ("chain 0 5000 " + block_of(1, [paying.hex()]), "chain 101 removed 0 entered 0")]
+    events += [(submitted(tx), admitted(tx, 1000)) for tx in made]
+    events += [("chain 1 5000", "chain 100 removed 1600 entered 0"), ("peer 1 mempool", "listing 0")]
+    gate.answers(opening(coin(1, 10**9)), events)
 
 
 def nested(depth):
