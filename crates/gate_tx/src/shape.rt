@@ -1,8 +1,8 @@
-ghost use Rattle.std.specs.Prelude.{◌≡◌, ◌↔◌, ◌⊎◌, ◌≢◌, ◌+◌, ◌<◌, [], length, IsTrue, IsErr, IfOk, IfErr};
+ghost use Rattle.std.specs.Prelude.{◌≡◌, ◌↔◌, ◌⊎◌, ◌≢◌, ◌+◌, ◌<◌, [], IsTrue, IsErr, IfOk, IfErr};
 ghost use Rattle.std.specs.List.{AllByRecursion};
 ghost use Rattle.gate_tx.specs.Internal.{stripped_lists, witness_lists, IsRangedInput, IsRangedOutput};
-ghost use Rattle.gate_tx.specs.Tx.{Tx, tx_of};
-ghost use Rattle.gate_tx.specs.Text.{text, longest};
+ghost use Rattle.gate_tx.specs.Tx.{tx_of};
+ghost use Rattle.gate_tx.specs.Text.{longest, IsRefused};
 
 use crate::reading::MAX_SIZE;
 use crate::sizes::{stripped_lists, witness_lists};
@@ -27,7 +27,7 @@ impl Transaction {
         locktime: u32,
     ) -> Result<Transaction, Shape>
         ensures made { IfOk result (λ tx. tx ≡ tx_of version inputs.items outputs.items locktime) }
-        ensures refused { IsErr result ↔ (((inputs.items ≡ []) × (outputs.items ≢ [])) ⊎ (longest < length (text (tx_of version inputs.items outputs.items locktime)))) }
+        ensures refused { IsErr result ↔ IsRefused (tx_of version inputs.items outputs.items locktime) }
         ensures back { IfErr result (λ shape. (shape.inputs ≡ inputs) × (shape.outputs ≡ outputs)) }
     {
         if is_refused(&inputs, &outputs) {
