@@ -72,3 +72,7 @@ pub record IsLinked (coins : List OpeningCoin) (opened first : ℕ) (opened_ids 
   pub few : length times ≤ 10000001
   pub maps : AreMaps (history coins (take first times) blocks) es txids
   pub each : (before after : List Connected) (c : Connected) → blocks ≡ before ++ c ∷ after → IsConnected (history coins (take first times) before) c
+
+-- the same, where the opening's coins are the first ones of the map
+abbrev pub IsLinkedFrom : ℕ → ℕ → List (List ℕ) → List ℕ → List Connected → List (OutPoint × Marked) → List (List ℕ) → Type 0
+IsLinkedFrom opened first opened_ids times blocks es txids = IsLinked (opening_in opened es) opened first opened_ids times blocks es txids

@@ -52,11 +52,11 @@ pub struct Chain<S: BuildHasher + Copy + Drop> {
 impl<S: BuildHasher + Copy + Drop> Model for Chain<S> {
     ghost use Rattle.std.specs.Prelude.{take};
     ghost use Rattle.gate_chain.specs.History.{History};
-    ghost use Rattle.gate_chain.specs.Linked.{IsLinked, history, opening_in};
+    ghost use Rattle.gate_chain.specs.Linked.{IsLinkedFrom, history, opening_in};
 
     ghost Value = { History };
 
-    ghost invariant = { λ c. IsLinked (opening_in c.opening_coins c.coins.entries) c.opening_coins c.opening_times c.opening_txids.keys c.times.items c.blocks.items c.coins.entries c.txids.keys };
+    ghost invariant = { λ c. IsLinkedFrom c.opening_coins c.opening_times c.opening_txids.keys c.times.items c.blocks.items c.coins.entries c.txids.keys };
 
     ghost view = { λ c. history (opening_in c.opening_coins c.coins.entries) (take c.opening_times c.times.items) c.blocks.items };
 }

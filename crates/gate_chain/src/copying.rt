@@ -1,8 +1,7 @@
 //! Copies of a chain's tables, with the entries in their order.
-ghost use Rattle.std.specs.Prelude.{◌≡◌, ◌+◌, ◌++◌, ◌∷◌, [], ◌≤◌, take, drop, length, None, false, IfOk, OnOk};
-ghost use Rattle.std.specs.List.{IsDistinct};
-ghost use Rattle.std.specs.Map.{keys_of};
+ghost use Rattle.std.specs.Prelude.{◌≡◌, ◌++◌, ◌∷◌, [], ◌≤◌, drop, length, None, false, IfOk, OnOk};
 ghost use Rattle.std.specs.Str.{bytes_eq};
+ghost use Rattle.gate_chain.specs.Marking.{CopiesCoin, CopiesId};
 ghost use Rattle.gate_tx.specs.Coins.{point_eq};
 ghost use Rattle.indexmap.specs.IndexMap.{get};
 ghost use Rattle.indexmap.specs.IndexSet.{contains};
@@ -35,7 +34,7 @@ fn copy_coin<S: BuildHasher>(
     copies: &mut IndexMap<OutPoint, Marked, S>,
 ) -> Result<(), Memory>
     requires { from ≤ place }
-    ensures { OnOk result (IsDistinct point_eq (keys_of coins.now.entries) → copies.old.entries ≡ drop from (take place coins.now.entries) → copies.new.entries ≡ drop from (take (place + 1) coins.now.entries)) }
+    ensures { OnOk result (CopiesCoin from place coins.now.entries copies.old.entries copies.new.entries) }
 {
     match coins.get_index(place) {
         Some((outpoint, marked)) => {
@@ -79,7 +78,7 @@ fn copy_id<S: BuildHasher>(
     copies: &mut IndexSet<Txid, S>,
 ) -> Result<(), Memory>
     requires { from ≤ place }
-    ensures { OnOk result (IsDistinct bytes_eq ids.now.keys → copies.old.keys ≡ drop from (take place ids.now.keys) → copies.new.keys ≡ drop from (take (place + 1) ids.now.keys)) }
+    ensures { OnOk result (CopiesId from place ids.now.keys copies.old.keys copies.new.keys) }
 {
     match ids.get_index(place) {
         Some(id) => put_id(copies, *id),

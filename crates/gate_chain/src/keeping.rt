@@ -32,19 +32,16 @@ pub(crate) struct Coins<S: BuildHasher + Copy + Drop> {
 }
 
 impl<S: BuildHasher + Copy + Drop> Model for Coins<S> {
-    ghost use Rattle.std.specs.Prelude.{◌≡◌, List, ℕ, map};
+    ghost use Rattle.std.specs.Prelude.{List};
     ghost use Rattle.std.specs.Str.{bytes_eq};
     ghost use Rattle.indexmap.specs.IndexSet.{contains};
-    ghost use Rattle.gate_chain.specs.Coins.{has_txid};
-    ghost use Rattle.std.specs.Prelude.{false};
-    ghost use Rattle.gate_tx.specs.declared.OutPoint.{OutPoint as Point};
-    ghost use Rattle.gate_chain.specs.Keeping.{opening_coins};
-    ghost use Rattle.gate_chain.specs.Marking.{coins_in, is_marked};
+    ghost use Rattle.gate_chain.specs.Keeping.{IsKept, opening_coins};
+    ghost use Rattle.gate_chain.specs.Marking.{coins_in};
     ghost use Rattle.gate_chain.specs.declared.opening.OpeningCoin.{OpeningCoin};
 
     ghost Value = { List OpeningCoin };
 
-    ghost invariant = { λ c. ((id : List ℕ) → contains bytes_eq c.txids id ≡ has_txid id (opening_coins (coins_in c.coins.entries))) × ((p : Point) → is_marked c.coins.entries p ≡ false) };
+    ghost invariant = { λ c. IsKept (contains bytes_eq c.txids) c.coins.entries };
 
     ghost view = { λ c. opening_coins (coins_in c.coins.entries) };
 }

@@ -1,13 +1,12 @@
 //! Coins that are marked as spent and unmarked again.
-ghost use Rattle.std.specs.Prelude.{◌≡◌, ◌&&◌, ◌||◌, not, true, false, drop, is_some, if◌then◌else◌};
+ghost use Rattle.std.specs.Prelude.{◌≡◌, ◌&&◌, ◌||◌, not, false, drop, is_some, if◌then◌else◌};
 ghost use Rattle.std.specs.List.{list_any};
-ghost use Rattle.std.specs.Map.{lookup};
 ghost use Rattle.std.specs.Option.{option_copied};
 ghost use Rattle.gate_tx.specs.Coins.{point_eq, spends};
 ghost use Rattle.gate_tx.specs.declared.OutPoint.{OutPoint as Point};
 ghost use Rattle.gate_chain.specs.Coins.{any_spends, is_spent_in};
 ghost use Rattle.gate_chain.specs.Connecting.{missing};
-ghost use Rattle.gate_chain.specs.Marking.{coins_in, is_marked, unspent_in};
+ghost use Rattle.gate_chain.specs.Marking.{coins_in, is_marked, unspent_in, MarksMore};
 
 use crate::block::Block;
 use gate_bytes::{Copied, Memory};
@@ -108,7 +107,7 @@ pub(crate) fn spend<S: BuildHasher>(
 /// Marks the coins of inputs as spent again.
 fn respend<S: BuildHasher>(coins: &mut IndexMap<OutPoint, Marked, S>, inputs: &[TxIn])
     ensures coins { coins_in coins.new.entries ≡ coins_in coins.old.entries }
-    ensures marks { (p : Point) → is_some (lookup (point_eq p) (coins_in coins.old.entries)) ≡ true → is_marked coins.new.entries p ≡ (spends inputs.now p || is_marked coins.old.entries p) }
+    ensures marks { MarksMore (spends inputs.now) coins.old.entries coins.new.entries }
 {
     for input in inputs {
         let _ = spend_one(coins, input.prevout);
@@ -118,7 +117,7 @@ fn respend<S: BuildHasher>(coins: &mut IndexMap<OutPoint, Marked, S>, inputs: &[
 /// Those of all these transactions.
 fn respend_all<S: BuildHasher>(coins: &mut IndexMap<OutPoint, Marked, S>, txs: &[Transaction])
     ensures coins { coins_in coins.new.entries ≡ coins_in coins.old.entries }
-    ensures marks { (p : Point) → is_some (lookup (point_eq p) (coins_in coins.old.entries)) ≡ true → is_marked coins.new.entries p ≡ (any_spends txs.now p || is_marked coins.old.entries p) }
+    ensures marks { MarksMore (any_spends txs.now) coins.old.entries coins.new.entries }
 {
     for tx in txs {
         respend(coins, tx.inputs());
@@ -128,7 +127,7 @@ fn respend_all<S: BuildHasher>(coins: &mut IndexMap<OutPoint, Marked, S>, txs: &
 /// Those of a block, but not its coinbase's.
 fn respend_block<S: BuildHasher>(coins: &mut IndexMap<OutPoint, Marked, S>, txs: &[Transaction])
     ensures coins { coins_in coins.new.entries ≡ coins_in coins.old.entries }
-    ensures marks { (p : Point) → is_some (lookup (point_eq p) (coins_in coins.old.entries)) ≡ true → is_marked coins.new.entries p ≡ (any_spends (drop 1 txs.now) p || is_marked coins.old.entries p) }
+    ensures marks { MarksMore (any_spends (drop 1 txs.now)) coins.old.entries coins.new.entries }
 {
     match txs {
         [] => {}
@@ -142,7 +141,7 @@ pub(crate) fn respend_blocks<S: BuildHasher>(
     blocks: &[Block],
 )
     ensures coins { coins_in coins.new.entries ≡ coins_in coins.old.entries }
-    ensures marks { (p : Point) → is_some (lookup (point_eq p) (coins_in coins.old.entries)) ≡ true → is_marked coins.new.entries p ≡ (list_any (is_spent_in p) blocks.now || is_marked coins.old.entries p) }
+    ensures marks { MarksMore (λ p. list_any (is_spent_in p) blocks.now) coins.old.entries coins.new.entries }
 {
     for block in blocks {
         respend_block(coins, block.transactions.as_slice());
