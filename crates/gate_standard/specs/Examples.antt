@@ -40,3 +40,7 @@ pays value script = record { value = pos value; script = script }
 
 abbrev pub makes : List TxIn → List TxOut → Tx
 makes inputs outputs = record { version = pos 2; inputs = inputs; outputs = outputs; locktime = 0 }
+
+-- spends one output twice
+abbrev pub spends_twice : Tx
+spends_twice = makes (spending 17 ∷ spending 17 ∷ []) (pays 1000 to_witness_key ∷ [])

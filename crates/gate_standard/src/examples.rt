@@ -5,7 +5,7 @@ ghost use Rattle.gate_standard.specs.Amounts.{required_fee, feerate};
 ghost use Rattle.gate_bytes.specs.Order.{first_failing};
 ghost use Rattle.gate_standard.specs.Outputs.{dust_threshold_of};
 ghost use Rattle.gate_standard.specs.Rules.{transaction_rules, standard_rules};
-ghost use Rattle.gate_standard.specs.Examples.{spending, from_nothing, pays, makes, to_key_hash, to_script_hash, to_witness_key, to_witness_script};
+ghost use Rattle.gate_standard.specs.Examples.{spending, from_nothing, pays, makes, spends_twice, to_key_hash, to_script_hash, to_witness_key, to_witness_script};
 
 /// What fees, rates and dust come to.
 #[tactic(auto, unfolding(crate::specs::Amounts::required_fee, crate::specs::Amounts::feerate, crate::specs::Outputs::dust_threshold_of))]
@@ -23,7 +23,7 @@ pub(crate) fn amounts()
 /// What whole transactions are decided to be.
 #[tactic(auto, unfolding(crate::specs::Rules::transaction_rules, gate_tx::specs::Sizes::stripped_size_of))]
 pub(crate) fn decisions()
-    ensures spent_twice { first_failing (transaction_rules (makes (spending 17 ∷ spending 17 ∷ []) (pays 1000 to_witness_key ∷ []))) ≡ Some denials.InputsDuplicate }
+    ensures spent_twice { first_failing (transaction_rules spends_twice) ≡ Some denials.InputsDuplicate }
     ensures coinbase { first_failing (transaction_rules (makes (from_nothing (81 ∷ 81 ∷ []) ∷ []) (pays 1000 to_witness_key ∷ []))) ≡ Some denials.Coinbase }
     ensures sound { first_failing (transaction_rules (makes (spending 17 ∷ []) (pays 294 to_witness_key ∷ []))) ≡ None }
     ensures dust { first_failing (standard_rules (makes (spending 17 ∷ []) (pays 293 to_witness_key ∷ pays 1000 (81 ∷ []) ∷ []))) ≡ Some denials.Dust }
