@@ -1,10 +1,9 @@
-ghost use Rattle.std.specs.Prelude.{◌≡◌, ◌-◌, ◌+◌, ◌*◌, ◌^◌, [], false, IfOk, None, Some, min};
+ghost use Rattle.std.specs.Prelude.{◌≡◌, ◌-◌, ◌^◌, [], false, IfOk, None, Some, min};
 ghost use Rattle.std.specs.Option.{option_map};
-ghost use Rattle.gate_inputs.specs.Reports.{is_pay_to_script_hash, is_standard_by, redeem_of, script_cost, program_cost, witness_cost};
+ghost use Rattle.gate_inputs.specs.Reports.{is_pay_to_script_hash, is_standard_by, redeem_of, script_cost, program_cost};
 ghost use Rattle.gate_inputs.specs.Answers.{answers_of};
-ghost use Rattle.gate_inputs.specs.Internal.{answers_by};
+ghost use Rattle.gate_inputs.specs.Internal.{answers_by, cost_with};
 ghost use Rattle.gate_script.specs.declared.templates.Template.TheVariants.{ScriptHash};
-ghost use Rattle.gate_script.specs.Sigops.{sigops_of};
 
 use crate::answer::Answers;
 use crate::witness::allows_witness;
@@ -97,7 +96,7 @@ fn is_relayed(form: Template) -> bool
 
 /// What the input's script, so many operations of a redeem script, and the witness program cost.
 fn cost(input: &TxIn, redeem: u64, program: Option<(u8, &[u8])>) -> u64
-    ensures { result ≡ min (4 * sigops_of false input.now.script + 4 * redeem + witness_cost input.now.witness (option_map (λ p. (p.0, p.1.now)) program.entry)) (2 ^ 64 - 1) }
+    ensures { result ≡ cost_with input.now redeem (option_map (λ p. (p.0, p.1.now)) program.entry) }
 {
     let legacy = sigops(input.script.as_slice(), false).saturating_add(redeem);
     let scaled = legacy.saturating_mul(WITNESS_SCALE);
