@@ -1,7 +1,9 @@
 -- Ids that are gathered, each once.
-use Rattle.std.specs.Prelude.{◌≡◌, ◌≢◌, ◌⊎◌, ℕ, Bool, List, Contains}
+use Rattle.std.specs.Prelude.{◌≡◌, ◌≢◌, ◌⊎◌, ℕ, Bool, List, filter, Contains, Result, IfOk}
+use Rattle.std.specs.Global.{Vec}
 use Rattle.std.specs.List.{list_any, AllPairs}
 use Rattle.gate_tx.specs.declared.TxIn.{TxIn}
+use Rattle.gate_pool.specs.Family.{all_below, AreIdsOf}
 use Rattle.gate_pool.specs.Pool.{Admitted, has_txid}
 
 -- an id has its place among others: it was there, or it was put there
@@ -14,3 +16,12 @@ pub record IsPut (before : List (List ℕ)) (txid : List ℕ) (after : List (Lis
 -- an input spends an output of the entry
 abbrev pub is_parent : List TxIn → Admitted → Bool
 is_parent inputs e = list_any (λ (i : TxIn). has_txid e i.prevout.txid) inputs
+
+-- whichever of the entries have these ids, this is so of them
+abbrev pub ForEntriesOf : List (List ℕ) → List Admitted → (List Admitted → Type 0) → Type 0
+ForEntriesOf txids entries IsSo = (test : Admitted → Bool) → AreIdsOf txids (filter test entries) → IsSo (filter test entries)
+
+-- whichever of the entries have these ids, theirs are given and those of all that are below them
+abbrev pub GivesAllBelow : {E : Type 0} → List Admitted → List (List ℕ) → Result (Vec (List ℕ)) E → Type 0
+GivesAllBelow entries roots result =
+    (test : Admitted → Bool) → AreIdsOf roots (filter test entries) → IfOk result (λ ids. AreIdsOf ids.items (all_below test entries))

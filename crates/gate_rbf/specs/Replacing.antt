@@ -31,6 +31,10 @@ descendant_count entries some = sum_by (λ (c : Admitted). length (descendants_o
 abbrev pub adds_parent : List Admitted → List Admitted → TxIn → Bool
 adds_parent entries direct input = is_some (entry_by_txid entries input.prevout.txid) && not (list_any (λ (c : Admitted). names c input.prevout.txid) direct)
 
+-- an input spends from an entry from which no input of the conflicts does (A40)
+abbrev pub adds_unconfirmed : List Admitted → Tx → Bool
+adds_unconfirmed entries tx = list_any (adds_parent entries (conflicts_of entries tx)) tx.inputs
+
 -- the rules on a transaction of this fee and size, where it conflicts with these entries, and those that go with them pay this
 unfoldable pub rules_beside : List Admitted → List Admitted → ℕ → Tx → ℕ → ℕ → List (Rule Denial)
 rules_beside entries direct paid tx fee vsize =

@@ -1,7 +1,8 @@
 //! What goes with entries that are replaced.
-ghost use Rattle.std.specs.Prelude.{◌≡◌, Bool, IfOk, filter};
+ghost use Rattle.std.specs.Prelude.{Bool, IfOk, filter};
 ghost use Rattle.gate_pool.specs.Pool.{Admitted};
 ghost use Rattle.gate_pool.specs.Family.{is_among, all_below, AreIdsOf};
+ghost use Rattle.gate_rbf.specs.Gathering.{GivesAllBelow};
 
 use crate::gathered::put;
 use gate_bytes::Memory;
@@ -36,7 +37,7 @@ pub(crate) fn with_descendants<S: BuildHasher + Copy + Drop>(
     roots: &[Txid],
 ) -> Result<Vec<Txid>, Memory>
     requires { (test : Admitted → Bool) × AreIdsOf roots.now (filter test pool.now.entries) }
-    ensures { (test : Admitted → Bool) → AreIdsOf roots.now (filter test pool.now.entries) → IfOk result (λ ids. AreIdsOf ids.items (all_below test pool.now.entries)) }
+    ensures { GivesAllBelow pool.now.entries roots.now result }
 {
     let found = descendants(alloc, pool, roots, pool.count())?;
     Ok(found.unwrap())

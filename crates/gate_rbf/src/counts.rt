@@ -3,6 +3,7 @@ ghost use Rattle.std.specs.Prelude.{◌≡◌, ◌<◌, ◌≤◌, Bool, None, I
 ghost use Rattle.gate_pool.specs.Pool.{Admitted};
 ghost use Rattle.gate_pool.specs.Family.{conflicts_of, descendants_of, AreIdsOf};
 ghost use Rattle.gate_pool.specs.Search.{IsEntry};
+ghost use Rattle.gate_rbf.specs.Gathering.{ForEntriesOf};
 ghost use Rattle.gate_rbf.specs.Replacing.{descendant_count};
 
 use crate::direct::DirectConflicts;
@@ -27,7 +28,7 @@ fn count_below<S: BuildHasher + Copy + Drop>(pool: &Pool<S>, id: &Txid) -> u64
 /// counts twice.
 fn has_few_descendants<S: BuildHasher + Copy + Drop>(pool: &Pool<S>, ids: &[Txid]) -> bool
     requires { (test : Admitted → Bool) × AreIdsOf ids.now (filter test pool.now.entries) }
-    ensures { (test : Admitted → Bool) → AreIdsOf ids.now (filter test pool.now.entries) → result ≡ not (nat_lt 100 (descendant_count pool.now.entries (filter test pool.now.entries))) }
+    ensures { ForEntriesOf ids.now pool.now.entries (λ some. result ≡ not (nat_lt 100 (descendant_count pool.now.entries some))) }
 {
     pool.recall_distinct();
     let mut left = MOST_DESCENDANTS;

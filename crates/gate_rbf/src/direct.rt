@@ -1,11 +1,12 @@
 //! The entries that spend what a transaction spends, found once.
-ghost use Rattle.std.specs.Prelude.{◌≡◌, ◌≢◌, ◌<◌, ◌∷◌, [], Bool, List, None, IfOk, IfSome, filter, length, not, nat_le};
+ghost use Rattle.std.specs.Prelude.{◌≡◌, ◌≢◌, ◌<◌, ◌∷◌, [], List, None, IfOk, IfSome, length, not, nat_le};
 ghost use Rattle.std.specs.List.{list_any};
 ghost use Rattle.gate_tx.specs.Ids.{txid_of};
 ghost use Rattle.gate_standard.specs.Amounts.{feerate};
 ghost use Rattle.gate_pool.specs.Pool.{Admitted, has_txid};
 ghost use Rattle.gate_pool.specs.Family.{is_conflict, is_among, conflicts_of, AreIdsOf};
 ghost use Rattle.gate_rbf.specs.Direct.{AreThese};
+ghost use Rattle.gate_rbf.specs.Gathering.{ForEntriesOf};
 ghost use Rattle.gate_rbf.specs.Replacing.{signals, is_firm_conflict};
 
 use crate::gathered::put;
@@ -183,7 +184,7 @@ impl<'a, S: BuildHasher + Copy + Drop> DirectConflicts<'a, S> {
 
     /// Whether one of the entries with these ids is among them.
     pub fn has_one_of(&self, ids: &[Txid]) -> bool
-        ensures { (test : Admitted → Bool) → AreIdsOf ids.now (filter test self.now.entries) → result ≡ list_any (is_conflict self.now.tx) (filter test self.now.entries) }
+        ensures { ForEntriesOf ids.now self.now.entries (λ some. result ≡ list_any (is_conflict self.now.tx) some) }
     {
         self.pool.recall_distinct();
         self.found.iter().any(|rival| rival.is_among(ids))

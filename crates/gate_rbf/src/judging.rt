@@ -1,8 +1,7 @@
 ghost use Rattle.std.specs.Prelude.{◌≡◌, ◌<◌, Some, None, IfOk, IfErr, IfSome, OnOk, length};
-ghost use Rattle.std.specs.List.{list_any};
 ghost use Rattle.gate_bytes.specs.Order.{first_failing};
 ghost use Rattle.gate_pool.specs.Family.{conflicts_of, replaced_of, sums_of, AreIdsOf};
-ghost use Rattle.gate_rbf.specs.Replacing.{adds_parent, replacement_rules};
+ghost use Rattle.gate_rbf.specs.Replacing.{adds_unconfirmed, replacement_rules};
 
 use crate::amounts::check_amounts;
 use crate::below::with_descendants;
@@ -18,7 +17,7 @@ use std::hash::BuildHasher;
 impl<'a, S: BuildHasher + Copy + Drop> DirectConflicts<'a, S> {
     /// Whether the transaction spends from an entry from which none of the conflicts does, which have these ids.
     fn adds_parents(&self, alloc: Global, ids: &[Txid]) -> Result<bool, Memory>
-        ensures { AreIdsOf ids.now (conflicts_of self.now.entries self.now.tx) → IfOk result (λ adds. adds ≡ list_any (adds_parent self.now.entries (conflicts_of self.now.entries self.now.tx)) self.now.tx.inputs) }
+        ensures { AreIdsOf ids.now (conflicts_of self.now.entries self.now.tx) → IfOk result (λ adds. adds ≡ adds_unconfirmed self.now.entries self.now.tx) }
     {
         adds_parents(alloc, self.pool(), ids, self.transaction())
     }

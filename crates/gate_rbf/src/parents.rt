@@ -1,12 +1,12 @@
 //! A40: a replacement spends from no entry from which none of those it conflicts with spends.
-ghost use Rattle.std.specs.Prelude.{◌≡◌, ◌&&◌, Bool, IfOk, filter};
+ghost use Rattle.std.specs.Prelude.{◌≡◌, ◌&&◌, IfOk, filter};
 ghost use Rattle.std.specs.List.{list_any};
 ghost use Rattle.std.specs.Str.{bytes_eq};
 ghost use Rattle.gate_tx.specs.declared.TxIn.{TxIn as Input};
 ghost use Rattle.gate_pool.specs.Pool.{Admitted, has_txid};
 ghost use Rattle.gate_pool.specs.Family.{names, is_among, AreIdsOf};
 ghost use Rattle.gate_rbf.specs.Replacing.{adds_parent};
-ghost use Rattle.gate_rbf.specs.Gathering.{is_parent};
+ghost use Rattle.gate_rbf.specs.Gathering.{ForEntriesOf, is_parent};
 
 use crate::gathered::put;
 use gate_bytes::Memory;
@@ -71,7 +71,7 @@ pub(crate) fn adds_parents<S: BuildHasher + Copy + Drop>(
     direct: &[Txid],
     tx: &Transaction,
 ) -> Result<bool, Memory>
-    ensures { (test : Admitted → Bool) → AreIdsOf direct.now (filter test pool.now.entries) → IfOk result (λ adds. adds ≡ list_any (adds_parent pool.now.entries (filter test pool.now.entries)) tx.now.inputs) }
+    ensures { ForEntriesOf direct.now pool.now.entries (λ some. IfOk result (λ adds. adds ≡ list_any (adds_parent pool.now.entries some) tx.now.inputs)) }
 {
     pool.recall_distinct();
     let parents = parents_of(alloc, pool, tx)?;
