@@ -6,7 +6,7 @@ use Rattle.std.specs.Str.{all_ascii_digits}
 use Rattle.std.specs.Str.Parse.{digits_value, ParsesUnsigned}
 use Rattle.std.proofs.lemmas.Bool.{true≢false, lt-ltb, le-leb, leb-true, ltb-true}
 use Rattle.std.proofs.lemmas.Bool.Decides.{nat_tests}
-use Rattle.std.proofs.lemmas.Str.Parse.{IsNumeralModel, numerals_by_value, recall_all_ascii_digits, parse_plain}
+use Rattle.std.proofs.lemmas.Str.Parse.{IsNumeralModel, numerals_by_value, tells_all_ascii_digits, parse_plain}
 use Rattle.gate_lines.specs.Words.{part_of}
 use Rattle.gate_lines.specs.Numbers.{number_of, is_plain, no_leading_zero, max_number}
 
@@ -34,7 +34,7 @@ unparted line none =
     rw (not-lt _ _ at) refl
 
 pub own : IsNumeralModel (λ ds. all_ascii_digits ds ≡ true) (digits_value 10)
-own = numerals_by_value _ recall_all_ascii_digits
+own = numerals_by_value _ tells_all_ascii_digits
 
 parsed : {E : Type 0} → Result ℕ E → Option ℕ
 parsed (Ok n) = if nat_le n max_number then Some n else None

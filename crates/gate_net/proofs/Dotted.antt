@@ -14,7 +14,7 @@ use Rattle.std.proofs.lemmas.List.Elements.{All-nil, All-cons}
 use Rattle.std.proofs.lemmas.List.Splits.{slice_split_none, slice_split_at, join_with_byte-slice_split}
 use Rattle.std.proofs.lemmas.List.Folds.{list_any-append}
 use Rattle.std.proofs.lemmas.Fmt.{digits_value-decimal, digits_decimal}
-use Rattle.std.proofs.lemmas.Str.Parse.{IsNumeralModel, numerals_by_value, recall_all_ascii_digits}
+use Rattle.std.proofs.lemmas.Str.Parse.{IsNumeralModel, numerals_by_value, tells_all_ascii_digits}
 use Rattle.gate_net.specs.Addresses.{is_octet, four, dotted_of}
 use Rattle.gate_net.specs.Spelling.{has_dot}
 use Rattle.gate_net.proofs.Bools.{and_left, and_right, and_both, or_true, chosen, some_if}
@@ -23,7 +23,7 @@ abbrev parts_of : List ℕ → List (List ℕ)
 parts_of text = slice_split (λ char. char == 46) text
 
 own : IsNumeralModel (λ ds. all_ascii_digits ds ≡ true) (digits_value 10)
-own = numerals_by_value _ recall_all_ascii_digits
+own = numerals_by_value _ tells_all_ascii_digits
 
 -- a digit is no dot
 no_dot : (char : ℕ) → is_ascii_digit char ≡ true → (char == 46) ≡ false

@@ -9,14 +9,14 @@ use Rattle.std.specs.Str.{all_ascii_digits}
 use Rattle.std.specs.Str.Parse.{digits_value, ParsesUnsigned}
 use Rattle.std.specs.Char.{is_ascii_digit}
 use Rattle.std.proofs.lemmas.Bool.{lt-ltb, ltb-true, le-leb, leb-true, eqb-true, eqb-false, eq-eqb}
-use Rattle.std.proofs.lemmas.Str.Parse.{IsNumeralModel, numerals_by_value, recall_all_ascii_digits, parse_plain}
+use Rattle.std.proofs.lemmas.Str.Parse.{IsNumeralModel, numerals_by_value, tells_all_ascii_digits, parse_plain}
 use Rattle.gate_net.specs.Addresses.{Address, V4, V6, dotted_of, is_mapped, canonical}
 use Rattle.gate_net.specs.Subnets.{width, prefix_of, netmask, mask_below, mask_length, is_length, length_of}
 use Rattle.gate_net.proofs.Bools.{and_left, and_right, and_both, chosen, some_if}
 use Rattle.gate_net.proofs.Dotted.{dotted_of-dotted, dotted-dotted_of}
 
 own : IsNumeralModel (λ ds. all_ascii_digits ds ≡ true) (digits_value 10)
-own = numerals_by_value _ recall_all_ascii_digits
+own = numerals_by_value _ tells_all_ascii_digits
 
 -- what a number of bits is
 pub record IsLength (most : ℕ) (text : List ℕ) : Type 0 where
