@@ -18,7 +18,7 @@ use Rattle.gate_net.specs.Permissions.{Permissions}
 use Rattle.gate_message.specs.Refusals.{then_of}
 use Rattle.gate_core.specs.Sessions.{Session, session, flags_in, rate_in, rate_after, closed, rated}
 use Rattle.gate_core.specs.World.{World, flags_at, standing_of}
-use Rattle.gate_core.specs.Access.{seconds_at}
+use Rattle.gate_core.specs.Access.{entering_rules, session_rules, submission_rules, listing_rules, block_rules, headers_rules, seconds_at}
 use Rattle.gate_net.specs.Addresses.{Address}
 use Rattle.gate_chain.specs.Times.{tip_of}
 
@@ -80,3 +80,33 @@ block_given w height = (Block height (seconds_at w.chain height), w)
 -- at most 2,000 headers are given at a time
 abbrev pub headers_given : World → ℕ → Reply × World
 headers_given w height = (Headers (height + 1) (min 2000 (tip_of w.chain - height)), w)
+
+-- ---- each event, under its rules
+
+-- a peer enters from an address
+abbrev pub entering_step : World → ℕ → Address → Reply × World
+entering_step w peer address = peer_step w peer (entering_rules w.sessions peer) (entered w peer address)
+
+-- a peer leaves
+abbrev pub leaving_step : World → ℕ → Reply × World
+leaving_step w peer = peer_step w peer (session_rules w.sessions peer) (left w peer)
+
+-- a peer submits a transaction
+abbrev pub submission_step : World → ℕ → ℕ → Option Tx → Reply × World
+submission_step w peer now transaction = peer_step w peer (submission_rules w peer transaction) (submitted w peer now transaction)
+
+-- a peer asks for the listing of the pool
+abbrev pub listing_step : World → ℕ → Reply × World
+listing_step w peer = peer_step w peer (listing_rules w peer) (listed w peer)
+
+-- a peer asks for a block
+abbrev pub block_step : World → ℕ → ℕ → Reply × World
+block_step w peer height = peer_step w peer (block_rules w peer height) (block_given w height)
+
+-- a peer asks for headers
+abbrev pub headers_step : World → ℕ → ℕ → Reply × World
+headers_step w peer height = peer_step w peer (headers_rules w peer height) (headers_given w height)
+
+-- a peer sets its rate
+abbrev pub filter_step : World → ℕ → ℕ → Reply × World
+filter_step w peer rate = peer_step w peer (session_rules w.sessions peer) (filter_set w peer rate)

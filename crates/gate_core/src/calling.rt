@@ -3,9 +3,8 @@ ghost use Rattle.std.specs.Prelude.{◌≡◌, IfOk};
 ghost use Rattle.std.specs.Option.{option_copied};
 ghost use Rattle.gate_core.specs.Submissions.{StandsFor, submitted_by, submitted_in};
 ghost use Rattle.gate_rpc.specs.Calls.{request_of};
-ghost use Rattle.gate_core.specs.RpcSteps.{is_barred, rpc_step, commanded, sent, told, of_entry};
+ghost use Rattle.gate_core.specs.RpcSteps.{is_barred, rpc_step, commanded, told, of_entry};
 ghost use Rattle.gate_rpc.specs.declared.result.RpcResult.TheVariants.{Txids, Entry};
-ghost use Rattle.gate_admit.specs.Submission.{submit_of};
 ghost use Rattle.gate_query.specs.Answers.{tested};
 ghost use Rattle.gate_core.specs.World.{World, standing_of};
 ghost use Rattle.gate_core.specs.Planning.{Fits, Plans, world_of};
@@ -167,7 +166,7 @@ impl<S: BuildHasher + Copy + Drop> Parts<S> {
         id: &Id,
         transaction: &Prepared,
     ) -> Result<Plan, Memory>
-        ensures ok { IfOk result (Plans (world_of self.old) (sent (world_of self.old) id.now transaction.now (submit_of (standing_of (world_of self.old)) transaction.now now self.old.budget))) }
+        ensures ok { IfOk result (Plans (world_of self.old) (commanded (world_of self.old) now id.now (Command.SendRawTransaction transaction.now))) }
         ensures fits { IfOk result (λ plan. Fits plan.change self.new.sessions self.new.pool) }
         ensures same { world_of self.new ≡ world_of self.old }
     {

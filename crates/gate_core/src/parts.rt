@@ -6,9 +6,8 @@ ghost use Rattle.gate_message.specs.Callers.{caller_of};
 ghost use Rattle.gate_message.specs.declared.caller.Caller.TheVariants.{Chain as TheChain};
 ghost use Rattle.gate_message.specs.declared.reply.Reply.{Reply};
 ghost use Rattle.gate_core.specs.Steps.{step_of};
-ghost use Rattle.gate_admit.specs.Planning.{planned_of};
 ghost use Rattle.gate_message.specs.Replies.{settled};
-ghost use Rattle.gate_core.specs.Planning.{Fits, Plans, admitted_as, made_by, world_of};
+ghost use Rattle.gate_core.specs.Planning.{Fits, Plans, made_by, world_of};
 
 use crate::planning::{Change, Plan};
 use crate::session::Sessions;
@@ -105,7 +104,7 @@ impl<S: BuildHasher + Copy + Drop> Parts<S> {
     /// Enters what was granted; the denial where it is gone again.
     fn admit(&mut self, coming: Coming) -> Option<Denial>
         requires { Fits (Change.Admit coming) self.old.sessions self.old.pool }
-        ensures { (reply : Reply) → (settled reply result, world_of self.new) ≡ admitted_as (world_of self.old) reply (planned_of self.old.budget self.old.pool.entries self.old.floor (Ok coming)) }
+        ensures { (reply : Reply) → (settled reply result, world_of self.new) ≡ made_by reply (Change.Admit coming) (world_of self.old) }
     {
         match commit_submission(&mut self.pool, &mut self.floor, coming, self.budget) {
             Ok(_grant) => None,

@@ -3,8 +3,8 @@ ghost use Rattle.std.specs.Prelude.{◌≡◌, ◌<◌, ◌≤◌, ◌^◌, None
 ghost use Rattle.gate_chain.specs.Times.{tip_of};
 ghost use Rattle.gate_bytes.specs.Order.{first_failing};
 ghost use Rattle.gate_core.specs.World.{flags_at};
-ghost use Rattle.gate_core.specs.Access.{entering_rules, listing_rules, session_rules, submission_rules, block_rules, headers_rules, is_historical, seconds_at};
-ghost use Rattle.gate_core.specs.PeerSteps.{entered, left, listed, peer_step, refused, submitted, block_given, headers_given, filter_set};
+ghost use Rattle.gate_core.specs.Access.{listing_rules, submission_rules, block_rules, headers_rules, is_historical, seconds_at};
+ghost use Rattle.gate_core.specs.PeerSteps.{entering_step, leaving_step, submission_step, submitted, listing_step, block_step, headers_step, filter_step, refused};
 ghost use Rattle.gate_pool.specs.Pool.{Pooled};
 ghost use Rattle.gate_core.specs.Sessions.{Seated, rate_after};
 ghost use Rattle.gate_core.specs.Planning.{Fits, Plans, world_of};
@@ -54,7 +54,7 @@ impl<S: BuildHasher + Copy + Drop> Parts<S> {
     }
 
     pub(crate) fn entering(&mut self, peer: u64, address: &Address) -> Result<Plan, Memory>
-        ensures ok { IfOk result (Plans (world_of self.old) (peer_step (world_of self.old) peer (entering_rules self.old.sessions.all peer) (entered (world_of self.old) peer address.now))) }
+        ensures ok { IfOk result (Plans (world_of self.old) (entering_step (world_of self.old) peer address.now)) }
         ensures fits { IfOk result (λ plan. Fits plan.change self.new.sessions self.new.pool) }
         ensures same { world_of self.new ≡ world_of self.old }
     {
@@ -70,7 +70,7 @@ impl<S: BuildHasher + Copy + Drop> Parts<S> {
     }
 
     pub(crate) fn leaving(&self, peer: u64) -> Plan
-        ensures plans { Plans (world_of self.now) (peer_step (world_of self.now) peer (session_rules self.now.sessions.all peer) (left (world_of self.now) peer)) result }
+        ensures plans { Plans (world_of self.now) (leaving_step (world_of self.now) peer) result }
         ensures fits { (sessions : Seated) (pool : Pooled) → Fits result.change sessions pool }
     {
         match self.sessions.refusal(peer) {
@@ -83,7 +83,7 @@ impl<S: BuildHasher + Copy + Drop> Parts<S> {
     }
 
     pub(crate) fn listing(&self, alloc: Global, peer: u64) -> Result<Plan, Memory>
-        ensures ok { IfOk result (Plans (world_of self.now) (peer_step (world_of self.now) peer (listing_rules (world_of self.now) peer) (listed (world_of self.now) peer))) }
+        ensures ok { IfOk result (Plans (world_of self.now) (listing_step (world_of self.now) peer)) }
         ensures fits { IfOk result (λ plan. (sessions : Seated) (pool : Pooled) → Fits plan.change sessions pool) }
     {
         match self.refusal_of_listing(peer) {
@@ -107,7 +107,7 @@ impl<S: BuildHasher + Copy + Drop> Parts<S> {
     }
 
     pub(crate) fn filtering(&self, peer: u64, rate: u64) -> Plan
-        ensures plans { Plans (world_of self.now) (peer_step (world_of self.now) peer (session_rules self.now.sessions.all peer) (filter_set (world_of self.now) peer rate)) result }
+        ensures plans { Plans (world_of self.now) (filter_step (world_of self.now) peer rate) result }
         ensures fits { (sessions : Seated) (pool : Pooled) → Fits result.change sessions pool }
     {
         let rate = self.rate_after(peer, rate);
@@ -127,7 +127,7 @@ impl<S: BuildHasher + Copy + Drop> Parts<S> {
         now: u64,
         transaction: &Prepared,
     ) -> Result<Plan, Memory>
-        ensures ok { IfOk result (Plans (world_of self.old) (peer_step (world_of self.old) peer (submission_rules (world_of self.old) peer transaction.now) (submitted (world_of self.old) peer now transaction.now))) }
+        ensures ok { IfOk result (Plans (world_of self.old) (submission_step (world_of self.old) peer now transaction.now)) }
         ensures fits { IfOk result (λ plan. Fits plan.change self.new.sessions self.new.pool) }
         ensures same { world_of self.new ≡ world_of self.old }
     {
@@ -267,7 +267,7 @@ impl<S: BuildHasher + Copy + Drop> Parts<S> {
 
     /// The time of the block of a height.
     pub(crate) fn giving_block(&self, peer: u64, height: u32) -> Plan
-        ensures plans { Plans (world_of self.now) (peer_step (world_of self.now) peer (block_rules (world_of self.now) peer height) (block_given (world_of self.now) height)) result }
+        ensures plans { Plans (world_of self.now) (block_step (world_of self.now) peer height) result }
         ensures fits { (sessions : Seated) (pool : Pooled) → Fits result.change sessions pool }
     {
         match self.refusal_of_block(peer, height) {
@@ -281,7 +281,7 @@ impl<S: BuildHasher + Copy + Drop> Parts<S> {
 
     /// How many headers follow a height.
     pub(crate) fn giving_headers(&self, peer: u64, height: u32) -> Plan
-        ensures plans { Plans (world_of self.now) (peer_step (world_of self.now) peer (headers_rules (world_of self.now) peer height) (headers_given (world_of self.now) height)) result }
+        ensures plans { Plans (world_of self.now) (headers_step (world_of self.now) peer height) result }
         ensures fits { (sessions : Seated) (pool : Pooled) → Fits result.change sessions pool }
     {
         let tip = self.chain.tip();
