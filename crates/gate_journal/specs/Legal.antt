@@ -1,9 +1,10 @@
 -- Journals, and which of them are those of a run; rounds, of which each goes on from the state that the one before leaves.
-use Rattle.std.specs.Prelude.{◌≡◌, ◌<◌, ◌≤◌, ℕ, ◌-◌, List, [], ◌∷◌, flat_map, map, take, length}
+use Rattle.std.specs.Prelude.{◌≡◌, ◌≢◌, ◌<◌, ◌≤◌, ℕ, ◌-◌, Bool, MatchBool, List, [], ◌∷◌, flat_map, map, take, length}
 use Rattle.gate_message.specs.declared.event.Event.{Event}
 use Rattle.gate_message.specs.declared.reply.Reply.{Reply}
 use Rattle.gate_core.specs.World.{World}
 use Rattle.gate_core.specs.Runs.{run_of}
+use Rattle.gate_core.specs.Steps.{step_of}
 use Rattle.gate_journal.specs.declared.entry.Entry.{Entry}
 
 -- an event under the pass of this number, and its reply
@@ -24,6 +25,10 @@ replies_of entries = map (λ (e : Entry). e.reply) entries
 -- a journal is legal from a state where its replies are those of the run over its events
 abbrev pub IsLegal : World → List Entry → Type 0
 IsLegal w entries = replies_of entries ≡ (run_of w (events_of entries)).0
+
+-- this says whether the reply of an entry is that of the step from a state; where it is, the step leads to the next state
+abbrev pub Replays : World → Entry → World → Bool → Type 0
+Replays w e next same = MatchBool same ((e.reply, next) ≡ step_of w e.event) (e.reply ≢ (step_of w e.event).0)
 
 -- the state that it leads to
 abbrev pub state_after : World → List Entry → World

@@ -1,7 +1,6 @@
 //! Whether a journal is the one of a run.
-ghost use Rattle.std.specs.Prelude.{◌≡◌, ◌≢◌, ◌↔◌, IfOk, IfSome, MatchBool, None};
-ghost use Rattle.gate_core.specs.Steps.{step_of};
-ghost use Rattle.gate_journal.specs.Legal.{IsLegal, IsFirstIllegal};
+ghost use Rattle.std.specs.Prelude.{◌≡◌, ◌↔◌, IfOk, IfSome, None};
+ghost use Rattle.gate_journal.specs.Legal.{IsLegal, IsFirstIllegal, Replays};
 
 use crate::entry::Entry;
 use crate::journal::Journal;
@@ -17,7 +16,7 @@ fn replays<S: BuildHasher + Copy + Drop>(
     state: &mut State<S>,
     entry: &Entry,
 ) -> Result<bool, Memory>
-    ensures { IfOk result (λ same. MatchBool same ((entry.now.reply, state.new) ≡ step_of state.old entry.now.event) (entry.now.reply ≢ (step_of state.old entry.now.event).0)) }
+    ensures { IfOk result (Replays state.old entry.now state.new) }
 {
     let reply = state.apply(alloc, &entry.event)?;
     let same = is_same_reply(&entry.reply, &reply);
