@@ -1,5 +1,5 @@
 -- How calls claim the entries of a journal: a slot for each entry, which names the call that claimed it.
-use Rattle.std.specs.Prelude.{◌≡◌, ◌≢◌, ℕ, ◌+◌, ◌-◌, List, [], ◌∷◌, ◌++◌, ◌⊎◌, length, Option, Some, None, is_some, count_by, slice_get}
+use Rattle.std.specs.Prelude.{◌≡◌, ◌≢◌, ℕ, ◌+◌, ◌-◌, Bool, MatchBool, MatchOption, List, [], ◌∷◌, ◌++◌, ◌⊎◌, length, Option, Some, None, is_some, count_by, slice_get, slice_set}
 use Rattle.std.specs.List.{AllPairs}
 use Rattle.gate_journal.specs.declared.entry.Entry.{Entry}
 use Rattle.gate_shared.specs.declared.receipt.Made.{Made}
@@ -39,6 +39,19 @@ ClaimFails journal done place pass calls at =
     (before : List Made) × (c : Made) × (after : List Made) × (slots : List (Option Owner))
     × (calls ≡ before ++ c ∷ after) × (length before ≡ at)
     × Claimed journal (done ++ claim_list place 0 pass before) slots × CannotClaim journal slots pass c
+
+-- this says whether a call can be claimed: its slot names this owner then, and otherwise the slots are as they were
+abbrev pub ClaimsCall : List Entry → ℕ → Made → Owner → List (Option Owner) → List (Option Owner) → Bool → Type 0
+ClaimsCall journal pass c owner old new claimed =
+    MatchBool claimed
+    (CanClaim journal old pass c × (new ≡ slice_set old (c.receipt.number - 1) (Some owner)))
+    ((new ≡ old) × CannotClaim journal old pass c)
+
+-- whatever was claimed before, the calls of the pass at this place are claimed too, or this one of them can't be
+abbrev pub ClaimsPass : List Entry → ℕ → ℕ → List Made → List (Option Owner) → List (Option Owner) → Option ℕ → Type 0
+ClaimsPass journal place pass calls old new failed =
+    (done : List Claim) → Claimed journal done old
+    → MatchOption failed (Claimed journal (done ++ claim_list place 0 pass calls) new) (ClaimFails journal done place pass calls)
 
 abbrev pub HasNone : List (Option Owner) → Type 0
 HasNone slots = (k : ℕ) × (slice_get slots k ≡ Some None)

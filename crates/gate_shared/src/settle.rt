@@ -1,7 +1,7 @@
 //! Passes against a journal: whether its entries are exactly their calls.
-ghost use Rattle.std.specs.Prelude.{◌≡◌, ◌-◌, ◌<◌, ◌++◌, List, [], Some, None, length, is_some, count_by, replicate, map, slice_set, OnOk, IfOk, IfErr, MatchBool, MatchOption, MatchResult, IfSome};
-ghost use Rattle.gate_shared.specs.Claiming.{Claimed, CanClaim, CannotClaim, ClaimFails, HasNone};
-ghost use Rattle.gate_shared.specs.Settling.{claim_list, claims_of, IsSettled, WhyUnsettled};
+ghost use Rattle.std.specs.Prelude.{◌≡◌, ◌<◌, [], Some, None, length, is_some, count_by, replicate, map, OnOk, IfOk, IfErr, MatchOption, MatchResult, IfSome};
+ghost use Rattle.gate_shared.specs.Claiming.{Claimed, ClaimsCall, ClaimsPass, HasNone};
+ghost use Rattle.gate_shared.specs.Settling.{claims_of, IsSettled, WhyUnsettled};
 ghost use Rattle.gate_shared.specs.declared.settle.Unsettled.TheVariants.{Memory as OutOfMemory};
 
 use crate::base::Base;
@@ -61,7 +61,7 @@ fn claim_call(
     call: &Made,
 ) -> bool
     requires { length slots.old ≡ length journal.now }
-    ensures { MatchBool result (CanClaim journal.now slots.old pass call.now × (slots.new ≡ slice_set slots.old (call.now.receipt.number - 1) (Some owner))) ((slots.new ≡ slots.old) × CannotClaim journal.now slots.old pass call.now) }
+    ensures { ClaimsCall journal.now pass call.now owner slots.old slots.new result }
 {
     if !stands(journal, pass, call) {
         return false;
@@ -85,7 +85,7 @@ fn claim_pass(
     calls: &[Made],
 ) -> Option<usize>
     requires { length slots.old ≡ length journal.now }
-    ensures claimed { (done : List _) → Claimed journal.now done slots.old → MatchOption result (Claimed journal.now (done ++ claim_list place 0 pass calls.now) slots.new) (ClaimFails journal.now done place pass calls.now) }
+    ensures claimed { ClaimsPass journal.now place pass calls.now slots.old slots.new result }
     ensures within { IfSome result (λ at. at < length calls.now) }
 {
     for (at, call) in calls.iter().enumerate() {
