@@ -49,7 +49,18 @@ impl<S: BuildHasher + Copy + Drop> Model for Draft<S> {
 
     ghost Value = { Said };
 
-    ghost view = { λ d. record { budget = d.budget; times = d.times.items; coins = d.coins.items; coin_lines = d.coin_lines.items; rows = d.verdicts.rows; other = d.verdicts.other; whitelist = d.whitelist.items; rpcwhitelist = d.rpcwhitelist.items; settings = d.settings; limits = d.limits } };
+    ghost view = { λ d. record {
+      budget = d.budget;
+      times = d.times.items;
+      coins = d.coins.items;
+      coin_lines = d.coin_lines.items;
+      rows = d.verdicts.rows;
+      other = d.verdicts.other;
+      whitelist = d.whitelist.items;
+      rpcwhitelist = d.rpcwhitelist.items;
+      settings = d.settings;
+      limits = d.limits;
+    } };
 }
 
 impl<S: BuildHasher + Copy + Drop> Draft<S> {
