@@ -16,8 +16,6 @@ SMALL = 82
 # how many entries a pool or a block has, in whole families
 ENTRIES = 1000
 MOST_REPLACED = 100
-# a longer chain takes minutes to come back under valgrind
-SLOW_CHAIN = 100
 # what a transaction pays for each virtual byte for which others are trimmed
 RICH = 50
 
@@ -218,8 +216,7 @@ class Sized:
             families = self.families(self.many)
             return begun(families), (self.whole_block(number, families) + "chain 1 5000\n" for number in range(count))
 
-        slow = self.kind is Chain and self.size > SLOW_CHAIN
-        return [] if slow else [self.stream(make, 1, "chain", self.many * self.size, 2), *self.confirmed()]
+        return [self.stream(make, 1, "chain", self.many * self.size, 2), *self.confirmed()]
 
     def first_confirmed(self):
         """Blocks that confirm the first of a family each, and no other."""
