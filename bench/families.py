@@ -240,7 +240,7 @@ class Sized:
 def figures(kind, size):
     """The figures of families of one kind and size: a name, and streams."""
     sized = Sized(kind, size)
-    below, last = sized.size - 1, "the end" if kind is Chain else "a child"
+    below, last = sized.size - 1, "the end" if kind is Chain else "the last child"
     few = min(sized.size, MOST_REPLACED)
     if kind is Chain:
         replaced = [
