@@ -1,5 +1,6 @@
 -- Rounds: gates one after another, each on the state that the one before led to.
-use Rattle.std.specs.Prelude.{◌≡◌, ℕ, ◌≤◌, ◌⊎◌, List, [], ◌∷◌, length, Option, Some, None}
+use Rattle.std.specs.Prelude.{◌≡◌, ℕ, ◌≤◌, ◌⊎◌, List, [], ◌∷◌, length, map, Option, Some, None}
+use Rattle.std.specs.Global.{Vec}
 use Rattle.gate_core.specs.World.{World}
 use Rattle.gate_journal.specs.Legal.{state_after}
 use Rattle.gate_shared.specs.Calls.{PassView}
@@ -8,8 +9,10 @@ use Rattle.gate_shared.specs.Settling.{SettlesAll, DontSettle}
 use Rattle.gate_shared.specs.declared.settle.Settled.{Settled}
 use Rattle.gate_shared.specs.declared.settle.Unsettled.{Unsettled}
 use Rattle.gate_shared.specs.declared.settle.Unsettled.TheVariants as causes
-use Rattle.gate_lanes.specs.Ends.{Given, Left, LanesRan}
+use Rattle.gate_lanes.specs.Ends.{Given, Left, LanesRan, all_given, all_left}
+use Rattle.gate_lanes.specs.declared.lane.Lane.{Lane}
 use Rattle.gate_lanes.specs.declared.round.Conclusion.{Conclusion}
+use Rattle.gate_lanes.specs.declared.round.RoundEnd.{RoundEnd}
 use Rattle.gate_lanes.specs.declared.round.Conclusion.TheVariants as conclusions
 
 -- ---- one round
@@ -46,11 +49,19 @@ pub record RoundLeft : Type 0 where
 abbrev pub round_left : List Left → Conclusion → RoundLeft
 round_left ends conclusion = record { ends = ends; conclusion = conclusion }
 
+-- what a round that ended came to, by what the writers of its lanes hold
+abbrev pub left_by : {W : Type 0} → (W → Option (List ℕ)) → RoundEnd W → RoundLeft
+left_by contents end = round_left (all_left contents end.ends.items) end.conclusion
+
 -- from this state the lanes of a round ran, and this is what it came to, and the state that it leads to
 abbrev pub RoundRan : World → List Given → RoundLeft → Option World → Type 0
 RoundRan w lanes round next = (passes : List PassView) × LanesRan lanes round.ends passes × Concludes w passes round.conclusion next
 
 -- ---- all rounds
+
+-- what the lanes of each round are given, by what their readers have left and what their writers hold
+abbrev pub rounds_given : {R W : Type 0} → (R → Option (List ℕ)) → (W → Option (List ℕ)) → List (Vec (Lane R W)) → List (List Given)
+rounds_given remaining contents rounds = map (λ lanes. all_given remaining contents lanes.items) rounds
 
 -- from this state the rounds of these lanes settled one after another, each on the state that the one before led to, and the
 -- last leads to this one

@@ -1,8 +1,8 @@
 //! Rounds: gates one after another, each on the state that the one before led to.
 ghost use Rattle.std.specs.Prelude.{◌≡◌, ◌≢◌, [], true, map, IfErr, IfOk, OnOk};
 ghost use Rattle.std.specs.List.{All};
-ghost use Rattle.gate_lanes.specs.Ends.{given, left};
-ghost use Rattle.gate_lanes.specs.Rounds.{Concludes, RoundRan, RoundsRan, round_left, unsettled_by};
+ghost use Rattle.gate_lanes.specs.Ends.{all_given};
+ghost use Rattle.gate_lanes.specs.Rounds.{Concludes, RoundRan, RoundsRan, left_by, rounds_given, unsettled_by};
 
 use crate::lane::{Lane, LaneEnd};
 use crate::run::run_lanes;
@@ -93,7 +93,7 @@ fn run_named<
 where
     S::Hasher: Send + Sync,
     requires { state ≡ N.base }
-    ensures ran { IfOk result (λ round. RoundRan N.base (map (λ lane. given (R.remaining lane.reader) (W.contents lane.writer)) lanes.items) (round_left (map (λ end. left (W.contents end.writer) end.result) round.end.ends.items) round.end.conclusion) round.next) }
+    ensures ran { IfOk result (λ round. RoundRan N.base (all_given R.remaining W.contents lanes.items) (left_by W.contents round.end) round.next) }
     ensures sent { IfOk result (λ round. All (λ end. OnOk end.result (W.held end.writer ≡ [])) round.end.ends.items) }
     ensures steady_readers { R.steady ≡ true → IfOk result (λ round. All (λ end. IfErr end.result (λ fault. fault ≢ LaneFault.Read)) round.end.ends.items) }
     ensures steady_writers { W.steady ≡ true → IfOk result (λ round. All (λ end. IfErr end.result (λ fault. fault ≢ LaneFault.Write)) round.end.ends.items) }
@@ -133,7 +133,7 @@ pub fn run_round<
 ) -> Result<Round<S, W>, Memory>
 where
     S::Hasher: Send + Sync,
-    ensures ran { IfOk result (λ round. RoundRan state (map (λ lane. given (R.remaining lane.reader) (W.contents lane.writer)) lanes.items) (round_left (map (λ end. left (W.contents end.writer) end.result) round.end.ends.items) round.end.conclusion) round.next) }
+    ensures ran { IfOk result (λ round. RoundRan state (all_given R.remaining W.contents lanes.items) (left_by W.contents round.end) round.next) }
     ensures sent { IfOk result (λ round. All (λ end. OnOk end.result (W.held end.writer ≡ [])) round.end.ends.items) }
     ensures steady_readers { R.steady ≡ true → IfOk result (λ round. All (λ end. IfErr end.result (λ fault. fault ≢ LaneFault.Read)) round.end.ends.items) }
     ensures steady_writers { W.steady ≡ true → IfOk result (λ round. All (λ end. IfErr end.result (λ fault. fault ≢ LaneFault.Write)) round.end.ends.items) }
@@ -159,7 +159,7 @@ pub fn run_rounds<
 ) -> Result<Vec<RoundEnd<W>>, Memory>
 where
     S::Hasher: Send + Sync,
-    ensures { IfOk result (λ told. RoundsRan state (map (λ lanes. map (λ lane. given (R.remaining lane.reader) (W.contents lane.writer)) lanes.items) rounds.items) (map (λ round. round_left (map (λ end. left (W.contents end.writer) end.result) round.ends.items) round.conclusion) told.items)) }
+    ensures { IfOk result (λ told. RoundsRan state (rounds_given R.remaining W.contents rounds.items) (map (left_by W.contents) told.items)) }
 {
     let mut told = Vec::new(alloc);
     for lanes in rounds {
