@@ -8,7 +8,7 @@ use Rattle.std.proofs.lemmas.List.Sums.{sum_by-append}
 use Rattle.gate_tx.specs.declared.TxIn.{TxIn}
 use Rattle.gate_tx.specs.Ids.{txid_of}
 use Rattle.gate_graph.specs.Family.{reaches, Leads, here, down}
-use Rattle.gate_graph.proofs.Members.{list_any_of}
+use Rattle.gate_bytes.proofs.Members.{list_any_of}
 use Rattle.gate_graph.proofs.Reaching.{reaches-same, reaches_trans, reaches_step, Leads_from_reaches}
 use Rattle.gate_graph.proofs.Steps.{leaf_reaches}
 use Rattle.gate_pool.specs.Pool.{Admitted}

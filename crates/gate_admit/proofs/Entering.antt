@@ -15,7 +15,7 @@ use Rattle.gate_tx.specs.Tx.{Tx}
 use Rattle.gate_chain.specs.Coins.{has_txid, has_transaction, is_known_txid, opened_with_of}
 use Rattle.gate_chain.specs.History.{History}
 use Rattle.gate_graph.specs.Family.{reaches}
-use Rattle.gate_graph.proofs.Members.{any_is, list_any_of}
+use Rattle.gate_bytes.proofs.Members.{any_is, list_any_of}
 use Rattle.gate_pool.specs.Pool.{Admitted, spends_of, spent_by}
 use Rattle.gate_pool.specs.Family.{steps, is_below_some, is_conflict, conflicts_of, ancestors_above, entered}
 use Rattle.gate_pool.proofs.Entries.{Contains-map, Contains-from_map}

@@ -6,7 +6,7 @@ use Rattle.std.proofs.lemmas.Bool.{true≢false, false_from_ne_true, and_parts, 
 use Rattle.std.proofs.lemmas.List.Elements.{All-nil, All-cons, All-head, All-tail, All-append}
 use Rattle.std.proofs.lemmas.List.Kept.{AllPairs-cons}
 use Rattle.std.proofs.lemmas.List.Sums.{sum_by-cons}
-use Rattle.gate_graph.proofs.Members.{Contains-cons_cases, Contains-head, Contains-rest, not_in_none}
+use Rattle.gate_bytes.proofs.Members.{Contains-cons_cases, Contains-head, Contains-rest, not_in_none}
 use Rattle.gate_admit.proofs.Lists.{AllPairs-nil, AllPairs-append}
 
 -- ---- tests

@@ -10,7 +10,7 @@ use Rattle.gate_tx.specs.declared.TxIn.{TxIn}
 use Rattle.gate_tx.specs.Ids.{txid_of}
 use Rattle.gate_graph.specs.Family.{reaches, Leads, here, down}
 use Rattle.gate_graph.proofs.Filters.{filter_same_on, filter_none}
-use Rattle.gate_graph.proofs.Members.{Contains-cons_cases, Contains-head, any_is, list_any_of, not_in_none}
+use Rattle.gate_bytes.proofs.Members.{Contains-cons_cases, Contains-head, any_is, list_any_of, not_in_none}
 use Rattle.gate_graph.proofs.Reaching.{reaches-same, reaches_trans, reaches_step, reaches_from_Leads, Leads_from_reaches, Leads_more}
 use Rattle.gate_graph.proofs.Refreshing.{same_to, same_from}
 use Rattle.gate_graph.proofs.Steps.{same_bool}

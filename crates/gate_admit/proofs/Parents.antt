@@ -6,7 +6,7 @@ use Rattle.std.specs.Ordering.{nat_cmp, ord_max}
 use Rattle.gate_tx.specs.declared.TxIn.{TxIn}
 use Rattle.gate_tx.specs.Ids.{txid_of}
 use Rattle.gate_graph.specs.Family.{reaches, Leads, here, down}
-use Rattle.gate_graph.proofs.Members.{Contains-head, any_is, list_any_of}
+use Rattle.gate_bytes.proofs.Members.{Contains-head, any_is, list_any_of}
 use Rattle.gate_graph.proofs.Reaching.{Leads_from_reaches}
 use Rattle.gate_pool.specs.Pool.{Admitted, entry_by_txid}
 use Rattle.gate_pool.specs.Family.{steps, ancestors_of, ancestors_above}

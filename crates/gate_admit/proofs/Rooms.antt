@@ -10,7 +10,7 @@ use Rattle.gate_tx.specs.declared.TxIn.{TxIn}
 use Rattle.gate_tx.specs.Ids.{txid_of}
 use Rattle.gate_tx.specs.Tx.{Tx}
 use Rattle.gate_graph.specs.Family.{reaches, Leads, here, down}
-use Rattle.gate_graph.proofs.Members.{Contains-cons_cases, Contains-head, not_in_none, any_is, list_any_of}
+use Rattle.gate_bytes.proofs.Members.{Contains-cons_cases, Contains-head, not_in_none, any_is, list_any_of}
 use Rattle.gate_graph.proofs.Reaching.{reaches-same, reaches_trans, reaches_step, Leads_from_reaches}
 use Rattle.gate_pool.specs.Pool.{Admitted, has_txid, entry_by_txid, size_of}
 use Rattle.gate_pool.specs.Family.{names, steps, is_conflict, conflicts_of, ancestors_above, descendants_of}

@@ -8,7 +8,7 @@ use Rattle.std.proofs.lemmas.Bool.{true≢false, false_from_ne_true, or_cases, o
 use Rattle.std.proofs.lemmas.Slice.Eq.{bytes_eq-Decides}
 use Rattle.gate_bytes.specs.Order.{NoneFails, first_failing}
 use Rattle.gate_bytes.proofs.OrderLemmas.{none_fails-append}
-use Rattle.gate_graph.proofs.Members.{Contains-cons_cases, Contains-head, Contains-rest, not_in_none, any_is, list_any_of}
+use Rattle.gate_bytes.proofs.Members.{Contains-cons_cases, Contains-head, Contains-rest, not_in_none, any_is, list_any_of}
 use Rattle.gate_tx.specs.declared.Coin.{Coin}
 use Rattle.gate_tx.specs.declared.OutPoint.{OutPoint}
 use Rattle.gate_tx.specs.declared.TxIn.{TxIn}

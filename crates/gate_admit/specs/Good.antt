@@ -13,6 +13,7 @@ use Rattle.gate_chain.specs.Coins.{has_transaction, is_known_txid}
 use Rattle.gate_pool.specs.Pool.{Admitted, spent_by, size_of}
 use Rattle.gate_pool.specs.Family.{ancestors_of, descendants_of}
 use Rattle.gate_admit.specs.Coins.{view_coin}
+use Rattle.gate_admit.specs.Limits.{descendants_size_limit, family_size_limit}
 use Rattle.gate_admit.specs.Policies.{Policy, most_ancestors, most_descendants}
 
 -- what a pool may hold, in virtual bytes, and what is asked of its families
@@ -26,9 +27,9 @@ limits_for policy budget = record { budget = budget; policy = policy }
 -- the ancestors and the descendants of an id, its own entry among each, are few and small
 pub record IsLimited (policy : Policy) (entries : List Admitted) (txid : List ℕ) : Type 0 where
   pub ancestors : length (ancestors_of entries txid) ≤ most_ancestors policy
-  pub ancestors_size : size_of (ancestors_of entries txid) ≤ 101000
+  pub ancestors_size : size_of (ancestors_of entries txid) ≤ family_size_limit
   pub descendants : length (descendants_of entries txid) ≤ most_descendants policy
-  pub descendants_size : size_of (descendants_of entries txid) ≤ 111000
+  pub descendants_size : size_of (descendants_of entries txid) ≤ descendants_size_limit
 
 -- what holds of entries over a chain, however many they are
 pub record IsSound (policy : Policy) (chain : History) (entries : List Admitted) : Type 0 where

@@ -16,6 +16,18 @@ use Rattle.gate_admit.specs.declared.limits.FamilyLimits.{FamilyLimits}
 use Rattle.gate_admit.specs.Policies.{Policy, most_ancestors, most_descendants}
 use Rattle.gate_pool.specs.Family.{steps, ancestors_of, descendants_of, ancestors_above, is_conflict, conflicts_of}
 
+-- the most virtual bytes of a family, for ancestors and descendants (DEFAULT_ANCESTOR_SIZE_LIMIT, DEFAULT_DESCENDANT_SIZE_LIMIT)
+abbrev pub family_size_limit : ℕ
+family_size_limit = 101000
+
+-- the most virtual bytes of a transaction that the second try admits (EXTRA_DESCENDANT_TX_SIZE_LIMIT)
+abbrev pub carve_out_size : ℕ
+carve_out_size = 10000
+
+-- the most virtual bytes of descendants, with one that the second try admitted
+abbrev pub descendants_size_limit : ℕ
+descendants_size_limit = 111000
+
 -- beside exactly one direct conflict there may be one descendant more, and as many bytes as that has with its descendants
 abbrev pub grown : List Admitted → List Admitted → FamilyLimits → FamilyLimits
 grown entries [] limits = limits
@@ -25,12 +37,12 @@ grown entries (c ∷ d ∷ rest) limits = limits
 -- the limits of the first try: the counts are the operator's
 abbrev pub usual_limits : Policy → FamilyLimits
 usual_limits policy =
-    record { ancestors = policy.ancestors; ancestors_size = 101000; descendants = policy.descendants; descendants_size = 101000 }
+    record { ancestors = policy.ancestors; ancestors_size = family_size_limit; descendants = policy.descendants; descendants_size = family_size_limit }
 
 -- the limits of the second try, for a small transaction with at most one parent, so that each of two parties can raise the
 -- fee of what both can spend (Bitcoin Core's carve-out)
 abbrev pub carved_out : FamilyLimits → FamilyLimits
-carved_out limits = record { ancestors = 2; ancestors_size = 101000; descendants = limits.descendants + 1; descendants_size = limits.descendants_size + 10000 }
+carved_out limits = record { ancestors = 2; ancestors_size = family_size_limit; descendants = limits.descendants + 1; descendants_size = limits.descendants_size + carve_out_size }
 
 -- a transaction of this size can join some entries, as their descendant
 abbrev pub has_room : FamilyLimits → ℕ → List Admitted → Bool
@@ -52,7 +64,7 @@ abbrev pub fits_families : Policy → List Admitted → Tx → ℕ → Bool
 fits_families policy entries tx vsize =
     let above = ancestors_above entries tx.inputs in
     let limits = grown entries (conflicts_of entries tx) (usual_limits policy) in
-    is_within limits entries above vsize || (nat_le vsize 10000 && is_within (carved_out limits) entries above vsize)
+    is_within limits entries above vsize || (nat_le vsize carve_out_size && is_within (carved_out limits) entries above vsize)
 
 -- ---- a transaction that is tried again
 
@@ -60,9 +72,9 @@ fits_families policy entries tx vsize =
 abbrev pub is_limited : Policy → List Admitted → List ℕ → Bool
 is_limited policy entries txid =
     nat_le (length (ancestors_of entries txid)) (most_ancestors policy)
-    && (nat_le (size_of (ancestors_of entries txid)) 101000
+    && (nat_le (size_of (ancestors_of entries txid)) family_size_limit
     && (nat_le (length (descendants_of entries txid)) (most_descendants policy)
-    && nat_le (size_of (descendants_of entries txid)) 111000))
+    && nat_le (size_of (descendants_of entries txid)) descendants_size_limit))
 
 abbrev pub are_limited : Policy → List Admitted → List Admitted → Bool
 are_limited policy entries these = list_all (λ e. is_limited policy entries (txid_of e.tx)) these
@@ -93,16 +105,16 @@ has_parent entries tx = list_any (λ (i : TxIn). is_some (entry_by_txid entries 
 -- the limits of a transaction's ancestors without it: each has it as one descendant more, of this size
 pub record LeavesRoomBelow (policy : Policy) (vsize : ℕ) (limits : FamilyLimits) : Type 0 where
   pub ancestors : limits.ancestors ≡ most_ancestors policy
-  pub ancestors_size : limits.ancestors_size ≡ 101000
+  pub ancestors_size : limits.ancestors_size ≡ family_size_limit
   pub descendants : limits.descendants + 1 ≡ most_descendants policy
-  pub descendants_size : limits.descendants_size + vsize ≡ 111000
+  pub descendants_size : limits.descendants_size + vsize ≡ descendants_size_limit
 
 -- those of its descendants without it: each has it as one ancestor more
 pub record LeavesRoomAbove (policy : Policy) (vsize : ℕ) (limits : FamilyLimits) : Type 0 where
   pub ancestors : limits.ancestors + 1 ≡ most_ancestors policy
-  pub ancestors_size : limits.ancestors_size + vsize ≡ 101000
+  pub ancestors_size : limits.ancestors_size + vsize ≡ family_size_limit
   pub descendants : limits.descendants ≡ most_descendants policy
-  pub descendants_size : limits.descendants_size ≡ 111000
+  pub descendants_size : limits.descendants_size ≡ descendants_size_limit
 
 -- with it, it doesn't descend from itself, and each of its ancestors and descendants, itself among them, is within the limits
 abbrev pub fits_again : Policy → List Admitted → Tx → ℕ → Bool

@@ -4,7 +4,7 @@ ghost use Rattle.gate_tx.specs.Ids.{txid_of};
 ghost use Rattle.gate_pool.specs.Pool.{Admitted, entry_by_txid, largest_vsize};
 ghost use Rattle.gate_pool.specs.Search.{IsEntry, AreEntries};
 ghost use Rattle.gate_pool.specs.Family.{names, children_of, ancestors_above, AreIdsOf, OfThese};
-ghost use Rattle.gate_admit.specs.Limits.{is_limited, are_limited, fits_within, all_fit_within, fits_again, has_parent, LeavesRoomBelow, LeavesRoomAbove};
+ghost use Rattle.gate_admit.specs.Limits.{descendants_size_limit, family_size_limit, is_limited, are_limited, fits_within, all_fit_within, fits_again, has_parent, LeavesRoomBelow, LeavesRoomAbove};
 
 use crate::joining::{Joined, names};
 use crate::limits::FamilyLimits;
@@ -134,7 +134,7 @@ fn all_fit_within<S: BuildHasher + Copy + Drop>(
 
 /// The limits of the ancestors of a newcomer of this size: each has it as one descendant more.
 fn limits_above(policy: &Policy, vsize: u128) -> FamilyLimits
-    requires { vsize ≤ 111000 }
+    requires { vsize ≤ descendants_size_limit }
     ensures { LeavesRoomBelow policy.now vsize result }
 {
     FamilyLimits {
@@ -147,7 +147,7 @@ fn limits_above(policy: &Policy, vsize: u128) -> FamilyLimits
 
 /// Those of its descendants: each has it as one ancestor more.
 fn limits_below(policy: &Policy, vsize: u128) -> FamilyLimits
-    requires { vsize ≤ 101000 }
+    requires { vsize ≤ family_size_limit }
     ensures { LeavesRoomAbove policy.now vsize result }
 {
     FamilyLimits {

@@ -11,7 +11,8 @@ use Rattle.gate_lines.specs.Lines.{line_limit, lines_of}
 use Rattle.gate_lines.specs.declared.fault.LaneFault.{LaneFault}
 use Rattle.gate_audit.specs.Audits.{IsPast, IsWrong, Spells}
 use Rattle.gate_audit.specs.declared.counts.EntryCounts.{EntryCounts}
-use Rattle.gate_audit.specs.Journals.{asking, base_line, counted, entry_limit, reply_line}
+use Rattle.gate_audit.specs.Journals.{asking, base_line, counted, reply_line}
+use Rattle.gate_journal.specs.Legal.{entry_limit}
 use Rattle.gate_audit.specs.Reading.{AreTaken, AskingIsPast, EntryIsPast, IsNoReply, IsWrongIn, LacksReply, Leads, NextIsPast, Replied, TellsEnd, TellsRest}
 use Rattle.gate_audit.proofs.AskingTaken.{Leads-trans, asking-append, rest_told}
 

@@ -9,7 +9,8 @@ use Rattle.gate_core.specs.World.{World}
 use Rattle.gate_lines.specs.Lines.{count_limit, is_skipped, line_limit}
 use Rattle.gate_audit.specs.declared.answer.Audit.{Audit}
 use Rattle.gate_audit.specs.declared.answer.Audit.TheVariants.{Legal, Illegal}
-use Rattle.gate_audit.specs.Journals.{asking, base_line, counted, entry_limit, reply_line}
+use Rattle.gate_audit.specs.Journals.{asking, base_line, counted, reply_line}
+use Rattle.gate_journal.specs.Legal.{entry_limit}
 use Rattle.gate_audit.specs.Laws.{marked_event}
 use Rattle.gate_audit.specs.Reading.{AreTaken}
 

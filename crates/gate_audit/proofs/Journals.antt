@@ -9,10 +9,10 @@ use Rattle.gate_message.specs.declared.reply.Reply.{Reply}
 use Rattle.gate_core.specs.Steps.{step_of}
 use Rattle.gate_core.specs.World.{World}
 use Rattle.gate_events.specs.EventLines.{line_event}
-use Rattle.gate_journal.specs.Legal.{AreLegalRounds, IsLegal, entry, events_of, joined, replies_of, state_after}
+use Rattle.gate_journal.specs.Legal.{AreLegalRounds, IsLegal, entry, events_of, joined, replies_of, state_after, entry_limit}
 use Rattle.gate_journal.specs.declared.entry.Entry.{Entry}
 use Rattle.gate_journal.proofs.Replaying.{legal-push, rounds-join, rounds-part, state_after-joined, state_after-push}
-use Rattle.gate_audit.specs.Journals.{AreBounded, IsJournal, Round, Rounds, asking, base_line, count_of, ended_lines, entries_of, entry_limit, entry_lines, event_line, reply_line, round_lines, rounds_lines, state_behind}
+use Rattle.gate_audit.specs.Journals.{AreBounded, IsJournal, Round, Rounds, asking, base_line, count_of, ended_lines, entries_of, entry_lines, event_line, reply_line, round_lines, rounds_lines, state_behind}
 use Rattle.gate_audit.proofs.AskingTaken.{asking-append}
 
 -- ---- the lines of entries

@@ -10,7 +10,7 @@ use Rattle.gate_message.specs.declared.reply.Reply.{Reply}
 use Rattle.gate_core.specs.Steps.{step_of}
 use Rattle.gate_core.specs.World.{World}
 use Rattle.gate_events.specs.EventLines.{line_event}
-use Rattle.gate_journal.specs.Legal.{AreLegalRounds, IsLegal as IsLegalJournal, events_of, joined, replies_of, state_after, state_after_rounds}
+use Rattle.gate_journal.specs.Legal.{AreLegalRounds, IsLegal as IsLegalJournal, events_of, joined, replies_of, state_after, state_after_rounds, entry_limit}
 use Rattle.gate_journal.specs.declared.entry.Entry.{Entry}
 use Rattle.gate_journal.proofs.Replaying.{legal-head, legal-tail}
 use Rattle.gate_lines.proofs.Limits.{not-lt, not-le}
@@ -18,7 +18,7 @@ use Rattle.gate_lines.specs.Lines.{count_limit, line_limit}
 use Rattle.gate_audit.specs.declared.answer.Audit.{Audit}
 use Rattle.gate_audit.specs.declared.answer.Audit.TheVariants.{Legal, Illegal}
 use Rattle.gate_audit.specs.Audits.{Audited, FailsFirst, IsBegun, IsFront, IsLegal, IsPast, IsWrong, PassesLimit, Spells}
-use Rattle.gate_audit.specs.Journals.{IsJournal, Round, Rounds, asking, base_line, count_of, counted, ended_lines, entries_of, entry_limit, entry_lines, event_line, reply_line, round_lines, rounds_lines, state_behind}
+use Rattle.gate_audit.specs.Journals.{IsJournal, Round, Rounds, asking, base_line, count_of, counted, ended_lines, entries_of, entry_lines, event_line, reply_line, round_lines, rounds_lines, state_behind}
 use Rattle.gate_audit.specs.Laws.{marked_event}
 use Rattle.gate_audit.specs.Reading.{AreTaken}
 use Rattle.gate_audit.proofs.Finding.{Next, Parted, at_event, at_line, find, find-parted, find-quiet, parted_of}

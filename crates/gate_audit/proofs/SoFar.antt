@@ -9,7 +9,8 @@ use Rattle.gate_core.specs.World.{World}
 use Rattle.gate_lines.specs.Lines.{count_limit, line_limit, lines_of}
 use Rattle.gate_audit.specs.declared.counts.EntryCounts.{EntryCounts}
 use Rattle.gate_audit.specs.Audits.{FailsFirst, IsBegun, IsFront, IsLegal, IsPast, IsWrong, PassesLimit, Spells}
-use Rattle.gate_audit.specs.Journals.{AreBounded, AreWithin, IsJournal, Rounds, asking, base_line, count_of, counted, entry_limit, event_line, reply_line, state_behind}
+use Rattle.gate_audit.specs.Journals.{AreBounded, AreWithin, IsJournal, Rounds, asking, base_line, count_of, counted, event_line, reply_line, state_behind}
+use Rattle.gate_journal.specs.Legal.{entry_limit}
 use Rattle.gate_audit.specs.Reading.{AreAll, AreTaken, EntryIsPast, IsWrongIn, Leads, TellsEnd, TellsRest}
 use Rattle.gate_audit.proofs.AskingTaken.{Leads-nil, Leads-trans, end_told, rest_told}
 use Rattle.gate_audit.proofs.Journals.{IsJournal-base, IsJournal-entry, IsJournal-nil, IsJournal-quiet, behind-base, behind-entry, bounded-base, bounded-entry, bounded-none, count-base, count-entry, made, no_rounds, with_base, with_entry}

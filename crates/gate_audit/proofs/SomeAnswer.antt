@@ -11,7 +11,8 @@ use Rattle.gate_core.specs.World.{World}
 use Rattle.gate_lines.specs.Lines.{count_limit, is_skipped, line_limit}
 use Rattle.gate_audit.specs.declared.answer.Audit.TheVariants.{Illegal}
 use Rattle.gate_audit.specs.Audits.{Audited, FailsFirst, IsBegun, IsFront, IsLegal, IsPast, IsWrong, Spells}
-use Rattle.gate_audit.specs.Journals.{AreWithin, Rounds, asking, base_line, count_of, counted, entry_limit, event_line, reply_line, state_behind}
+use Rattle.gate_audit.specs.Journals.{AreWithin, Rounds, asking, base_line, count_of, counted, event_line, reply_line, state_behind}
+use Rattle.gate_journal.specs.Legal.{entry_limit}
 use Rattle.gate_audit.specs.Laws.{AuditsAreExact, marked_event}
 use Rattle.gate_audit.proofs.AskingTaken.{asking-append, asking-line, asking-skip}
 use Rattle.gate_audit.proofs.Finding.{at_end, at_event, at_line, find}

@@ -7,11 +7,11 @@ use Rattle.gate_message.specs.Texts.{reply_text}
 use Rattle.gate_core.specs.Runs.{run_of}
 use Rattle.gate_core.specs.Steps.{step_of}
 use Rattle.gate_core.specs.World.{World}
-use Rattle.gate_journal.specs.Legal.{IsLegal as IsLegalJournal, events_of, joined, replies_of}
+use Rattle.gate_journal.specs.Legal.{IsLegal as IsLegalJournal, events_of, joined, replies_of, entry_limit}
 use Rattle.gate_journal.specs.declared.entry.Entry.{Entry}
 use Rattle.gate_journal.proofs.Replaying.{rounds-join}
 use Rattle.gate_audit.specs.Audits.{IsLegal}
-use Rattle.gate_audit.specs.Journals.{AreWithin, IsJournal, Round, Rounds, asking, base_line, ended_lines, entries_of, entry_limit, entry_lines, round_lines, rounds_lines}
+use Rattle.gate_audit.specs.Journals.{AreWithin, IsJournal, Round, Rounds, asking, base_line, ended_lines, entries_of, entry_lines, round_lines, rounds_lines}
 use Rattle.gate_audit.specs.Laws.{LegalJournalsAreRuns, RoundsHaveLegalJournals, RunsHaveLegalJournals, events_among, replies_among}
 use Rattle.gate_audit.proofs.AskingTaken.{asking-append}
 use Rattle.gate_audit.proofs.Journals.{all-last, earlier, length-spelled, made}

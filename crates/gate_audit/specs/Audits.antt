@@ -7,7 +7,8 @@ use Rattle.gate_core.specs.World.{World}
 use Rattle.gate_events.specs.EventLines.{line_event}
 use Rattle.gate_audit.specs.declared.answer.Audit.{Audit}
 use Rattle.gate_audit.specs.declared.answer.Audit.TheVariants.{Legal, Illegal}
-use Rattle.gate_audit.specs.Journals.{AreBounded, AreWithin, IsJournal, Rounds, asking, base_line, count_of, counted, entry_limit, event_line, reply_line, state_behind}
+use Rattle.gate_audit.specs.Journals.{AreBounded, AreWithin, IsJournal, Rounds, asking, base_line, count_of, counted, event_line, reply_line, state_behind}
+use Rattle.gate_journal.specs.Legal.{entry_limit}
 
 -- all of the lines are a journal of so many entries, whose rounds are legal from this state
 pub record IsLegal (w : World) (lines : List (List ℕ)) (count : ℕ) : Type 0 where

@@ -7,12 +7,8 @@ use Rattle.gate_message.specs.declared.reply.Reply.{Reply}
 use Rattle.gate_message.specs.Texts.{reply_text}
 use Rattle.gate_core.specs.World.{World}
 use Rattle.gate_events.specs.EventLines.{line_event}
-use Rattle.gate_journal.specs.Legal.{AreLegalRounds, events_of, joined, replies_of, state_after_rounds}
+use Rattle.gate_journal.specs.Legal.{AreLegalRounds, entry_limit, events_of, joined, replies_of, state_after_rounds}
 use Rattle.gate_journal.specs.declared.entry.Entry.{Entry}
-
--- the most entries of a round
-abbrev pub entry_limit : ℕ
-entry_limit = 100000
 
 -- the line of an event that is spelled like this
 abbrev pub event_line : List ℕ → List ℕ

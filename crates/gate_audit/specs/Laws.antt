@@ -8,8 +8,8 @@ use Rattle.gate_core.specs.World.{World}
 use Rattle.gate_events.specs.EventLines.{line_event}
 use Rattle.gate_audit.specs.declared.answer.Audit.{Audit}
 use Rattle.gate_audit.specs.Audits.{Audited, IsLegal}
-use Rattle.gate_audit.specs.Journals.{AreBounded, AreWithin, Rounds, bears, count_of, entries_of, entry_limit, entry_lines, rounds_lines}
-use Rattle.gate_journal.specs.Legal.{AreLegalRounds}
+use Rattle.gate_audit.specs.Journals.{AreBounded, AreWithin, Rounds, bears, count_of, entries_of, entry_lines, rounds_lines}
+use Rattle.gate_journal.specs.Legal.{AreLegalRounds, entry_limit}
 
 -- any lines have one answer, and no two
 abbrev pub AuditsAreExact : Type 0

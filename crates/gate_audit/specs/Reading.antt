@@ -12,7 +12,8 @@ use Rattle.gate_audit.specs.declared.entry.Taken.TheVariants as taken
 use Rattle.gate_audit.specs.declared.lines.JournalLines.{JournalLines}
 use Rattle.gate_audit.specs.Audits.{IsBegun, IsPast, IsWrong, Spells}
 use Rattle.gate_audit.specs.declared.counts.EntryCounts.{EntryCounts}
-use Rattle.gate_audit.specs.Journals.{asking, base_line, counted, entry_limit, reply_line}
+use Rattle.gate_audit.specs.Journals.{asking, base_line, counted, reply_line}
+use Rattle.gate_journal.specs.Legal.{entry_limit}
 
 -- what is left is what stands behind these lines
 abbrev pub Leads : Option (List ℕ) → Option (List ℕ) → List (List ℕ) → Type 0

@@ -1,7 +1,7 @@
 //! How far an audit has come.
 ghost use Rattle.std.specs.Prelude.{◌≡◌, ◌+◌, ◌<◌, ◌≤◌, ◌↔◌, IsTrue};
 ghost use Rattle.gate_lines.specs.Lines.{count_limit};
-ghost use Rattle.gate_audit.specs.Journals.{entry_limit};
+ghost use Rattle.gate_journal.specs.Legal.{entry_limit};
 
 use gate_journal::MAX_ENTRIES;
 

@@ -20,6 +20,7 @@ use Rattle.gate_rbf.specs.Replacing.{descendant_count, incremental_relay_rate, s
 use Rattle.gate_admit.specs.declared.verdicts.Verdict.{Verdict}
 use Rattle.gate_admit.specs.declared.verdicts.Verdict.TheVariants.{Good}
 use Rattle.gate_admit.specs.Coins.{coins_of, view_coin}
+use Rattle.gate_admit.specs.Limits.{carve_out_size, family_size_limit}
 use Rattle.gate_admit.specs.Policies.{Policy, most_ancestors}
 use Rattle.gate_admit.specs.Reports.{reported, sigop_cost, vsize_of}
 use Rattle.gate_admit.specs.Rules.{coins_value, is_immature, min_relay_rate, outputs_value}
@@ -123,7 +124,7 @@ pays_above gone fee (Some vsize) = Some (Above fee gone (required_fee incrementa
 
 -- how many ancestors a transaction of this size may have by one of the two tries, itself among them
 abbrev pub allowed_ancestors : Policy → ℕ → ℕ
-allowed_ancestors policy vsize = if nat_le vsize 10000 then most_ancestors policy else policy.ancestors
+allowed_ancestors policy vsize = if nat_le vsize carve_out_size then most_ancestors policy else policy.ancestors
 
 -- the transaction's ancestors and itself, where they are too many, or too large
 abbrev pub crowded : Policy → List Admitted → Option ℕ → Option Figures
@@ -131,7 +132,7 @@ crowded policy above None = None
 crowded policy above (Some vsize) =
     if nat_lt (allowed_ancestors policy vsize) (length above + 1)
     then Some (Ancestors (length above + 1) (allowed_ancestors policy vsize))
-    else if nat_lt 101000 (size_of above + vsize) then Some (AncestorsSized (size_of above + vsize)) else None
+    else if nat_lt family_size_limit (size_of above + vsize) then Some (AncestorsSized (size_of above + vsize)) else None
 
 -- ---- verdicts
 

@@ -6,6 +6,7 @@ use Rattle.gate_standard.specs.declared.Denial.{Denial}
 use Rattle.gate_locks.specs.Finality.{threshold_of}
 use Rattle.gate_admit.specs.declared.attempt.Attempt.TheVariants.{First}
 use Rattle.gate_admit.specs.Coins.{view_coin}
+use Rattle.gate_admit.specs.Limits.{family_size_limit}
 use Rattle.gate_admit.specs.Rules.{decision_of}
 use Rattle.gate_admit.specs.Standing.{Standing}
 use Rattle.gate_admit.specs.Verdicts.{verdict_of}
@@ -28,7 +29,7 @@ Decide over (Balance coins outputs) = coins < outputs
 Decide over (Costs cost) = 16000 < cost
 Decide over (Pays fee needs) = fee < needs
 Decide over (Ancestors count most) = (over.policy.ancestors ≤ most) × (most < count)
-Decide over (AncestorsSized size) = 101000 < size
+Decide over (AncestorsSized size) = family_size_limit < size
 Decide over (Outpaid rate most by) = rate ≤ most
 Decide over (Descendants count) = 100 < count
 Decide over (Above fee gone needs) = fee - gone < needs

@@ -9,7 +9,7 @@ use Rattle.std.proofs.lemmas.List.Elements.{All-nil, All-cons}
 use Rattle.std.proofs.lemmas.List.Folds.{list_any-append}
 use Rattle.gate_graph.specs.Family.{Node}
 use Rattle.gate_graph.specs.Families.{among, has, are_apart}
-use Rattle.gate_graph.proofs.Members.{Contains-cons_cases, any_is, list_any_of}
+use Rattle.gate_bytes.proofs.Members.{Contains-cons_cases, any_is, list_any_of}
 use Rattle.gate_graph.proofs.Steps.{same_bool}
 use Rattle.gate_graph.proofs.Filters.{Contains-from_filter}
 

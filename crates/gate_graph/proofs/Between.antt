@@ -10,7 +10,7 @@ use Rattle.std.proofs.lemmas.List.Elements.{Contains-append_cases, Contains-appe
 use Rattle.std.proofs.lemmas.Simd.{map-map}
 use Rattle.gate_graph.specs.Family.{reaches, Leads, here, down, Node, steps_of}
 use Rattle.gate_graph.specs.Families.{among, has, ids_of, children_of, with_parent, with_above, are_apart, IsGraph}
-use Rattle.gate_graph.proofs.Members.{Contains-cons_cases, Contains-head, not_in_none, any_is, list_any_of}
+use Rattle.gate_bytes.proofs.Members.{Contains-cons_cases, Contains-head, not_in_none, any_is, list_any_of}
 use Rattle.gate_graph.proofs.Reaching.{reaches_from_Leads, Leads_from_reaches, Leads_more, Leads_trans, reaches-same, reaches_trans, reaches_step}
 use Rattle.gate_graph.proofs.Steps.{step_node, node_step, same_bool}
 use Rattle.gate_graph.proofs.Apart.{has-node, has-append, are_apart-push, all_listed, among_from, Contains-among}

@@ -6,7 +6,7 @@ use Rattle.indexmap.specs.IndexSet.{insert_all}
 use Rattle.gate_graph.specs.Family.{Node, steps_of}
 use Rattle.gate_graph.specs.Families.{among, children_of}
 use Rattle.gate_graph.specs.Linking.{Lists, IsLinked, listing}
-use Rattle.gate_graph.proofs.Members.{Contains-head, not_in_none}
+use Rattle.gate_bytes.proofs.Members.{Contains-head, not_in_none}
 use Rattle.gate_graph.proofs.Apart.{among_from, Contains-among}
 use Rattle.gate_graph.proofs.Filters.{Contains-filter, Contains-from_filter, Contains-map, Contains-from_map}
 use Rattle.gate_graph.proofs.Steps.{step_node, node_step, same_bool}

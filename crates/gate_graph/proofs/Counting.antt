@@ -7,7 +7,7 @@ use Rattle.std.proofs.lemmas.Bool.{and_parts, not-true, false_from_ne_true}
 use Rattle.std.proofs.lemmas.List.Sums.{sum_by-cons}
 use Rattle.gate_graph.specs.Family.{Node}
 use Rattle.gate_graph.specs.Families.{are_apart}
-use Rattle.gate_graph.proofs.Members.{Contains-cons_cases, list_any_of, not_in_none}
+use Rattle.gate_bytes.proofs.Members.{Contains-cons_cases, list_any_of, not_in_none}
 use Rattle.gate_graph.proofs.Apart.{same_id}
 use Rattle.gate_graph.proofs.Filters.{filter_same_on}
 use Rattle.gate_graph.specs.Weighing.{sums_of, less}

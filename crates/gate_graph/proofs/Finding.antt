@@ -8,7 +8,7 @@ use Rattle.std.proofs.lemmas.List.{get_or_append_left, get_or_default, take_more
 use Rattle.std.proofs.lemmas.List.Elements.{Contains-append_cases, Contains-append_left, Contains-append_right, Contains-get_or}
 use Rattle.gate_graph.specs.Family.{Node, steps_of, Leads, here, down}
 use Rattle.gate_graph.specs.Families.{among, has}
-use Rattle.gate_graph.proofs.Members.{Contains-cons_cases, Contains-head, Contains-rest, list_any_of, any_is, not_in_none}
+use Rattle.gate_bytes.proofs.Members.{Contains-cons_cases, Contains-head, Contains-rest, list_any_of, any_is, not_in_none}
 use Rattle.gate_graph.proofs.Apart.{bytes_eq-sym, among_from, Contains-among, among-push, has-node}
 use Rattle.gate_graph.proofs.Filters.{Contains-filter}
 use Rattle.gate_graph.proofs.Reaching.{Leads_from_reaches, reaches-same, reaches_trans, reaches_step}

@@ -7,7 +7,7 @@ use Rattle.std.specs.Str.{bytes_eq}
 use Rattle.std.proofs.lemmas.Option.{none-some, same_Some}
 use Rattle.gate_graph.specs.Family.{Node, steps_of, reaches}
 use Rattle.gate_graph.specs.Families.{among, has, are_apart}
-use Rattle.gate_graph.proofs.Members.{Contains-cons_cases, Contains-head, Contains-rest, not_in_none}
+use Rattle.gate_bytes.proofs.Members.{Contains-cons_cases, Contains-head, Contains-rest, not_in_none}
 use Rattle.gate_graph.proofs.Apart.{Contains-among, among_from, has-node, same_id}
 use Rattle.gate_graph.proofs.Filters.{Contains-map, Contains-from_map}
 use Rattle.gate_graph.specs.declared.held.Held.{Held}

@@ -10,7 +10,7 @@ use Rattle.gate_graph.proofs.Steps.{step_node, node_step}
 use Rattle.gate_graph.proofs.Apart.{one_node, has-node, all_listed}
 use Rattle.gate_graph.proofs.Filters.{Contains-map}
 use Rattle.gate_graph.specs.Families.{has, are_apart}
-use Rattle.gate_graph.proofs.Members.{Contains-head, Contains-rest}
+use Rattle.gate_bytes.proofs.Members.{Contains-head, Contains-rest}
 use Rattle.gate_graph.specs.declared.held.Held.{Held}
 use Rattle.gate_graph.specs.Holding.{has_id, node_of, nodes_of}
 

@@ -9,7 +9,7 @@ use Rattle.std.proofs.lemmas.List.Elements.{Contains-append_cases, Contains-appe
 use Rattle.std.proofs.Math.Seq.{get_or-append_seam}
 use Rattle.gate_graph.specs.Families.{among}
 use Rattle.gate_graph.specs.Linking.{IsOnce, IsOnlyLast, including}
-use Rattle.gate_graph.proofs.Members.{Contains-cons_cases, Contains-head, not_in_none}
+use Rattle.gate_bytes.proofs.Members.{Contains-cons_cases, Contains-head, not_in_none}
 use Rattle.gate_graph.proofs.Apart.{among_from, Contains-among}
 use Rattle.gate_graph.proofs.Steps.{same_bool}
 

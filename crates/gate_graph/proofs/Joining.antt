@@ -11,7 +11,7 @@ use Rattle.gate_graph.specs.Family.{Node, Leads, here, down, steps_of, reaches}
 use Rattle.gate_graph.specs.Families.{among, has, ids_of, with_parent, with_above, without_id, without_parent, is_root, are_apart, IsGraph}
 use Rattle.gate_graph.specs.Faults.{fault_of_above}
 use Rattle.gate_graph.specs.Laws.{is_above, is_below, HaveEachOnce, JoinsFamilies, LeavesFamilies, ComesAndGoes}
-use Rattle.gate_graph.proofs.Members.{Contains-head, Contains-rest, any_is, list_any_of}
+use Rattle.gate_bytes.proofs.Members.{Contains-head, Contains-rest, any_is, list_any_of}
 use Rattle.gate_graph.proofs.Reaching.{Leads_from_reaches, reaches-same}
 use Rattle.gate_graph.proofs.Steps.{same_bool, step_node}
 use Rattle.gate_graph.proofs.Apart.{same_id, has-node, are_apart-filter}

@@ -9,7 +9,7 @@ use Rattle.std.proofs.lemmas.List.Sums.{sum_by_push}
 use Rattle.std.proofs.lemmas.List.Elements.{Contains-append_cases, Contains-append_left, Contains-append_right}
 use Rattle.gate_graph.specs.Family.{Node, steps_of, reaches, Leads, here, down}
 use Rattle.gate_graph.specs.Families.{among, has, are_apart, ancestors_of, descendants_of}
-use Rattle.gate_graph.proofs.Members.{Contains-cons_cases, Contains-head, not_in_none}
+use Rattle.gate_bytes.proofs.Members.{Contains-cons_cases, Contains-head, not_in_none}
 use Rattle.gate_graph.proofs.Reaching.{Leads_from_reaches, reaches-same}
 use Rattle.gate_graph.proofs.Steps.{step_node, node_step, leaf_reaches}
 use Rattle.gate_graph.proofs.Apart.{has-node, apart_before}

@@ -12,7 +12,7 @@ use Rattle.gate_graph.specs.declared.held.Totals.{Totals}
 use Rattle.gate_graph.specs.Holding.{node_of, nodes_of, nodes_in, loaded}
 use Rattle.gate_graph.specs.Ranks.{rate_of, rate_in, rate_with, least_of}
 use Rattle.gate_graph.specs.Weighing.{totals_of, IsWeighed}
-use Rattle.gate_graph.proofs.Members.{Contains-head, Contains-rest}
+use Rattle.gate_bytes.proofs.Members.{Contains-head, Contains-rest}
 use Rattle.gate_graph.proofs.Loading.{nodes_loaded}
 
 module _ {E K : Type 0} (R : K → K → Ordering) (key : E → K) where

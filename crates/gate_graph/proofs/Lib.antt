@@ -1,4 +1,3 @@
-pub mod Members
 pub mod Reaching
 pub mod Steps
 pub mod Filters

@@ -10,7 +10,7 @@ use Rattle.gate_graph.proofs.Steps.{cases_id}
 use Rattle.gate_graph.specs.declared.links.Link.{Link}
 use Rattle.std.specs.Option.{option_to_list, unwrap_or}
 use Rattle.std.proofs.lemmas.List.Elements.{Contains-append_cases, Contains-append_left, Contains-append_right}
-use Rattle.gate_graph.proofs.Members.{Contains-cons_cases, Contains-head, not_in_none}
+use Rattle.gate_bytes.proofs.Members.{Contains-cons_cases, Contains-head, not_in_none}
 use Rattle.std.specs.Map.{lookup}
 use Rattle.std.proofs.lemmas.List.{get_or_append_left, get_or_default}
 use Rattle.std.proofs.Math.Seq.{get_or-append_seam}

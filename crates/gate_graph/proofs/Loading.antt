@@ -12,7 +12,7 @@ use Rattle.gate_graph.specs.declared.held.Held.{Held}
 use Rattle.gate_graph.specs.Holding.{has_id, node_of, nodes_of, nodes_in, loaded, load_of, load_in, without_below, without_one}
 use Rattle.gate_graph.specs.Slots.{entries_of}
 use Rattle.gate_graph.specs.Weighing.{totals_of, AreSmall, IsWeighed}
-use Rattle.gate_graph.proofs.Members.{any_is, list_any_of}
+use Rattle.gate_bytes.proofs.Members.{any_is, list_any_of}
 use Rattle.gate_graph.proofs.Steps.{node_step, same_bool}
 use Rattle.gate_graph.proofs.Apart.{one_node, apart_before, Contains-among}
 use Rattle.gate_graph.proofs.Filters.{filter-map, Contains-map, Contains-from_map, Contains-from_filter}

@@ -7,7 +7,7 @@ use Rattle.std.proofs.lemmas.Bool.{and_parts, not-true, false_from_ne_true, cond
 use Rattle.std.proofs.lemmas.Simd.{map-map}
 use Rattle.gate_graph.specs.Family.{Node, reaches, steps_of}
 use Rattle.gate_graph.specs.Families.{among, has, are_apart, ancestors_of}
-use Rattle.gate_graph.proofs.Members.{Contains-cons_cases, Contains-head, Contains-rest, list_any_of, not_in_none}
+use Rattle.gate_bytes.proofs.Members.{Contains-cons_cases, Contains-head, Contains-rest, list_any_of, not_in_none}
 use Rattle.gate_graph.proofs.Apart.{among-push, among_from, has-node}
 use Rattle.gate_graph.proofs.Filters.{filter_same_on, Contains-from_map}
 use Rattle.std.proofs.lemmas.List.Elements.{Contains-get_or}

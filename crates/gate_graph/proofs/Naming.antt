@@ -7,7 +7,7 @@ use Rattle.std.proofs.lemmas.List.Sums.{sum_by-cons}
 use Rattle.std.proofs.lemmas.List.Elements.{Contains-append_cases, Contains-append_left}
 use Rattle.gate_graph.specs.Family.{Node, steps_of, reaches}
 use Rattle.gate_graph.specs.Families.{among, has, with_parent, without_parent, ancestors_of, descendants_of}
-use Rattle.gate_graph.proofs.Members.{Contains-cons_cases, not_in_none}
+use Rattle.gate_bytes.proofs.Members.{Contains-cons_cases, not_in_none}
 use Rattle.gate_graph.proofs.Steps.{step_node, node_step, root_reaches}
 use Rattle.gate_graph.proofs.Apart.{has-node}
 use Rattle.gate_graph.proofs.Root.{not_same}

@@ -9,7 +9,7 @@ use Rattle.std.proofs.lemmas.Bool.{not-true, false_from_ne_true}
 use Rattle.std.proofs.lemmas.List.Elements.{filter_map-append, Contains-append_cases, Contains-append_left, Contains-append_right}
 use Rattle.gate_graph.specs.Family.{steps_of}
 use Rattle.gate_graph.specs.Families.{among, are_apart}
-use Rattle.gate_graph.proofs.Members.{Contains-cons_cases, Contains-head, not_in_none}
+use Rattle.gate_bytes.proofs.Members.{Contains-cons_cases, Contains-head, not_in_none}
 use Rattle.gate_graph.proofs.Apart.{among-push, are_apart-filter}
 use Rattle.gate_graph.proofs.Steps.{step_node, node_step}
 use Rattle.gate_graph.proofs.Filters.{filter_same_on, filter-map, filter_all, Contains-filter, Contains-from_filter}

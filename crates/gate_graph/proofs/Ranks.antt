@@ -13,7 +13,7 @@ use Rattle.gate_graph.specs.declared.held.Held.{Held}
 use Rattle.gate_graph.specs.Slots.{entries_of, at}
 use Rattle.gate_graph.specs.Holding.{node_of, nodes_of, spots_of}
 use Rattle.gate_graph.specs.Ranks.{rate_of}
-use Rattle.gate_graph.proofs.Members.{Contains-head, Contains-rest}
+use Rattle.gate_bytes.proofs.Members.{Contains-head, Contains-rest}
 use Rattle.gate_graph.proofs.Placing.{written_at}
 
 -- the sizes of the nodes that stand in slots, added up

@@ -9,7 +9,7 @@ use Rattle.std.proofs.lemmas.Simd.{map-map}
 use Rattle.std.proofs.lemmas.List.Elements.{Contains-append_cases, Contains-append_left}
 use Rattle.gate_graph.specs.Family.{Node, steps_of, reaches, Leads, here, down}
 use Rattle.gate_graph.specs.Families.{among, has, ancestors_of, descendants_of}
-use Rattle.gate_graph.proofs.Members.{Contains-cons_cases, not_in_none}
+use Rattle.gate_bytes.proofs.Members.{Contains-cons_cases, not_in_none}
 use Rattle.gate_graph.proofs.Reaching.{Leads_from_reaches, reaches_from_Leads, reaches-same, reaches_trans, reaches_step, Leads_more}
 use Rattle.gate_graph.proofs.Steps.{step_node, node_step, same_bool, cases_id}
 use Rattle.gate_graph.proofs.Apart.{has-node, among-push}

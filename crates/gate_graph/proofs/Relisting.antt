@@ -16,7 +16,7 @@ use Rattle.gate_graph.specs.Holding.{has_id, node_of, nodes_of, at_id, with_pare
 use Rattle.gate_graph.specs.Linking.{Lists, IsLinked, listing}
 use Rattle.gate_graph.specs.Naming.{listing_at, pushing, naming, dropping, dropping_each}
 use Rattle.gate_graph.specs.Weighing.{AreSmall, IsWeighed, totals_of}
-use Rattle.gate_graph.proofs.Members.{Contains-cons_cases, Contains-head, Contains-rest, not_in_none}
+use Rattle.gate_bytes.proofs.Members.{Contains-cons_cases, Contains-head, Contains-rest, not_in_none}
 use Rattle.gate_graph.proofs.Steps.{step_node, node_step, cases_id}
 use Rattle.gate_graph.proofs.Apart.{same_id, has-node, one_node, among_from, among-push, Contains-among}
 use Rattle.gate_graph.proofs.Filters.{Contains-map, Contains-from_map, Contains-filter, Contains-from_filter}

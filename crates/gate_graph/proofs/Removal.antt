@@ -6,7 +6,7 @@ use Rattle.std.specs.Cmp.Lexicographic.{bytes_decides}
 use Rattle.std.proofs.lemmas.Bool.{false_from_ne_true, true≢false, not-true}
 use Rattle.gate_graph.specs.Family.{reaches, Node, steps_of}
 use Rattle.gate_graph.specs.Families.{among, ids_of, children_of, IsGraph}
-use Rattle.gate_graph.proofs.Members.{any_is, list_any_of}
+use Rattle.gate_bytes.proofs.Members.{any_is, list_any_of}
 use Rattle.gate_graph.proofs.Reaching.{reaches_trans, reaches_step}
 use Rattle.gate_graph.proofs.Steps.{step_node, node_step, kept_reaches}
 use Rattle.gate_graph.proofs.Apart.{are_apart-filter}

@@ -10,7 +10,7 @@ use Rattle.gate_graph.specs.Families.{among}
 use Rattle.gate_graph.specs.Holding.{id_at, ids_at}
 use Rattle.gate_graph.specs.Walking.{are_once, AreLed, AreStanding}
 use Rattle.gate_graph.specs.declared.walk.Way.{Way}
-use Rattle.gate_graph.proofs.Members.{Contains-cons_cases, Contains-head, Contains-rest, not_in_none}
+use Rattle.gate_bytes.proofs.Members.{Contains-cons_cases, Contains-head, Contains-rest, not_in_none}
 use Rattle.gate_graph.proofs.Apart.{among-push}
 use Rattle.gate_graph.proofs.Finding.{are_once-push}
 

@@ -8,7 +8,7 @@ use Rattle.std.proofs.lemmas.List.Elements.{filter_agree}
 use Rattle.std.proofs.lemmas.Simd.{map-map}
 use Rattle.gate_graph.specs.Family.{reaches, Node, steps_of}
 use Rattle.gate_graph.specs.Families.{among, has, ids_of, children_of, without_id, without_parent, without_root, is_root, are_apart, IsGraph}
-use Rattle.gate_graph.proofs.Members.{any_is, list_any_of}
+use Rattle.gate_bytes.proofs.Members.{any_is, list_any_of}
 use Rattle.gate_graph.proofs.Steps.{same_bool, step_node, node_step, root_reaches}
 use Rattle.gate_graph.proofs.Apart.{among_from, Contains-among, are_apart-filter, one_node}
 use Rattle.gate_graph.proofs.Filters.{filter_swap, filter_all, filter-map, Contains-map, Contains-from_map, Contains-filter, Contains-from_filter}

@@ -11,7 +11,7 @@ use Rattle.gate_graph.specs.Leading.{Step, are_led, IsNext}
 use Rattle.gate_graph.specs.Walking.{is_led}
 use Rattle.gate_graph.specs.declared.walk.Way.{Way}
 use Rattle.gate_graph.specs.declared.walk.Way.TheVariants.{Up, Down}
-use Rattle.gate_graph.proofs.Members.{Contains-cons_cases, Contains-head, Contains-rest, not_in_none, any_is, list_any_of}
+use Rattle.gate_bytes.proofs.Members.{Contains-cons_cases, Contains-head, Contains-rest, not_in_none, any_is, list_any_of}
 use Rattle.gate_graph.proofs.Reaching.{Leads_from_reaches, reaches-same, reaches_trans, reaches_step}
 use Rattle.gate_graph.proofs.Steps.{same_bool}
 use Rattle.gate_graph.proofs.Apart.{among_from, Contains-among}

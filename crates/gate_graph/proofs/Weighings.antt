@@ -6,7 +6,7 @@ use Rattle.std.specs.Cmp.Lexicographic.{bytes_decides}
 use Rattle.std.proofs.lemmas.List.Sums.{sum_by-cons}
 use Rattle.gate_graph.specs.Family.{Node}
 use Rattle.gate_graph.specs.Families.{among, has, are_apart}
-use Rattle.gate_graph.proofs.Members.{Contains-head, Contains-rest}
+use Rattle.gate_bytes.proofs.Members.{Contains-head, Contains-rest}
 use Rattle.gate_graph.proofs.Apart.{same_id, among-push, has-node}
 use Rattle.gate_graph.proofs.Filters.{filter_same_on}
 use Rattle.gate_graph.specs.Weighing.{sums_of, more, Fits, AreSmall}

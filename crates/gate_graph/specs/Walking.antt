@@ -57,6 +57,14 @@ pub record AreFound (P : List ℕ → Type 0) (before after : List (List ℕ)) :
   pub only : (id : List ℕ) → Contains more id → P id
   pub all : (id : List ℕ) → P id → Contains after id
 
+-- places were added to those found before: those of the ids of which this holds
+abbrev pub AreFoundAt : List (Option (List ℕ)) → (List ℕ → Type 0) → List ℕ → List ℕ → Type 0
+AreFoundAt spots P before after = AreFound P (ids_at spots before) (ids_at spots after)
+
+-- from each id from which a walk this way began by what had been found, all places to which it leads are found
+abbrev pub AreLedOn : Way → List Node → List (Option (List ℕ)) → List ℕ → List ℕ → Type 0
+AreLedOn way g spots before after = (x : List ℕ) → Begins way g x (ids_at spots before) → AreLed way g spots x after
+
 -- it is this node's id
 abbrev pub IsNode : List Node → List ℕ → List ℕ → Type 0
 IsNode g id b = (id ≡ b) × (has g b ≡ true)

@@ -1,11 +1,11 @@
 -- What families come to.
-use Rattle.std.specs.Prelude.{◌≡◌, ◌≤◌, ◌<◌, ◌^◌, ℕ, ◌+◌, ◌-◌, ◌&&◌, not, true, List, [], ◌∷◌, ◌++◌, length, filter, sum_by, Contains, cond}
+use Rattle.std.specs.Prelude.{◌≡◌, ◌≤◌, ◌<◌, ◌^◌, ℕ, ◌+◌, ◌-◌, ◌&&◌, not, false, true, List, [], ◌∷◌, ◌++◌, length, map, filter, sum_by, Contains, cond}
 use Rattle.gate_graph.specs.Family.{Node, steps_of, reaches}
 use Rattle.gate_graph.specs.Families.{among, has, ancestors_of, descendants_of}
 use Rattle.gate_graph.specs.declared.held.Held.{Held}
 use Rattle.gate_graph.specs.declared.held.Sums.{Sums}
 use Rattle.gate_graph.specs.declared.held.Totals.{Totals}
-use Rattle.gate_graph.specs.Holding.{nodes_of, with_totals}
+use Rattle.gate_graph.specs.Holding.{at_id, nodes_of, with_totals}
 
 -- what nodes come to: how many they are, their sizes and their fees
 abbrev pub sums_of : List Node → Sums
@@ -71,6 +71,11 @@ pub record IsCounted {T : Type 0} (g : List Node) (out : List (List ℕ)) (hs : 
   pub above : (h : Held T) → Contains hs h → h.totals.above ≡ sums_of (ancestors_of g h.id)
   pub below : (h : Held T) → Contains hs h → h.totals.below ≡ sums_of (left_below g out h.id)
 
+-- an id was taken off those sums, whichever others they are without, as long as they were with it
+abbrev pub IsTakenOff : {T : Type 0} → List Node → List ℕ → List (Held T) → List (Held T) → Type 0
+IsTakenOff g id before after =
+    (out : List (List ℕ)) → IsCounted g out before → among out id ≡ false → IsCounted g (out ++ id ∷ []) after
+
 -- one more of this size and fee can be added to sums
 pub record Fits (size fee : ℕ) (s : Sums) : Type 0 where
   pub count : s.count + 1 < 2 ^ 64
@@ -98,6 +103,10 @@ module _ {T : Type 0} where
   -- a node whose totals were found afresh, if its id is among these
   abbrev pub refreshed : List Node → List (List ℕ) → Held T → Held T
   refreshed g ids h = cond (among ids h.id) (with_totals (totals_of g h.id) h) h
+
+  -- nodes, of which that of an id has its totals found afresh
+  abbrev pub refreshed_at : List (Held T) → List ℕ → List (Held T)
+  refreshed_at hs id = map (at_id id (with_totals (totals_of (nodes_of hs) id))) hs
 
   -- nodes that keep their totals, and behind them a new one, which may be named already
   pub record IsNewLast (hs : List (Held T)) (id : List ℕ) : Type 0 where

@@ -2,11 +2,11 @@
 ghost use Rattle.std.specs.Prelude.{◌≡◌, ◌≤◌, ◌+◌, true, is_some, length, map};
 ghost use Rattle.std.specs.Vec.{vec_capacity};
 ghost use Rattle.gate_graph.specs.Families.{are_apart};
-ghost use Rattle.gate_graph.specs.Holding.{at_id, id_at, ids_at, with_totals, nodes_of, loaded};
+ghost use Rattle.gate_graph.specs.Holding.{id_at, ids_at, nodes_of, loaded};
 ghost use Rattle.gate_graph.specs.Slots.{at};
 ghost use Rattle.gate_graph.specs.Linking.{IsLinked};
 ghost use Rattle.gate_graph.specs.Walking.{AreClear, AreStanding};
-ghost use Rattle.gate_graph.specs.Weighing.{AreSmall, IsNewLast, IsWeighed, refreshed, totals_of};
+ghost use Rattle.gate_graph.specs.Weighing.{AreSmall, IsNewLast, IsWeighed, refreshed, refreshed_at};
 
 use crate::held::Totals;
 use crate::links::Links;
@@ -29,7 +29,7 @@ fn refresh<T: Drop, S: BuildHasher + Drop>(
     requires small { AreSmall (nodes_of slots.old.held) }
     requires stands { is_some (at slots.old.spots place) ≡ true }
     requires clear { AreClear (length slots.old.spots) marks.old.items }
-    ensures refreshed { slots.new.held ≡ map (at_id (id_at slots.old.spots place) (with_totals (totals_of (nodes_of slots.old.held) (id_at slots.old.spots place)))) slots.old.held }
+    ensures refreshed { slots.new.held ≡ refreshed_at slots.old.held (id_at slots.old.spots place) }
     ensures spots { slots.new.spots ≡ slots.old.spots }
     ensures clear { AreClear (length slots.old.spots) marks.new.items }
     ensures marks { vec_capacity marks.new ≡ vec_capacity marks.old }

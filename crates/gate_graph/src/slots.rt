@@ -45,7 +45,10 @@ impl<T: Drop, S: BuildHasher + Drop> Model for Slots<T, S> {
 
     ghost view = { λ s. record { held = entries_of s.slots.items; spots = spots_of s.slots.items; room = s.room } };
 
-    ghost invariant = { λ s. IsPlaced s.slots.items (index_map_len s.places) (get bytes_eq s.places) × HasSpot s.room (spare s.places) (vec_len s.slots) (vec_capacity s.slots) × IsRanked s.slots.items s.room s.ranking s.size };
+    ghost invariant = { λ s.
+        IsPlaced s.slots.items (index_map_len s.places) (get bytes_eq s.places)
+        × HasSpot s.room (spare s.places) (vec_len s.slots) (vec_capacity s.slots)
+        × IsRanked s.slots.items s.room s.ranking s.size };
 }
 
 impl<T: Drop, S: BuildHasher + Drop> Slots<T, S> {

@@ -6,7 +6,7 @@ ghost use Rattle.gate_graph.specs.Families.{has, are_apart};
 ghost use Rattle.gate_graph.specs.Slots.{at};
 ghost use Rattle.gate_graph.specs.Holding.{id_at, ids_at, nodes_of};
 ghost use Rattle.gate_graph.specs.Linking.{IsLinked, listing};
-ghost use Rattle.gate_graph.specs.Walking.{AreClear, AreFound, AreStanding, AreLed, Begins, IsSearch, Next, IsNode, IsOneOf};
+ghost use Rattle.gate_graph.specs.Walking.{AreClear, AreFound, AreFoundAt, AreLed, AreLedOn, AreStanding, IsSearch, Next, IsNode, IsOneOf};
 ghost use Rattle.gate_graph.specs.declared.walk.Way.TheVariants.{Down as DownWay};
 
 use crate::id::NodeId;
@@ -94,7 +94,7 @@ fn add_listed<T: Drop, S: BuildHasher + Drop>(
     requires room { length slots.now.held ≤ vec_capacity found.old }
     requires search { IsSearch (nodes_of slots.now.held) slots.now.spots marks.old.items found.old.items }
     ensures search { IsSearch (nodes_of slots.now.held) slots.now.spots marks.new.items found.new.items }
-    ensures found { AreFound (IsOneOf (nodes_of slots.now.held) (listing links.now id.now)) (ids_at slots.now.spots found.old.items) (ids_at slots.now.spots found.new.items) }
+    ensures found { AreFoundAt slots.now.spots (IsOneOf (nodes_of slots.now.held) (listing links.now id.now)) found.old.items found.new.items }
     ensures capacity { vec_capacity found.new ≡ vec_capacity found.old }
     ensures marks { vec_capacity marks.new ≡ vec_capacity marks.old }
 {
@@ -118,7 +118,7 @@ fn open<T: Drop, S: BuildHasher + Drop>(
     requires linked { IsLinked (nodes_of slots.now.held) links.now }
     requires stands { is_some (at slots.now.spots heading.place) ≡ true }
     ensures search { IsSearch (nodes_of slots.now.held) slots.now.spots marks.new.items found.new.items }
-    ensures found { AreFound (Next heading.way (nodes_of slots.now.held) (id_at slots.now.spots heading.place)) (ids_at slots.now.spots found.old.items) (ids_at slots.now.spots found.new.items) }
+    ensures found { AreFoundAt slots.now.spots (Next heading.way (nodes_of slots.now.held) (id_at slots.now.spots heading.place)) found.old.items found.new.items }
     ensures capacity { vec_capacity found.new ≡ vec_capacity found.old }
     ensures marks { vec_capacity marks.new ≡ vec_capacity marks.old }
 {
@@ -153,7 +153,7 @@ fn follow<T: Drop, S: BuildHasher + Drop>(
     requires search { IsSearch (nodes_of slots.now.held) slots.now.spots marks.old.items found.old.items }
     requires apart { are_apart (nodes_of slots.now.held) ≡ true }
     requires linked { IsLinked (nodes_of slots.now.held) links.now }
-    ensures led { (x : List ℕ) → Begins way (nodes_of slots.now.held) x (ids_at slots.now.spots found.old.items) → AreLed way (nodes_of slots.now.held) slots.now.spots x found.new.items }
+    ensures led { AreLedOn way (nodes_of slots.now.held) slots.now.spots found.old.items found.new.items }
     ensures standing { AreStanding slots.now.spots found.new.items }
     ensures clear { AreClear (length slots.now.spots) marks.new.items }
     ensures capacity { vec_capacity found.new ≡ vec_capacity found.old }

@@ -9,7 +9,7 @@ ghost use Rattle.gate_graph.specs.Holding.{at_id, id_at, ids_at, nodes_of, loade
 ghost use Rattle.gate_graph.specs.Slots.{at};
 ghost use Rattle.gate_graph.specs.Linking.{IsLinked};
 ghost use Rattle.gate_graph.specs.Walking.{AreClear, AreStanding};
-ghost use Rattle.gate_graph.specs.Weighing.{lowered, lowered_of, eased, eased_of, burdened, burdened_of, raised, raised_of, less as one_less, more as one_more, sums_of, IsWithin, Fits, AreSmall, IsCounted};
+ghost use Rattle.gate_graph.specs.Weighing.{lowered, lowered_of, eased, eased_of, burdened, burdened_of, raised, raised_of, less as one_less, more as one_more, sums_of, IsWithin, Fits, AreSmall, IsCounted, IsTakenOff};
 
 use crate::held::{Sums, Totals};
 use crate::links::Links;
@@ -198,7 +198,7 @@ fn lower_above<T: Drop, S: BuildHasher + Drop>(
     requires stands { is_some (at slots.old.spots place) ≡ true }
     requires clear { AreClear (length slots.old.spots) marks.old.items }
     requires counted { (out : List (List ℕ)) × IsCounted (nodes_of slots.old.held) out slots.old.held × (among out (id_at slots.old.spots place) ≡ false) }
-    ensures counted { (out : List (List ℕ)) → IsCounted (nodes_of slots.old.held) out slots.old.held → among out (id_at slots.old.spots place) ≡ false → IsCounted (nodes_of slots.old.held) (out ++ id_at slots.old.spots place ∷ []) slots.new.held }
+    ensures counted { IsTakenOff (nodes_of slots.old.held) (id_at slots.old.spots place) slots.old.held slots.new.held }
     ensures loaded { loaded slots.new.held ≡ loaded slots.old.held }
     ensures capacity { vec_capacity above.new ≡ vec_capacity above.old }
     ensures spots { slots.new.spots ≡ slots.old.spots }

@@ -11,6 +11,10 @@ use Rattle.gate_journal.specs.declared.entry.Entry.{Entry}
 abbrev pub entry : ℕ → Event → Reply → Entry
 entry pass event reply = record { pass = pass; event = event; reply = reply }
 
+-- the most entries of a journal, and so of a round
+abbrev pub entry_limit : ℕ
+entry_limit = 100000
+
 -- the entries, oldest first, and how many more there can be without memory
 pub record Recorded : Type 0 where
   pub entries : List Entry

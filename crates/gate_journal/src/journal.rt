@@ -1,5 +1,6 @@
 //! The entries in their order.
 ghost use Rattle.std.specs.Prelude.{◌≡◌, ◌<◌, ◌≤◌, ◌↔◌, [], ◌∷◌, ◌++◌, length, IsTrue, IfOk, OnOk};
+ghost use Rattle.gate_journal.specs.Legal.{entry_limit};
 
 use crate::entry::Entry;
 use gate_bytes::{Copied, Memory};
@@ -24,7 +25,7 @@ impl Model for Journal {
 
     ghost view = { λ j. record { entries = j.entries.items; room = vec_capacity j.entries - vec_len j.entries } };
 
-    ghost invariant = { λ j. length j.entries.items ≤ 100000 };
+    ghost invariant = { λ j. length j.entries.items ≤ entry_limit };
 }
 
 impl Journal {
@@ -39,14 +40,14 @@ impl Journal {
 
     pub fn entries(&self) -> &[Entry]
         ensures entries { result.now ≡ self.now.entries }
-        ensures few { length self.now.entries ≤ 100000 }
+        ensures few { length self.now.entries ≤ entry_limit }
     {
         self.entries.as_slice()
     }
 
     pub fn len(&self) -> usize
         ensures len { result ≡ length self.now.entries }
-        ensures few { result ≤ 100000 }
+        ensures few { result ≤ entry_limit }
     {
         self.entries.len()
     }
@@ -59,7 +60,7 @@ impl Journal {
 
     /// Whether it has all the entries that it may have.
     pub fn is_full(&self) -> bool
-        ensures { IsTrue result ↔ (100000 ≤ length self.now.entries) }
+        ensures { IsTrue result ↔ (entry_limit ≤ length self.now.entries) }
     {
         self.entries.len() >= MAX_ENTRIES
     }
@@ -76,7 +77,7 @@ impl Journal {
     /// Adds an entry, into room that was made for it: it takes no memory.
     pub fn push(&mut self, entry: Entry)
         requires room { 0 < self.old.room }
-        requires few { length self.old.entries < 100000 }
+        requires few { length self.old.entries < entry_limit }
         ensures { self.new.entries ≡ self.old.entries ++ entry ∷ [] }
     {
         self.entries.push_reserved(entry);

@@ -6,10 +6,11 @@ use gate_lanes::{Lane, LaneEnd, run_lanes};
 use gate_lines::LaneFault;
 use gate_opening::read_opening;
 use gate_shared::{Base, Gate, Pass};
+use gate_testing::{Drops, Interrupted};
 use gate_verify::{PolicyCheck, Workers};
 use std::alloc::{AllocError, Global};
 use std::hash::{BuildHasherDefault, FoldHasher};
-use std::io::{BufReader, BufWriter, ErrorKind, Read, Write};
+use std::io::{BufReader, BufWriter, Read, Write};
 use std::marker::Brand;
 use std::process::Abort;
 use std::sync::Wait;
@@ -229,39 +230,6 @@ fn lanes_run_at_once_over<N: Base + Send + Sync, T: Threads + Wait + Abort + Syn
 #[test]
 fn a_lane_waits_for_another(rt: HostRuntime) -> Result<(), Fail> {
     lanes_run_at_once_over::<Brand, _>(&rt, rt.alloc(), opened(rt.alloc())?)
-}
-
-/// A reader that is interrupted once its bytes are out.
-#[derive(Drop)]
-struct Interrupted<'a>(&'a [u8]);
-
-impl Read for Interrupted<'_> {
-    fn read(&mut self, buf: &mut [u8]) -> io::Result<usize> {
-        if self.0.is_empty() {
-            return Err(io::Error::from(ErrorKind::Interrupted));
-        }
-        self.0.read(buf)
-    }
-}
-
-/// A writer that takes `left` bytes, one at a time, and then none.
-#[derive(Drop)]
-struct Drops {
-    left: usize,
-}
-
-impl Write for Drops {
-    fn write(&mut self, buf: &[u8]) -> io::Result<usize> {
-        if self.left == 0 || buf.is_empty() {
-            return Ok(0);
-        }
-        self.left -= 1;
-        Ok(1)
-    }
-
-    fn flush(&mut self) -> io::Result<()> {
-        Ok(())
-    }
 }
 
 /// Whether there is one pass, of so many calls.

@@ -1,22 +1,9 @@
 //! Inputs parted into rounds and lanes, with readers in memory and one that breaks.
 use gate_lanes::{MAX_LANES, SplitFault, split_lanes};
+use gate_testing::Interrupted;
 use std::alloc::Global;
-use std::io;
-use std::io::{BufReader, ErrorKind, Read};
+use std::io::BufReader;
 use std::test::*;
-
-/// A reader that is interrupted once its bytes are out.
-#[derive(Drop)]
-struct Interrupted<'a>(&'a [u8]);
-
-impl Read for Interrupted<'_> {
-    fn read(&mut self, buf: &mut [u8]) -> io::Result<usize> {
-        if self.0.is_empty() {
-            return Err(io::Error::from(ErrorKind::Interrupted));
-        }
-        self.0.read(buf)
-    }
-}
 
 /// Lanes, each followed by a bar.
 fn push_lanes(lanes: &[Vec<u8>], barred: &mut String) -> Result<(), Fail> {

@@ -2,7 +2,7 @@
 use Rattle.std.specs.Prelude.{◌≡◌, ℕ, ◌≤◌, ◌⊎◌, List, [], ◌∷◌, length, map, Option, Some, None}
 use Rattle.std.specs.Global.{Vec}
 use Rattle.gate_core.specs.World.{World}
-use Rattle.gate_journal.specs.Legal.{state_after}
+use Rattle.gate_journal.specs.Legal.{entry_limit, state_after}
 use Rattle.gate_shared.specs.Calls.{PassView}
 use Rattle.gate_shared.specs.Ends.{EndsGood}
 use Rattle.gate_shared.specs.Settling.{SettlesAll, DontSettle}
@@ -20,7 +20,7 @@ use Rattle.gate_lanes.specs.declared.round.Conclusion.TheVariants as conclusions
 -- These passes settle with a legal journal from this state, of at most 100,000 entries, which leads to the next state. That
 -- is good where the first is and the run of the passes' events is apart.
 pub record SettlesTo (w : World) (passes : List PassView) (settled : Settled) (next : World) : Type 0 where
-  pub few : length settled.journal.entries ≤ 100000
+  pub few : length settled.journal.entries ≤ entry_limit
   pub settles : SettlesAll w passes settled
   pub leads : next ≡ state_after w settled.journal.entries
   pub good : EndsGood w passes next

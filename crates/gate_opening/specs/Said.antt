@@ -2,7 +2,7 @@
 use Rattle.std.specs.Prelude.{◌≡◌, ℕ, ◌+◌, nat_lt, nat_le, ◌||◌, not, if◌then◌else◌, Bool, false, List, [], ◌∷◌, ◌++◌, length, map, codes, Option, Some, None, is_some, Result, Ok, Err}
 use Rattle.std.specs.Option.{unwrap_or}
 use Rattle.std.specs.Str.{bytes_eq}
-use Rattle.gate_chain.specs.Opening.{open_fault}
+use Rattle.gate_chain.specs.Opening.{open_fault, times_limit}
 use Rattle.gate_chain.specs.declared.OpenFault.{OpenFault}
 use Rattle.gate_chain.specs.declared.OpeningCoin.{OpeningCoin}
 use Rattle.gate_admit.specs.declared.verdicts.Verdict.{Verdict}
@@ -50,7 +50,7 @@ nothing_said = record { budget = None; times = []; coins = []; coin_lines = []; 
 
 -- so many more times are more than an opening may have, or one of them doesn't fit 32 bits
 abbrev pub exceeds : ℕ → ℕ → ℕ → ℕ → Bool
-exceeds held count first step = nat_lt 1000000 (held + count) || some_too_great (times_from count first step)
+exceeds held count first step = nat_lt times_limit (held + count) || some_too_great (times_from count first step)
 
 abbrev pub fault_if : Bool → OpeningToken → Option OpeningToken
 fault_if fails token = if fails then Some token else None

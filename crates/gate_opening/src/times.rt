@@ -1,13 +1,14 @@
 //! Block times in even steps.
 ghost use Rattle.std.specs.Prelude.{◌≡◌, ◌≤◌, ◌^◌, ◌++◌, nat_le, not, false, OnOk};
 ghost use Rattle.std.specs.List.{list_any};
+ghost use Rattle.gate_chain.specs.Opening.{times_limit};
 ghost use Rattle.gate_opening.specs.BlockTimes.{times_from, some_too_great};
 
 use gate_bytes::Memory;
 
 /// Whether each of these times fits 32 bits.
 pub(crate) fn times_fit(count: u64, first: u32, step: u64) -> bool
-    requires { count ≤ 1000000 }
+    requires { count ≤ times_limit }
     ensures { result ≡ not (some_too_great (times_from count first step)) }
 {
     if count == 0 {

@@ -6,7 +6,7 @@ use Rattle.std.specs.Cmp.Lexicographic.{bytes_decides}
 use Rattle.std.proofs.lemmas.Bool.{false_from_ne_true, and_parts, and_from}
 use Rattle.std.proofs.lemmas.List.Sums.{sum_by-cons}
 use Rattle.gate_tx.specs.Ids.{txid_of}
-use Rattle.gate_graph.proofs.Members.{Contains-cons_cases, Contains-head, Contains-rest, not_in_none}
+use Rattle.gate_bytes.proofs.Members.{Contains-cons_cases, Contains-head, Contains-rest, not_in_none}
 use Rattle.gate_pool.specs.Pool.{Admitted, has_txid, entry_by_txid}
 use Rattle.gate_pool.specs.Family.{AreIdsOf}
 use Rattle.gate_pool.proofs.Walking.{Contains-filter, Contains-from_filter}

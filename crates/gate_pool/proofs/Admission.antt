@@ -17,7 +17,7 @@ use Rattle.gate_tx.specs.declared.TxIn.{TxIn}
 use Rattle.gate_tx.specs.Ids.{txid_of, wtxid_of}
 use Rattle.gate_graph.specs.Slots.{entries_of, at, passes}
 use Rattle.gate_graph.proofs.Apart.{bytes_eq-sym}
-use Rattle.gate_graph.proofs.Members.{Contains-cons_cases, Contains-head, Contains-rest, not_in_none}
+use Rattle.gate_bytes.proofs.Members.{Contains-cons_cases, Contains-head, Contains-rest, not_in_none}
 use Rattle.gate_pool.specs.Pool.{Admitted, entry_by_txid, entry_by_wtxid, spender_of, listing_of}
 use Rattle.gate_pool.specs.Family.{AreIdsOf}
 use Rattle.gate_pool.specs.Keeping.{IsNew}

@@ -5,7 +5,7 @@ use Rattle.std.proofs.lemmas.List.Sums.{sum_by-cons}
 use Rattle.gate_tx.specs.Ids.{txid_of}
 use Rattle.gate_tx.specs.Money.{max_money}
 use Rattle.gate_graph.specs.Family.{reaches}
-use Rattle.gate_graph.proofs.Members.{Contains-head, Contains-rest, not_in_none}
+use Rattle.gate_bytes.proofs.Members.{Contains-head, Contains-rest, not_in_none}
 use Rattle.gate_graph.proofs.Reaching.{reaches-same}
 use Rattle.gate_pool.specs.Pool.{Admitted, IsBounded, most_entries, largest_vsize, size_of}
 use Rattle.gate_pool.specs.Family.{steps, descendants_of, fees_of, sums_of}

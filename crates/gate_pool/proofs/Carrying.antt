@@ -11,7 +11,7 @@ use Rattle.gate_graph.specs.Family.{Node, steps_of, reaches}
 use Rattle.gate_graph.specs.Families.{has, ancestors_of as nodes_above, descendants_of as nodes_below}
 use Rattle.gate_graph.specs.Holding.{nodes_in, load_in, without_below as nodes_left, without_one}
 use Rattle.gate_graph.proofs.Filters.{filter-map, Contains-from_filter}
-use Rattle.gate_graph.proofs.Members.{Contains-cons_cases, not_in_none}
+use Rattle.gate_bytes.proofs.Members.{Contains-cons_cases, not_in_none}
 use Rattle.gate_pool.specs.Pool.{Admitted, IsBounded, entry_by_txid, has_txid, size_of}
 use Rattle.gate_pool.specs.Family.{node_of, steps, ancestors_of, descendants_of, without_family, fees_of}
 use Rattle.gate_pool.specs.Keeping.{entries_in, carried, IsCarried}

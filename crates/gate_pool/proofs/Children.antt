@@ -14,7 +14,7 @@ use Rattle.gate_graph.specs.Families.{among, children_of as nodes_naming}
 use Rattle.gate_graph.specs.Holding.{nodes_in}
 use Rattle.gate_graph.proofs.Apart.{among_from, Contains-among}
 use Rattle.gate_graph.proofs.Childhood.{child_step, step_child}
-use Rattle.gate_graph.proofs.Members.{any_is, list_any_of, not_in_none}
+use Rattle.gate_bytes.proofs.Members.{any_is, list_any_of, not_in_none}
 use Rattle.gate_pool.specs.Pool.{Admitted}
 use Rattle.gate_pool.specs.Family.{names, steps, children_of, without_family, without_below, AreIdsOf}
 use Rattle.gate_pool.specs.Keeping.{entries_in, IsCarried}

@@ -6,7 +6,7 @@ use Rattle.std.proofs.lemmas.Bool.{not-true, or_left, and_from, and_parts}
 use Rattle.gate_tx.specs.Ids.{txid_of}
 use Rattle.gate_graph.specs.Family.{reaches}
 use Rattle.gate_graph.proofs.Filters.{filter_all, filter_same_on}
-use Rattle.gate_graph.proofs.Members.{any_is, list_any_of}
+use Rattle.gate_bytes.proofs.Members.{any_is, list_any_of}
 use Rattle.gate_graph.proofs.Steps.{same_bool}
 use Rattle.gate_pool.specs.Pool.{Admitted, listing_of}
 use Rattle.gate_pool.specs.Family.{steps, without_family, without_below, is_below_some}

@@ -6,7 +6,7 @@ use Rattle.std.proofs.lemmas.Bool.{false_from_ne_true}
 use Rattle.gate_tx.specs.declared.TxIn.{TxIn}
 use Rattle.gate_tx.specs.Ids.{txid_of, wtxid_of}
 use Rattle.gate_tx.specs.Coins.{spends}
-use Rattle.gate_graph.proofs.Members.{Contains-head, Contains-rest, any_is, list_any_of}
+use Rattle.gate_bytes.proofs.Members.{Contains-head, Contains-rest, any_is, list_any_of}
 use Rattle.gate_pool.specs.Pool.{Admitted, has_txid, has_wtxid, spender_of, entry_by_txid, entry_by_wtxid}
 use Rattle.gate_pool.specs.Family.{names, spends_one_of, is_conflict, without_below, is_below_some, entered}
 use Rattle.gate_pool.specs.Keeping.{IsNew}

@@ -3,7 +3,7 @@ use Rattle.std.proofs.Common.{◌≡◌, ℕ, Bool, true, false, cond, List, [],
 use Rattle.std.specs.Prelude.{Contains, find}
 use Rattle.gate_graph.specs.Family.{Node}
 use Rattle.gate_tx.specs.Ids.{txid_of}
-use Rattle.gate_graph.proofs.Members.{Contains-cons_cases, Contains-head, Contains-rest}
+use Rattle.gate_bytes.proofs.Members.{Contains-cons_cases, Contains-head, Contains-rest}
 use Rattle.gate_graph.proofs.Steps.{step_node, node_step}
 use Rattle.gate_pool.specs.Pool.{Admitted}
 use Rattle.gate_tx.specs.declared.TxIn.{TxIn}

@@ -14,7 +14,7 @@ use Rattle.gate_tx.specs.Coins.{point_eq, spends}
 use Rattle.gate_tx.specs.Equality.{out_point_decides}
 use Rattle.gate_tx.specs.Ids.{txid_of, wtxid_of}
 use Rattle.gate_graph.proofs.Filters.{Contains-from_filter}
-use Rattle.gate_graph.proofs.Members.{Contains-cons_cases, Contains-head, Contains-rest, any_is, list_any_of, not_in_none}
+use Rattle.gate_bytes.proofs.Members.{Contains-cons_cases, Contains-head, Contains-rest, any_is, list_any_of, not_in_none}
 use Rattle.gate_pool.specs.Pool.{Admitted, has_txid, has_wtxid, has_point, entry_by_txid, entry_by_wtxid, spender_of}
 use Rattle.gate_pool.specs.Distinct.{AreDistinct}
 use Rattle.gate_pool.specs.Keeping.{IsIndexed, IsNew}

@@ -10,7 +10,7 @@ use Rattle.gate_tx.specs.declared.OutPoint.{OutPoint}
 use Rattle.gate_graph.specs.Family.{Node, steps_of, reaches}
 use Rattle.gate_graph.specs.Holding.{nodes_in, AreGone}
 use Rattle.gate_graph.proofs.Filters.{Contains-map, Contains-from_map, Contains-from_filter}
-use Rattle.gate_graph.proofs.Members.{Contains-cons_cases, Contains-head, not_in_none}
+use Rattle.gate_bytes.proofs.Members.{Contains-cons_cases, Contains-head, not_in_none}
 use Rattle.gate_graph.proofs.Reaching.{reaches-same}
 use Rattle.gate_pool.specs.Pool.{Admitted, entry_by_txid, has_txid, has_point, spender_of}
 use Rattle.gate_pool.specs.Family.{node_of, steps, without_family}

@@ -4,7 +4,7 @@ use Rattle.std.specs.Prelude.{Contains, find, filter}
 use Rattle.std.proofs.lemmas.Bool.{true≢false, and_parts, and_from, false_from_ne_true, not-true, cond-true, cond-false}
 use Rattle.gate_tx.specs.Ids.{txid_of}
 use Rattle.gate_graph.specs.Family.{reaches}
-use Rattle.gate_graph.proofs.Members.{Contains-head, Contains-rest, any_is, list_any_of}
+use Rattle.gate_bytes.proofs.Members.{Contains-head, Contains-rest, any_is, list_any_of}
 use Rattle.gate_graph.proofs.Reaching.{reaches-same, reaches_trans, reaches_step}
 use Rattle.gate_graph.proofs.Steps.{same_bool, kept_reaches, closed_reaches}
 use Rattle.gate_pool.specs.Pool.{Admitted}

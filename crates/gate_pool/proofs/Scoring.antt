@@ -18,7 +18,7 @@ use Rattle.gate_graph.specs.Ranks.{rate, rate_with, rate_in, least_of as least_n
 use Rattle.gate_graph.specs.Weighing.{sums_of as node_sums, totals_of}
 use Rattle.gate_graph.proofs.Least.{least_in}
 use Rattle.gate_graph.proofs.Filters.{Contains-from_map}
-use Rattle.gate_graph.proofs.Members.{Contains-head, Contains-rest}
+use Rattle.gate_bytes.proofs.Members.{Contains-head, Contains-rest}
 use Rattle.gate_pool.specs.Pool.{Admitted, IsBounded, most_entries, size_of}
 use Rattle.gate_pool.specs.Family.{node_of, descendants_of, sums_of, fees_of}
 use Rattle.gate_pool.specs.Keeping.{carried}

@@ -11,7 +11,7 @@ use Rattle.std.specs.Option.{option_copied}
 use Rattle.std.specs.Cmp.Lexicographic.{bytes_decides}
 use Rattle.gate_tx.specs.declared.TxIn.{TxIn}
 use Rattle.gate_tx.specs.Ids.{txid_of}
-use Rattle.gate_graph.proofs.Members.{Contains-cons_cases, not_in_none, list_any_of, any_is}
+use Rattle.gate_bytes.proofs.Members.{Contains-cons_cases, not_in_none, list_any_of, any_is}
 use Rattle.gate_pool.specs.Pool.{Admitted, has_txid, entry_by_txid}
 use Rattle.gate_pool.specs.Search.{IsEntry, IsFound, parents_of}
 use Rattle.gate_pool.proofs.Entries.{Id, find_some, find_none}

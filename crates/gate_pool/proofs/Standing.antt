@@ -16,7 +16,7 @@ use Rattle.gate_graph.specs.declared.held.Held.{Held}
 use Rattle.gate_graph.specs.Holding.{loaded, spots_of}
 use Rattle.gate_graph.specs.Slots.{entries_of}
 use Rattle.gate_graph.proofs.Indexing.{entries_of-push}
-use Rattle.gate_graph.proofs.Members.{Contains-cons_cases, Contains-head, Contains-rest, list_any_of, not_in_none}
+use Rattle.gate_bytes.proofs.Members.{Contains-cons_cases, Contains-head, Contains-rest, list_any_of, not_in_none}
 use Rattle.gate_pool.specs.Pool.{Admitted, has_txid, has_wtxid, listing_of}
 use Rattle.gate_pool.specs.Distinct.{AreDistinct}
 use Rattle.gate_pool.specs.Keeping.{IsNew, entries_in, carried}

@@ -57,7 +57,11 @@ impl<S: BuildHasher + Copy + Drop> Model for Store<S> {
 
     ghost view = { λ s. record { entries = entries_in s.nodes.nodes; room = s.room } };
 
-    ghost invariant = { λ s. IsCarried s.nodes.nodes × IsIndexed (entries_in s.nodes.nodes) (get bytes_eq s.wtxids) (get point_eq s.spent) × HasRoom s.room (length (entries_in s.nodes.nodes)) s.nodes.room (spare s.wtxids) (spare s.spent) (vec_capacity s.parents) (vec_len s.gone) (vec_capacity s.gone) };
+    ghost invariant = { λ s.
+        IsCarried s.nodes.nodes
+        × IsIndexed (entries_in s.nodes.nodes) (get bytes_eq s.wtxids) (get point_eq s.spent)
+        × HasRoom s.room (length (entries_in s.nodes.nodes)) s.nodes.room (spare s.wtxids) (spare s.spent)
+            (vec_capacity s.parents) (vec_len s.gone) (vec_capacity s.gone) };
 }
 
 impl<S: BuildHasher + Copy + Drop> Store<S> {

@@ -1,4 +1,5 @@
 //! Edits from a fixed list, each of a graph and of a plain list, which find the same after it.
+use crate::draw::Draw;
 use crate::graph::{Hashing, empty, goes_out, is_above, is_below, named};
 use crate::plain_graph::{Plain, Row};
 use gate_bytes::Memory;
@@ -7,18 +8,7 @@ use std::alloc::Global;
 use std::process::Abort;
 use std::test::Fail;
 
-/// The same numbers each time.
-#[derive(Drop)]
-struct Draw {
-    last: u32,
-}
-
 impl Draw {
-    fn below(&mut self, end: u32) -> u32 {
-        self.last = self.last.wrapping_mul(1_103_515_245).wrapping_add(12_345);
-        (self.last >> 16) % end.max(1)
-    }
-
     fn id(&mut self) -> Id {
         [(self.below(20) % 256) as u8; 32]
     }
@@ -244,7 +234,7 @@ fn edit_and_compare(
 }
 
 fn edit_often(rt: &(impl Abort + AllocGlobal), pair: &mut Pair) -> Result<(), GraphFault> {
-    let mut draw = Draw { last: 7 };
+    let mut draw = Draw::from_seed(7);
     for number in 0..300 {
         edit_and_compare(rt, pair, &mut draw, number)?;
     }

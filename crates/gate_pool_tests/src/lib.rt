@@ -2,6 +2,8 @@
 #![tactic(auto)]
 
 #[cfg(test)]
+mod draw;
+#[cfg(test)]
 mod graph;
 #[cfg(test)]
 mod graph_edits;

@@ -1,3 +1,4 @@
+use crate::draw::Draw;
 use crate::paying::{input, paying};
 use crate::plain_pool::{Plain, Row};
 use gate_bytes::{Copied, Counted, Memory};
@@ -23,19 +24,6 @@ impl Made {
             self.row.vsize.clamp(1, 1000),
             self.row.vsize,
         ))
-    }
-}
-
-/// The same numbers each time.
-#[derive(Drop)]
-struct Draw {
-    last: u32,
-}
-
-impl Draw {
-    fn below(&mut self, end: u32) -> u32 {
-        self.last = self.last.wrapping_mul(1_103_515_245).wrapping_add(12_345);
-        (self.last >> 16) % end.max(1)
     }
 }
 
@@ -298,7 +286,7 @@ fn edit_new(alloc: Global, draw: &mut Draw, made: &[Made]) -> Result<Option<u32>
 }
 
 fn first_difference(alloc: Global) -> Result<Option<u32>, Memory> {
-    let mut draw = Draw { last: 7 };
+    let mut draw = Draw::from_seed(7);
     let made = sixty(alloc, &mut draw)?;
     let first = edit_new(alloc, &mut draw, &made);
     drop(made);

@@ -1,4 +1,5 @@
 //! The least of ranked keys, after steps whose outcomes were worked out by hand, and beside a search of the keys.
+use crate::draw::Draw;
 use gate_bytes::Memory;
 use gate_ranking::{Ranking, Rate};
 use std::alloc::Global;
@@ -121,18 +122,7 @@ fn the_least_follows_steps(rt: HostRuntime) -> Result<(), Fail> {
     Ok(result?)
 }
 
-/// The same numbers each time.
-#[derive(Drop)]
-struct Draw {
-    last: u32,
-}
-
 impl Draw {
-    fn below(&mut self, end: u32) -> u32 {
-        self.last = self.last.wrapping_mul(1_103_515_245).wrapping_add(12_345);
-        (self.last >> 16) % end.max(1)
-    }
-
     fn step(&mut self) -> Step {
         let place = self.below(40) as usize;
         let key = u64::from(self.below(30));
@@ -159,7 +149,7 @@ fn searched(ranking: &Ranking<u64>) -> Option<(usize, u64)> {
 }
 
 fn step_often(rt: &impl Abort, ranking: &mut Ranking<u64>) -> Result<(), Memory> {
-    let mut draw = Draw { last: 11 };
+    let mut draw = Draw::from_seed(11);
     for number in 0..600 {
         let step = draw.step();
         take_step(ranking, step)?;

@@ -6,7 +6,7 @@ use Rattle.std.proofs.lemmas.List.Elements.{All-cons, All-head, All-nil, All-tai
 use Rattle.std.proofs.lemmas.Bool.{false≢true}
 use Rattle.std.proofs.lemmas.Option.{none-some, same_Some, slice_get-get_or}
 use Rattle.gate_audit.specs.Audits.{IsLegal}
-use Rattle.gate_audit.specs.Journals.{AreBounded, AreWithin, Round, Rounds, base_line, count_of, ended_lines, entries_of, entry_limit, entry_lines, event_line, reply_line, round_lines, rounds_lines}
+use Rattle.gate_audit.specs.Journals.{AreBounded, AreWithin, Round, Rounds, base_line, count_of, ended_lines, entries_of, entry_lines, event_line, reply_line, round_lines, rounds_lines}
 use Rattle.gate_audit.proofs.Journals.{no_rounds}
 use Rattle.gate_audit.proofs.Telling.{rounds_have_legal_journals}
 use Rattle.gate_core.specs.World.{World}
@@ -14,7 +14,7 @@ use Rattle.gate_message.specs.declared.event.Event.{Event}
 use Rattle.gate_events.specs.EventLines.{line_event}
 use Rattle.gate_events.specs.EventTexts.{text_of}
 use Rattle.gate_events.proofs.SpelledTexts.{texts_spell}
-use Rattle.gate_journal.specs.Legal.{AreLegalRounds, entry, events_of, joined, replies_of, state_after}
+use Rattle.gate_journal.specs.Legal.{AreLegalRounds, entry, entry_limit, events_of, joined, replies_of, state_after}
 use Rattle.gate_journal.specs.Legal.{IsLegal as IsLegalJournal}
 use Rattle.gate_journal.specs.declared.Entry.{Entry}
 use Rattle.gate_lanes.specs.Ends.{Left, LaneRan, LanesRan}

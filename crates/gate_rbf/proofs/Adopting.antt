@@ -6,7 +6,7 @@ use Rattle.std.specs.Cmp.Lexicographic.{bytes_decides}
 use Rattle.std.proofs.lemmas.Bool.{and_parts, and_from}
 use Rattle.gate_tx.specs.declared.TxIn.{TxIn}
 use Rattle.gate_tx.specs.Ids.{txid_of}
-use Rattle.gate_graph.proofs.Members.{any_is, list_any_of}
+use Rattle.gate_bytes.proofs.Members.{any_is, list_any_of}
 use Rattle.gate_graph.proofs.Steps.{same_bool}
 use Rattle.gate_pool.specs.Pool.{Admitted, has_txid, entry_by_txid}
 use Rattle.gate_pool.specs.Family.{names, is_among, AreIdsOf}

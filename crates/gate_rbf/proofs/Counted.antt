@@ -5,7 +5,7 @@ use Rattle.std.proofs.lemmas.Bool.{false_from_ne_true}
 use Rattle.std.proofs.lemmas.Bool.Decides.{Decides-ltb}
 use Rattle.std.proofs.lemmas.List.Sums.{sum_by_more, sum_by-take-le, sum_by-cons}
 use Rattle.gate_tx.specs.Ids.{txid_of}
-use Rattle.gate_graph.proofs.Members.{Contains-head, Contains-rest}
+use Rattle.gate_bytes.proofs.Members.{Contains-head, Contains-rest}
 use Rattle.gate_graph.proofs.Reaching.{reaches-same}
 use Rattle.gate_graph.specs.Family.{reaches}
 use Rattle.std.specs.Cmp.Lexicographic.{bytes_decides}

@@ -10,7 +10,7 @@ use Rattle.std.proofs.lemmas.List.Folds.{list_any_more}
 use Rattle.gate_tx.specs.declared.TxIn.{TxIn}
 use Rattle.gate_tx.specs.Coins.{spends}
 use Rattle.gate_tx.specs.Ids.{txid_of}
-use Rattle.gate_graph.proofs.Members.{Contains-head, any_is, list_any_of, not_in_none}
+use Rattle.gate_bytes.proofs.Members.{Contains-head, any_is, list_any_of, not_in_none}
 use Rattle.gate_graph.proofs.Steps.{same_bool}
 use Rattle.gate_pool.specs.Pool.{Admitted, spender_of}
 use Rattle.gate_pool.specs.Family.{spends_one_of, AreIdsOf}

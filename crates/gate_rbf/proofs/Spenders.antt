@@ -8,7 +8,7 @@ use Rattle.std.proofs.lemmas.List.{get_or_read}
 use Rattle.gate_tx.specs.declared.OutPoint.{OutPoint}
 use Rattle.gate_tx.specs.Coins.{spends}
 use Rattle.gate_tx.specs.Ids.{txid_of}
-use Rattle.gate_graph.proofs.Members.{any_is, list_any_of}
+use Rattle.gate_bytes.proofs.Members.{any_is, list_any_of}
 use Rattle.gate_graph.proofs.Steps.{same_bool}
 use Rattle.gate_pool.specs.Pool.{Admitted, has_txid, spender_of, entry_by_txid}
 use Rattle.gate_pool.specs.Distinct.{AreDistinct}

@@ -10,7 +10,7 @@ use Rattle.std.proofs.lemmas.List.{take-append-drop}
 use Rattle.std.proofs.lemmas.List.Elements.{Contains-append_left, Contains-append_right, Contains-append_cases}
 use Rattle.std.proofs.Math.Seq.{take-append_seam}
 use Rattle.gate_bytes.specs.Order.{first_failing, NoneFails}
-use Rattle.gate_graph.proofs.Members.{Contains-cons_cases, any_is}
+use Rattle.gate_bytes.proofs.Members.{Contains-cons_cases, any_is}
 use Rattle.gate_tx.specs.Ids.{txid_of}
 use Rattle.gate_tx.specs.Text.{IsTx}
 use Rattle.gate_tx.specs.Tx.{Tx}

@@ -6,7 +6,7 @@ use Rattle.std.specs.List.{AllPairs, list_any}
 use Rattle.std.specs.Str.{bytes_eq}
 use Rattle.std.specs.Cmp.Lexicographic.{bytes_decides}
 use Rattle.std.proofs.lemmas.Bool.{true≢false, false_from_ne_true}
-use Rattle.gate_graph.proofs.Members.{Contains-cons_cases, Contains-head, Contains-rest, not_in_none, any_is}
+use Rattle.gate_bytes.proofs.Members.{Contains-cons_cases, Contains-head, Contains-rest, not_in_none, any_is}
 use Rattle.gate_tx.specs.declared.Coin.{Coin}
 use Rattle.gate_tx.specs.declared.OutPoint.{OutPoint}
 use Rattle.gate_tx.specs.declared.TxIn.{TxIn}

@@ -7,7 +7,7 @@ use Rattle.std.specs.Cmp.Lexicographic.{bytes_decides}
 use Rattle.std.proofs.lemmas.Bool.{and_parts, and_from}
 use Rattle.gate_tx.specs.Ids.{txid_of}
 use Rattle.gate_graph.specs.Family.{reaches}
-use Rattle.gate_graph.proofs.Members.{any_is, list_any_of, Contains-head, Contains-rest}
+use Rattle.gate_bytes.proofs.Members.{any_is, list_any_of, Contains-head, Contains-rest}
 use Rattle.gate_graph.proofs.Steps.{same_bool}
 use Rattle.gate_chain.specs.History.{History}
 use Rattle.gate_pool.specs.Pool.{Admitted, listing_of}

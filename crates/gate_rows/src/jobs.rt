@@ -3,46 +3,14 @@ use gate_prog::{
     ArgsFault, Job, LaneFault, LanesOptions, OpeningFault, OpeningToken, Workers, read_args,
     read_opening, run_audit, run_check, run_gate, run_lanes_job,
 };
+use gate_testing::{Drops, Interrupted};
 use std::alloc::Global;
 use std::hash::{BuildHasherDefault, FoldHasher};
 use std::io;
-use std::io::{BufReader, BufWriter, ErrorKind, Read, Write};
+use std::io::{BufReader, BufWriter, Read, Write};
 use std::sync::Wait;
 use std::test::Fail;
 use std::thread::Threads;
-
-/// A reader that is interrupted once its bytes are out.
-#[derive(Drop)]
-struct Interrupted<'a>(&'a [u8]);
-
-impl Read for Interrupted<'_> {
-    fn read(&mut self, buf: &mut [u8]) -> io::Result<usize> {
-        if self.0.is_empty() {
-            return Err(io::Error::from(ErrorKind::Interrupted));
-        }
-        self.0.read(buf)
-    }
-}
-
-/// A writer that takes `left` bytes, one at a time, and then none.
-#[derive(Drop)]
-struct Drops {
-    left: usize,
-}
-
-impl Write for Drops {
-    fn write(&mut self, buf: &[u8]) -> io::Result<usize> {
-        if self.left == 0 || buf.is_empty() {
-            return Ok(0);
-        }
-        self.left -= 1;
-        Ok(1)
-    }
-
-    fn flush(&mut self) -> io::Result<()> {
-        Ok(())
-    }
-}
 
 /// A reader that gives a part of its input each time.
 #[derive(Drop)]

@@ -14,6 +14,10 @@ pub record PassView : Type 0 where
   pub caller : Caller
   pub calls : List Made
 
+-- the most calls of a pass
+abbrev pub call_limit : ℕ
+call_limit = 65536
+
 abbrev pub receipt : ℕ → Reply → Receipt
 receipt number reply = record { number = number; reply = reply }
 

@@ -11,12 +11,12 @@ use Rattle.gate_core.specs.Steps.{step_of}
 use Rattle.gate_core.specs.Submissions.{coins_of}
 use Rattle.gate_core.specs.World.{World}
 use Rattle.gate_journal.specs.declared.entry.Entry.{Entry}
-use Rattle.gate_journal.specs.Legal.{entry, events_of, IsLegal, state_after}
+use Rattle.gate_journal.specs.Legal.{entry, entry_limit, events_of, IsLegal, state_after}
 use Rattle.gate_shared.specs.declared.receipt.Made.{Made}
 use Rattle.gate_shared.specs.declared.receipt.Receipt.{Receipt}
 use Rattle.gate_shared.specs.declared.shared.CallFault.{CallFault}
 use Rattle.gate_shared.specs.declared.shared.CallFault.TheVariants.{WrongCaller, PassFull, HistoryShort, AuditFull, Memory}
-use Rattle.gate_shared.specs.Calls.{PassView, made, last_call, Stands, LastStands, EachBelow}
+use Rattle.gate_shared.specs.Calls.{PassView, call_limit, made, last_call, Stands, LastStands, EachBelow}
 
 -- the state, the journal, and how many passes were given out
 pub record Held : Type 0 where
@@ -30,7 +30,7 @@ held state journal passes = record { state = state; journal = journal; passes = 
 -- the journal is legal from the base and the state is the one that it leads to, a good one where the base is good and the
 -- run is apart
 pub record IsHeld (base : World) (s : Held) : Type 0 where
-  pub few : length s.journal ≤ 100000
+  pub few : length s.journal ≤ entry_limit
   pub legal : IsLegal base s.journal
   pub state : s.state ≡ state_after base s.journal
   pub good : IsGoodWorld base → IsRunApart base (events_of s.journal) → IsGoodWorld s.state
@@ -39,18 +39,18 @@ pub record IsHeld (base : World) (s : Held) : Type 0 where
 
 -- the event is one of the pass's caller, and the pass has room
 abbrev pub IsOwn : PassView → Event → Type 0
-IsOwn p event = (caller_of event ≡ p.caller) × (length p.calls < 65536)
+IsOwn p event = (caller_of event ≡ p.caller) × (length p.calls < call_limit)
 
 -- no test of a call holds
 abbrev pub NoFault : Held → PassView → Event → Type 0
-NoFault s p event = IsOwn p event × LastStands s.journal p × (length s.journal < 100000)
+NoFault s p event = IsOwn p event × LastStands s.journal p × (length s.journal < entry_limit)
 
 -- the fault is that of the first test that holds; memory may run out once the event is the caller's own and the pass has room
 abbrev pub FirstFault : Held → PassView → Event → CallFault → Type 0
 FirstFault s p event WrongCaller = ¬ (caller_of event ≡ p.caller)
-FirstFault s p event PassFull = (caller_of event ≡ p.caller) × (65536 ≤ length p.calls)
+FirstFault s p event PassFull = (caller_of event ≡ p.caller) × (call_limit ≤ length p.calls)
 FirstFault s p event (HistoryShort r) = IsOwn p event × ((c : Made) × (last_call p.calls ≡ Some c) × (r ≡ c.receipt) × ¬ Stands s.journal p.number c)
-FirstFault s p event AuditFull = IsOwn p event × LastStands s.journal p × (100000 ≤ length s.journal)
+FirstFault s p event AuditFull = IsOwn p event × LastStands s.journal p × (entry_limit ≤ length s.journal)
 FirstFault s p event Memory = IsOwn p event
 
 -- the pass with one call more

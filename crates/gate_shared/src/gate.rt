@@ -3,7 +3,7 @@ ghost use Rattle.std.specs.Prelude.{◌≡◌, ◌≤◌, [], length, Some, IfOk
 ghost use Rattle.gate_message.specs.Callers.{caller_of};
 ghost use Rattle.gate_shared.specs.declared.receipt.Made.{Made as TheMade};
 ghost use Rattle.gate_shared.specs.declared.receipt.Receipt.{Receipt as TheReceipt};
-ghost use Rattle.gate_shared.specs.Calls.{last_call};
+ghost use Rattle.gate_shared.specs.Calls.{call_limit, last_call};
 ghost use Rattle.gate_journal.specs.Legal.{state_after};
 ghost use Rattle.gate_shared.specs.Ends.{EndsGood};
 ghost use Rattle.std.specs.Option.{option_copied};
@@ -97,7 +97,7 @@ impl<N: Base, S: BuildHasher + Copy + Drop> Gate<N, S> {
         ensures recorded { IfOk result (IsRecorded N.base pass.old event.now) }
         ensures kept { OnErr result (pass.new ≡ pass.old) }
         ensures wrong_caller { ¬ (caller_of event.now ≡ pass.old.caller) → IsErrOf result CallFault.WrongCaller }
-        ensures pass_full { caller_of event.now ≡ pass.old.caller → 65536 ≤ length pass.old.calls → IsErrOf result CallFault.PassFull }
+        ensures pass_full { caller_of event.now ≡ pass.old.caller → call_limit ≤ length pass.old.calls → IsErrOf result CallFault.PassFull }
         ensures history_short { (r : TheReceipt) → IsErrOf result (CallFault.HistoryShort r) → (c : TheMade) × (last_call pass.old.calls ≡ Some c) × (r ≡ c.receipt) }
     {
         self.shared.lock(rt).apply(alloc, pass, event)
@@ -119,7 +119,7 @@ impl<N: Base, S: BuildHasher + Copy + Drop> Gate<N, S> {
         ensures recorded { IfOk result (IsRecorded N.base pass.old event.now) }
         ensures kept { OnErr result (pass.new ≡ pass.old) }
         ensures wrong_caller { ¬ (caller_of event.now ≡ pass.old.caller) → IsErrOf result CallFault.WrongCaller }
-        ensures pass_full { caller_of event.now ≡ pass.old.caller → 65536 ≤ length pass.old.calls → IsErrOf result CallFault.PassFull }
+        ensures pass_full { caller_of event.now ≡ pass.old.caller → call_limit ≤ length pass.old.calls → IsErrOf result CallFault.PassFull }
         ensures history_short { (r : TheReceipt) → IsErrOf result (CallFault.HistoryShort r) → (c : TheMade) × (last_call pass.old.calls ≡ Some c) × (r ≡ c.receipt) }
     {
         self.shared

@@ -31,7 +31,7 @@ impl<N: Base> Model for Pass<N> {
 }
 
 impl<N: Base> Pass<N> {
-    ghost use Rattle.gate_shared.specs.Calls.{Rises, last_call};
+    ghost use Rattle.gate_shared.specs.Calls.{Rises, call_limit, last_call};
 
     pub fn number(&self) -> u64
         ensures { result ≡ self.now.number }
@@ -62,7 +62,7 @@ impl<N: Base> Pass<N> {
 
     /// Whether it has all the calls that it may have.
     pub fn is_full(&self) -> bool
-        ensures { IsTrue result ↔ (65536 ≤ length self.now.calls) }
+        ensures { IsTrue result ↔ (call_limit ≤ length self.now.calls) }
     {
         self.calls.len() >= MAX_CALLS
     }

@@ -3,7 +3,7 @@ ghost use Rattle.std.specs.Prelude.{◌≡◌, ◌+◌, ◌<◌, [], ◌∷◌, 
 ghost use Rattle.std.specs.Vec.{vec_len, vec_capacity};
 ghost use Rattle.std.specs.Option.{option_copied};
 ghost use Rattle.gate_core.specs.Submissions.{StandsFor, submission_of, coins_of};
-ghost use Rattle.gate_journal.specs.Legal.{entry};
+ghost use Rattle.gate_journal.specs.Legal.{entry, entry_limit};
 ghost use Rattle.gate_shared.specs.Calls.{made, receipt};
 
 use crate::base::Base;
@@ -91,7 +91,7 @@ fn note(
     events: Events,
     replies: Replies,
 ) -> Receipt
-    requires few { length journal.old.entries < 100000 }
+    requires few { length journal.old.entries < entry_limit }
     requires room { 0 < journal.old.room }
     requires calls_room { vec_len calls.old < vec_capacity calls.old }
     ensures number { result.number ≡ length journal.old.entries + 1 }

@@ -6,7 +6,7 @@ use Rattle.std.proofs.lemmas.Bool.Decides.{nat_tests}
 use Rattle.std.proofs.lemmas.List.Elements.{filter_agree}
 use Rattle.gate_tx.specs.Ids.{txid_of}
 use Rattle.gate_graph.specs.Family.{reaches, Leads}
-use Rattle.gate_graph.proofs.Members.{any_is, list_any_of}
+use Rattle.gate_bytes.proofs.Members.{any_is, list_any_of}
 use Rattle.gate_graph.proofs.Reaching.{reaches-same, Leads_from_reaches}
 use Rattle.gate_graph.proofs.Steps.{same_bool}
 use Rattle.gate_pool.specs.Pool.{Admitted, is_before}

@@ -8,7 +8,7 @@ use Rattle.std.proofs.lemmas.List.Sums.{sum_by-cons}
 use Rattle.std.proofs.lemmas.Option.{none-some, same_Some}
 use Rattle.gate_tx.specs.Ids.{txid_of}
 use Rattle.gate_graph.specs.Family.{reaches}
-use Rattle.gate_graph.proofs.Members.{Contains-cons_cases, Contains-head, Contains-rest, not_in_none}
+use Rattle.gate_bytes.proofs.Members.{Contains-cons_cases, Contains-head, Contains-rest, not_in_none}
 use Rattle.gate_graph.proofs.Reaching.{reaches-same}
 use Rattle.gate_pool.specs.Pool.{Admitted, size_of}
 use Rattle.gate_pool.specs.Family.{steps, descendants_of, sums_of}

@@ -5,7 +5,7 @@ use Rattle.std.proofs.lemmas.Bool.{cond-true, cond-false}
 use Rattle.std.proofs.lemmas.Bool.Decides.{nat_tests}
 use Rattle.std.proofs.lemmas.Option.{none-some, same_Some}
 use Rattle.gate_tx.specs.Ids.{txid_of}
-use Rattle.gate_graph.proofs.Members.{Contains-head, Contains-rest}
+use Rattle.gate_bytes.proofs.Members.{Contains-head, Contains-rest}
 use Rattle.gate_pool.specs.Pool.{Admitted, size_of}
 use Rattle.gate_pool.specs.Family.{without_family}
 use Rattle.gate_pool.specs.Scores.{is_cheaper, score_of, lesser, least_among, least_of}

@@ -2,43 +2,10 @@
 use gate_lines::{
     Found, LaneFault, Sink, Source, end_line, has_ended, next_line, next_line_or_send,
 };
-use std::io;
-use std::io::{BufReader, BufWriter, ErrorKind, Read, Write};
+use gate_testing::{Drops, Interrupted};
+use std::io::{BufReader, BufWriter};
 use std::process::Abort;
 use std::test::Fail;
-
-/// A reader that is interrupted once its bytes are out.
-#[derive(Drop)]
-struct Interrupted<'a>(&'a [u8]);
-
-impl Read for Interrupted<'_> {
-    fn read(&mut self, buf: &mut [u8]) -> io::Result<usize> {
-        if self.0.is_empty() {
-            return Err(io::Error::from(ErrorKind::Interrupted));
-        }
-        self.0.read(buf)
-    }
-}
-
-/// A writer that takes `left` bytes, one at a time, and then none.
-#[derive(Drop)]
-struct Drops {
-    left: usize,
-}
-
-impl Write for Drops {
-    fn write(&mut self, buf: &[u8]) -> io::Result<usize> {
-        if self.left == 0 || buf.is_empty() {
-            return Ok(0);
-        }
-        self.left -= 1;
-        Ok(1)
-    }
-
-    fn flush(&mut self) -> io::Result<()> {
-        Ok(())
-    }
-}
 
 const TEXT: &[u8] = b"first\r\n\nlonger than the buffer\nrest";
 

@@ -1,7 +1,7 @@
 use Rattle.std.proofs.Common.{◌≡◌, ℕ, Bool, is_some, ◌+◌, ◌∷◌, [], ◌∙◌, sym, ap, subst, List, true≢false}
 use Rattle.std.specs.Prelude.{Contains, filter}
 use Rattle.gate_tx.specs.Ids.{txid_of}
-use Rattle.gate_graph.proofs.Members.{Contains-head}
+use Rattle.gate_bytes.proofs.Members.{Contains-head}
 use Rattle.gate_graph.specs.declared.held.Totals.{Totals}
 use Rattle.gate_pool.specs.Pool.{Admitted, entry_by_txid, size_of}
 use Rattle.gate_pool.specs.Family.{descendants_of, is_conflict, conflicts_of, totals_of}

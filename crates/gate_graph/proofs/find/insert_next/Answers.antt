@@ -6,7 +6,7 @@ use Rattle.indexmap.specs.IndexSet.{insert_all}
 use Rattle.gate_graph.specs.Holding.{has_id, nodes_of}
 use Rattle.gate_graph.specs.Leading.{IsNext}
 use Rattle.gate_graph.specs.Linking.{listing}
-use Rattle.gate_graph.proofs.Members.{not_in_none}
+use Rattle.gate_bytes.proofs.Members.{not_in_none}
 use Rattle.gate_graph.proofs.Holdings.{up_next, up_listed, no_up, found_has}
 use Rattle.gate_graph.proofs.Marking.{id_from, filled, none_from}
 use Rattle.gate_graph.proofs.find.insert_next.Goals as goal

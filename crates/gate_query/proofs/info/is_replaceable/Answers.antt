@@ -4,7 +4,7 @@ use Rattle.std.specs.Cmp.Lexicographic.{bytes_decides}
 use Rattle.gate_tx.specs.Ids.{txid_of}
 use Rattle.gate_graph.specs.Family.{reaches}
 use Rattle.gate_graph.proofs.Filters.{Contains-filter}
-use Rattle.gate_graph.proofs.Members.{list_any_of}
+use Rattle.gate_bytes.proofs.Members.{list_any_of}
 use Rattle.gate_graph.proofs.Reaching.{reaches-same}
 use Rattle.gate_pool.specs.Pool.{Admitted, has_txid}
 use Rattle.gate_pool.specs.Family.{steps, ancestors_of, AreIdsOf}

@@ -1,6 +1,6 @@
 use Rattle.std.proofs.Common.{◌≤◌, ◌+◌, ℕ, [], sym, subst, List, take, length, arith}
 use Rattle.std.proofs.lemmas.List.{take_all}
-use Rattle.gate_graph.proofs.Members.{not_in_none}
+use Rattle.gate_bytes.proofs.Members.{not_in_none}
 use Rattle.gate_pool.specs.Family.{AreIdsOf}
 use Rattle.gate_rbf.specs.Gathering.{IsPut}
 use Rattle.gate_rbf.proofs.Rivals.{AreIdsOf-next, ids_no_more}

@@ -1,6 +1,6 @@
 use Rattle.std.proofs.Common.{◌≡◌, ◌∙◌, get_or, false, ap, sym, subst, refl, arith, length, true}
 use Rattle.gate_graph.specs.Families.{are_apart}
-use Rattle.gate_graph.proofs.Members.{not_in_none}
+use Rattle.gate_bytes.proofs.Members.{not_in_none}
 use Rattle.gate_graph.specs.Holding.{nodes_of}
 use Rattle.gate_graph.specs.Linking.{IsLinked}
 use Rattle.gate_graph.specs.Weighing.{AreSmall, IsWeighed}

@@ -6,7 +6,7 @@ use Rattle.gate_pool.specs.Pool.{Admitted, Pooled, entry_by_txid, entry_by_wtxid
 use Rattle.gate_pool.specs.Family.{spends_one_of, without_below, is_below_some, entered}
 use Rattle.gate_pool.proofs.Conflicts.{IsNew-left}
 use Rattle.gate_pool.proofs.Walking.{Contains-from_filter, shorter}
-use Rattle.gate_graph.proofs.Members.{Contains-cons_cases, not_in_none}
+use Rattle.gate_bytes.proofs.Members.{Contains-cons_cases, not_in_none}
 use Rattle.gate_pool.specs.Scores.{least_of}
 use Rattle.gate_pool.proofs.pool.Pool.replace.Goals as goal
 

@@ -1,7 +1,7 @@
 use Rattle.std.proofs.Common.{refl, ap, [], length, arith}
 use Rattle.std.specs.Map.{lookup}
 use Rattle.std.specs.Str.{bytes_eq}
-use Rattle.gate_graph.proofs.Members.{not_in_none}
+use Rattle.gate_bytes.proofs.Members.{not_in_none}
 use Rattle.gate_tx.specs.Coins.{point_eq}
 use Rattle.indexmap.specs.IndexMap.{get}
 use Rattle.gate_pool.specs.Keeping.{entries_in}

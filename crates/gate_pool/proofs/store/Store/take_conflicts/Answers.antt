@@ -3,7 +3,7 @@ use Rattle.std.specs.Prelude.{Contains}
 use Rattle.std.proofs.lemmas.List.{take_all}
 use Rattle.gate_tx.specs.declared.TxIn.{TxIn}
 use Rattle.gate_tx.specs.Coins.{spends}
-use Rattle.gate_graph.proofs.Members.{list_any_of}
+use Rattle.gate_bytes.proofs.Members.{list_any_of}
 use Rattle.gate_pool.specs.Pool.{spender_of}
 use Rattle.gate_pool.specs.Family.{spends_one_of}
 use Rattle.gate_pool.proofs.Points.{Contains-take_more}

@@ -4,7 +4,7 @@ use Rattle.std.specs.List.{list_any}
 use Rattle.std.proofs.lemmas.Iterator.{YieldsList-from_slice}
 use Rattle.std.proofs.lemmas.Iterator.Search.{any_from_yields_List}
 use Rattle.gate_tx.specs.Ids.{txid_of}
-use Rattle.gate_graph.proofs.Members.{Contains-head}
+use Rattle.gate_bytes.proofs.Members.{Contains-head}
 use Rattle.gate_pool.specs.Pool.{Admitted, has_txid}
 use Rattle.gate_pool.specs.Family.{is_conflict, conflicts_of}
 use Rattle.gate_rbf.specs.Direct.{AreThese, Beside}
