@@ -9,7 +9,7 @@ use Rattle.std.proofs.lemmas.Bool.{false≢true}
 use Rattle.std.proofs.lemmas.Bool.Decides.{Decides-eqb, Decides-and, Decides-like}
 use Rattle.gate_net.specs.Addresses.{Address, V4, V6}
 use Rattle.gate_net.specs.Permissions.{Permissions}
-use Rattle.gate_rpc.specs.Equality.{◌&◌}
+use Rattle.gate_bytes.specs.Equality.{◌&◌}
 use Rattle.gate_net.specs.contracts.address.AddressPartialEq.TheImpl.{ghosts as addresses}
 use Rattle.gate_message.specs.UserCalls.{UserCall, called}
 

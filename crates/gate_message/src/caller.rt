@@ -29,7 +29,7 @@ impl Copied for Caller {
 impl Exact for Caller {
     ghost use Rattle.std.proofs.lemmas.Bool.Decides.{Decides-eqb};
     ghost use Rattle.std.proofs.lemmas.Slice.Eq.{bytes_eq-Decides};
-    ghost use Rattle.gate_rpc.specs.Equality.{enum_decides, ◌or◌, none_decides, last_decides};
+    ghost use Rattle.gate_bytes.specs.Equality.{enum_decides, ◌or◌, none_decides, last_decides};
     ghost use Rattle.gate_message.specs.contracts.caller.Caller.{enum};
 
     ghost exact = { enum_decides enum _ (last_decides Decides-eqb or last_decides bytes_eq-Decides or none_decides or none_decides or tt) };

@@ -211,7 +211,7 @@ impl Exact for Event {
     ghost use Rattle.gate_chain.specs.contracts.block.Block.{the_type as block};
     ghost use Rattle.gate_submission.specs.Equality.{option_decides};
     ghost use Rattle.gate_submission.specs.contracts.prepared.PreparedExact.TheImpl.Laws.{exact-law as prepared_decides};
-    ghost use Rattle.gate_rpc.specs.Equality.{struct_decides, enum_decides, ◌or◌, ◌&◌, last_decides, bare_decides};
+    ghost use Rattle.gate_bytes.specs.Equality.{struct_decides, enum_decides, ◌or◌, ◌&◌, last_decides, bare_decides};
     ghost use Rattle.gate_message.specs.Equality.{address_decides, call_decides, list_decides};
     ghost use Rattle.gate_message.specs.contracts.switch.Switch.{enum as switches};
     ghost use Rattle.gate_message.specs.contracts.event.Event.{enum};

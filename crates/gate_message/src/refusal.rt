@@ -130,7 +130,7 @@ impl Refusal {
 
 impl Exact for Refusal {
     ghost use Rattle.gate_standard.specs.contracts.denial.Denial.{enum as denials};
-    ghost use Rattle.gate_rpc.specs.Equality.{enum_decides, ◌or◌, none_decides, last_decides, bare_decides};
+    ghost use Rattle.gate_bytes.specs.Equality.{enum_decides, ◌or◌, none_decides, last_decides, bare_decides};
     ghost use Rattle.gate_message.specs.contracts.refusal.Refusal.{enum};
 
     ghost exact = { enum_decides enum _ (none_decides or none_decides or none_decides or none_decides or none_decides

@@ -6,4 +6,3 @@ pub mod Replies
 pub mod Texts
 pub mod Faults
 pub mod Laws
-pub mod Equality

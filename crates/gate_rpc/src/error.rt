@@ -62,7 +62,7 @@ impl RpcError {
 impl Exact for RpcError {
     ghost use Rattle.gate_standard.specs.contracts.denial.Denial.{enum as denials};
     ghost use Rattle.gate_rpc.specs.contracts.error.RpcError.{enum};
-    ghost use Rattle.gate_rpc.specs.Equality.{enum_decides, ◌or◌, none_decides, last_decides, bare_decides};
+    ghost use Rattle.gate_bytes.specs.Equality.{enum_decides, ◌or◌, none_decides, last_decides, bare_decides};
 
     ghost exact = { enum_decides enum _ (none_decides or none_decides or none_decides or none_decides or none_decides
         or last_decides (bare_decides denials tt) or tt) };

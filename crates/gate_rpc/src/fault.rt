@@ -110,7 +110,7 @@ impl Exact for CallError {
     ghost use Rattle.gate_rpc.specs.contracts.id.IdExact.TheImpl.Laws.{exact-law as id_decides};
     ghost use Rattle.gate_rpc.specs.contracts.method.MethodExact.TheImpl.Laws.{exact-law as method_decides};
     ghost use Rattle.gate_rpc.specs.contracts.fault.CallError.{enum};
-    ghost use Rattle.gate_rpc.specs.Equality.{enum_decides, ◌or◌, ◌&◌, none_decides, last_decides};
+    ghost use Rattle.gate_bytes.specs.Equality.{enum_decides, ◌or◌, ◌&◌, none_decides, last_decides};
 
     ghost exact = { enum_decides enum _ (none_decides or none_decides
         or id_decides & last_decides bytes_eq-Decides or id_decides & last_decides method_decides or tt) };

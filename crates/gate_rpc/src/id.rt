@@ -29,7 +29,7 @@ impl Exact for Id {
     ghost use Rattle.std.proofs.lemmas.Bool.Decides.{Decides-eqb, Decides-int_eq};
     ghost use Rattle.std.proofs.lemmas.Slice.Eq.{bytes_eq-Decides};
     ghost use Rattle.gate_rpc.specs.contracts.id.Id.{enum};
-    ghost use Rattle.gate_rpc.specs.Equality.{enum_decides, ◌or◌, none_decides, last_decides};
+    ghost use Rattle.gate_bytes.specs.Equality.{enum_decides, ◌or◌, none_decides, last_decides};
 
     ghost exact = { enum_decides enum _ (none_decides or last_decides bytes_eq-Decides or last_decides Decides-eqb or last_decides Decides-int_eq or tt) };
 }

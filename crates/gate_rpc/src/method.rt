@@ -57,7 +57,7 @@ impl Method {
 
 impl Exact for Method {
     ghost use Rattle.gate_rpc.specs.contracts.method.Method.{enum};
-    ghost use Rattle.gate_rpc.specs.Equality.{bare_decides};
+    ghost use Rattle.gate_bytes.specs.Equality.{bare_decides};
 
     ghost exact = { bare_decides enum tt };
 }

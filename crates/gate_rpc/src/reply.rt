@@ -79,7 +79,7 @@ impl Exact for RpcReply {
     ghost use Rattle.gate_rpc.specs.contracts.result.RpcResultExact.TheImpl.Laws.{exact-law as result_decides};
     ghost use Rattle.gate_rpc.specs.contracts.error.RpcErrorExact.TheImpl.Laws.{exact-law as error_decides};
     ghost use Rattle.gate_rpc.specs.contracts.reply.RpcReply.{enum};
-    ghost use Rattle.gate_rpc.specs.Equality.{enum_decides, ◌or◌, ◌&◌, none_decides, last_decides};
+    ghost use Rattle.gate_bytes.specs.Equality.{enum_decides, ◌or◌, ◌&◌, none_decides, last_decides};
 
     ghost exact = { enum_decides enum _ (none_decides or id_decides & last_decides result_decides or id_decides & last_decides error_decides or tt) };
 }

@@ -82,7 +82,7 @@ impl Exact for Command {
     ghost use Rattle.std.proofs.lemmas.Slice.Eq.{bytes_eq-Decides};
     ghost use Rattle.gate_submission.specs.contracts.prepared.PreparedExact.TheImpl.Laws.{exact-law as prepared_decides};
     ghost use Rattle.gate_rpc.specs.contracts.request.Command.{enum};
-    ghost use Rattle.gate_rpc.specs.Equality.{enum_decides, ◌or◌, none_decides, last_decides};
+    ghost use Rattle.gate_bytes.specs.Equality.{enum_decides, ◌or◌, none_decides, last_decides};
 
     ghost exact = { enum_decides enum _ (last_decides prepared_decides or last_decides prepared_decides or none_decides
         or last_decides bytes_eq-Decides or last_decides bytes_eq-Decides or last_decides bytes_eq-Decides or none_decides or tt) };
@@ -92,7 +92,7 @@ impl Exact for Request {
     ghost use Rattle.gate_rpc.specs.contracts.id.IdExact.TheImpl.Laws.{exact-law as id_decides};
     ghost use Rattle.gate_rpc.specs.contracts.request.CommandExact.TheImpl.Laws.{exact-law as command_decides};
     ghost use Rattle.gate_rpc.specs.contracts.request.Request.{the_type};
-    ghost use Rattle.gate_rpc.specs.Equality.{struct_decides, ◌&◌, last_decides};
+    ghost use Rattle.gate_bytes.specs.Equality.{struct_decides, ◌&◌, last_decides};
 
     ghost exact = { struct_decides the_type (id_decides & last_decides command_decides) };
 }

@@ -133,7 +133,7 @@ impl Exact for EntryInfo {
     ghost use Rattle.std.proofs.lemmas.Slice.Eq.{bytes_eq-Decides};
     ghost use Rattle.gate_tx.specs.Equality.{items_decides};
     ghost use Rattle.gate_rpc.specs.contracts.result.EntryInfo.{the_type};
-    ghost use Rattle.gate_rpc.specs.Equality.{struct_decides, ◌&◌, last_decides};
+    ghost use Rattle.gate_bytes.specs.Equality.{struct_decides, ◌&◌, last_decides};
 
     ghost exact = { struct_decides the_type (bytes_eq-Decides & Decides-eqb & Decides-eqb & Decides-eqb & Decides-eqb
         & Decides-eqb & Decides-eqb & Decides-eqb & Decides-eqb & Decides-eqb & Decides-eqb
@@ -147,7 +147,7 @@ impl Exact for RpcResult {
     ghost use Rattle.gate_standard.specs.contracts.denial.Denial.{enum as denials};
     ghost use Rattle.gate_rpc.specs.contracts.result.EntryInfoExact.TheImpl.Laws.{exact-law as entry_decides};
     ghost use Rattle.gate_rpc.specs.contracts.result.RpcResult.{enum};
-    ghost use Rattle.gate_rpc.specs.Equality.{enum_decides, ◌or◌, ◌&◌, last_decides, bare_decides};
+    ghost use Rattle.gate_bytes.specs.Equality.{enum_decides, ◌or◌, ◌&◌, last_decides, bare_decides};
 
     ghost exact = { enum_decides enum _ (last_decides bytes_eq-Decides
         or bytes_eq-Decides & bytes_eq-Decides & Decides-eqb & last_decides Decides-eqb
