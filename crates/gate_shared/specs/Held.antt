@@ -27,8 +27,8 @@ pub record Held : Type 0 where
 abbrev pub held : World → List Entry → ℕ → Held
 held state journal passes = record { state = state; journal = journal; passes = passes }
 
--- the journal is legal from the base and the state is the one that it leads to, a good one where the base is good and the
--- run is apart
+-- the journal is legal from the base and the state is the one that it leads to, a good one if the base is good and the run is
+-- apart
 pub record IsHeld (base : World) (s : Held) : Type 0 where
   pub few : length s.journal ≤ 100000
   pub legal : IsLegal base s.journal
@@ -41,11 +41,11 @@ pub record IsHeld (base : World) (s : Held) : Type 0 where
 abbrev pub IsOwn : PassView → Event → Type 0
 IsOwn p event = (caller_of event ≡ p.caller) × (length p.calls < 65536)
 
--- no test of a call holds
+-- no fault of a call holds
 abbrev pub NoFault : Held → PassView → Event → Type 0
 NoFault s p event = IsOwn p event × LastStands s.journal p × (length s.journal < 100000)
 
--- the fault is that of the first test that holds; memory may run out once the event is the caller's own and the pass has room
+-- the fault is the first that holds; memory may run out once the event is the caller's own and the pass has room
 abbrev pub FirstFault : Held → PassView → Event → CallFault → Type 0
 FirstFault s p event WrongCaller = ¬ (caller_of event ≡ p.caller)
 FirstFault s p event PassFull = (caller_of event ≡ p.caller) × (65536 ≤ length p.calls)
