@@ -1,6 +1,6 @@
 //! The program `gate`: it hands its words, standard input and standard output to `gate_prog`.
 //!
-//! Where it stops before its work is done, standard error has one line that says why.
+//! If it stops before its work is done, standard error has one line that says why.
 #![tactic(auto)]
 
 use gate_causes::{Behind, Heard, Limit, Place, Watched, digits_told, refusal_told};
@@ -66,7 +66,7 @@ struct Terminals {
     error: bool,
 }
 
-/// The bytes of each buffer.
+/// The size of each buffer, in bytes.
 const BUFFER: usize = 65_536;
 
 fn main(rt: HostRuntime) -> ExitCode {
@@ -77,7 +77,7 @@ fn main(rt: HostRuntime) -> ExitCode {
     match status(&rt, terminals) {
         Ok(status) => ExitCode::from(status),
         Err(fault) => {
-            // Where standard error takes nothing either, the status alone says it.
+            // If standard error takes nothing either, only the status says it.
             let _written = eprintln!(rt; "gate: {fault}");
             ExitCode::from(fault.status())
         }
@@ -95,7 +95,7 @@ fn words(rt: &(impl Env + AllocGlobal)) -> Result<Vec<String>, Fault> {
     }
 }
 
-/// Whether the words ask how to ask for help, which is told by the help.
+/// Whether the words ask for help on `help`, which is answered by the help itself.
 fn asks_for_help(args: &[String]) -> bool {
     match args {
         [first, second] => {
@@ -130,7 +130,7 @@ fn reads_input(job: &Job) -> bool {
     }
 }
 
-/// What a job that failed stops for: what could not be read is named where it is past a limit.
+/// The fault that a job stops for: if the input could not be read because it is past a limit, that limit and its line.
 fn fault_at(fault: LaneFault, place: &Place) -> Fault {
     match (fault, place.limit()) {
         (LaneFault::Read, Some(limit)) => Fault::Limit(place.line(), limit),
@@ -138,7 +138,7 @@ fn fault_at(fault: LaneFault, place: &Place) -> Fault {
     }
 }
 
-/// How many bytes standard input has, where it is a file.
+/// How many bytes standard input has, if it is a file.
 fn input_length(files: &impl Files) -> Option<u64> {
     match fs::metadata(files, "/dev/stdin") {
         Ok(metadata) if metadata.is_file() => Some(metadata.len()),
@@ -146,12 +146,12 @@ fn input_length(files: &impl Files) -> Option<u64> {
     }
 }
 
-/// The status of a job, over the standard streams.
+/// Runs a job over the standard streams, and gives its status.
 fn run<
     R: AllocGlobal + Files + Clock + Input + Print + Eprint + RandomSource + Threads + Wait + Sync,
 >(rt: &R, job: &Job, terminals: Terminals) -> Result<u8, Fault> {
     let alloc = rt.alloc();
-    // Peers choose txids and outpoints: with keys that they can't know they can't make them collide.
+    // Peers choose txids and outpoints: since they can't know the keys, they can't make the hashes collide.
     let Ok(hasher) = RandomState::new(rt) else {
         return Err(Fault::Random);
     };
@@ -184,12 +184,12 @@ fn run<
     }
 }
 
-/// Says on standard error what is wrong with an opening, where the first text that was written refuses one.
+/// Says on standard error what is wrong with an opening, if the first text that was written refuses one.
 fn tell_refusal<R: AllocGlobal + Eprint>(rt: &R, refusal: &[u8], place: &Place, last: &[u8]) {
     let Ok(text) = std::str::from_utf8(refusal) else {
         return;
     };
-    // Without memory for it, or where standard error takes nothing, standard output alone says it.
+    // Without memory for it, or if standard error takes nothing, only standard output says it.
     if let Ok(Some(told)) = refusal_told(rt.alloc(), text.trim_end(), place, last) {
         let _written = eprintln!(rt; "gate: {told}");
     }
@@ -202,7 +202,8 @@ fn tell_digits<R: AllocGlobal + Eprint>(rt: &R, word: &str) {
     }
 }
 
-/// The same. Standard error says that input is read from a terminal, and what is wrong with a word.
+/// Runs a job over the standard streams, and gives its status. Standard error says if input is read from a terminal,
+/// and what is wrong with a word.
 fn run_told<
     R: AllocGlobal + Files + Clock + Input + Print + Eprint + RandomSource + Threads + Wait + Sync,
 >(rt: &R, job: &Job, terminals: Terminals) -> Result<u8, Fault> {
@@ -223,14 +224,14 @@ fn run_told<
     Ok(status)
 }
 
-/// What these words ask for.
-// Where it stood within its caller, what it takes of the stack would lie below each job.
+/// The job that these words ask for.
+// If it were inlined, what it takes of the stack would lie below each job.
 #[inline(never)]
 fn job_of<'a>(alloc: Global, words: &'a [&'a str]) -> Result<Job, ArgsFault> {
     read_args(alloc, words)
 }
 
-/// The status of what these words ask for.
+/// Does what these words ask for, and gives the status.
 fn answer<
     R: AllocGlobal + Files + Clock + Input + Print + Eprint + RandomSource + Threads + Wait + Sync,
 >(rt: &R, args: &[String], terminals: Terminals) -> Result<u8, Fault> {
@@ -250,7 +251,7 @@ fn answer<
     }
 }
 
-/// The status of what the words behind the program's name ask for.
+/// Does what the words behind the program's name ask for, and gives the status.
 fn status<
     R: AllocGlobal
         + Env
@@ -270,7 +271,7 @@ fn status<
     status
 }
 
-/// The status that follows what was printed.
+/// The status after a text was printed, or a fault if it could not be printed.
 fn printed(done: io::Result<()>, status: u8) -> Result<u8, Fault> {
     match done {
         Ok(()) => Ok(status),

@@ -1,4 +1,4 @@
--- What a grant may say, so that an entry holds it.
+-- The fee and the size that a grant has, so that an entry can hold them.
 use Rattle.std.specs.Prelude.{ℕ, ◌≤◌, Result, Ok, Err}
 use Rattle.gate_tx.specs.Money.{max_money}
 use Rattle.gate_standard.specs.declared.Denial.{Denial}

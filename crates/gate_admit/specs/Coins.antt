@@ -10,13 +10,13 @@ use Rattle.gate_chain.specs.Coins.{coin_made, coin_of}
 use Rattle.gate_chain.specs.Times.{tip_of}
 use Rattle.gate_pool.specs.Pool.{Admitted, entry_by_txid}
 
--- the coin that an output of an entry is, where something can spend it: of no coinbase, and as though its transaction were
--- in a block of this height
+-- the coin of an entry's output, if a script can spend it: not of a coinbase, and as though its transaction were in a block
+-- of this height
 abbrev pub pool_coin : ℕ → List Admitted → OutPoint → Option Coin
 pool_coin height entries point =
     option_and_then (λ (e : Admitted). option_and_then (coin_made height false) (slice_get e.tx.outputs point.index)) (entry_by_txid entries point.txid)
 
--- the output of an entry, which the next block may have; else the unspent coin of the chain
+-- the output of an entry, as though the entry were in the next block; else the unspent coin of the chain
 abbrev pub view_coin : History → List Admitted → OutPoint → Option Coin
 view_coin chain entries point = option_or (pool_coin (tip_of chain + 1) entries point) (coin_of chain point)
 

@@ -16,7 +16,7 @@ use Rattle.gate_admit.specs.Coins.{view_coin}
 use Rattle.gate_admit.specs.Limits.{descendants_size_limit, family_size_limit}
 use Rattle.gate_admit.specs.Policies.{Policy, most_ancestors, most_descendants}
 
--- what a pool may hold, in virtual bytes, and what is asked of its families
+-- the most virtual bytes that a pool may hold, and the policy on its families
 pub record Limits : Type 0 where
   pub budget : ℕ
   pub policy : Policy
@@ -24,7 +24,7 @@ pub record Limits : Type 0 where
 abbrev pub limits_for : Policy → ℕ → Limits
 limits_for policy budget = record { budget = budget; policy = policy }
 
--- the ancestors and the descendants of an id, its own entry among each, are few and small
+-- the ancestors and the descendants of an id, its own entry among each, are within the limits of the policy
 pub record IsLimited (policy : Policy) (entries : List Admitted) (txid : List ℕ) : Type 0 where
   pub ancestors : length (ancestors_of entries txid) ≤ most_ancestors policy
   pub ancestors_size : size_of (ancestors_of entries txid) ≤ family_size_limit
@@ -67,7 +67,7 @@ begins_with_coinbase (tx ∷ txs) = is_coinbase tx.inputs
 abbrev pub chain_up_to : History → List Block → Block → History
 chain_up_to chain before b = record { coins = chain.coins; times = chain.times; blocks = before ++ b ∷ [] }
 
--- each connected block begins with a coinbase, its transactions have a text, and what those behind the first spend came from
+-- each connected block begins with a coinbase, its transactions have a text, and those behind the first spend outputs of
 -- transactions that the chain knew once it had that block
 pub record IsSettled (chain : History) : Type 0 where
   pub coinbases : (b : Block) → Contains chain.blocks b → begins_with_coinbase b.transactions ≡ true

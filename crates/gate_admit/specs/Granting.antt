@@ -24,13 +24,13 @@ pub record IsGrantable (over : Standing) (tx : Tx) : Type 0 where
   pub txid : All (λ (e : Admitted). txid_of e.tx ≢ txid_of tx) over.entries
   pub wtxid : All (λ (e : Admitted). wtxid_of e.tx ≢ wtxid_of tx) over.entries
   -- each entry that spends an outpoint that it spends says that it may be replaced, unless all may be, and none of them is
-  -- above it
+  -- among its ancestors
   pub replaceable : over.policy.full_rbf ≡ false → All (λ (e : Admitted). signals e.tx ≡ true) (conflicts_of over.entries tx)
   pub beside : All (λ (e : Admitted). is_conflict tx e ≡ false) (ancestors_above over.entries tx.inputs)
   -- no entry that stays spends an outpoint that it spends, and it spends none twice
   pub unspent : All (λ (p : OutPoint). All (λ (q : OutPoint). p ≢ q) (spends_of tx)) (spent_by (without_below (is_conflict tx) over.entries))
   pub single : AllPairs (λ (p : OutPoint) (q : OutPoint). p ≢ q) (spends_of tx)
-  -- each outpoint that it spends has a coin, no coin of a coinbase is too young, and its locks are met
+  -- each outpoint that it spends has a coin, no coin of a coinbase is too young, and its timelocks are met
   pub coins : All (λ (p : OutPoint). IsSome (view_coin over.chain over.entries p)) (spends_of tx)
   pub mature : All (λ (c : Coin). is_immature (tip_of over.chain + 1) c ≡ false) (coins_of over.chain over.entries tx.inputs)
   pub final : is_final_at tx (tip_of over.chain + 1) (median_at over.chain (tip_of over.chain)) ≡ true
@@ -38,18 +38,18 @@ pub record IsGrantable (over : Standing) (tx : Tx) : Type 0 where
   -- no coin that the chain was opened with came from a transaction of its txid
   pub fresh : opened_with_of over.chain (txid_of tx) ≡ false
 
--- what its coins hold is what its outputs hold and the fee, and the fee is an amount that there can be
+-- the sum of its coins is that of its outputs and the fee, and the fee is an amount that there can be
 pub record Conserves (over : Standing) (tx : Tx) (grant : Grant) : Type 0 where
   pub balanced : coins_value (coins_of over.chain over.entries tx.inputs) ≡ outputs_value tx + grant.fee
   pub money : grant.fee ≤ max_money
 
--- the fee pays for the size at the rate that is asked of every transaction, and at the pool's floor
+-- the fee pays for the size at the feerate that is asked of every transaction, and at the pool's floor
 pub record PaysItsSize (floor : ℕ) (grant : Grant) : Type 0 where
   pub relay : required_fee min_relay_rate grant.vsize ≤ grant.fee
   pub pool : required_fee floor grant.vsize ≤ grant.fee
 
--- a replacement pays at least what all that it replaces pay, and its own relay above that; its rate, rounded down, is above
--- that of each entry that it conflicts with; and no entry that stays spends an output of one that goes
+-- a replacement pays at least the fees of all that it replaces, and its own relay above that; its feerate, rounded down, is
+-- above that of each entry that it conflicts with; and no entry that stays spends an output of one that leaves
 pub record Replaces (over : Standing) (tx : Tx) (grant : Grant) : Type 0 where
   pub paid : fees_of (replaced_of over.entries tx) + required_fee incremental_relay_rate grant.vsize ≤ grant.fee
   pub rate : All (λ (c : Admitted). feerate c.fee c.vsize < feerate grant.fee grant.vsize) (conflicts_of over.entries tx)

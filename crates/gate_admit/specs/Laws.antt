@@ -30,13 +30,13 @@ Follows rules (Err denial) = IsFirstFailing rules denial
 abbrev pub DecisionsFollow : Type 0
 DecisionsFollow = (attempt : Attempt) (over : Standing) (tx : Tx) → Follows (admission_rules attempt over tx) (decision_of attempt over (Some tx))
 
--- what is granted spends live coins and makes nothing of nothing; at its first attempt it pays for its size
+-- what is granted spends live coins and conserves value; at its first attempt it pays for its size
 pub record GrantsAreSound : Type 0 where
   pub live : (attempt : Attempt) (over : Standing) (tx : Tx) (grant : Grant) → decision_of attempt over (Some tx) ≡ Ok grant → IsGrantable over tx
   pub conserve : (attempt : Attempt) (over : Standing) (tx : Tx) (grant : Grant) → decision_of attempt over (Some tx) ≡ Ok grant → Conserves over tx grant
   pub paid : (over : Standing) (tx : Tx) (grant : Grant) → decision_of First over (Some tx) ≡ Ok grant → PaysItsSize over.floor grant
 
--- what BIP 125 is for
+-- what BIP 125 is for: what is granted and conflicts with an entry pays for all that it replaces
 abbrev pub ReplacementsPay : Type 0
 ReplacementsPay =
     (attempt : Attempt) (over : Standing) (tx : Tx) (grant : Grant) → decision_of attempt over (Some tx) ≡ Ok grant → list_any (is_conflict tx) over.entries ≡ true → Replaces over tx grant
@@ -51,7 +51,7 @@ pub record GrantsStand : Type 0 where
   pub gone : (over : Standing) (tx : Tx) (now budget : ℕ) (grant : Grant) → decision_of First over (Some tx) ≡ Ok grant → (submit_of over (Some tx) now budget).decision ≡ Err MempoolFull
       → holds (submit_of over (Some tx) now budget).entries (txid_of tx) ≡ false
 
--- in a pool whose families are within the limits, asking the family of what comes back is asking every entry
+-- in a pool whose families are within the limits, asking the family of a transaction that comes back is asking every entry
 abbrev pub ReadmissionsAskOfAll : Type 0
 ReadmissionsAskOfAll =
     (policy : Policy) (entries : List Admitted) (tx : Tx) (vsize : ℕ) → All (λ (e : Admitted). IsLimited policy entries (txid_of e.tx)) entries
@@ -61,7 +61,7 @@ ReadmissionsAskOfAll =
 abbrev pub FloorsNeverFall : Type 0
 FloorsNeverFall = (over : Standing) (tx : Option Tx) (now budget : ℕ) → over.floor ≤ (submit_of over tx now budget).floor
 
--- a pool without entries is good, and each submission of what no block has keeps a pool good under its policy
+-- a pool without entries is good, and each submission of what no connected block has keeps a good pool good under its policy
 pub record PoolsStayGood : Type 0 where
   pub empty : (limits : Limits) (chain : History) → IsGood limits chain []
   pub kept : (over : Standing) (tx : Option Tx) (now budget : ℕ)

@@ -44,22 +44,22 @@ usual_limits policy =
 abbrev pub carved_out : FamilyLimits → FamilyLimits
 carved_out limits = record { ancestors = 2; ancestors_size = family_size_limit; descendants = limits.descendants + 1; descendants_size = limits.descendants_size + carve_out_size }
 
--- a transaction of this size can join some entries, as their descendant
+-- a transaction of this size can join these descendants of an entry
 abbrev pub has_room : FamilyLimits → ℕ → List Admitted → Bool
 has_room limits vsize family = nat_le (length family + 1) limits.descendants && nat_le (size_of family + vsize) limits.descendants_size
 
--- it can join the descendants of an entry
+-- a transaction of this size can join the descendants of this entry
 abbrev pub has_room_below : FamilyLimits → List Admitted → ℕ → Admitted → Bool
 has_room_below limits entries vsize a = has_room limits vsize (descendants_of entries (txid_of a.tx))
 
--- a transaction of this size has few and small enough ancestors, and each of them descendants, with it
+-- with a transaction of this size its ancestors are few and small enough, and so are the descendants of each of them
 abbrev pub is_within : FamilyLimits → List Admitted → List Admitted → ℕ → Bool
 is_within limits entries above vsize =
     nat_le (length above + 1) limits.ancestors
     && ((length above == 0 || nat_le (size_of above + vsize) limits.ancestors_size)
     && list_all (has_room_below limits entries vsize) above)
 
--- one of the two tries succeeds
+-- one of the two tries of A36 succeeds; only a small transaction has a second one
 abbrev pub fits_families : Policy → List Admitted → Tx → ℕ → Bool
 fits_families policy entries tx vsize =
     let above = ancestors_above entries tx.inputs in
@@ -68,7 +68,7 @@ fits_families policy entries tx vsize =
 
 -- ---- a transaction that is tried again
 
--- the ancestors and the descendants of an id, its own entry among each, are few and small
+-- the ancestors and the descendants of an id, its own entry among each, are within the limits of the policy
 abbrev pub is_limited : Policy → List Admitted → List ℕ → Bool
 is_limited policy entries txid =
     nat_le (length (ancestors_of entries txid)) (most_ancestors policy)
@@ -79,7 +79,7 @@ is_limited policy entries txid =
 abbrev pub are_limited : Policy → List Admitted → List Admitted → Bool
 are_limited policy entries these = list_all (λ e. is_limited policy entries (txid_of e.tx)) these
 
--- the same within any limits
+-- the ancestors and the descendants of an id, its own entry among each, are within these limits
 abbrev pub fits_within : FamilyLimits → List Admitted → List ℕ → Bool
 fits_within limits entries txid =
     nat_le (length (ancestors_of entries txid)) limits.ancestors
@@ -90,15 +90,15 @@ fits_within limits entries txid =
 abbrev pub all_fit_within : FamilyLimits → List Admitted → List Admitted → Bool
 all_fit_within limits entries these = list_all (λ e. fits_within limits entries (txid_of e.tx)) these
 
--- the entries with a transaction of this size behind them; what it would replace is still there
+-- the entries with a transaction of this size behind them; the entries that it would replace are still there
 abbrev pub joined : List Admitted → Tx → ℕ → List Admitted
 joined entries tx vsize = entries ++ record { tx = tx; fee = 0; vsize = vsize; time = 0 } ∷ []
 
--- a chain of steps leads from it to a transaction of which it spends an output
+-- the transaction descends from itself: steps lead from it to a transaction of which it spends an output
 abbrev pub is_below_itself : List Admitted → Tx → Bool
 is_below_itself entries tx = list_any (λ (i : TxIn). reaches (steps entries) (txid_of tx) i.prevout.txid) tx.inputs
 
--- it spends an output of an entry
+-- the transaction spends an output of an entry
 abbrev pub has_parent : List Admitted → Tx → Bool
 has_parent entries tx = list_any (λ (i : TxIn). is_some (entry_by_txid entries i.prevout.txid)) tx.inputs
 
@@ -109,21 +109,23 @@ pub record LeavesRoomBelow (policy : Policy) (vsize : ℕ) (limits : FamilyLimit
   pub descendants : limits.descendants + 1 ≡ most_descendants policy
   pub descendants_size : limits.descendants_size + vsize ≡ descendants_size_limit
 
--- those of its descendants without it: each has it as one ancestor more
+-- the limits of a transaction's descendants without it: each has it as one ancestor more, of this size
 pub record LeavesRoomAbove (policy : Policy) (vsize : ℕ) (limits : FamilyLimits) : Type 0 where
   pub ancestors : limits.ancestors + 1 ≡ most_ancestors policy
   pub ancestors_size : limits.ancestors_size + vsize ≡ family_size_limit
   pub descendants : limits.descendants ≡ most_descendants policy
   pub descendants_size : limits.descendants_size ≡ descendants_size_limit
 
--- with it, it doesn't descend from itself, and each of its ancestors and descendants, itself among them, is within the limits
+-- beside the entries the transaction doesn't descend from itself, and each of its ancestors and descendants, itself among them,
+-- is within the limits
 abbrev pub fits_again : Policy → List Admitted → Tx → ℕ → Bool
 fits_again policy entries tx vsize =
     let all = joined entries tx vsize in
     not (is_below_itself all tx)
     && (are_limited policy all (ancestors_of all (txid_of tx)) && are_limited policy all (descendants_of all (txid_of tx)))
 
--- the same of every entry, as a node's operator would say it: with it, none passes the limits
+-- as a node's operator would say it: beside the entries the transaction doesn't descend from itself, and with it no entry passes
+-- the limits
 abbrev pub fits_among : Policy → List Admitted → Tx → ℕ → Bool
 fits_among policy entries tx vsize =
     let all = joined entries tx vsize in

@@ -1,8 +1,8 @@
--- What an operator asks of families and of replacements.
+-- The limits of families and the rule on replacements that an operator sets.
 use Rattle.std.specs.Prelude.{◌≤◌, ◌+◌, ℕ, nat_le, max, Bool, false, ◌&&◌, Option, Some, None, if◌then◌else◌}
 
 -- how many ancestors and descendants a transaction may have at its first try, itself among each, and whether it may replace
--- what doesn't signal
+-- an entry that doesn't signal
 pub record Policy : Type 0 where
   pub ancestors : ℕ
   pub descendants : ℕ
@@ -21,16 +21,17 @@ is_count n = nat_le 1 n && nat_le n 1000
 abbrev pub policy : ℕ → ℕ → Bool → Policy
 policy ancestors descendants full_rbf = record { ancestors = ancestors; descendants = descendants; full_rbf = full_rbf }
 
--- a policy with these numbers, where there may be one
+-- a policy with these numbers, if both are 1 to 1,000
 abbrev pub policy_of : ℕ → ℕ → Bool → Option Policy
 policy_of ancestors descendants full_rbf =
     if is_count ancestors && is_count descendants then Some (policy ancestors descendants full_rbf) else None
 
--- the policy of an operator that says nothing
+-- the policy of an operator who sets none
 abbrev pub usual_policy : Policy
 usual_policy = policy 25 25 false
 
--- the most ancestors and descendants that an entry has, itself among each: a second try lets a transaction with one parent in
+-- the most ancestors and descendants that an entry may have, itself among each: a second try lets in a transaction with one parent,
+-- as one descendant more
 abbrev pub most_ancestors : Policy → ℕ
 most_ancestors policy = max policy.ancestors 2
 

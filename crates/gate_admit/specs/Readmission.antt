@@ -7,8 +7,7 @@ use Rattle.gate_pool.specs.Family.{entered}
 use Rattle.gate_admit.specs.declared.grant.Grant.{Grant}
 use Rattle.gate_admit.specs.Submission.{admitted}
 
--- what is granted enters at this second, above what spends its outputs, in the place of what conflicts with it; a denial changes
--- nothing
+-- what is granted enters at this second, even if entries spend its outputs, in place of what it replaces; a denial changes nothing
 abbrev pub readmitted : List Admitted → Option Tx → ℕ → Result Grant Denial → List Admitted
 readmitted entries (Some tx) now (Ok grant) = entered entries (admitted tx grant now)
 readmitted entries None now (Ok grant) = entries

@@ -23,7 +23,7 @@ use Rattle.gate_admit.specs.Verdicts.{VerdictTable, verdict_of}
 abbrev pub reported : List TxIn → List Coin → List Answers
 reported inputs coins = map (λ (p : TxIn × Coin). answers_of p.0 p.1.script) (zip inputs coins)
 
--- what the script of an output counts, inaccurately; at most 2^64 - 1, which no transaction reaches
+-- the signature operations of an output's script, counted inaccurately; at most 2^64 - 1, which no transaction reaches
 abbrev pub output_sigops : TxOut → ℕ
 output_sigops output = min (sigops_of false output.script) (2 ^ 64 - 1)
 
@@ -38,7 +38,7 @@ report_rules answers tx =
     ∷ (TooManySigops, nat_lt 16000 (sigop_cost answers tx.outputs))
     ∷ []
 
--- the size in virtual bytes: a quarter of the weight, rounded up, where a unit of the cost weighs at least 20
+-- the size in virtual bytes: a quarter, rounded up, of the weight or of 20 for each unit of the cost, whichever is more
 abbrev pub vsize_of : ℕ → Tx → ℕ
 vsize_of cost tx = (max (weight_of tx) (20 * cost) + 3) / 4
 
@@ -59,7 +59,7 @@ is_hard other = false
 unfoldable pub rules_of_verdict : Option Verdict → List (Rule Denial)
 rules_of_verdict verdict = (VerdictMissing, is_missing verdict) ∷ (SoftVerdict, is_soft verdict) ∷ (HardVerdict, is_hard verdict) ∷ []
 
--- input by input, the first at this index
+-- the rules on the verdicts, input by input, the first at this index
 unfoldable pub verdict_rules : VerdictTable → List ℕ → ℕ → List TxIn → List (Rule Denial)
 verdict_rules verdicts wtxid index [] = []
 verdict_rules verdicts wtxid index (input ∷ inputs) = rules_of_verdict (verdict_of verdicts wtxid index) ++ verdict_rules verdicts wtxid (index + 1) inputs

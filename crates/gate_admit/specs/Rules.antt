@@ -57,7 +57,7 @@ coin_rules chain entries tx =
     ∷ (MissingOrSpent, misses_coin chain entries tx.inputs)
     ∷ []
 
--- ---- A26: relative locks
+-- ---- A26: relative timelocks
 
 abbrev pub heights_of : List Coin → List ℕ
 heights_of coins = map (λ (c : Coin). c.height) coins
@@ -74,39 +74,39 @@ is_immature next_height coin = coin.coinbase && nat_lt (next_height - coin.heigh
 abbrev pub is_outside : ℤ → Bool
 is_outside value = not (is_money value)
 
--- the rules on one coin, where those before it sum to this
+-- the rules on one coin, if the coins before it sum to this
 abbrev pub rules_of_coin : ℕ → ℕ → Coin → List (Rule Denial)
 rules_of_coin next_height sum coin =
     (PrematureSpend, is_immature next_height coin)
     ∷ (InputValues, is_outside coin.value || nat_lt max_money (sum + amount_or_zero coin.value))
     ∷ []
 
--- input by input
+-- the rules on the coins, input by input
 unfoldable pub coin_value_rules : ℕ → ℕ → List Coin → List (Rule Denial)
 coin_value_rules next_height sum [] = []
 coin_value_rules next_height sum (coin ∷ coins) = rules_of_coin next_height sum coin ++ coin_value_rules next_height (sum + amount_or_zero coin.value) coins
 
 -- ---- A29, A30, A34 and A35: what is paid
 
--- in satoshi: what the coins hold, and what the outputs hold
+-- the sum of the coins and that of the outputs, in satoshi
 abbrev pub coins_value : List Coin → ℕ
 coins_value coins = sum_by (λ (c : Coin). amount_or_zero c.value) coins
 
 abbrev pub outputs_value : Tx → ℕ
 outputs_value tx = sum_by (λ (o : TxOut). amount_or_zero o.value) tx.outputs
 
--- what is asked of every transaction, in satoshi per 1,000 virtual bytes
+-- the feerate that is asked of every transaction, in satoshi per 1,000 virtual bytes
 abbrev pub min_relay_rate : ℕ
 min_relay_rate = 1000
 
--- what comes in and what goes out
+-- the coins cover the outputs, and the fee is an amount that there can be
 unfoldable pub balance_rules : ℕ → ℕ → List (Rule Denial)
 balance_rules paid_in paid_out =
     (InBelowOut, nat_lt paid_in paid_out)
     ∷ (FeeOutOfRange, nat_lt max_money (paid_in - paid_out))
     ∷ []
 
--- what the pool's floor asks for the size, and then what every relay does; a floor of 0 asks for nothing
+-- the fee that the pool's floor asks for the size, and then the one that every relay asks; a floor of 0 asks for nothing
 unfoldable pub fee_rules : ℕ → ℕ → ℕ → List (Rule Denial)
 fee_rules floor fee vsize =
     (MempoolMinFee, nat_lt fee (required_fee floor vsize))

@@ -25,16 +25,16 @@ pub record Submitted : Type 0 where
 abbrev pub admitted : Tx → Grant → ℕ → Admitted
 admitted tx grant now = record { tx = tx; fee = grant.fee; vsize = grant.vsize; time = now }
 
--- An entry enters with this budget of virtual bytes, over these entries and this floor. What it conflicts with goes out with
--- all that is below, and it stands at the end. Then entries expire at its second, and then the pool is trimmed.
+-- An entry enters with this budget of virtual bytes, over these entries and this floor. What it conflicts with leaves with
+-- all descendants, and it stands at the end. Then entries expire at its second, and then the pool is trimmed.
 unfoldable pub entry_of : ℕ → List Admitted → ℕ → Admitted → Trimmed
 entry_of budget entries floor e = trim_of budget (expired e.time (entered entries e)) floor
 
 abbrev pub holds : List Admitted → List ℕ → Bool
 holds entries txid = is_some (entry_by_txid entries txid)
 
--- what a granted transaction comes to: where it is gone again it is denied (A46), and pool and floor stay as its entry left
--- them
+-- the outcome for a granted transaction: if it has left the pool again it is denied (A46), and pool and floor stay as its entry
+-- left them
 abbrev pub entered_by : Grant → List ℕ → Trimmed → Submitted
 entered_by grant txid after = record {
   decision = if holds after.entries txid then Ok grant else Err MempoolFull;
@@ -42,7 +42,7 @@ entered_by grant txid after = record {
   floor = after.floor;
 }
 
--- what a decision comes to: a denial changes nothing
+-- the outcome of a decision: a denial changes nothing
 abbrev pub submitted_by : Standing → Option Tx → ℕ → ℕ → Result Grant Denial → Submitted
 submitted_by over tx now budget (Err denial) = record { decision = Err denial; entries = over.entries; floor = over.floor }
 submitted_by over None now budget (Ok grant) = record { decision = Ok grant; entries = over.entries; floor = over.floor }
@@ -56,7 +56,7 @@ submit_of over tx now budget = submitted_by over tx now budget (decision_of Firs
 abbrev pub Leaves : Standing → Option Tx → ℕ → ℕ → List Admitted → ℕ → Result Grant Denial → Type 0
 Leaves over tx now budget entries floor decision = submit_of over tx now budget ≡ record { decision = decision; entries = entries; floor = floor }
 
--- where the transactions are told apart by their ids, a pool that is good is so still after the submission
+-- if the transactions are told apart by their ids, a good pool is still good after the submission
 abbrev pub StaysGood : Limits → History → Option Tx → List Admitted → List Admitted → Type 0
 StaysGood limits chain tx before after =
     IsSettled chain → AreApart (option_to_list tx ++ connected_transactions chain) → IsGood limits chain before → IsGood limits chain after

@@ -1,4 +1,4 @@
-//! Families of a transaction that is tried again: its own limits in the place of A36.
+//! Families of a transaction that is tried again, which has limits of its own in place of A36's.
 ghost use Rattle.std.specs.Prelude.{◌≡◌, ◌≤◌, Bool, true, false, None, [], IfOk, IfSome, is_some, filter, Contains};
 ghost use Rattle.gate_tx.specs.Ids.{txid_of};
 ghost use Rattle.gate_pool.specs.Pool.{Admitted, entry_by_txid, largest_vsize};
@@ -15,10 +15,10 @@ use gate_tx::{Identified, Txid};
 use std::alloc::Global;
 use std::hash::BuildHasher;
 
-/// How many virtual bytes the ancestors of an entry may have, itself among them.
+/// The most virtual bytes that the ancestors of an entry may have, itself among them.
 const MOST_ANCESTORS_SIZE: u128 = 101_000;
 
-/// How many virtual bytes its descendants may have.
+/// The most virtual bytes that the descendants of an entry may have, itself among them.
 const MOST_DESCENDANTS_SIZE: u128 = 111_000;
 
 /// Whether the family of an entry is within the limits.
@@ -47,7 +47,7 @@ fn is_limited<V: FamilyView>(
     )
 }
 
-/// Whether those of some entries are.
+/// Whether the families of all these entries are within the limits.
 fn all_limited<V: FamilyView>(
     alloc: Global,
     policy: &Policy,
@@ -65,8 +65,9 @@ fn all_limited<V: FamilyView>(
     Ok(true)
 }
 
-/// The ids of the pool's ancestors of a newcomer, where the families that it would join are within the limits with it, and it
-/// isn't among its own ancestors. Each family is walked with the newcomer beside the pool.
+/// The ids of a newcomer's ancestors in the pool if it fits: the families that it would join are within the limits with
+/// it, and it isn't among its own ancestors. None if it doesn't fit. Each family is walked with the newcomer beside the
+/// pool.
 fn fits_among_others<V: FamilyView>(
     alloc: Global,
     policy: &Policy,
@@ -97,7 +98,8 @@ fn fits_among_others<V: FamilyView>(
     Ok(Some(above))
 }
 
-/// Whether the families of the entry with this id, whose totals the pool keeps, are within limits.
+/// Whether the ancestors and the descendants of the entry with this id are within these limits, by the totals that the
+/// pool keeps.
 fn fits_within<S: BuildHasher + Copy + Drop>(
     pool: &Pool<S>,
     txid: &Txid,
@@ -116,7 +118,8 @@ fn fits_within<S: BuildHasher + Copy + Drop>(
     }
 }
 
-/// The same for each of some entries.
+/// Whether the ancestors and the descendants of each of these entries are within these limits, by the totals that the
+/// pool keeps.
 fn all_fit_within<S: BuildHasher + Copy + Drop>(
     pool: &Pool<S>,
     txids: &[Txid],
@@ -132,7 +135,7 @@ fn all_fit_within<S: BuildHasher + Copy + Drop>(
     true
 }
 
-/// The limits of the ancestors of a newcomer of this size: each has it as one descendant more.
+/// The limits that a newcomer of this size leaves to its ancestors: each gains it as a descendant.
 fn limits_above(policy: &Policy, vsize: u128) -> FamilyLimits
     requires { vsize ≤ descendants_size_limit }
     ensures { LeavesRoomBelow policy.now vsize result }
@@ -145,7 +148,7 @@ fn limits_above(policy: &Policy, vsize: u128) -> FamilyLimits
     }
 }
 
-/// Those of its descendants: each has it as one ancestor more.
+/// The limits that a newcomer of this size leaves to its descendants: each gains it as an ancestor.
 fn limits_below(policy: &Policy, vsize: u128) -> FamilyLimits
     requires { vsize ≤ family_size_limit }
     ensures { LeavesRoomAbove policy.now vsize result }
@@ -158,7 +161,8 @@ fn limits_below(policy: &Policy, vsize: u128) -> FamilyLimits
     }
 }
 
-/// What `fits_among_others` finds, for a newcomer that no entry names: the totals of its ancestors decide.
+/// What `fits_among_others` finds for a newcomer of which no entry spends an output: the totals of its ancestors
+/// decide.
 fn fits_as_leaf<S: BuildHasher + Copy + Drop>(
     alloc: Global,
     policy: &Policy,
@@ -187,7 +191,7 @@ fn fits_as_leaf<S: BuildHasher + Copy + Drop>(
     Ok(Some(above))
 }
 
-/// Whether an entry spends an output of one of a pool's.
+/// Whether the newcomer spends an output of an entry of the pool.
 fn has_parent<S: BuildHasher + Copy + Drop>(pool: &Pool<S>, newcomer: &Entry) -> bool
     ensures { result ≡ has_parent pool.now.entries newcomer.now.tx }
 {
@@ -198,7 +202,8 @@ fn has_parent<S: BuildHasher + Copy + Drop>(pool: &Pool<S>, newcomer: &Entry) ->
         .any(|input| pool.entry(&input.prevout.txid).is_some())
 }
 
-/// Whether a newcomer fits that names no entry, where these entries name it: the totals of its descendants decide.
+/// Whether a newcomer fits that spends no output of an entry and has these children in the pool: the totals of its
+/// descendants decide.
 fn fits_as_root<S: BuildHasher + Copy + Drop>(
     alloc: Global,
     policy: &Policy,
@@ -228,7 +233,8 @@ fn fits_as_root<S: BuildHasher + Copy + Drop>(
     Ok(all_fit_within(pool, &below, limits_below(policy, vsize)))
 }
 
-/// What `fits_among_others` finds, by the totals that the pool keeps where nothing is above the newcomer or nothing below it.
+/// What `fits_among_others` finds. If the newcomer has no ancestor or no descendant in the pool, the totals that the
+/// pool keeps decide.
 fn fits_with<S: BuildHasher + Copy + Drop>(
     alloc: Global,
     policy: &Policy,
@@ -257,8 +263,8 @@ fn fits_with<S: BuildHasher + Copy + Drop>(
     Ok(Some(Vec::new(alloc)))
 }
 
-/// The ids of a transaction's ancestors in the pool, where the families that it would join are within the limits with one of
-/// this size, and it isn't among its own ancestors. None where it doesn't fit.
+/// The ids of a transaction's ancestors in the pool if it fits: with this size, in virtual bytes, the families that it
+/// would join are within the limits, and it isn't among its own ancestors. None if it doesn't fit.
 pub(crate) fn fits_again<S: BuildHasher + Copy + Drop>(
     alloc: Global,
     policy: &Policy,

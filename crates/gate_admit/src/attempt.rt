@@ -1,11 +1,11 @@
 /// Whether a transaction is judged for the first time, or tried again after its block was disconnected.
 #[derive(Clone, Copy, Debug, PartialEq, Eq)]
 pub enum Attempt {
-    /// Every rule of the written order holds.
+    /// Every rule of the written order is asked.
     First,
-    /// A transaction that was in a block paid its way there: what it pays is not asked for again (A34, A35). It may come back
-    /// above its children, so that in the place of A36 it has limits of its own: with it no transaction may descend from
-    /// itself, and each of its ancestors and descendants, itself among them, may have as many ancestors of 101,000 virtual
-    /// bytes and descendants of 111,000 as the two tries of A36 let an entry have, each with itself.
+    /// The transaction was in a block and paid its way there: A34 and A35 are not asked again. Its children may be in
+    /// the pool already, so that it has limits of its own in place of A36's: it may not descend from itself, and each
+    /// of its ancestors and descendants, itself among them, may have as many ancestors and descendants as the two tries
+    /// of A36 let an entry have, of at most 101,000 and 111,000 virtual bytes, the entry itself among each.
     Again,
 }

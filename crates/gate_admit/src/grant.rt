@@ -1,10 +1,10 @@
-/// What a granted transaction pays and is.
+/// What is granted: the transaction's fee and size, and how many entries it replaces.
 #[derive(Clone, Copy, Debug, PartialEq, Eq)]
 pub struct Grant {
     /// In satoshi.
     pub fee: u64,
     /// In virtual bytes.
     pub vsize: u64,
-    /// How many entries it replaces.
+    /// How many entries it replaces: those that it conflicts with, and their descendants.
     pub replaced: u64,
 }

@@ -30,7 +30,7 @@ impl<'a, V: FamilyView> Model for Joined<'a, V> {
 }
 
 impl<'a, V: FamilyView> Joined<'a, V> {
-    /// No entry of the view has the other's id.
+    /// Puts a newcomer behind the entries of a view, none of which has its id.
     pub(crate) fn new(pool: &'a V, newcomer: &'a Entry) -> Joined<'a, V>
         requires { entry_by_txid (V.entries pool.now) (txid_of newcomer.now.tx) ≡ None }
         ensures { result ≡ V.entries pool.now ++ newcomer.now ∷ [] }
@@ -39,7 +39,7 @@ impl<'a, V: FamilyView> Joined<'a, V> {
     }
 }
 
-/// Whether an entry spends an output of a transaction.
+/// Whether an entry spends an output of the transaction with this id.
 pub(crate) fn names(entry: &Entry, txid: &Txid) -> bool
     ensures { result ≡ names entry.now txid.now }
 {

@@ -1,4 +1,4 @@
-//! Laws of admission, in words apart from its rules.
+//! Laws of admission, stated apart from its rules.
 ghost use Rattle.gate_admit.specs.Laws.{DecisionsFollow, FloorsNeverFall, GrantsAreSound, GrantsStand, PoolsStayGood, ReadmissionsAskOfAll, ReplacementsPay};
 
 /// Each decision follows the written order: a grant says that no rule fails, and a denial names a rule that fails with
@@ -7,16 +7,16 @@ pub fn decisions_follow_the_order()
     ensures { DecisionsFollow }
 {}
 
-/// Each grant spends live coins: one for each input, no two alike, that no entry spends which stays, mature, and with their
-/// locks met. What they hold is what the outputs hold and the fee, and the fee pays for the size at the rate of every relay
-/// and at the pool's floor.
+/// Each granted transaction spends live coins: one for each input, no two alike, mature, with their timelocks met, and
+/// spent by no entry that stays. Their sum is that of the outputs and the fee, and at a first attempt the fee pays for
+/// the virtual size at the minimum relay feerate and at the pool's floor.
 pub fn grants_are_sound()
     ensures { GrantsAreSound }
 {}
 
 /// What BIP 125 is for: a granted transaction that conflicts with entries pays at least the fees of all that it replaces,
-/// and above these for its own relay; its rate is above that of each entry that it conflicts with; and no entry that stays
-/// spends an output of one that goes.
+/// and above these for its own relay; its feerate is above that of each entry that it conflicts with; and no entry that
+/// stays spends an output of one that leaves.
 pub fn replacements_pay()
     ensures { ReplacementsPay }
 {}
@@ -27,8 +27,8 @@ pub fn grants_stand()
     ensures { GrantsStand }
 {}
 
-/// A transaction that comes back to a pool whose families are within the limits is asked whether with it some entry passes
-/// them; that only its own ancestors and descendants are looked at comes to the same.
+/// In a pool whose families are within the limits, asking whether the ancestors and descendants of a transaction that
+/// comes back stay within them is asking whether every entry does.
 pub fn readmissions_ask_of_all()
     ensures { ReadmissionsAskOfAll }
 {}
@@ -38,9 +38,10 @@ pub fn floors_never_fall()
     ensures { FloorsNeverFall }
 {}
 
-/// Whatever is submitted: no two entries share an id, no outpoint is spent twice, each input has a coin, no entry has the
-/// txid of a coin that the chain was opened with, or of a connected block's transaction, each entry's ancestors and
-/// descendants are few and small, and all entries together are within the budget.
+/// A pool without entries is good, and a good pool stays good when a transaction is submitted that no connected block
+/// has: no two entries share an id, no outpoint is spent twice, each input has a coin, no entry has the txid of a coin
+/// that the chain was opened with, or of a connected block's transaction, each entry's ancestors and descendants are
+/// within the limits, and all entries together are within the budget.
 pub fn pools_stay_good()
     ensures { PoolsStayGood }
 {}

@@ -1,8 +1,8 @@
 //! Admission: the written order over a chain and a pool, and the entry of what it grants.
 //!
-//! The main clauses are that of `judge`, which gives the decision of the first rule that fails, and that of `submit`, which
-//! gives what that decision comes to and pool and floor after it: a submission is planned, which takes all memory, and then
-//! committed, which takes none. What they judge over is one record, a `Standing`.
+//! The main clauses are that of `judge`, which gives the decision by the first rule that fails, and that of `submit`,
+//! which gives the decision with A46, and the pool and the floor after it: a submission is planned, which takes all
+//! memory, and then committed, which takes none. What they judge over is one record, a `Standing`.
 #![tactic(auto)]
 
 mod again;

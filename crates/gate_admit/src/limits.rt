@@ -1,4 +1,4 @@
-//! Families: A36, and A37.
+//! Limits of families, and conflicts among ancestors: A36 and A37.
 ghost use Rattle.std.specs.Prelude.{◌≡◌, ◌<◌, ◌≤◌, ◌^◌, Bool, true, None, [], IfOk, IfSome, filter, length, Contains};
 ghost use Rattle.std.specs.List.{list_all};
 ghost use Rattle.gate_bytes.specs.Order.{first_failing};
@@ -19,7 +19,8 @@ use gate_tx::{Identified, TxIn, Txid};
 use std::alloc::Global;
 use std::hash::BuildHasher;
 
-/// How many ancestors and descendants there may be, each with the transaction itself, and how many virtual bytes they have.
+/// The most ancestors and the most descendants that there may be, the transaction itself among each, and the most
+/// virtual bytes that each may have.
 #[derive(Clone, Copy)]
 pub(crate) struct FamilyLimits {
     pub(crate) ancestors: usize,
@@ -28,14 +29,14 @@ pub(crate) struct FamilyLimits {
     pub(crate) descendants_size: u128,
 }
 
-/// How many virtual bytes a transaction's ancestors may have, and its descendants, itself among each (Bitcoin Core's
-/// `DEFAULT_ANCESTOR_SIZE_LIMIT` and `DEFAULT_DESCENDANT_SIZE_LIMIT`).
+/// The most virtual bytes that a transaction's ancestors may have, and its descendants, itself among each (Bitcoin
+/// Core's `DEFAULT_ANCESTOR_SIZE_LIMIT` and `DEFAULT_DESCENDANT_SIZE_LIMIT`).
 const FAMILY_SIZE: u128 = 101_000;
 
-/// How large a transaction may be for the second try (Bitcoin Core's `EXTRA_DESCENDANT_TX_SIZE_LIMIT`).
+/// The most virtual bytes of a transaction that has a second try (Bitcoin Core's `EXTRA_DESCENDANT_TX_SIZE_LIMIT`).
 const CARVE_OUT_VSIZE: u64 = 10_000;
 
-/// The limits of a first try without a replacement.
+/// The limits of the first try, before they grow for a replacement.
 fn usual_limits(policy: &Policy) -> FamilyLimits
     ensures { result ≡ usual_limits policy.now }
 {
@@ -47,7 +48,7 @@ fn usual_limits(policy: &Policy) -> FamilyLimits
     }
 }
 
-/// The limits of the first try: more descendants where the transaction replaces exactly one entry directly.
+/// The limits of the first try: those of descendants grow if the transaction conflicts directly with exactly one entry.
 fn first_limits<S: BuildHasher + Copy + Drop>(
     policy: &Policy,
     direct: &DirectConflicts<'_, S>,
@@ -89,7 +90,7 @@ fn has_room_below<S: BuildHasher + Copy + Drop>(
     }
 }
 
-/// The same for each of some entries.
+/// Whether a transaction of this size can join the descendants of each of these entries.
 fn each_has_room<S: BuildHasher + Copy + Drop>(
     pool: &Pool<S>,
     above: &[Txid],
@@ -126,7 +127,7 @@ fn is_within<S: BuildHasher + Copy + Drop>(
     each_has_room(pool, &above.ids, vsize, limits)
 }
 
-/// Whether one of the two tries succeeds.
+/// Whether one of the two tries of A36 succeeds; only a small transaction has a second one.
 fn fits_families<S: BuildHasher + Copy + Drop>(
     policy: &Policy,
     direct: &DirectConflicts<'_, S>,
@@ -155,7 +156,7 @@ fn fits_families<S: BuildHasher + Copy + Drop>(
     is_within(pool, above, vsize, carved_out)
 }
 
-/// The transaction's ancestors in the pool, and what they come to. None where there are more than `most`.
+/// The transaction's ancestors in the pool and their totals. None if there are more than `most`.
 fn family_of<S: BuildHasher + Copy + Drop>(
     alloc: Global,
     direct: &DirectConflicts<'_, S>,
@@ -171,7 +172,7 @@ fn family_of<S: BuildHasher + Copy + Drop>(
     Ok(found)
 }
 
-/// How many ancestors the entry of an id has, itself among them; 0 where no entry has the id.
+/// How many ancestors the entry with this id has, itself among them; 0 if no entry has the id.
 fn count_above<S: BuildHasher + Copy + Drop>(pool: &Pool<S>, txid: &Txid) -> u64
     ensures { result ≡ length (ancestors_of pool.now.entries txid.now) }
 {
@@ -181,8 +182,8 @@ fn count_above<S: BuildHasher + Copy + Drop>(pool: &Pool<S>, txid: &Txid) -> u64
     }
 }
 
-/// How many ancestors a transaction with these inputs has at least, by what the pool keeps of its parents. It has none where
-/// this is 0.
+/// How many ancestors a transaction with these inputs has at least, by the totals that the pool keeps of its parents.
+/// If this is 0, it has none.
 fn fewest_ancestors<S: BuildHasher + Copy + Drop>(pool: &Pool<S>, inputs: &[TxIn]) -> u64
     ensures least { result ≤ length (ancestors_above pool.now.entries inputs.now) }
     ensures none { result ≡ 0 → ancestors_above pool.now.entries inputs.now ≡ [] }
@@ -194,8 +195,8 @@ fn fewest_ancestors<S: BuildHasher + Copy + Drop>(pool: &Pool<S>, inputs: &[TxIn
     fewest
 }
 
-/// The first of A36 and A37 that fails at a first attempt. A transaction with a parent that has as many ancestors as there may
-/// be is denied without a walk.
+/// The first of A36 and A37 that fails at a first attempt. A transaction with a parent that has as many ancestors as an
+/// entry may have is denied without a walk.
 #[tactic(auto, unfolding(crate::specs::Limits::limit_rules))]
 fn check_first<S: BuildHasher + Copy + Drop>(
     alloc: Global,
@@ -226,7 +227,7 @@ fn check_first<S: BuildHasher + Copy + Drop>(
     Ok(None)
 }
 
-/// The same where it is tried again.
+/// The first of A36 and A37 that fails for a transaction that is tried again.
 #[tactic(auto, unfolding(crate::specs::Limits::limit_rules))]
 fn check_again<S: BuildHasher + Copy + Drop>(
     alloc: Global,

@@ -1,4 +1,4 @@
-//! Locks: A20, and A26.
+//! Timelocks: A20 and A26.
 ghost use Rattle.std.specs.Prelude.{◌≡◌, ◌≤◌, ◌+◌, IfOk, length, map, All};
 ghost use Rattle.gate_bytes.specs.Order.{first_failing};
 ghost use Rattle.gate_chain.specs.Times.{tip_of};
@@ -21,7 +21,7 @@ fn tip_median<S: BuildHasher + Copy + Drop>(chain: &Chain<S>) -> u32
     chain.mtp(chain.tip()).unwrap()
 }
 
-/// A20, where it fails.
+/// The denial of A20 if it fails: the locktime at the next height and the tip's median time past.
 #[tactic(auto, unfolding(crate::specs::Rules::final_rules))]
 pub(crate) fn check_final<S: BuildHasher + Copy + Drop>(
     chain: &Chain<S>,
@@ -46,7 +46,7 @@ fn heights_of(alloc: Global, coins: &[LentCoin<'_>]) -> Result<Vec<u32>, Memory>
     Ok(heights)
 }
 
-/// A26, where it fails.
+/// The denial of A26 if it fails: the relative timelocks of BIP 68 over these coins, one for each input.
 #[tactic(auto, unfolding(crate::specs::Rules::lock_rules))]
 pub(crate) fn check_locks<S: BuildHasher + Copy + Drop>(
     alloc: Global,

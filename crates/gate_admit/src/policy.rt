@@ -1,14 +1,14 @@
-//! What an operator asks of families and of replacements.
+//! The limits of families and the rule on replacements that an operator sets.
 ghost use Rattle.std.specs.Prelude.{◌≡◌, ◌≤◌};
 ghost use Rattle.gate_admit.specs.Policies.{IsPolicy, is_count, most_ancestors, most_descendants, policy_of, usual_policy};
 
 use std::marker::Model;
 
-/// The most that a limit of families may be.
+/// The largest limit of ancestors or of descendants that a policy may have.
 pub const LARGEST_LIMIT: u64 = 1_000;
 
 /// How many ancestors and descendants a transaction may have at its first try (Bitcoin Core's `-limitancestorcount` and
-/// `-limitdescendantcount`), itself among each: 1 to 1,000; and whether it may replace what doesn't signal
+/// `-limitdescendantcount`), itself among each: 1 to 1,000; and whether it may replace an entry that doesn't signal
 /// (`-mempoolfullrbf` of release 24).
 #[derive(Clone, Copy, Debug, PartialEq, Eq)]
 pub struct Policy {
@@ -29,7 +29,7 @@ impl Model for Policy {
     ghost invariant = { λ p. IsPolicy (policy p.ancestors p.descendants p.full_rbf) };
 }
 
-/// Whether a limit of families may be this.
+/// Whether a limit of ancestors or of descendants may be this.
 fn is_count(number: u64) -> bool
     ensures { result ≡ is_count number }
 {
@@ -37,7 +37,7 @@ fn is_count(number: u64) -> bool
 }
 
 impl Policy {
-    /// A policy with these limits, where there may be one.
+    /// A policy with these limits; None unless both are 1 to 1,000.
     pub fn new(ancestors: u64, descendants: u64, full_rbf: bool) -> Option<Policy>
         ensures { result ≡ policy_of ancestors descendants full_rbf }
     {
@@ -52,7 +52,7 @@ impl Policy {
         }
     }
 
-    /// The bounds of its numbers: it does nothing.
+    /// Recalls the bounds of the limits for a proof: it does nothing.
     pub fn recall_bounds(&self)
         ensures { IsPolicy self.now }
     {
@@ -73,21 +73,21 @@ impl Policy {
         self.descendants
     }
 
-    /// Whether every entry may be replaced.
+    /// Whether every entry may be replaced, even one that doesn't signal.
     pub fn full_rbf(&self) -> bool
         ensures { result ≡ self.now.full_rbf }
     {
         self.full_rbf
     }
 
-    /// The most ancestors that an entry has: a second try takes one parent in any case.
+    /// The most ancestors that an entry may have, itself among them: a second try allows one parent under every policy.
     pub(crate) fn most_ancestors(&self) -> usize
         ensures { result ≡ most_ancestors self.now }
     {
         self.ancestors.max(2)
     }
 
-    /// The most descendants that an entry has: a second try lets one more in.
+    /// The most descendants that an entry may have, itself among them: a second try allows one more.
     pub(crate) fn most_descendants(&self) -> usize
         ensures { result ≡ most_descendants self.now }
     {
@@ -95,7 +95,7 @@ impl Policy {
     }
 }
 
-/// 25 ancestors, 25 descendants, and only what signals is replaced.
+/// 25 ancestors, 25 descendants, and only entries that signal are replaced.
 impl Default for Policy {
     ghost use Rattle.std.specs.Prelude.{◌≡◌};
     ghost use Rattle.gate_admit.specs.Policies.{usual_policy};

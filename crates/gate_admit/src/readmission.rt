@@ -1,4 +1,4 @@
-//! A transaction of a block that was disconnected comes back.
+//! The return of a transaction whose block was disconnected.
 ghost use Rattle.std.specs.Prelude.{◌≡◌, IfOk, OnErr};
 ghost use Rattle.gate_admit.specs.Readmission.{readmitted};
 ghost use Rattle.gate_admit.specs.Rules.{decision_of};
@@ -20,8 +20,8 @@ use gate_trim::Floor;
 use std::alloc::Global;
 use std::hash::BuildHasher;
 
-/// Tries a transaction again over the chain, and enters it at this second where it is granted: it stands at the end of the
-/// pool, also above what spends its outputs. Nothing expires and nothing is trimmed.
+/// Tries a transaction again over the chain, and enters it at this second if it is granted: it stands at the end of the
+/// pool, even if entries before it spend its outputs. Nothing expires and nothing is trimmed.
 pub fn readmit<S: BuildHasher + Copy + Drop>(
     alloc: Global,
     chain: &Chain<S>,
@@ -31,7 +31,7 @@ pub fn readmit<S: BuildHasher + Copy + Drop>(
     policy: &Policy,
     now: u64,
 ) -> Result<Result<Grant, Denial>, Memory>
-    // What it pays is not asked for, so that the pool's floor does not matter.
+    // A34 and A35 are not asked, so that the pool's floor does not matter.
     ensures decision { IfOk result (λ decision. decision ≡ decision_of Again (standing chain.now pool.old.entries 0 verdicts.now policy.now) prepared.now) }
     ensures entries { IfOk result (λ decision. pool.new.entries ≡ readmitted pool.old.entries prepared.now now decision) }
     ensures err { OnErr result (pool.new.entries ≡ pool.old.entries) }

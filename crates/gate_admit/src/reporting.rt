@@ -13,7 +13,7 @@ use gate_standard::Denial;
 use gate_tx::{Coin, Transaction, TxIn, TxOut};
 use std::alloc::Global;
 
-/// The most that signature operations cost (Bitcoin Core's `MAX_STANDARD_TX_SIGOPS_COST`).
+/// The most that a transaction's signature operations may cost (Bitcoin Core's `MAX_STANDARD_TX_SIGOPS_COST`).
 const MAX_SIGOP_COST: u128 = 16_000;
 
 /// Whether the lent coin is equal to this one.
@@ -33,7 +33,7 @@ fn is_of(piece: &Piece, input: &TxIn, coin: &LentCoin<'_>) -> bool
     is_same(&piece.input, input) && is_coin(&piece.coin, coin)
 }
 
-/// What is reported of an input and its coin, by the report where it is of these.
+/// The answers on an input and its coin: those of the report if it is of the two, else worked out here.
 fn answers_by(
     alloc: Global,
     report: Option<&InputReport>,
@@ -50,7 +50,7 @@ fn answers_by(
     answers(alloc, input, coin.script())
 }
 
-/// The reports from the first on that is on the input at this place or on a later one.
+/// The reports that are left from the first one whose input is at this place or later.
 fn from_input(reports: &[InputReport], place: usize) -> &[InputReport] {
     match reports
         .iter()
@@ -61,8 +61,8 @@ fn from_input(reports: &[InputReport], place: usize) -> &[InputReport] {
     }
 }
 
-/// What is reported of each input. Reports are told by the inputs that their pieces name: they stand in the order of the
-/// inputs, of which some may have none.
+/// The answers on each input. A report belongs to the input that its piece names: reports stand in the order of the
+/// inputs, some of which may have none.
 pub(crate) fn reported(
     alloc: Global,
     reports: &[InputReport],
@@ -83,14 +83,14 @@ pub(crate) fn reported(
     Ok(found)
 }
 
-/// What the script of an output counts.
+/// How many signature operations the script of an output has, counted inaccurately.
 fn output_sigops(output: &TxOut) -> u64
     ensures { result ≡ output_sigops output.now }
 {
     sigops(output.script.as_slice(), false)
 }
 
-/// What the signature operations of the transaction cost.
+/// The cost of the transaction's signature operations: that of its inputs, and four for each one of an output.
 fn sigop_cost(tx: &Transaction, answers: &[Answers]) -> u128
     requires { length answers.now ≡ length tx.now.inputs }
     ensures { result ≡ sigop_cost answers.now tx.now.outputs }

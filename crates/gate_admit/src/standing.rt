@@ -25,6 +25,6 @@ pub struct Conditions<'a, S: BuildHasher + Copy + Drop> {
     pub policy: &'a Policy,
     /// In seconds since 1970.
     pub second: u64,
-    /// What the pool may hold, in virtual bytes.
+    /// The most virtual bytes that the pool may hold.
     pub budget: u64,
 }

@@ -8,7 +8,7 @@ use std::alloc::Global;
 use std::hash::BuildHasher;
 use std::marker::Model;
 
-/// What a script interpreter found of an input.
+/// What a script interpreter found on an input.
 #[derive(Clone, Copy, Debug, PartialEq, Eq)]
 pub enum Verdict {
     /// The script succeeds under every rule.
@@ -65,7 +65,7 @@ impl<S: BuildHasher + Copy> Verdicts<S> {
         }
     }
 
-    /// Adds a row, or answers that there is one on its input.
+    /// Adds a row, unless there is one on its input, and says whether it was added.
     pub fn add(&mut self, row: VerdictRow) -> Result<bool, Memory>
         ensures added { IfOk result (λ added. added ≡ not (has_row_on self.old.rows row.wtxid row.input)) }
         ensures rows { IfOk result (λ added. self.new ≡ record self.old { rows = if added then self.old.rows ++ row ∷ [] else self.old.rows }) }
@@ -82,21 +82,21 @@ impl<S: BuildHasher + Copy> Verdicts<S> {
         Ok(true)
     }
 
-    /// Answers with a verdict for every pair without a row.
+    /// Sets the verdict for every pair of transaction and input without a row.
     pub fn answer_others(&mut self, verdict: Verdict)
         ensures { self.new ≡ record self.old { other = Some verdict } }
     {
         self.other = Some(verdict);
     }
 
-    /// What is answered for a pair without a row.
+    /// The verdict for every pair of transaction and input without a row, if there is one.
     pub fn other(&self) -> Option<Verdict>
         ensures { result ≡ self.now.other }
     {
         self.other
     }
 
-    /// The verdict on an input: that of its row, else the one for all others.
+    /// The verdict on an input: that of its row, else the one for every pair without a row.
     pub fn on(&self, wtxid: &Wtxid, input: u32) -> Option<Verdict>
         ensures { result ≡ verdict_of self.now wtxid.now input }
     {

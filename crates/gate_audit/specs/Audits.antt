@@ -10,7 +10,7 @@ use Rattle.gate_audit.specs.declared.answer.Audit.TheVariants.{Legal, Illegal}
 use Rattle.gate_audit.specs.Journals.{AreBounded, AreWithin, IsJournal, Rounds, asking, base_line, count_of, counted, event_line, reply_line, state_behind}
 use Rattle.gate_journal.specs.Legal.{entry_limit}
 
--- all of the lines are a journal of so many entries, whose rounds are legal from this state
+-- all of the lines are a journal of this many entries, whose rounds are legal from this state
 pub record IsLegal (w : World) (lines : List (List ℕ)) (count : ℕ) : Type 0 where
   pub rounds : Rounds
   pub journal : IsJournal w lines rounds
@@ -24,7 +24,7 @@ pub record IsLegal (w : World) (lines : List (List ℕ)) (count : ℕ) : Type 0 
 abbrev pub Spells : List ℕ → Event → Type 0
 Spells line event = (text : List ℕ) × (line ≡ event_line text) × (line_event text ≡ Some event)
 
--- The lines of an entry are wrong, behind so many entries, of which so many are of its round, and in this state: the first line
+-- The lines of an entry are wrong, behind `count` entries, of which `size` are of its round, and in this state: the first line
 -- is not that of the base, and the entry is one too many of its round, or that line spells no event, or the input ends behind it;
 -- or the second line is not that of the event's reply.
 abbrev pub IsWrong : ℕ → ℕ → World → List (List ℕ) → List (List ℕ) → Type 0
@@ -34,13 +34,13 @@ IsWrong count size w (first ∷ []) rest = (first ≢ base_line count)
 IsWrong count size w (first ∷ second ∷ []) rest = (event : Event) × Spells first event × (second ≢ reply_line (step_of w event).0)
 IsWrong count size w (first ∷ second ∷ third ∷ lines) rest = ⊥
 
--- so much was read: a journal of these rounds, and then lines of the next entry of the last
+-- what was read: a journal of these rounds, and then lines of the next entry of the last round
 pub record IsFront (w : World) (before entry : List (List ℕ)) (rounds : Rounds) : Type 0 where
   pub journal : IsJournal w before rounds
   pub bounded : AreBounded rounds
   pub within : AreWithin (before ++ entry)
 
--- the entry of this number, from 1, is wrong, and those before it are a journal
+-- the entry of this number, from 1, is wrong, and the entries before it are a journal
 pub record FailsFirst (w : World) (lines : List (List ℕ)) (number : ℕ) : Type 0 where
   pub before : List (List ℕ)
   pub entry : List (List ℕ)
@@ -53,13 +53,13 @@ pub record FailsFirst (w : World) (lines : List (List ℕ)) (number : ℕ) : Typ
 
 -- ---- a line past a limit
 
--- the entry of which these lines were read, behind so many others of its round, is not wrong so far
+-- the entry of which these lines were read, behind this many others of its round, is not wrong so far
 abbrev pub IsBegun : ℕ → List (List ℕ) → Type 0
 IsBegun size [] = Unit {0}
 IsBegun size (first ∷ []) = (size < entry_limit) × ((event : Event) × Spells first event)
 IsBegun size (first ∷ second ∷ lines) = ⊥
 
--- the line behind so many others is one too many, or too long
+-- the line behind this many others is one too many, or too long
 abbrev pub IsPast : ℕ → List ℕ → Type 0
 IsPast number line = (number ≡ count_limit) ⊎ (line_limit < counted line)
 
@@ -77,7 +77,7 @@ pub record PassesLimit (w : World) (lines : List (List ℕ)) : Type 0 where
 
 -- ---- what is found
 
--- none where a line is past a limit
+-- the answer of an audit, or None if a line is past a limit
 abbrev pub Audited : World → List (List ℕ) → Option Audit → Type 0
 Audited w lines (Some (Legal count)) = IsLegal w lines count
 Audited w lines (Some (Illegal number)) = FailsFirst w lines number

@@ -18,7 +18,7 @@ event_line text = codes "> " ++ text
 abbrev pub reply_line : Reply → List ℕ
 reply_line reply = codes "< " ++ reply_text reply
 
--- the line of a base behind so many entries
+-- the line of a base behind this many entries
 abbrev pub base_line : ℕ → List ℕ
 base_line count = codes "base " ++ decimal count
 
@@ -58,7 +58,7 @@ pub record Round : Type 0 where
 abbrev pub round_lines : Round → List (List ℕ)
 round_lines round = entry_lines round.texts (replies_of round.entries)
 
--- the lines of rounds behind so many entries: those of the entries of each, and then the line of the base that it leaves
+-- the lines of rounds behind this many entries: for each round those of its entries, and then the line of the base behind it
 abbrev pub ended_lines : ℕ → List Round → List (List ℕ)
 ended_lines count [] = []
 ended_lines count (round ∷ rounds) =
@@ -69,22 +69,22 @@ pub record Rounds : Type 0 where
   pub ended : List Round
   pub last : Round
 
--- their lines: a base stands between two rounds
+-- the lines of rounds: a base stands between two of them
 abbrev pub rounds_lines : Rounds → List (List ℕ)
 rounds_lines rounds = ended_lines 0 rounds.ended ++ round_lines rounds.last
 
 abbrev pub entries_of : Rounds → List (List Entry)
 entries_of rounds = map (λ (round : Round). round.entries) rounds.ended ++ rounds.last.entries ∷ []
 
--- how many entries they have together
+-- how many entries the rounds have together
 abbrev pub count_of : Rounds → ℕ
 count_of rounds = length (joined (entries_of rounds))
 
--- the state that they lead to
+-- the state that the rounds lead to
 abbrev pub state_behind : World → Rounds → World
 state_behind w rounds = state_after_rounds w (entries_of rounds)
 
--- none of them has more entries than a round may have
+-- no round has more entries than it may have
 abbrev pub AreBounded : Rounds → Type 0
 AreBounded rounds = All (λ (entries : List Entry). length entries ≤ entry_limit) (entries_of rounds)
 

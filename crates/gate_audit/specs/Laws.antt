@@ -1,4 +1,4 @@
--- What an answer of an audit says.
+-- What the answers of audits say.
 use Rattle.std.specs.Prelude.{◌≡◌, ℕ, ◌≤◌, if◌then◌else◌, List, [], ◌∷◌, ◌++◌, drop, length, map, Option, Some, None}
 use Rattle.std.specs.Option.{option_to_list}
 use Rattle.gate_message.specs.declared.event.Event.{Event}
@@ -30,19 +30,20 @@ abbrev pub replies_among : List (List ℕ) → List (List ℕ)
 replies_among [] = []
 replies_among (line ∷ lines) = if bears 60 line then drop 2 line ∷ replies_among lines else replies_among lines
 
--- where so many entries are legal, the lines spell so many events, and say the replies of the run over these
+-- if the lines are a legal journal of this many entries, they spell this many events, and say the replies of the run over them
 abbrev pub LegalJournalsAreRuns : Type 0
 LegalJournalsAreRuns =
     (w : World) (lines : List (List ℕ)) (count : ℕ) → IsLegal w lines count
     → (count ≡ length (events_among lines)) × (replies_among lines ≡ map reply_text (run_of w (events_among lines)).0)
 
--- the journal that a run makes, by whatever spelling of its events, is legal, where its lines are within the limits
+-- the journal that a run makes, by whatever spelling of its events, is legal, if it has at most as many entries as a round may
+-- have and its lines are within the limits
 abbrev pub RunsHaveLegalJournals : Type 0
 RunsHaveLegalJournals =
     (w : World) (events : List Event) (texts : List (List ℕ)) → map line_event texts ≡ map Some events → length events ≤ entry_limit
     → AreWithin (entry_lines texts (run_of w events).0) → IsLegal w (entry_lines texts (run_of w events).0) (length events)
 
--- rounds that are legal, by whatever spelling of their events, have legal journals, where none has too many entries and their
+-- rounds that are legal, by whatever spelling of their events, have legal journals, if none has too many entries and their
 -- lines are within the limits
 abbrev pub RoundsHaveLegalJournals : Type 0
 RoundsHaveLegalJournals =

@@ -12,14 +12,14 @@ use gate_lines::{LaneFault, Source};
 use std::alloc::Global;
 use std::hash::BuildHasher;
 
-/// Audits the journal that an input says, from the state that its first event met.
+/// Audits the journal in an input, from the state in which its first event was made.
 ///
-/// A journal is pairs of lines, `> EVENT` and `< REPLY`, with empty lines and comments anywhere. Where a pair may begin or the
-/// journal end, a line `base M` may stand, any number of times, M the number of entries before it: a new round begins there,
-/// and each round has at most 100,000 entries. A base line with another number, and an entry past that bound, are wrong
-/// as the next entry. A line is past the limits where it is the 1,000,001st, or has more than `MAX_LINE` bytes, its mark not
-/// counted. Such a line is `Read` unless an entry before it is wrong, and so is a reader that fails. No more than a line and a
-/// reply is held at a time.
+/// A journal is pairs of lines, `> EVENT` and `< REPLY`, with empty lines and comments anywhere. Where a pair may begin
+/// or the journal end, any number of lines `base M` may stand, M the number of entries before them: a new round begins
+/// there, and each round has at most 100,000 entries. A base line with another number counts as a wrong entry, and so
+/// does an entry past that bound. A line is past the limits if it is the 1,000,001st, or has more than `MAX_LINE`
+/// bytes, its mark not counted. Such a line gives `Read` unless an entry before it is wrong, and so does a reader that
+/// fails. No more than a line and a reply is held at a time.
 pub fn audit<S: BuildHasher + Copy + Drop, R: Source>(
     alloc: Global,
     mut state: State<S>,

@@ -25,7 +25,7 @@ impl EntryCounts {
         }
     }
 
-    /// One entry more.
+    /// The counts after one more entry.
     pub(crate) fn with_entry(self) -> EntryCounts
         requires few { self.all < count_limit }
         requires bounded { self.in_round < entry_limit }
@@ -38,7 +38,7 @@ impl EntryCounts {
         }
     }
 
-    /// The same entries, and a round that begins behind them.
+    /// The counts when a round begins behind these entries.
     pub(crate) fn with_base(self) -> EntryCounts
         ensures all { result.all ≡ self.all }
         ensures in_round { result.in_round ≡ 0 }
@@ -49,7 +49,7 @@ impl EntryCounts {
         }
     }
 
-    /// Whether the round has all the entries that it may have.
+    /// Whether the round has 100,000 entries, the most that it may have.
     pub(crate) fn is_full(self) -> bool
         ensures { IsTrue result ↔ (self.in_round ≡ entry_limit) }
     {

@@ -18,7 +18,7 @@ use gate_message::Event;
 use std::alloc::Global;
 use std::hash::BuildHasher;
 
-/// What the lines up to the end of an entry came to.
+/// What the lines up to the end of an entry, or up to a base, turned out to be.
 #[derive(Clone, Copy, Debug, PartialEq, Eq)]
 pub(crate) enum Taken {
     /// They spell an event, and say its reply.
@@ -42,7 +42,7 @@ fn is_number(text: &[u8], number: u64) -> bool
     }
 }
 
-/// Whether a line is that of a base behind so many entries.
+/// Whether a line is that of a base behind this many entries.
 fn is_base(line: &[u8], count: u64) -> bool
     requires { count ≤ max_number }
     ensures { IsTrue result ↔ (line.now ≡ base_line count) }
@@ -84,7 +84,7 @@ fn reply_text<S: BuildHasher + Copy + Drop>(
     text
 }
 
-/// The text of the reply to the event that a line spells, or `None` where it spells none.
+/// The text of the reply to the event that a line spells, or `None` if it spells none.
 fn reply_to<S: BuildHasher + Copy + Drop>(
     alloc: Global,
     state: &mut State<S>,
@@ -103,7 +103,7 @@ fn reply_to<S: BuildHasher + Copy + Drop>(
     Ok(Some(reply?))
 }
 
-/// Whether the next line that asks is that of the reply with this text.
+/// Whether the next line that is neither empty nor a comment is that of the reply with this text.
 fn reply_follows<R: Source>(
     reader: &mut R,
     lines: &mut JournalLines,

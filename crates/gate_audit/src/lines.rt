@@ -6,7 +6,7 @@ ghost use Rattle.gate_audit.specs.Journals.{counted};
 use gate_lines::{LaneFault, Lines, MAX_LINE, Next, Source, asks_nothing};
 use std::alloc::Global;
 
-/// The bytes of a line's mark, `> ` or `< `.
+/// The length of a line's mark, `> ` or `< `, in bytes.
 const MARK_LEN: usize = 2;
 
 /// The lines of a journal, and whether the input ended with the one that was read last.
@@ -27,7 +27,7 @@ fn counted(line: &[u8]) -> usize
     }
 }
 
-/// A line that is longer than a line may be is `Read`.
+/// Fails with `Read` if a line is longer than it may be.
 fn check_length(line: &[u8]) -> Result<(), LaneFault>
     ensures short { OnOk result (counted line.now ≤ line_limit) }
     ensures kind { IfErr result (λ fault. fault ≡ LaneFault.Read) }
@@ -60,7 +60,7 @@ impl JournalLines {
         self.lines.line()
     }
 
-    /// Reads the next line, unless the input ends here; one past a limit is `Read`.
+    /// Reads the next line, and says whether there is one; a line past a limit gives `Read`.
     fn read_line<R: Source>(&mut self, reader: &mut R) -> Result<bool, LaneFault>
         ensures read { IfOk result (λ found. LineTaken (R.remaining reader.old) (R.remaining reader.new) self.old self.new found) }
         ensures past { R.steady ≡ true → IsErrOf result LaneFault.Read → NextIsPast (R.remaining reader.old) self.old.lines.count [] }

@@ -11,18 +11,18 @@ use Rattle.gate_chain.specs.declared.ChainDenial.TheVariants.{BlockDecode}
 use Rattle.gate_chain.specs.declared.ChainFault.{ChainFault}
 use Rattle.gate_chain.specs.declared.ChainFault.TheVariants.{Memory, Denied}
 
--- what a fault in a transaction is called of a block
+-- the fault of a block in which a transaction has this fault
 abbrev pub block_fault : TxFault → ChainFault
 block_fault tx.Memory = Memory
 block_fault e = Denied BlockDecode
 
--- what was read, where nothing is left
+-- what was read, if no bytes are left
 abbrev pub ended : {X : Type 0} → Result (X × List ℕ) TxFault → Option X
 ended (Ok (x, [])) = Some x
 ended (Ok (x, b ∷ rest)) = None
 ended (Err e) = None
 
--- the transactions of a count and as many texts, all of the bytes
+-- the transactions that all of the bytes spell: a count and that many texts
 abbrev pub all_transactions : List ℕ → Option (List Tx)
 all_transactions bytes = ended (vector_at tx_at bytes)
 
@@ -30,14 +30,14 @@ abbrev pub with_header : List ℕ → Option (List Tx) → Option Block
 with_header header None = None
 with_header header (Some txs) = Some (record { header = header; transactions = txs })
 
--- the block that the bytes spell, all of them
+-- the block that all of the bytes spell
 unfoldable pub decoded_block : List ℕ → Option Block
 decoded_block bytes =
     if nat_lt longest (length bytes) then None
     else if nat_lt (length bytes) 80 then None
     else with_header (take 80 bytes) (all_transactions (drop 80 bytes))
 
--- what is answered where this, or nothing, is read
+-- what is answered if these items, or none, can be read
 abbrev pub GivesAll : {X : Type 0} → Result (Vec X) ChainFault → Option (List X) → Type 0
 GivesAll (Ok v) read = read ≡ Some v.items
 GivesAll (Err Memory) read = Unit {0}

@@ -16,7 +16,7 @@ with_blocks h blocks = record { coins = h.coins; times = h.times; blocks = block
 abbrev pub grown_by : History → List Block → History
 grown_by h blocks = with_blocks h (h.blocks ++ blocks)
 
--- how many blocks stay where the last ones go
+-- how many blocks are left without the last `depth` of them
 abbrev pub left_of : History → ℕ → ℕ
 left_of h depth = length h.blocks - depth
 
@@ -24,7 +24,7 @@ left_of h depth = length h.blocks - depth
 abbrev pub without_last : History → ℕ → History
 without_last h depth = with_blocks h (take (left_of h depth) h.blocks)
 
--- its last blocks
+-- the last blocks of a history
 abbrev pub last_blocks : History → ℕ → List Block
 last_blocks h depth = drop (left_of h depth) h.blocks
 
@@ -41,7 +41,7 @@ abbrev pub blocks_rules : History → List Block → List (Rule ChainDenial)
 blocks_rules h [] = []
 blocks_rules h (block ∷ blocks) = block_rules h block ++ blocks_rules (grown h block) blocks
 
--- what is asked of a switch: so many blocks can be disconnected, and then of the new ones
+-- what is asked of a switch: that `depth` blocks can be disconnected, and then of each new block
 abbrev pub switch_rules : History → ℕ → List Block → List (Rule ChainDenial)
 switch_rules h depth blocks =
     (NoUndo, nat_lt max_depth depth || nat_lt (length h.blocks) depth) ∷ blocks_rules (without_last h depth) blocks
@@ -57,7 +57,7 @@ pub record WayBack : Type 0 where
 abbrev pub LeadsBack : WayBack → History → Type 0
 LeadsBack way h = without_last h way.connected ≡ without_last way.before (length way.gone)
 
--- what is kept of the blocks that were disconnected, where there are any
+-- what is kept of the blocks that were disconnected, if there are any
 abbrev pub HasTop : History → List Block → Option Top → Type 0
 HasTop before gone None = gone ≡ []
 HasTop before gone (Some top) = (top.whole ≡ before) × (top.kept ≡ left_of before (length gone)) × (gone ≡ above top)

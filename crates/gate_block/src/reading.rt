@@ -16,7 +16,7 @@ const HEADER_SIZE: usize = 80;
 
 const UNREADABLE: ChainFault = ChainFault::Denied(ChainDenial::BlockDecode);
 
-/// So many transactions, one behind the other, and the bytes behind them.
+/// Reads `count` transactions, one behind the other, and gives them with the bytes behind them.
 fn read_some(alloc: Global, bytes: &[u8], count: u64) -> Result<(Vec<Transaction>, &[u8]), TxFault>
     ensures { length bytes.now ≤ longest → GivesBy (λ x. (x.0.items, x.1.now)) result (many_at tx_at count bytes.now) }
 {
@@ -30,7 +30,7 @@ fn read_some(alloc: Global, bytes: &[u8], count: u64) -> Result<(Vec<Transaction
     Ok((transactions, rest))
 }
 
-/// A count, as many transactions, and the bytes behind them.
+/// Reads a count and that many transactions, and gives them with the bytes behind them.
 #[tactic(auto, unfolding(gate_tx::specs::Reading::vector_at))]
 fn read_vector(alloc: Global, bytes: &[u8]) -> Result<(Vec<Transaction>, &[u8]), TxFault>
     ensures { length bytes.now ≤ longest → GivesBy (λ x. (x.0.items, x.1.now)) result (vector_at tx_at bytes.now) }
@@ -41,7 +41,7 @@ fn read_vector(alloc: Global, bytes: &[u8]) -> Result<(Vec<Transaction>, &[u8]),
     read_some(alloc, rest, count)
 }
 
-/// What a fault in a transaction is called of a block.
+/// The fault of a block in which a transaction has this fault.
 fn decode_fault(fault: TxFault) -> ChainFault
     ensures { result ≡ block_fault fault }
 {
@@ -51,7 +51,7 @@ fn decode_fault(fault: TxFault) -> ChainFault
     }
 }
 
-/// A count, as many transactions, and nothing behind them.
+/// Reads a count and that many transactions, with nothing behind them.
 fn read_transactions(alloc: Global, bytes: &[u8]) -> Result<Vec<Transaction>, ChainFault>
     ensures { length bytes.now ≤ longest → GivesAll result (all_transactions bytes.now) }
 {
@@ -67,17 +67,17 @@ fn read_transactions(alloc: Global, bytes: &[u8]) -> Result<Vec<Transaction>, Ch
     }
 }
 
-/// The block whose text all of the bytes are: 80 bytes of a header, a count (CompactSize), and as many transactions
-/// (BIP 144). C1 says that they are the text of none: a part passes the end or is no transaction, bytes are left over, or
-/// there are more than 33,554,432.
+/// The block whose text all of the bytes are: 80 bytes of a header, a count (CompactSize), and that many transactions
+/// (BIP 144). C1 says that they are the text of no block: a part goes past the end or is no transaction, bytes are
+/// left over, or there are more than 33,554,432 bytes.
 pub fn read_block(alloc: Global, bytes: &[u8]) -> Result<Block, ChainFault>
-    // What is read is spelled so.
+    // The bytes spell what is read.
     ensures found { IfOk result (λ block. SpellsBlock block bytes.now) }
 
-    // What is spelled so is read, unless memory runs out.
+    // What the bytes spell is read, unless memory runs out.
     ensures only { (block : TheBlock) → SpellsBlock block bytes.now → GivesBlock result (Some block) }
 
-    // The same in the word that a caller computes with: C1 comes where the bytes spell no block.
+    // What is read, as `decoded_block` computes it: C1 comes if the bytes spell no block.
     ensures exact { GivesBlock result (decoded_block bytes.now) }
 {
     if bytes.len() > MAX_SIZE {

@@ -14,7 +14,7 @@ use std::snapshot::Snapshot;
 /// The most blocks that one event disconnects.
 const MAX_DEPTH: u64 = 100;
 
-/// Disconnects so many blocks, or all where there are fewer. It takes no memory.
+/// Disconnects the last `count` blocks, or all if there are fewer. It takes no memory.
 fn drop_last<S: BuildHasher + Copy + Drop>(chain: &mut Chain<S>, count: usize)
     ensures { chain.new ≡ without_last chain.old count }
 {
@@ -45,7 +45,7 @@ fn connect_all<S: BuildHasher + Copy + Drop>(
     Ok(())
 }
 
-/// Disconnects so many blocks, and gives them back, the lowest first.
+/// Disconnects the last `count` blocks, or all if there are fewer, and gives them back, the lowest first.
 fn take_last<S: BuildHasher + Copy + Drop>(
     alloc: Global,
     chain: &mut Chain<S>,
@@ -66,7 +66,7 @@ fn take_last<S: BuildHasher + Copy + Drop>(
     Ok(gone)
 }
 
-/// Whether more blocks are to go than there are, or than 100.
+/// Whether more blocks are to be disconnected than are connected, or than 100.
 fn is_too_deep<S: BuildHasher + Copy + Drop>(chain: &Chain<S>, depth: u64) -> bool
     ensures { result ≡ (nat_lt max_depth depth || nat_lt (length chain.now.blocks) depth) }
 {
@@ -79,7 +79,7 @@ pub struct Switched<S: BuildHasher + Copy + Drop> {
     before: Snapshot<Chain<S>>,
     connected: usize,
     gone: Kept<Block>,
-    // What the blocks that were disconnected made, where there are any.
+    // What the blocks that were disconnected made, if there are any.
     top: Option<ChainTop<S>>,
 }
 
@@ -151,7 +151,7 @@ fn extend<S: BuildHasher + Copy + Drop>(
     })
 }
 
-/// Disconnects so many blocks, and gives them back with what they made, which is kept aside.
+/// Disconnects the last `depth` blocks, and gives them back with what they made, which is kept aside.
 fn take_off<S: BuildHasher + Copy + Drop>(
     alloc: Global,
     chain: &mut Chain<S>,
@@ -174,7 +174,8 @@ fn take_off<S: BuildHasher + Copy + Drop>(
     }
 }
 
-/// Puts blocks in the place of the last ones. What these made is kept aside, so that they come back where the others fail.
+/// Puts blocks in the place of the last ones. What the last ones made is kept aside, so that they come back if a new
+/// block fails.
 fn replace<S: BuildHasher + Copy + Drop>(
     alloc: Global,
     chain: &mut Chain<S>,
@@ -207,9 +208,10 @@ fn replace<S: BuildHasher + Copy + Drop>(
     }
 }
 
-/// Disconnects the last blocks and connects others in their place, one by one. A denial names the first rule that fails: C6
-/// for more blocks than are connected, or than 100, and then for each new block C7, C5, C2 and of each transaction in turn
-/// C4 and C3. Where it fails, the chain is as it was. Where blocks are disconnected it copies the coins that they made.
+/// Disconnects the last blocks and connects others in their place, one by one. A denial names the first rule that
+/// fails: C6 for more blocks than are connected, or than 100, and then for each new block C7, C5, C2 and of each
+/// transaction in turn C4 and C3. After any fault the chain is as it was. If blocks are disconnected, the coins that
+/// they made are copied.
 pub fn switch<S: BuildHasher + Copy + Drop>(
     alloc: Global,
     chain: &mut Chain<S>,

@@ -1,4 +1,4 @@
--- A derived `==` says whether two values are equal, where those of their fields do.
+-- A derived `==` says whether two values are equal, if the `==` of their fields do so.
 use Rattle.std.proofs.Common.{◌≡◌, Bool, true, false, ◌&&◌, List, [], ◌∷◌, refl, sym, ap, ◌⊎◌, inl, inr}
 use Rattle.std.specs.Bool.{Decides}
 use Rattle.std.proofs.lemmas.Bool.{false≢true}
@@ -34,7 +34,7 @@ struct_decides T fields a b = Decides-like _ (λ p. Cover-one T.cover T.proposit
 
 -- ---- enums
 
--- of each variant, that its fields say so
+-- in each variant, the equality of the fields decides
 abbrev pub EachDecides : (Fss : List (List Field)) → Each Bool Fss → Type 0
 EachDecides [] es = Unit {0}
 EachDecides (Fs ∷ Fss) es = ((x y : Values Fs) → Decides (es.0 x y) (x ≡ y)) × EachDecides Fss es.1
@@ -60,6 +60,6 @@ pub enum_decides : (N : Record) (es : Each Bool N.parts) → EachDecides N.parts
 enum_decides N es variants a b =
     Decides-like _ (λ p. values_one N a b p) (λ q. ap N.as_values q) (choices_decide N.parts es variants (N.as_values a) (N.as_values b))
 
--- of an enum whose variants have no fields
+-- the equality of an enum whose variants have no fields decides
 pub bare_decides : (N : Record) → Bare N.parts → (a b : N.D) → Decides (sameb (declared N) a b) (a ≡ b)
 bare_decides N bare a b = (same_true (declared N) bare a b, true_same (declared N) a b)

@@ -1,7 +1,7 @@
--- A written order: rules in turn, each with what is said where it fails, and the first that fails.
+-- A written order: rules in turn, each with what is said if it fails, and the first that fails.
 use Rattle.std.specs.Prelude.{◌≡◌, Bool, true, false, if◌then◌else◌, List, [], ◌∷◌, ◌++◌, Option, Some, None}
 
--- a rule: what is said where it fails, and whether it fails
+-- a rule: what is said if it fails, and whether it fails
 abbrev pub Rule : Type 0 → Type 0
 Rule L = L × Bool
 
@@ -14,11 +14,11 @@ abbrev pub NoneFails : {L : Type 0} → List (Rule L) → Type 0
 NoneFails [] = Unit {0}
 NoneFails (rule ∷ rules) = (rule.1 ≡ false) × NoneFails rules
 
--- a rule that says this fails, and no rule before it does
+-- the rule that says this fails, and no rule before it does
 abbrev pub IsFirstFailing : {L : Type 0} → List (Rule L) → L → Type 0
 IsFirstFailing {L} rules said = (before : List (Rule L)) × (after : List (Rule L)) × (rules ≡ before ++ ((said, true) ∷ after)) × NoneFails before
 
--- the first rule that fails, or that none does
+-- what the first rule that fails says, or none if no rule fails
 abbrev pub IsFirstOf : {L : Type 0} → List (Rule L) → Option L → Type 0
 IsFirstOf rules None = NoneFails rules
 IsFirstOf rules (Some said) = IsFirstFailing rules said

@@ -6,8 +6,8 @@ use crate::memory::Memory;
 use std::alloc::Global;
 use std::marker::Model;
 
-/// A value behind a pointer, for what is large and rare in an enum: the enum's other cases are moved in less time. Contracts
-/// see the value.
+/// A value behind a pointer, for what is large and rare in an enum: the enum's other cases are moved in less time.
+/// Contracts see the value.
 #[derive(Debug, Drop)]
 pub struct Boxed<T> {
     value: Box<T>,
@@ -26,7 +26,7 @@ impl<T> Boxed<T> {
         &self.value
     }
 
-    /// The value itself: its memory is given back.
+    /// The value itself. The memory that held it is given back.
     pub fn into_inner(self) -> T
         ensures { result ≡ self }
     {
@@ -34,7 +34,7 @@ impl<T> Boxed<T> {
         Box::into_inner(value)
     }
 
-    /// Puts a value in the place of the one that stands there, which is handed out. It takes no memory.
+    /// Puts a new value in place of the old one, which is handed out. It takes no memory.
     pub fn replace(&mut self, value: T) -> T
         ensures value { result ≡ self.old }
         ensures after { self.new ≡ value }

@@ -10,7 +10,7 @@ pub trait Copied: Drop {
         Self: Sized,
         ensures { IfOk result (λ x. x ≡ self.now) };
 
-    /// Copies each item of a list. A type of plain bytes does it in one piece.
+    /// Copies each item of a list. For plain bytes this is one copy of all of them.
     fn copy_list(items: &[Self], alloc: Global) -> Result<Vec<Self>, Memory>
     where
         Self: Sized,

@@ -16,7 +16,7 @@ answer_lines answers.Nothing = []
 answer_lines answers.BadLine = bad_line ∷ []
 answer_lines (answers.Reply reply) = reply_text reply ∷ []
 
--- the reply line to an event is that of the written step, which keeps a good state good where transactions are told apart by
+-- the reply line to an event is that of the written step, which keeps a good state good if transactions are told apart by
 -- their ids
 abbrev pub Steps : World → Event → List ℕ → World → Type 0
 Steps old event line new =
@@ -26,7 +26,7 @@ Steps old event line new =
 abbrev pub Answered : World → List ℕ → Answer → World → Type 0
 Answered old line answer new = LineAnswered Steps old line (answer_lines answer) new
 
--- what a line spells has this answer: the reply of the written step, or `refused` for a line of no form
+-- what a line spells has this answer: the reply of the written step, or `refused` for a line without a form
 abbrev pub EventAnswered : World → Option Event → Answer → World → Type 0
 EventAnswered old None answer new = (answer ≡ answers.BadLine) × (new ≡ old)
 EventAnswered old (Some event) answer new =

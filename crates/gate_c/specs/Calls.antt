@@ -1,4 +1,4 @@
--- What a call comes to: its status, what stands in the buffer, and what becomes of the handle.
+-- How a call ends: its status, what stands in the buffer, and what the handle then holds.
 use Rattle.std.specs.Prelude.{◌≡◌, ◌⊎◌, ℕ, ◌<◌, ◌≤◌, ◌++◌, ◌∷◌, List, [], length, Option, Some, None, Err}
 use Rattle.gate_lines.specs.Lines.{line_limit, unlines}
 use Rattle.gate_opening.specs.declared.OpeningFault.TheVariants as faults
@@ -43,7 +43,7 @@ AnswerCalled None line new before after size status = (new ≡ None) × NothingP
 AnswerCalled (Some old) line None before after size status = ⊥
 AnswerCalled (Some old) line (Some new) before after size status = LineCalled old line new before after size status
 
--- the last answer, once more
+-- the last answer is put once more, and nothing else changes
 abbrev pub AnswerRepeated : Session → Session → List ℕ → List ℕ → ℕ → ℕ → Type 0
 AnswerRepeated old new before after size status = AnswerKept old new × AnswerPut old.answer before after size status
 
@@ -54,7 +54,7 @@ ReplyCalled (Some old) (Some new) before after size status = AnswerRepeated old 
 
 -- ---- an opening
 
--- the line of a fault is put
+-- the line of an opening's fault is put
 abbrev pub RefusalPut : ℕ → OpeningToken → List ℕ → List ℕ → ℕ → ℕ → Type 0
 RefusalPut line token before after size status =
     TextPut (code_of statuses.OpeningRefused) (opening_line line token ++ 10 ∷ []) before after size status

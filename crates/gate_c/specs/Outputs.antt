@@ -1,9 +1,9 @@
--- What a call puts into the host's buffer, and the size that it tells.
+-- What a call puts into the host's buffer, and the size that it gives.
 use Rattle.std.specs.Prelude.{◌≡◌, ◌⊎◌, ℕ, ◌<◌, ◌++◌, Bool, true, false, List, length, drop}
 use Rattle.gate_c.specs.declared.status.Status.TheVariants as statuses
 use Rattle.gate_c.specs.Statuses.{code_of}
 
--- a text stands at the front of a buffer that has room for it, or the buffer is as it was; its size is told either way
+-- a text stands at the front of a buffer that has room for it, or the buffer is as before; the text's size is given in both cases
 abbrev pub Copied : List ℕ → List ℕ → List ℕ → ℕ → Bool → Type 0
 Copied text before after size true = (after ≡ text ++ drop (length text) before) × (size ≡ length text)
 Copied text before after size false = (after ≡ before) × (length before < length text) × (size ≡ length text)

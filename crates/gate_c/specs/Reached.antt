@@ -9,6 +9,6 @@ use Rattle.gate_message.specs.declared.event.Event.{Event}
 abbrev pub EndsARun : World → Type 0
 EndsARun w = (start : Start) × (events : List Event) × (w ≡ (run_of (opened_world start) events).1)
 
--- that there is such a run
+-- there is a run of some events from an opening that ends in this state
 abbrev pub IsReached : World → Type 0
 IsReached w = ∥ EndsARun w ∥₁

@@ -1,4 +1,4 @@
--- What a slot owns: nothing where it is empty, else the block with its session.
+-- What a slot owns: nothing if it is empty, and otherwise the block with its session.
 use Rattle.std.specs.Prelude.{Option, Some, None}
 use base.Fml.{Fml, ftrue}
 use base.Stored.{Coded}

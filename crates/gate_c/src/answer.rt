@@ -19,7 +19,7 @@ pub enum Answer {
 impl Answer {
     ghost use Rattle.gate_c.specs.Answers.{answer_lines};
 
-    /// Writes the line of the answer, with its newline, in the place of what `text` holds.
+    /// Replaces what `text` holds with the line of the answer and its newline.
     pub fn write(&self, alloc: Global, text: &mut String) -> Result<(), Memory>
         ensures { OnOk result (string_bytes text.new ≡ unlines (answer_lines self.now)) }
     {

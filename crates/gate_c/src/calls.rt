@@ -23,7 +23,7 @@ fn check_status(status: u8) -> Status
     }
 }
 
-/// Checks the transaction that the digits of an input spell.
+/// Checks the transaction that the digits of an input spell, and puts the lines of the check into the buffer.
 pub fn check_input(alloc: Global, input: &[u8], out: &mut [u8], size: &mut usize) -> Status
     ensures { CheckCalled input.now out.old out.new size.new (code_of result) }
 {
@@ -85,7 +85,7 @@ fn refuse_opening(
     }
 }
 
-/// Opens a session, or says why it isn't opened.
+/// Opens a session, or puts the line of the opening's fault into the buffer.
 pub fn open_session(
     alloc: Global,
     keys: &Keys,
@@ -105,7 +105,7 @@ pub fn open_session(
         Err(OpeningFault::Line(line, token)) => {
             Err(refuse_opening(alloc, line, token, out, size))
         }
-        // Memory ran out: bytes that lie there are always read.
+        // Memory ran out: reading bytes that are in memory never fails.
         Err(_) => Err(Status::OutOfMemory),
     }
 }

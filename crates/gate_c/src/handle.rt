@@ -10,7 +10,7 @@ pub use slot::Slot;
 use std::alloc::Global;
 use std::mem;
 
-/// A handle, which C begins as zeros: a pointer that is null, and `false`.
+/// A handle. C initializes it with zeros, a null pointer and `false`, which is a closed handle.
 #[repr(C)]
 pub struct Gate {
     pub slot: Slot,
@@ -24,7 +24,7 @@ impl Drop for Gate {
     }
 }
 
-/// Lets a value through that may go to another thread.
+/// Returns its argument, whose type has to be one that may go to another thread.
 fn sent<T: Send>(value: T) -> T
     ensures { result ≡ value }
 {
@@ -53,7 +53,7 @@ impl Gate {
         }
     }
 
-    /// Closes the handle, and gives the session of one that was open.
+    /// Closes the handle, and gives its session if it was open.
     pub fn take(&mut self, alloc: Global) -> Option<Box<Session, Global>>
         ensures closed { self.new.slot.session ≡ None }
         ensures taken { MatchOption result (self.old.slot.session ≡ None) (λ session. self.old.slot.session ≡ Some session.value) }
@@ -61,7 +61,7 @@ impl Gate {
         mem::replace(self, Gate::closed(alloc)).into_box()
     }
 
-    /// Opens the handle with a session, in the place of what it holds.
+    /// Opens the handle with a session, which replaces what it holds.
     pub fn put(&mut self, session: Box<Session, Global>)
         ensures { self.new.slot.session ≡ Some session.value }
     {

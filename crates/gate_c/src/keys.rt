@@ -2,7 +2,7 @@
 use std::io;
 use std::random::RandomSource;
 
-/// Two random numbers: with keys that they don't know, peers can't make txids collide in a hash table.
+/// Two random numbers. Peers that don't know them can't make txids collide in a hash table.
 #[derive(Clone, Copy, Debug)]
 #[repr(C)]
 pub struct Keys {

@@ -25,7 +25,7 @@ use output::{put_nothing, put_text};
 use status::Status;
 use std::alloc::Global;
 
-/// Opens a handle that is closed, from the text of an opening; the keys are those of its hash tables. Where the opening is
+/// Opens a handle that is closed, from the text of an opening; the keys are those of its hash tables. If the opening is
 /// refused, the line of its fault is put into the buffer.
 #[unsafe(no_mangle)]
 pub extern "C" fn gate_open(
@@ -50,8 +50,8 @@ pub extern "C" fn gate_open(
     }
 }
 
-/// Answers a line, which stands without its newline, and puts its reply line into the buffer, with a newline. Where the
-/// buffer is too small the line is answered, and [`gate_reply`] gives the reply.
+/// Answers a line, given without its newline, and puts its reply line into the buffer, with a newline. If the buffer is
+/// too small, the line is answered all the same, and [`gate_reply`] gives the reply.
 #[unsafe(no_mangle)]
 pub extern "C" fn gate_answer(
     alloc: Global,
@@ -92,7 +92,7 @@ pub extern "C" fn gate_reply(
     }
 }
 
-/// Closes a handle, and frees what it holds. A closed one stays closed.
+/// Closes a handle, and frees what it holds. A closed handle stays closed.
 #[unsafe(no_mangle)]
 pub extern "C" fn gate_close(alloc: Global, gate: &mut Gate)
     ensures { gate.new.slot.session ≡ None }
@@ -100,7 +100,7 @@ pub extern "C" fn gate_close(alloc: Global, gate: &mut Gate)
     drop(gate.take(alloc));
 }
 
-/// Checks by itself the transaction that the digits of an input spell.
+/// Checks by itself the transaction that the digits of an input spell, and puts the lines of the check into the buffer.
 #[unsafe(no_mangle)]
 pub extern "C" fn gate_check(alloc: Global, input: &[u8], out: &mut [u8], size: &mut usize) -> u32
     ensures { CheckCalled input.now out.old out.new size.new result }

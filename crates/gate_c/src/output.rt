@@ -5,7 +5,7 @@ ghost use Rattle.gate_c.specs.Statuses.{code_of};
 
 use crate::status::Status;
 
-/// Copies a text to the front of a buffer that has room for it, and tells its size either way.
+/// Copies a text to the front of a buffer if there is room for it, and gives its size in either case.
 fn copy_text(text: &[u8], out: &mut [u8], size: &mut usize) -> bool
     ensures { Copied text.now out.old out.new size.new result }
 {
@@ -18,7 +18,7 @@ fn copy_text(text: &[u8], out: &mut [u8], size: &mut usize) -> bool
     true
 }
 
-/// Puts a text into a buffer, and gives this status where there is room for it.
+/// Puts a text into a buffer, and gives this status if there is room for it.
 pub fn put_text(status: Status, text: &[u8], out: &mut [u8], size: &mut usize) -> Status
     ensures { TextPut (code_of status) text.now out.old out.new size.new (code_of result) }
 {

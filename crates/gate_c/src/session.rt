@@ -24,9 +24,9 @@ pub struct Session {
     pub state: State<RandomState>,
     /// The answer to the last line.
     pub answer: Answer,
-    /// The memory in which its text is made.
+    /// The memory in which the text of the last answer is made.
     pub text: String,
-    // What holds of every run from an opening holds of the state, whatever lines were answered.
+    // The state is the end of a run from an opening, whatever lines were answered.
     ghost reached: { IsReached state },
 }
 
@@ -75,7 +75,7 @@ fn answer_read(
     }
 }
 
-/// The answer to a line within the limits. Where memory runs out the state is what it was.
+/// The answer to a line within the limits. If memory runs out, the state is unchanged.
 fn answer_to(alloc: Global, state: &mut State<RandomState>, line: &[u8]) -> Result<Answer, Memory>
     ensures ok { IfOk result (λ answer. Answered state.old line.now answer state.new) }
     ensures reached { IsReached state.old → IsReached state.new }
@@ -93,7 +93,7 @@ fn answer_to(alloc: Global, state: &mut State<RandomState>, line: &[u8]) -> Resu
 impl Session {
     ghost use Rattle.gate_c.specs.Sessions.{AnswerKept, IsOpened};
 
-    /// The session of the state that an opening spells.
+    /// Opens the session of the state that an opening spells.
     pub fn open(alloc: Global, keys: &Keys, opening: &[u8]) -> Result<Session, OpeningFault>
         ensures opened { IfOk result (λ session. IsOpened opening.now session) }
         ensures fault { (line : ℕ) (token : OpeningToken) → result ≡ Err (OpeningFault.Line line token) →
@@ -110,7 +110,7 @@ impl Session {
         })
     }
 
-    /// Answers a line within the limits. Where memory runs out nothing is changed.
+    /// Answers a line within the limits. If memory runs out, nothing is changed.
     pub fn answer(&mut self, alloc: Global, line: &[u8]) -> Result<(), Memory>
         ensures ok { OnOk result (Answered self.old.state line.now self.new.answer self.new.state) }
         ensures err { OnErr result (AnswerKept self.old self.new) }
@@ -120,7 +120,7 @@ impl Session {
         Ok(())
     }
 
-    /// Writes the text of the last answer, with its newline, in the place of the text that was made last.
+    /// Replaces the text that was made last with that of the last answer, with its newline.
     pub fn write(&mut self, alloc: Global) -> Result<(), Memory>
         ensures kept { AnswerKept self.old self.new }
         ensures text { OnOk result (string_bytes self.new.text ≡ unlines (answer_lines self.old.answer)) }

@@ -7,7 +7,7 @@ pub enum Status {
     Done,
     /// The transaction that was checked is denied.
     Denied,
-    /// The buffer has no room for the text, whose size is told.
+    /// The buffer has no room for the text, whose size is given.
     BufferTooSmall,
     /// Memory ran out, and nothing has changed.
     OutOfMemory,
@@ -19,7 +19,7 @@ pub enum Status {
     OpeningRefused,
     /// The line has more than 16,777,216 bytes, and nothing has changed.
     LineTooLong,
-    /// The line is answered, and memory ran out in the text of its reply, which is kept.
+    /// The line is answered, but memory ran out in the text of its reply; the reply is kept.
     ReplyKept,
 }
 

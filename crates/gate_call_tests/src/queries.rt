@@ -17,7 +17,7 @@ fn input(alloc: Global, txid: Txid, index: u32, sequence: u32) -> TxIn {
     }
 }
 
-/// A transaction of one output that spends these.
+/// A transaction of these inputs and of one output.
 fn spending(alloc: Global, inputs: Vec<TxIn>, value: i64) -> Result<Identified, Fail> {
     let mut outputs = Vec::new(alloc);
     outputs.push(TxOut {
@@ -53,7 +53,7 @@ fn admit<S: BuildHasher + Copy + Drop>(
     Ok(txid)
 }
 
-/// A parent that may be replaced, two children that say nothing of that, and one that spends from both.
+/// Admits a parent that signals replacement, two children that don't, and a transaction that spends from both.
 fn fill<S: BuildHasher + Copy + Drop>(
     alloc: Global,
     pool: &mut Pool<S>,

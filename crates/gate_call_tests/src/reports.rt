@@ -12,7 +12,7 @@ use std::test::Fail;
 
 type Hasher = BuildHasherDefault<FoldHasher>;
 
-/// It spends two coins of 100,000 satoshi, pays 199,822, and takes 178 virtual bytes.
+/// A transaction that spends two coins of 100,000 satoshi, pays 199,822, and takes 178 virtual bytes.
 const SPENDS: &str =
     "0200000000010211111111111111111111111111111111111111111111111111111111111111110000000000fdffffff12121212121212121212121212121212121212121212121212121212121212120000000000fdffffff018e0c030000000000160014222222222222222222222222222222222222222202483030303030303030303030303030303030303030303030303030303030303030303030303030303030303030303030303030303030303030303030303030303030303030303030302102020202020202020202020202020202020202020202020202020202020202020202483030303030303030303030303030303030303030303030303030303030303030303030303030303030303030303030303030303030303030303030303030303030303030303030302102020202020202020202020202020202020202020202020202020202020202020200000000";
 
@@ -36,18 +36,19 @@ impl Script {
     }
 }
 
-/// A report: the index at which its input is said to stand, the one at which it stands, and its coin's script.
+/// A report: the index that it gives its input, the index of that input in the transaction, and the coin's script.
 #[derive(Clone, Copy)]
 struct On(u32, usize, Script);
 
 const NONE: [Option<On>; 2] = [None, None];
 
-/// Reports that are right where both coins pay a key's hash, and where the second doesn't.
+/// Reports that are right if both coins pay a key's hash.
 const OF_KEY_HASHES: [Option<On>; 2] = [
     Some(On(0, 0, Script::KeyHash)),
     Some(On(1, 1, Script::KeyHash)),
 ];
 
+/// Reports that are right if the script of the second coin is of no template.
 const OF_NO_TEMPLATE: [Option<On>; 2] = [
     Some(On(0, 0, Script::KeyHash)),
     Some(On(1, 1, Script::NoTemplate)),
@@ -59,20 +60,20 @@ const OF_OTHERS: [Option<On>; 2] = [
     Some(On(1, 1, Script::NoTemplate)),
 ];
 
-/// One too few.
+/// The report on the first input alone.
 const FIRST: [Option<On>; 2] = [Some(On(0, 0, Script::KeyHash)), None];
 
 const SECOND: [Option<On>; 2] = [Some(On(1, 1, Script::KeyHash)), None];
 
 const SECOND_OF_NO_TEMPLATE: [Option<On>; 2] = [Some(On(1, 1, Script::NoTemplate)), None];
 
-/// In another order.
+/// The reports in another order.
 const TURNED: [Option<On>; 2] = [
     Some(On(1, 1, Script::KeyHash)),
     Some(On(0, 0, Script::KeyHash)),
 ];
 
-/// One place off.
+/// Reports whose indexes are one too great.
 const LATER: [Option<On>; 2] = [
     Some(On(1, 0, Script::KeyHash)),
     Some(On(2, 1, Script::KeyHash)),
@@ -175,7 +176,7 @@ fn reported(alloc: Global, submission: &Prepared, case: &[Option<On>]) -> Result
     }
 }
 
-/// The decision over a chain, where each script is good.
+/// The decision over a chain, if each script is good.
 fn decision(
     alloc: Global,
     chain: &Chain<Hasher>,
@@ -223,7 +224,7 @@ fn is_always(
     Ok(true)
 }
 
-/// Whether this is the decision where the second coin has this script, whatever the reports.
+/// Whether this is the decision if the second coin has this script, whatever the reports.
 fn decides(alloc: Global, second: Script, wanted: &Result<Grant, Denial>) -> Result<bool, Fail> {
     let chain = chain(alloc, second)?;
     let submission = submission(alloc)?;

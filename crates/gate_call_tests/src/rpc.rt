@@ -162,7 +162,7 @@ fn parameters_have_the_form_of_the_method(rt: HostRuntime) -> Result<(), Fail> {
     Ok(())
 }
 
-/// A call of no method, with so many values one in another beside it.
+/// A call without a method, with `depth` values nested in one another beside it.
 fn nested(alloc: Global, value: (&str, &str, &str), depth: usize) -> Result<String, Fail> {
     let (front, inmost, back) = value;
     let mut call = String::from_str(alloc, "{\"a\":")?;

@@ -18,7 +18,7 @@ const SCRIPT: [u8; 22] = [
     0x22, 0x22, 0x22, 0x22, 0x22, 0x22,
 ];
 
-/// It spends the coin of 100,000 satoshi, pays 99,890, and takes 110 virtual bytes.
+/// A transaction that spends the coin of 100,000 satoshi, pays 99,890, and takes 110 virtual bytes.
 const PAYMENT: &str =
     "0200000000010111111111111111111111111111111111111111111111111111111111111111110000000000fdffffff013286010000000000160014222222222222222222222222222222222222222202483030303030303030303030303030303030303030303030303030303030303030303030303030303030303030303030303030303030303030303030303030303030303030303030302102020202020202020202020202020202020202020202020202020202020202020200000000";
 
@@ -49,7 +49,7 @@ fn payment(alloc: Global) -> Result<Prepared, Fail> {
     Ok(Prepared::new(alloc, &bytes)?)
 }
 
-/// What a submission gets at second 5,000, where each script is good.
+/// What a submission gets at second 5,000, if each script is good.
 fn answer(
     alloc: Global,
     chain: &Chain<Hasher>,
@@ -65,7 +65,7 @@ fn answer(
     )
 }
 
-/// What a submission gets from an empty pool, and then once more.
+/// What a submission gets from an empty pool, and what it gets when it is made once more.
 fn answers(
     alloc: Global,
     prepared: &Prepared,
@@ -95,7 +95,7 @@ fn a_payment_is_entered_once(rt: HostRuntime) -> Result<(), Fail> {
     Ok(())
 }
 
-/// The report on the payment's input, where its coin has this value.
+/// The report on the payment's input, if its coin has this value.
 fn reports(
     alloc: Global,
     prepared: &Prepared,
@@ -134,7 +134,7 @@ fn reported(
     Ok(Some(answers(alloc, &prepared)?))
 }
 
-// A report counts for its own coin alone, so that one on another coin changes nothing.
+// A report counts for its own coin alone, so a report on another coin changes nothing.
 #[test]
 fn reports_change_no_answer(rt: HostRuntime) -> Result<(), Fail> {
     for value in [100_000, 99_000] {

@@ -17,28 +17,28 @@ pub(crate) enum Cause<'a> {
     EventInOpening,
     LineOfOpening,
     LineOfJournal,
-    /// A word that is none of those that are known at its place.
+    /// A word that is none of the known words at its place.
     Unknown(&'a str, &'static [&'static str]),
-    /// What is missing at the end.
+    /// What is missing at the end of the line.
     Missing(&'static str),
     TooMuch(&'a str),
-    /// A text where a number stands, and what the number is.
+    /// A text where a number has to stand, and what that number is.
     NoNumber(&'a str, &'static str),
     NotWhole(&'a str, &'static str),
     LeadingZero(&'a str),
     TooGreat(&'a str, u64),
-    /// A 0 where a number from 1 on stands.
+    /// A 0 where a number from 1 on has to stand.
     Zero,
     NoId(&'a str),
     NoHex(&'a str),
     NoAddress(&'a str),
-    /// Each place has its form: a setting or a verdict is said again.
+    /// Every word has its form, but the line repeats a setting or a verdict.
     Again,
     /// No cause was found.
     NoForm,
 }
 
-/// A text of the line, cut behind 40 characters.
+/// A text of the line, cut after 40 characters.
 #[derive(Clone, Copy)]
 struct Shown<'a>(&'a str);
 
@@ -57,7 +57,7 @@ impl fmt::Display for Shown<'_> {
 }
 
 impl Cause<'_> {
-    /// It in words, as they stand behind the number of the line.
+    /// The cause in words, as they stand behind the number of the line.
     pub(crate) fn text(self, alloc: Global) -> Result<String, Memory> {
         match self {
             Cause::Unknown(word, known) => unknown_text(alloc, word, known),

@@ -9,7 +9,7 @@ use std::io::Write;
 /// The longest text that is kept.
 const LONGEST: usize = 100;
 
-/// A writer in front of another one. It keeps the first text that it took, where that is short and there is memory.
+/// A writer in front of another one. It keeps the first text that it took, if that is short and there is memory.
 #[derive(Drop)]
 pub struct Heard<W> {
     pub writer: W,
@@ -30,7 +30,7 @@ impl<W> Heard<W> {
         }
     }
 
-    /// The first text that it took, where it was kept.
+    /// The first text that the writer took, if it was kept.
     pub fn first(&self) -> Option<&[u8]> {
         match &self.first {
             Some(text) => Some(text.as_slice()),

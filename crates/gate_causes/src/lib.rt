@@ -1,7 +1,8 @@
 //! What is wrong with a line of the input, in plain words.
 //!
-//! The main clause is that of [`event_told`]: a line is told of exactly where it has no form of an event. A [`Watched`] reader
-//! tells of lines as they pass, and reads as the reader behind it does; a [`Heard`] writer keeps the first text that it took.
+//! The main clause is that of [`event_told`]: a cause is given for a line exactly if it has no form of an event. A
+//! [`Watched`] reader reports on lines as they pass, and reads as the reader behind it does; a [`Heard`] writer keeps
+//! the first text that it took.
 #![tactic(auto)]
 
 mod cause;

@@ -9,7 +9,7 @@ pub enum Limit {
     Lanes,
     /// A round of lanes that does not begin with a line `---`.
     Round,
-    /// More than 1,000,000 lines of an opening, or behind it.
+    /// More than 1,000,000 lines in an opening, or behind it.
     Lines,
     /// A line of more than 16,777,216 bytes.
     Line,
@@ -26,7 +26,7 @@ impl fmt::Display for Limit {
     }
 }
 
-/// Where a reader stands, for those who tell of what happens there. It may be looked at while the reader is lent.
+/// Where a reader stands, for messages on what happens there. It may be looked at while the reader is lent.
 #[derive(Drop)]
 pub struct Place {
     line: Cell<u64>,
@@ -36,7 +36,7 @@ pub struct Place {
 }
 
 impl Place {
-    /// Before the first line.
+    /// The place before the first line.
     pub fn new() -> Place {
         Place {
             line: Cell::new(0),
@@ -51,22 +51,22 @@ impl Place {
         self.line.get()
     }
 
-    /// How many bytes were read with it, its newline among them.
+    /// How many bytes were read up to the end of that line, with its newline.
     pub fn bytes(&self) -> u64 {
         self.bytes.get()
     }
 
-    /// How many lines behind the opening were told of.
+    /// How many lines behind the opening were reported.
     pub fn refused(&self) -> u64 {
         self.refused.get()
     }
 
-    /// The first limit that the input came to: where it could not be read, it is past that.
+    /// The first limit that the input came to: if the input could not be read, it is past that limit.
     pub fn limit(&self) -> Option<Limit> {
         self.limit.get()
     }
 
-    /// Goes to the next line, which has so many bytes, and gives its number.
+    /// Goes to the next line, which has this many bytes, and gives its number.
     pub(crate) fn advance(&self, length: usize) -> u64 {
         let number = self.line.get().saturating_add(1);
         self.line.set(number);

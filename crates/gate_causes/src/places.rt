@@ -2,7 +2,7 @@
 use crate::cause::Cause;
 use gate_lines::{MAX_NUMBER, next_word, read_number};
 
-/// The words of a line that are left.
+/// The words of a line that were not taken yet.
 #[derive(Clone, Copy)]
 pub(crate) struct Places<'a> {
     rest: Option<&'a str>,
@@ -13,7 +13,7 @@ impl<'a> Places<'a> {
         Places { rest: Some(line) }
     }
 
-    /// The next word, where there is one.
+    /// The next word, if there is one.
     pub(crate) fn next(&mut self) -> Option<&'a str> {
         let text = self.rest?;
         match next_word(text) {
@@ -36,12 +36,12 @@ impl<'a> Places<'a> {
         }
     }
 
-    /// A number of at most this.
+    /// Takes a number of at most `most`.
     pub(crate) fn number(&mut self, what: &'static str, most: u64) -> Result<(), Cause<'a>> {
         number(self.word(what)?, what, most)
     }
 
-    /// A number from 1 to this.
+    /// Takes a number from 1 to `most`.
     pub(crate) fn count(&mut self, what: &'static str, most: u64) -> Result<(), Cause<'a>> {
         let word = self.word(what)?;
         if word == "0" {
@@ -50,7 +50,7 @@ impl<'a> Places<'a> {
         number(word, what, most)
     }
 
-    /// A word that is one of these.
+    /// Takes a word that is one of the known ones.
     pub(crate) fn one_of(
         &mut self,
         what: &'static str,
@@ -64,7 +64,7 @@ impl<'a> Places<'a> {
         }
     }
 
-    /// An id of 64 hexadecimal digits.
+    /// Takes an id of 64 hexadecimal digits.
     pub(crate) fn id(&mut self, what: &'static str) -> Result<(), Cause<'a>> {
         let word = self.word(what)?;
         if word.len() == 64 && is_hex(word) {
@@ -74,7 +74,7 @@ impl<'a> Places<'a> {
         }
     }
 
-    /// Bytes in hexadecimal digits, or `-` for none.
+    /// Takes bytes in hexadecimal digits, or `-` for none.
     pub(crate) fn hex(&mut self, what: &'static str) -> Result<(), Cause<'a>> {
         let word = self.word(what)?;
         if word == "-" || is_hex(word) && word.len() % 2 == 0 {
@@ -84,7 +84,7 @@ impl<'a> Places<'a> {
         }
     }
 
-    /// No word is left.
+    /// Fails if a word is left.
     pub(crate) fn end(&mut self) -> Result<(), Cause<'a>> {
         match self.next() {
             Some(word) => Err(Cause::TooMuch(word)),

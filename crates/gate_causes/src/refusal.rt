@@ -1,4 +1,4 @@
-//! What is told of an opening that is refused.
+//! What is said of an opening that is refused.
 use crate::place::Place;
 use crate::told::opening_told;
 use gate_bytes::Memory;
@@ -6,14 +6,14 @@ use gate_lines::next_word;
 use gate_rules::rules_named;
 use std::alloc::Global;
 
-/// What a token says, where it is a rule's.
+/// The sentence of a token, if it is that of a rule or of a word.
 fn meaning(alloc: Global, token: &str) -> Result<Option<&'static str>, Memory> {
     let rules = rules_named(alloc, token)?;
     // The words for openings stand last.
     Ok(rules.as_slice().last().map(|rule| rule.says))
 }
 
-/// Why the line of this number has no form, of an opening that was read to this place: `last` is its last line.
+/// Why the line of this number has no form, in an opening that was read to this place and whose last line is `last`.
 fn form_told(alloc: Global, line: &str, place: &Place, last: &[u8]) -> Result<String, Memory> {
     if let Some(limit) = place.limit() {
         return Ok(format!(in alloc; "line {line}: {limit}")?);
@@ -22,8 +22,8 @@ fn form_told(alloc: Global, line: &str, place: &Place, last: &[u8]) -> Result<St
     Ok(format!(in alloc; "line {line}: {cause}")?)
 }
 
-/// What is told of an opening's refusal, which is `opening LINE TOKEN`, where the opening was read to this place: `last` is
-/// its last line. Nothing is told of another text.
+/// What is said of an opening's refusal, which is `opening LINE TOKEN`. The opening was read to this place, and `last`
+/// is its last line. Of any other text nothing is said.
 pub fn refusal_told(
     alloc: Global,
     refusal: &str,
@@ -45,7 +45,7 @@ pub fn refusal_told(
     let Some(says) = meaning(alloc, token)? else {
         return Ok(None);
     };
-    // A fault of no line is told at line 0.
+    // A fault that is not a line's has the line 0.
     if line == "0" {
         return Ok(Some(format!(in alloc; "the opening: {token}: {says}")?));
     }

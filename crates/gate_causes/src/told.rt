@@ -1,4 +1,4 @@
-//! What is told of a line.
+//! What is said of a line.
 ghost use Rattle.std.specs.Prelude.{◌≡◌, IfOk, is_none, is_some};
 ghost use Rattle.std.specs.Result.{is_ok};
 ghost use Rattle.gate_events.specs.EventLines.{line_event};
@@ -12,7 +12,7 @@ use gate_events::event_on;
 use hex::FromHexError;
 use std::alloc::Global;
 
-/// Two spaces in a row before the JSON of a call.
+/// Whether a line has two spaces in a row before the JSON of a call.
 fn has_two_spaces(line: &[u8]) -> bool {
     let mut before = b'x';
     for byte in line {
@@ -65,7 +65,7 @@ fn opening_cause(line: &[u8]) -> Result<(), Cause<'_>> {
     }
 }
 
-/// What is told of an event's line: something exactly where it has no form. An empty line and a comment have none.
+/// Why an event's line has no form, or `None` exactly if it has one. An empty line and a comment have no form.
 pub fn event_told(alloc: Global, line: &[u8]) -> Result<Option<String>, Memory>
     ensures { IfOk result (λ told. is_none told ≡ is_some (line_event line.now)) }
 {
@@ -82,7 +82,7 @@ pub fn event_told(alloc: Global, line: &[u8]) -> Result<Option<String>, Memory>
     Ok(Some(cause.text(alloc)?))
 }
 
-/// What is told of a line that an opening refuses for its form.
+/// Why an opening refuses a line for its form.
 pub fn opening_told(alloc: Global, line: &[u8]) -> Result<String, Memory> {
     let cause = match opening_cause(line) {
         Ok(()) => Cause::Again,
@@ -91,7 +91,7 @@ pub fn opening_told(alloc: Global, line: &[u8]) -> Result<String, Memory> {
     cause.text(alloc)
 }
 
-/// What is told of a word that stands for a transaction: something exactly where it is no text of hexadecimal digits.
+/// Why a word that stands for a transaction is no text of hexadecimal digits, or `None` exactly if it is one.
 pub fn digits_told(alloc: Global, word: &str) -> Result<Option<String>, Memory>
     ensures { IfOk result (λ told. is_none told ≡ is_ok (decode_of word.now)) }
 {

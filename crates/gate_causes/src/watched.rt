@@ -1,4 +1,4 @@
-//! A reader that tells of the lines that pass.
+//! A reader that reports on the lines that pass.
 ghost use Rattle.std.specs.Prelude.{◌≡◌};
 
 use crate::place::{Limit, Place};
@@ -43,8 +43,9 @@ fn is_base(line: &[u8]) -> bool {
     }
 }
 
-/// A reader of an opening and what stands behind it, in front of another reader. It keeps the last line of the opening, tells
-/// of lines behind it that have no form, on standard error and where it is asked to, and keeps the place where it stands.
+/// A reader of an opening and what stands behind it, in front of another reader. It keeps the last line of the opening
+/// and the place where it stands. If it is asked to, it reports on standard error each line behind the opening that has
+/// no form.
 #[derive(Drop)]
 pub struct Watched<'a, R, T> {
     pub reader: R,
@@ -91,7 +92,7 @@ impl<'a, R, T: Eprint> Watched<'a, R, T> {
         }
     }
 
-    /// The last line of the opening that was read whole, where there was memory to keep it.
+    /// The last line of the opening that was read whole, if there was memory to keep it.
     pub fn last(&self) -> Option<&[u8]> {
         if self.is_kept {
             Some(self.last.as_slice())
@@ -112,7 +113,7 @@ impl<'a, R, T: Eprint> Watched<'a, R, T> {
         self.is_kept = self.last.extend_from_slice(line).is_ok();
     }
 
-    /// The event of a line behind the opening, where it has to have one.
+    /// The event of a line behind the opening, if the line has to have one.
     fn event_in<'b>(&self, line: &'b [u8]) -> Option<&'b [u8]> {
         if asks_nothing(line) {
             return None;
@@ -132,12 +133,12 @@ impl<'a, R, T: Eprint> Watched<'a, R, T> {
         }
     }
 
-    /// Whether the line stands in a journal and is none of its lines.
+    /// Whether the line stands in a journal and is not skipped, but is no event, no reply and no base.
     fn lacks_mark(&self, line: &[u8]) -> bool {
         self.behind == Behind::Journal && !asks_nothing(line) && !has_mark(line) && !is_base(line)
     }
 
-    /// Whether a line of a lane is an event of another caller than the lane's first is.
+    /// Whether a line of a lane is an event of another caller than that of the lane's first event.
     fn is_strange(&mut self, line: &[u8]) -> Result<bool, Memory>
         ensures { self.new.reader ≡ self.old.reader }
     {
@@ -156,7 +157,7 @@ impl<'a, R, T: Eprint> Watched<'a, R, T> {
         }
     }
 
-    /// Tells of a line of a lane, where its caller is not the lane's.
+    /// Reports a line of a lane if its caller is not the lane's.
     fn tell_caller(&mut self, number: u64, line: &[u8])
         ensures { self.new.reader ≡ self.old.reader }
     {
@@ -170,9 +171,9 @@ impl<'a, R, T: Eprint> Watched<'a, R, T> {
         }
     }
 
-    /// Tells of a line behind the opening, where it has no form.
+    /// Reports a line behind the opening if it has no form.
     fn tell(&self, number: u64, line: &[u8]) {
-        // What standard error doesn't take is not told.
+        // What standard error doesn't take is lost.
         if self.lacks_mark(line) {
             self.place.refuse();
             let _written = eprintln!(self.rt;
@@ -189,7 +190,7 @@ impl<'a, R, T: Eprint> Watched<'a, R, T> {
         }
     }
 
-    /// Keeps in mind that a line is past a limit, and tells of it where it is an event's.
+    /// Notes that a line is past a limit, and reports it if it is an event's.
     fn pass(&self, number: u64, limit: Limit) {
         self.place.pass(limit);
         if self.tells && self.has_opened && self.behind == Behind::Events {
@@ -198,12 +199,13 @@ impl<'a, R, T: Eprint> Watched<'a, R, T> {
         }
     }
 
-    /// Whether a line without a mark stands in a journal, longer than a line may be: one with a mark may have that besides.
+    /// Whether a line without a mark stands in a journal and is longer than a line may be. A line with a mark may be
+    /// longer by its mark.
     fn is_too_long(&self, line: &[u8]) -> bool {
         self.behind == Behind::Journal && line.len() > MAX_LINE && !has_mark(line)
     }
 
-    /// Counts a line of lanes: a lane that it begins, or a round that it ends.
+    /// Counts the lane that a line begins, or notes the round that it ends.
     fn count_lanes(&mut self, line: &[u8])
         ensures { self.new.reader ≡ self.old.reader }
     {
@@ -240,7 +242,7 @@ impl<'a, R, T: Eprint> Watched<'a, R, T> {
         }
     }
 
-    /// The input ended.
+    /// Notes the end of the input: a round that still waits for its first lane lacks it.
     fn end(&self) {
         if self.awaits_lane {
             self.place.pass(Limit::Round);
@@ -268,8 +270,8 @@ impl<'a, R, T: Eprint> Watched<'a, R, T> {
         }
     }
 
-    /// The limit that the next line is past, of which more bytes stand there than are kept: where all lines were read that there
-    /// may be, none is kept.
+    /// The limit that the next line is past, of which more bytes were found than are kept. If as many lines were read
+    /// as there may be, no byte of the next one is kept.
     fn limit(&self) -> Limit {
         let lines = if self.has_opened {
             self.lines
@@ -283,7 +285,7 @@ impl<'a, R, T: Eprint> Watched<'a, R, T> {
         }
     }
 
-    /// The next line is past a limit.
+    /// Notes that the next line is past a limit.
     fn pass_line(&self, line: &[u8]) {
         let limit = self.limit();
         let number = self.place.advance(line.len());

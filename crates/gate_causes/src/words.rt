@@ -26,7 +26,7 @@ pub(crate) const SETTINGS: [&str; 13] = [
 /// The longest word that is compared with the known ones.
 const LONGEST: usize = 40;
 
-/// So many edits lead to a word that is no longer near.
+/// A word that is this many edits away is no longer near.
 const FAR: usize = 3;
 
 /// Whether a word is one of these.
@@ -34,14 +34,14 @@ pub(crate) fn is_among(word: &str, known: &[&str]) -> bool {
     known.iter().any(|name| *name == word)
 }
 
-/// The one of these that a word is nearest to, where it is near one at all.
+/// The known word that is nearest to a word, if any is near.
 pub(crate) fn nearest(
     alloc: Global,
     word: &str,
     known: &'static [&'static str],
 ) -> Result<Option<&'static str>, Memory> {
     let mut found = None;
-    // A word of which nothing would be left is near none.
+    // If nothing would be left of a word, it is near no known word.
     let mut least = FAR.min(word.len());
     if word.len() > LONGEST {
         return Ok(None);

@@ -22,7 +22,7 @@ use Rattle.gate_chain.specs.Marking.{coins_in, coins_made, ids_of, is_marked}
 abbrev pub is_spent : History → OutPoint → Bool
 is_spent h p = list_any (is_spent_in p) h.blocks
 
--- what is spent was made
+-- each outpoint that a connected block spends has a coin that was made
 pub record SpentMade (h : History) : Type 0 where
   pub made : (p : OutPoint) → is_spent h p ≡ true → is_some (lookup (point_eq p) (coins_made h)) ≡ true
 
@@ -32,7 +32,7 @@ pub record AreMaps (h : History) (es : List (OutPoint × Marked)) (txids : List 
   pub marks_are : (p : OutPoint) → is_marked es p ≡ is_spent h p
   pub txids_are : txids ≡ ids_of h.blocks
 
--- a history has this opening and is so high
+-- these are the ids of the coins of a history's opening, and its next block has this height
 pub record Opens (h : History) (opened : List (List ℕ)) (height : ℕ) : Type 0 where
   pub ids_are : (id : List ℕ) → list_any (bytes_eq id) opened ≡ has_txid id h.coins
   pub height_is : height ≡ length h.times + length h.blocks
@@ -44,12 +44,12 @@ pub record IsConnected (h : History) (c : Connected) : Type 0 where
   pub coins_are : c.coins ≡ length (coins_made h)
   pub ids_are : c.ids ≡ length (ids_of h.blocks)
 
--- what stands after one more transaction is entered, or isn't
+-- the maps after the next transaction is entered, or isn't
 abbrev pub Enters : {X : Type 0} → History → List ℕ → List Tx → Tx → Result X ChainFault → List (OutPoint × Marked) → List (List ℕ) → Type 0
 Enters h header done t (Ok x) es txids = AreMaps (with_part h header (done ++ t ∷ [])) es txids × (transaction_denial h header done t ≡ None)
 Enters h header done t (Err e) es txids = AreMaps (with_part h header done) es txids × Tells e (transaction_denial h header done t)
 
--- what stands after a block is connected, or isn't
+-- the maps after a block is connected, or isn't
 abbrev pub Connects : History → Block → Result Connected ChainFault → List (OutPoint × Marked) → List (List ℕ) → Type 0
 Connects h block (Ok c) es txids = (c.block ≡ block) × IsConnected h c × AreMaps (grown h block) es txids × (transactions_denial h block.header [] block.transactions ≡ None)
 Connects h block (Err e) es txids = AreMaps h es txids × Tells e (transactions_denial h block.header [] block.transactions)
@@ -58,7 +58,7 @@ Connects h block (Err e) es txids = AreMaps h es txids × Tells e (transactions_
 abbrev pub history : List OpeningCoin → List ℕ → List Connected → History
 history coins times blocks = record { coins = coins; times = times; blocks = map (λ c. c.block) blocks }
 
--- the opening, whose coins stand first
+-- the coins of the opening, which are the first of the map
 abbrev pub opening_in : ℕ → List (OutPoint × Marked) → List OpeningCoin
 opening_in opened es = opening_coins (take opened (coins_in es))
 

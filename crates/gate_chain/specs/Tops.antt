@@ -17,7 +17,7 @@ use Rattle.gate_chain.specs.Lowering.{Top, lowered, above}
 abbrev pub place_of : Connected → Place
 place_of c = record { coins = c.coins; ids = c.ids }
 
--- blocks with the places at which they stood
+-- blocks with the places that they had
 abbrev pub placed : List Place → List Block → List Connected
 placed [] blocks = []
 placed (p ∷ places) [] = []

@@ -38,14 +38,14 @@ const MAX_HEIGHT: u32 = 10_000_000;
 /// The coins and times of a chain: contracts see its history.
 #[derive(Drop)]
 pub struct Chain<S: BuildHasher + Copy + Drop> {
-    // How many of the coins and of the times are the opening's, which stand first.
+    // How many of the coins and of the times are the opening's, which come first.
     opening_coins: usize,
     opening_times: usize,
     opening_txids: IndexSet<Txid, S>,
     times: Vec<u32>,
     blocks: Vec<Connected>,
     coins: IndexMap<OutPoint, Marked, S>,
-    // Of the connected blocks' transactions.
+    // The ids of the connected blocks' transactions.
     txids: IndexSet<Txid, S>,
 }
 
@@ -91,9 +91,9 @@ fn time_in(times: &[u32], height: u32) -> Option<u32>
 }
 
 impl<S: BuildHasher + Copy + Drop> Chain<S> {
-    /// Opens a chain of these coins and of the times of its blocks, from height 0 on. A fault names the first thing that is
-    /// wrong: the number of times, and then of each coin in turn its value, its script, its height and its outpoint. The
-    /// hasher serves all tables that hold a txid or an outpoint.
+    /// Opens a chain of these coins and of the times of its blocks, from height 0 on. A fault names the first thing
+    /// that is wrong: the number of times, and then of each coin in turn its value, its script, its height and its
+    /// outpoint. The hasher serves all tables that hold a txid or an outpoint.
     pub fn open(
         alloc: Global,
         hasher: S,
@@ -117,7 +117,7 @@ impl<S: BuildHasher + Copy + Drop> Chain<S> {
         })
     }
 
-    /// A chain of the same history. It copies every coin.
+    /// A copy of the chain, of the same history. It copies every coin.
     pub fn copy(&self, alloc: Global) -> Result<Chain<S>, Memory>
         ensures { IfOk result (λ chain. chain ≡ self.now) }
     {
@@ -163,7 +163,7 @@ impl<S: BuildHasher + Copy + Drop> Chain<S> {
         (self.times.len() - 1) as u32
     }
 
-    /// The time of the block at a height, in seconds since 1970, none above the tip.
+    /// The time of the block at a height, in seconds since 1970; none above the tip.
     pub fn time(&self, height: u32) -> Option<u32>
         ensures time { result ≡ time_of self.now height }
         ensures within { IsSome result ↔ (height ≤ tip_of self.now) }
@@ -171,7 +171,7 @@ impl<S: BuildHasher + Copy + Drop> Chain<S> {
         time_in(self.times.as_slice(), height)
     }
 
-    /// The median of the times of a height and of up to ten heights before it (BIP 113), none above the tip.
+    /// The median of the times of a height and of up to ten heights before it (BIP 113); none above the tip.
     pub fn mtp(&self, height: u32) -> Option<u32>
         ensures median { result ≡ mtp_of self.now height }
         ensures within { IsSome result ↔ (height ≤ tip_of self.now) }
@@ -196,8 +196,8 @@ impl<S: BuildHasher + Copy + Drop> Chain<S> {
         }
     }
 
-    /// Connects a block above the tip. A denial names the first rule that fails: C7, C5, C2, and then of each transaction in
-    /// turn C4 and C3. Where it fails, the chain is as it was.
+    /// Connects a block above the tip. A denial names the first rule that fails: C7, C5, C2, and then of each
+    /// transaction in turn C4 and C3. After any fault the chain is as it was.
     pub fn connect(&mut self, alloc: Global, block: Block) -> Result<(), ChainFault>
         ensures ok { OnOk result (self.new ≡ grown self.old block) }
         ensures err { OnErr result (self.new ≡ self.old) }
@@ -243,8 +243,8 @@ impl<S: BuildHasher + Copy + Drop> Chain<S> {
     }
 }
 
-/// The law of a block that is connected and disconnected again: the chain is as it was, whatever happens, and the block comes
-/// back.
+/// The law of a block that is connected and disconnected again: the chain is as it was, whatever happens, and the block
+/// comes back.
 pub fn there_and_back<S: BuildHasher + Copy + Drop>(
     chain: &mut Chain<S>,
     alloc: Global,

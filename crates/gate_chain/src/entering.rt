@@ -37,7 +37,7 @@ fn spend_later<S: BuildHasher + Copy + Drop>(
     if coinbase { true } else { spend(coins, inputs) }
 }
 
-/// Gives them back.
+/// Marks the coins of a transaction's inputs as unspent, but not of a coinbase's.
 fn unspend_later<S: BuildHasher + Copy + Drop>(
     coinbase: bool,
     coins: &mut IndexMap<OutPoint, Marked, S>,
@@ -61,7 +61,7 @@ fn is_repeated<S: BuildHasher + Copy + Drop>(
     opened.contains(id) || txids.contains(id)
 }
 
-/// Notes the id of one more transaction, for which there is room.
+/// Adds the id of a transaction, for which there is room.
 fn note<S: BuildHasher + Copy + Drop>(txids: &mut IndexSet<Txid, S>, id: Txid)
     requires room { 1 ≤ set_spare txids.old }
     requires new { contains bytes_eq txids.old id ≡ false }
@@ -71,7 +71,7 @@ fn note<S: BuildHasher + Copy + Drop>(txids: &mut IndexSet<Txid, S>, id: Txid)
     let _ = noted.unwrap();
 }
 
-/// Where a transaction of a block stands.
+/// The place of a transaction of a block.
 #[derive(Clone, Copy, Debug, PartialEq, Eq)]
 struct Position {
     /// The height of its block.
@@ -80,7 +80,7 @@ struct Position {
     coinbase: bool,
 }
 
-/// Enters one more transaction of a block, or leaves the maps as they are.
+/// Enters the next transaction of a block, or leaves the maps as they are.
 fn enter<S: BuildHasher + Copy + Drop>(
     alloc: Global,
     opened: &IndexSet<Txid, S>,
@@ -116,7 +116,7 @@ fn enter<S: BuildHasher + Copy + Drop>(
     }
 }
 
-/// Takes the first transactions of a block out again: what stands above those numbers of coins and ids.
+/// Takes the first transactions of a block out again: the coins and ids past these numbers of them.
 pub(crate) fn leave<S: BuildHasher + Copy + Drop>(
     coins: &mut IndexMap<OutPoint, Marked, S>,
     txids: &mut IndexSet<Txid, S>,

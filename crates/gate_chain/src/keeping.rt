@@ -47,7 +47,7 @@ impl<S: BuildHasher + Copy + Drop> Model for Coins<S> {
 }
 
 impl<S: BuildHasher + Copy + Drop> Coins<S> {
-    /// No coins, with room for some.
+    /// No coins, with room for `capacity` of them.
     fn with_capacity(alloc: Global, hasher: S, capacity: usize) -> Result<Coins<S>, Memory>
         ensures { IfOk result (λ coins. coins ≡ []) }
     {
@@ -79,7 +79,7 @@ impl<S: BuildHasher + Copy + Drop> Coins<S> {
         (coins, txids)
     }
 
-    /// What is wrong with one more coin.
+    /// The first fault of the next coin of an opening.
     fn fault(&self, tip: u32, opening: &OpeningCoin) -> Option<OpenFault>
         ensures { result ≡ coin_fault tip self.now opening.now }
     {
@@ -98,7 +98,7 @@ impl<S: BuildHasher + Copy + Drop> Coins<S> {
         }
     }
 
-    /// Adds one more coin, at a new outpoint.
+    /// Adds a coin at a new outpoint.
     fn push(&mut self, opening: OpeningCoin) -> Result<(), Memory>
         requires { has_outpoint opening.outpoint self.old ≡ false }
         ensures { OnOk result (self.new ≡ self.old ++ opening ∷ []) }
@@ -132,7 +132,7 @@ pub(crate) fn keep<S: BuildHasher + Copy + Drop>(
     }
 }
 
-/// Keeps the coins of an opening where none are kept, or names the first fault of one.
+/// Keeps the coins of an opening in an empty map, or names the first fault of one.
 fn keep_each<S: BuildHasher + Copy + Drop>(
     coins: &mut Coins<S>,
     opening: Vec<OpeningCoin>,

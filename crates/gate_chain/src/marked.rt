@@ -86,7 +86,7 @@ pub(crate) fn unspend<S: BuildHasher>(coins: &mut IndexMap<OutPoint, Marked, S>,
     }
 }
 
-/// Marks the coins of inputs as spent where all of them are there unspent, and says whether they were.
+/// Marks the coins of inputs as spent if all of them are there unspent, and says whether they were.
 pub(crate) fn spend<S: BuildHasher>(
     coins: &mut IndexMap<OutPoint, Marked, S>,
     inputs: &[TxIn],
@@ -114,7 +114,7 @@ fn respend<S: BuildHasher>(coins: &mut IndexMap<OutPoint, Marked, S>, inputs: &[
     }
 }
 
-/// Those of all these transactions.
+/// Marks the coins of all these transactions' inputs as spent again.
 fn respend_all<S: BuildHasher>(coins: &mut IndexMap<OutPoint, Marked, S>, txs: &[Transaction])
     ensures coins { coins_in coins.new.entries ≡ coins_in coins.old.entries }
     ensures marks { MarksMore (any_spends txs.now) coins.old.entries coins.new.entries }
@@ -124,7 +124,7 @@ fn respend_all<S: BuildHasher>(coins: &mut IndexMap<OutPoint, Marked, S>, txs: &
     }
 }
 
-/// Those of a block, but not its coinbase's.
+/// Marks the coins of the inputs of a block's transactions as spent again, but not of its coinbase's.
 fn respend_block<S: BuildHasher>(coins: &mut IndexMap<OutPoint, Marked, S>, txs: &[Transaction])
     ensures coins { coins_in coins.new.entries ≡ coins_in coins.old.entries }
     ensures marks { MarksMore (any_spends (drop 1 txs.now)) coins.old.entries coins.new.entries }

@@ -31,7 +31,7 @@ fn the_first_block_is_read(rt: HostRuntime) -> Result<(), Fail> {
     Ok(())
 }
 
-/// What is wrong with the first block where its bytes end at this one and others follow.
+/// What is wrong with the first block if its bytes are cut at `end` and others follow.
 fn fault_of(alloc: Global, end: usize, more: &[u8]) -> Result<Option<ChainFault>, Fail> {
     let mut bytes = hex::decode(alloc, GENESIS)?;
     bytes.truncate(end);
@@ -61,7 +61,7 @@ fn two_blocks(alloc: Global, first: &str, second: &str) -> Result<Vec<Block>, Fa
     Ok(blocks)
 }
 
-/// The time of height 4 and how many blocks were disconnected, while these are in the place of the last block.
+/// The time of height 4 and how many blocks were disconnected, while these blocks are in the place of the last one.
 fn seen_above(
     alloc: Global,
     chain: &mut Chain<Hasher>,
@@ -73,7 +73,7 @@ fn seen_above(
     Ok(seen)
 }
 
-/// Why blocks are not connected in the place of so many.
+/// Why blocks are not connected in the place of the last `depth`.
 fn denial_of(
     alloc: Global,
     chain: &mut Chain<Hasher>,

@@ -75,7 +75,7 @@ fn the_median_of_eleven_times(rt: HostRuntime) -> Result<(), Fail> {
     Ok(())
 }
 
-/// What is wrong with a coin that stands behind a good one of outpoint 1 0, at tip 1.
+/// What is wrong with a coin behind a good coin of outpoint 1 0, at tip 1.
 fn second_fault(
     alloc: Global,
     outpoint: OutPoint,
@@ -146,7 +146,7 @@ fn paying(
     Ok(Transaction::new(2, inputs, outputs, 0).ok())
 }
 
-/// A block of a coinbase and of one payment, none where one of them is no transaction.
+/// A block of a coinbase and of one payment, none if one of them is no transaction.
 fn block(
     alloc: Global,
     time: u8,
@@ -173,7 +173,7 @@ fn block(
     }))
 }
 
-/// Connects such a block, and names what denies it.
+/// Connects a block of a coinbase and of one payment, and names the rule that fails.
 fn denial(
     alloc: Global,
     chain: &mut Chain<Hasher>,
@@ -237,7 +237,7 @@ fn holds(
         && value_at(chain, &point(1, 7)) == second
 }
 
-/// Why no block is disconnected.
+/// Why the last block is not disconnected, if it is not.
 fn undo_denial(chain: &mut Chain<Hasher>) -> Option<ChainDenial> {
     chain.disconnect().err()
 }
@@ -320,7 +320,7 @@ fn faults_are_told(rt: HostRuntime) -> Result<(), Fail> {
     Ok(())
 }
 
-/// What is wrong with a chain of so many blocks of one time, if anything is.
+/// What is wrong with a chain of this many blocks of one time, if anything is.
 fn fault_of_length(alloc: Global, blocks: usize) -> Result<Option<OpenFault>, Fail> {
     let times = vec![in alloc; 1_600; blocks]?;
     let chain: Result<Chain<Hasher>, OpenFault> = Chain::open(

@@ -1,5 +1,5 @@
-//! A hundred blocks of ten transactions each, connected and then disconnected in events of every depth: coins, times and
-//! median times are those of a chain that never had the blocks that went.
+//! A hundred blocks of ten transactions each, connected and then disconnected in events of every depth: coins, times
+//! and median times are those of a chain that never had the disconnected blocks.
 use gate_block::switch;
 use gate_bytes::{Copied, Kept, Memory};
 use gate_chain::{Block, Chain, Header, OpeningCoin};
@@ -11,7 +11,7 @@ use std::test::Fail;
 
 type Hasher = BuildHasherDefault<FoldHasher>;
 
-/// How many blocks there are, and heights that are asked for, some of which stand above the tip.
+/// How many blocks there are, and heights that are asked for, some of which are above the tip.
 const BLOCKS: u8 = 100;
 
 const HEIGHTS: u32 = 110;
@@ -19,7 +19,7 @@ const HEIGHTS: u32 = 110;
 /// How many coins the opening has, each of which begins a chain of payments.
 const COINS: u8 = 8;
 
-/// What a block makes more than it spends: a coinbase and nine payments of two outputs each, of which nine spend a coin.
+/// How many more coins a block makes than it spends: ten transactions of two outputs each, nine of which spend a coin.
 const GROWTH: usize = 11;
 
 fn script(alloc: Global, byte: u8) -> Result<Kept<u8>, AllocError> {
@@ -55,8 +55,8 @@ fn header(number: u8) -> Header {
     Header::new(bytes)
 }
 
-/// A block of a coinbase, of a payment of each of these outpoints, and of one of the second output of the last of these. The
-/// outpoints are then the first outputs of its payments.
+/// A block of a coinbase, of a payment that spends each of these outpoints, and of one that spends the second output of
+/// the last of these payments. The outpoints are then the first outputs of the payments.
 fn block(alloc: Global, number: u8, heads: &mut [OutPoint]) -> Result<Block, Fail> {
     let mut within = OutPoint {
         txid: Txid::new([0; 32]),
@@ -162,7 +162,7 @@ fn count_coins(chain: &Chain<Hasher>, points: &[OutPoint]) -> usize {
         .count()
 }
 
-/// Whether a chain is told apart from another by no coin of these outpoints, and by no time or median time.
+/// Whether two chains have the same coins at these outpoints, the same times and the same median times.
 fn is_same(chain: &Chain<Hasher>, other: &Chain<Hasher>, points: &[OutPoint]) -> bool {
     has_same_coins(chain, other, points) && has_same_times(chain, other)
 }
@@ -173,13 +173,13 @@ fn connect(alloc: Global, chain: &mut Chain<Hasher>, blocks: Vec<Block>) -> Resu
     Ok(())
 }
 
-/// Disconnects so many blocks in one event, and hands them out.
+/// Disconnects the last `depth` blocks in one event, and hands them out.
 fn disconnect(alloc: Global, chain: &mut Chain<Hasher>, depth: u64) -> Result<Vec<Block>, Fail> {
     let way = switch(alloc, chain, depth, Vec::new(alloc))?;
     Ok(way.keep())
 }
 
-/// Disconnects so many blocks, asks for all that a chain tells, and connects them again.
+/// Disconnects the last `depth` blocks, compares the chain with one that never had them, and connects them again.
 fn back_and_forth(
     rt: &(impl Abort + AllocGlobal),
     chain: &mut Chain<Hasher>,
@@ -193,7 +193,7 @@ fn back_and_forth(
     connect(rt.alloc(), chain, gone)
 }
 
-/// Disconnects all blocks, then all but one, and so on, each time from the whole.
+/// Disconnects all blocks, then all but one, and so on, each time from the whole chain.
 fn every_depth(
     rt: &(impl Abort + AllocGlobal),
     chain: &mut Chain<Hasher>,

@@ -24,15 +24,15 @@ is_closed sessions peer = option_map_or (λ (s : Session). not s.is_open) (sessi
 
 -- ---- what the rules on a peer with these flags ask
 
--- transactions are not taken while the node takes blocks only
+-- transactions are taken only from peers with relay while the node takes blocks only
 abbrev pub lacks_relay : World → Permissions → Bool
 lacks_relay w flags = w.blocksonly && not flags.relay
 
--- listings are for peers with a flag while bloom filters are off
+-- listings are for peers with mempool or bloomfilter while bloom filters are off
 abbrev pub lacks_bloom : World → Permissions → Bool
 lacks_bloom w flags = not (flags.mempool || (flags.bloomfilter || w.switches.bloom))
 
--- they are for peers with mempool once the upload target is reached
+-- listings are for peers with mempool once the upload target is reached
 abbrev pub lacks_upload : World → Permissions → Bool
 lacks_upload w flags = w.switches.upload && not flags.mempool
 
@@ -40,7 +40,7 @@ lacks_upload w flags = w.switches.upload && not flags.mempool
 abbrev pub lacks_headers : World → Permissions → Bool
 lacks_headers w flags = w.switches.download && not flags.download
 
--- the time of a height up to the tip, in seconds
+-- the time of the block at a height up to the tip, in seconds
 abbrev pub seconds_at : History → ℕ → ℕ
 seconds_at chain height = unwrap_or (time_of chain height) 0
 
@@ -48,7 +48,7 @@ seconds_at chain height = unwrap_or (time_of chain height) 0
 abbrev pub is_historical : History → ℕ → Bool
 is_historical chain height = nat_lt (seconds_at chain height + 604800) (seconds_at chain (tip_of chain))
 
--- such blocks are for peers with download once the target for them is reached
+-- historical blocks are for peers with download once the upload target for them is reached
 abbrev pub lacks_history : World → Permissions → ℕ → Bool
 lacks_history w flags height = w.switches.historic && (not flags.download && is_historical w.chain height)
 
@@ -68,7 +68,7 @@ entering_rules sessions peer = (PeerKnown, is_known sessions peer) ∷ []
 abbrev pub session_rules : List Session → ℕ → List (Rule Refusal)
 session_rules sessions peer = (PeerUnknown, not (is_known sessions peer)) ∷ (PeerClosed, is_closed sessions peer) ∷ []
 
--- whether transactions are taken at all is asked before this one is read
+-- whether the peer's transactions are taken at all is asked before this one is decoded
 abbrev pub submission_rules : World → ℕ → Option Tx → List (Rule Refusal)
 submission_rules w peer transaction =
     session_rules w.sessions peer
@@ -98,7 +98,7 @@ block_rules w peer height =
     ∷ (HistoricalUploadTarget, lacks_history w (flags_in w.sessions peer) height)
     ∷ []
 
--- what is asked of users stands with the answers to their calls; nothing is asked of the operator and the chain
+-- the rule on users (U1) is defined with the answers to their calls; there are none on the operator and the chain
 abbrev pub caller_rules : World → Event → List (Rule Refusal)
 caller_rules w (Enter peer address) = entering_rules w.sessions peer
 caller_rules w (Leave peer) = session_rules w.sessions peer

@@ -1,4 +1,4 @@
--- What permissions and lists of methods come to, in plain words.
+-- Laws of permissions and of lists of methods, in plain words.
 use Rattle.std.specs.Prelude.{◌≡◌, ◌≢◌, ℕ, true, false, Bool, List, Option, Some, Result, Ok, Err, codes}
 use Rattle.gate_tx.specs.Tx.{Tx}
 use Rattle.gate_net.specs.Permissions.{Permissions}
@@ -27,7 +27,7 @@ use Rattle.gate_core.specs.World.{World}
 
 -- ---- peers
 
--- what a peer without these flags is denied, and so it leaves the pool
+-- what a peer without these flags is denied, so that its event leaves the pool as it was
 pub record Guards (w : World) (peer : ℕ) (flags : Permissions) : Type 0 where
   pub relay : w.blocksonly ≡ true → flags.relay ≡ false → (now : ℕ) (transaction : Option Tx) → IsDenied (step_of w (Submit peer now transaction)).0
   pub bloom : w.switches.bloom ≡ false → flags.bloomfilter ≡ false → flags.mempool ≡ false → IsDenied (step_of w (Mempool peer)).0
@@ -38,7 +38,7 @@ pub record Guards (w : World) (peer : ℕ) (flags : Permissions) : Type 0 where
 abbrev pub FlagsGuard : Type 0
 FlagsGuard = (w : World) (peer : ℕ) → Guards w peer (flags_in w.sessions peer)
 
--- only a transaction that comes while the node takes blocks only closes the session of a peer with noban
+-- only one denial closes the session of a peer with noban: that of a transaction that comes while the node takes blocks only
 abbrev pub NobanIsKept : Type 0
 NobanIsKept = (flags : Permissions) (refusal : Refusal) → flags.noban ≡ true → refusal ≢ BlocksOnly → then_of flags refusal ≢ Close
 

@@ -1,4 +1,4 @@
--- What a chain event comes to in a state.
+-- What a chain event gives: the reply, and the state after it.
 use Rattle.std.specs.Prelude.{ℕ, List, Option, Some, None}
 use Rattle.gate_bytes.specs.Order.{first_failing}
 use Rattle.gate_chain.specs.declared.Block.{Block}
@@ -9,11 +9,11 @@ use Rattle.gate_message.specs.declared.reply.Reply.{Reply}
 use Rattle.gate_message.specs.declared.reply.Reply.TheVariants.{Moved, Refused}
 use Rattle.gate_core.specs.World.{World, standing_of}
 
--- where a rule fails it is told, and nothing changes
+-- if a rule fails the reply names it, and nothing changes
 abbrev pub chained_as : World → Happened → Option ChainDenial → Reply × World
 chained_as w after (Some denial) = (Refused denial, w)
 chained_as w after None = (Moved after.moved, record w { chain = after.chain; pool = after.entries; floor = after.floor })
 
--- so many blocks are disconnected and these connected in their place, at this second
+-- this many blocks are disconnected and these connected in their place, at this second
 abbrev pub chained : World → ℕ → ℕ → List (Option Block) → Reply × World
 chained w disconnect now blocks = chained_as w (event_of (standing_of w) disconnect (present blocks) now w.budget) (first_failing (event_rules w.chain disconnect blocks))

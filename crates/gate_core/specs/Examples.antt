@@ -42,7 +42,7 @@ with_sessions bloom sessions = record {
   switches = unswitched bloom;
 }
 
--- peer 7 is there and peer 8 has left
+-- peer 7, there or not, and peer 8, which has left
 abbrev pub two_peers : Bool → Bool → World
 two_peers bloom is_open = with_sessions bloom (session 7 is_open no_permissions 0 ∷ session 8 false no_permissions 0 ∷ [])
 
@@ -80,7 +80,7 @@ all_on times flags is_open = record (one_peer flags is_open) {
   switches = record { bloom = true; upload = true; historic = true; download = true };
 }
 
--- no peer, and users that may call these methods
+-- no peer, and the user a, who may call these methods, while other users may call none
 abbrev pub called_with : List (List ℕ) → World
 called_with methods = record (with_sessions false []) {
   rpcwhitelist = record { entries = record { user = codes "a"; methods = Some methods } ∷ []; is_default_on = true };
@@ -103,7 +103,7 @@ pub record SmallSteps : Type 0 where
   pub sets_the_floor : step_of (two_peers true true) (SetFloor 5000) ≡ (Set, record (two_peers true true) { floor = 5000 })
   pub undecodable : step_of (two_peers true true) (Submit 7 5000 None) ≡ (Denied (Admission Decode) Keep, two_peers true true)
 
--- what permissions change
+-- steps of peers with permissions
 pub record PermittedSteps : Type 0 where
   pub noban_stays : step_of (one_peer noban true) (Mempool 7) ≡ (Denied MempoolNoBloom Keep, one_peer noban true)
   pub noban_leaves : step_of (one_peer noban true) (Leave 7) ≡ (Left, one_peer noban false)
@@ -116,7 +116,7 @@ pub record PermittedSteps : Type 0 where
   pub forcerelay_text : permissions_text forcerelay ≡ codes "forcerelay,relay"
   pub no_text : permissions_text no_permissions ≡ codes "none"
 
--- what the rules on peers with flags come to
+-- steps under the rules that ask peers for flags
 pub record GuardedSteps : Type 0 where
   pub blocks_only_closes : step_of (blocks_only noban true) (Submit 7 5000 None) ≡ (Denied BlocksOnly Close, blocks_only noban false)
   pub relay_is_read : step_of (blocks_only relay true) (Submit 7 5000 None) ≡ (Denied (Admission Decode) Keep, blocks_only relay true)
@@ -134,7 +134,7 @@ pub record GuardedSteps : Type 0 where
   pub unknown_first : step_of (all_on (0 ∷ 604801 ∷ []) no_permissions true) (GetBlock 7 2) ≡ (Denied UnknownBlock Keep, all_on (0 ∷ 604801 ∷ []) no_permissions true)
   pub turns : step_of (one_peer noban true) (Turn Download true) ≡ (Set, record (one_peer noban true) { switches = record (unswitched false) { download = true } })
 
--- what calls come to
+-- steps of users' calls
 pub record CallSteps : Type 0 where
   pub unread : rpc_step (called_with []) (codes "b") 0 (Err ParseError) ≡ (Rpc (Failure Null errors.ParseError), called_with [])
   pub barred : rpc_step (called_with []) (codes "a") 0 (Err (MethodNotFound Null (codes "foo"))) ≡ (Rpc NotAllowed, called_with [])

@@ -10,7 +10,7 @@ use Rattle.gate_message.specs.Spelled.{transactions_of}
 use Rattle.gate_core.specs.World.{World}
 use Rattle.gate_core.specs.Steps.{step_of}
 
--- what the pool of a state may hold
+-- the budget of a state's pool, and the policy on its families
 abbrev pub limits_of : World → Limits
 limits_of w = limits_for w.policy w.budget
 

@@ -22,7 +22,7 @@ use Rattle.gate_core.specs.Access.{entering_rules, session_rules, submission_rul
 use Rattle.gate_net.specs.Addresses.{Address}
 use Rattle.gate_chain.specs.Times.{tip_of}
 
--- the sessions after what follows a refusal
+-- the sessions after a refusal to a peer, by what follows from it
 abbrev pub sessions_after : Then → List Session → ℕ → List Session
 sessions_after Keep sessions peer = sessions
 sessions_after Close sessions peer = closed sessions peer
@@ -38,7 +38,7 @@ abbrev pub answered : World → ℕ → Reply × World → Option Refusal → Re
 answered w peer served (Some refusal) = refused w peer refusal
 answered w peer served None = served
 
--- an event of a peer: the rules on it, and what it gives where none of them fails
+-- an event of a peer: the rules on it, and what it gives if none of them fails
 abbrev pub peer_step : World → ℕ → List (Rule Refusal) → Reply × World → Reply × World
 peer_step w peer rules served = answered w peer served (first_failing rules)
 
@@ -51,20 +51,20 @@ entered w peer address = seated w peer (flags_at w address)
 abbrev pub left : World → ℕ → Reply × World
 left w peer = (Left, record w { sessions = closed w.sessions peer })
 
--- the reply to a submission that was decided so
+-- the reply to a submission with this decision
 abbrev pub decided : World → ℕ → Option Tx → Result Grant Denial → Reply × World
 decided w peer None decision = refused w peer (Admission Decode)
 decided w peer (Some tx) (Ok grant) = (Admitted (txid_of tx) grant.fee grant.vsize grant.replaced, w)
 decided w peer (Some tx) (Err denial) = refused w peer (Admission denial)
 
--- what a submission came to: pool and floor are as it left them, whatever the reply
+-- what a submission with this outcome gives: pool and floor are as it left them, whatever the reply
 abbrev pub concluded : World → ℕ → Option Tx → Submitted → Reply × World
 concluded w peer transaction s = decided (record w { pool = s.entries; floor = s.floor }) peer transaction s.decision
 
 abbrev pub submitted : World → ℕ → ℕ → Option Tx → Reply × World
 submitted w peer now transaction = concluded w peer transaction (submit_of (standing_of w) transaction now w.budget)
 
--- what the peer's own rate hides is left out
+-- a listing leaves out the entries that the peer's own rate hides
 abbrev pub listed : World → ℕ → Reply × World
 listed w peer = (Listing (listing_at (rate_in w.sessions peer) w.pool), w)
 
@@ -107,6 +107,6 @@ block_step w peer height = peer_step w peer (block_rules w peer height) (block_g
 abbrev pub headers_step : World → ℕ → ℕ → Reply × World
 headers_step w peer height = peer_step w peer (headers_rules w peer height) (headers_given w height)
 
--- a peer sets its rate
+-- a peer sets its fee filter
 abbrev pub filter_step : World → ℕ → ℕ → Reply × World
 filter_step w peer rate = peer_step w peer (session_rules w.sessions peer) (filter_set w peer rate)

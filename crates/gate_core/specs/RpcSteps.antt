@@ -36,17 +36,17 @@ replied id (Err error) = Failure id error
 abbrev pub told : World → Id → Result RpcResult RpcError → Reply × World
 told w id outcome = (Rpc (replied id outcome), w)
 
--- what a call results in that asks of an entry
+-- the result of a call that asks about an entry
 abbrev pub of_entry : {X : Type 0} → (X → RpcResult) → Option X → Result RpcResult RpcError
 of_entry result found = ok_or (option_map result found) NotInMempool
 
--- what a submission that was decided so results in
+-- the result of a submission with this decision
 abbrev pub sent_as : Option Tx → Result Grant Denial → Result RpcResult RpcError
 sent_as None decision = Err (Denied Decode)
 sent_as (Some tx) (Ok grant) = Ok (Sent (txid_of tx))
 sent_as (Some tx) (Err denial) = Err (Denied denial)
 
--- what a submission came to: pool and floor are as it left them, whatever the reply
+-- what a submission with this outcome gives: pool and floor are as it left them, whatever the reply
 abbrev pub sent : World → Id → Option Tx → Submitted → Reply × World
 sent w id transaction s = told (record w { pool = s.entries; floor = s.floor }) id (sent_as transaction s.decision)
 
@@ -60,12 +60,12 @@ commanded w now id (GetMempoolAncestors txid) = told w id (of_entry Txids (ances
 commanded w now id (GetMempoolDescendants txid) = told w id (of_entry Txids (descendants_listed w.pool txid))
 commanded w now id GetMempoolInfo = told w id (Ok (pool_info w.pool w.floor w.budget))
 
--- a call that may be made: what was read of it is done, or its fault told
+-- a call that may be made: the command that was read is done, or the reply tells the error
 abbrev pub called_by : World → ℕ → Result Request CallError → Reply × World
 called_by w now (Ok request) = commanded w now request.id request.command
 called_by w now (Err error) = (Rpc (reply_of error), w)
 
--- U1: the user's list has not the method. It is asked once the name of the method was read, whether there is such a method or not
+-- U1: the user's list lacks the method. It is asked once the name of the method was read, whether or not there is such a method
 abbrev pub is_barred : World → List ℕ → Result Request CallError → Bool
 is_barred w user request = option_map_or (λ name. not (is_allowed w.rpcwhitelist user name)) (name_called request) false
 

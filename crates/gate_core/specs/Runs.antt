@@ -38,7 +38,7 @@ run_of w (event ∷ events) =
     let rest = run_of first.1 events in
     (first.0 ∷ rest.0, rest.1)
 
--- a run is apart where all transactions of its first state and of its events are
+-- a run is apart if all transactions of its first state and of its events are
 abbrev pub IsRunApart : World → List Event → Type 0
 IsRunApart w events = AreApart (transactions_in w ++ flat_map transactions_of events)
 
@@ -80,7 +80,7 @@ AnswersThePool w events =
     → slice_get events k ≡ Some (Calls call) → request_of call.json ≡ Ok request → request.command ≡ GetRawMempool
     → slice_get (run_of w events).0 k ≡ Some (Answered (Answer id (Txids txids))) → txids ≡ listing_of (run_of w (take k events)).1.pool
 
--- so it is after any events, from any opening
+-- after any events, from any opening, no outpoint is spent twice, and listings and answers show the pool at their point
 abbrev pub RunsKeepThePoolSound : Type 0
 RunsKeepThePoolSound = (o : Start) (events : List Event)
     → SpendsOnce (run_of (opened_world o) events).1.pool × ListsThePool (opened_world o) events × AnswersThePool (opened_world o) events
@@ -90,7 +90,7 @@ pub record KeepsFamilies (policy : Policy) (w : World) : Type 0 where
   pub coins : All (λ (p : OutPoint). IsSome (view_coin w.chain w.pool p)) (spent_by w.pool)
   pub limited : All (λ (e : Entry). IsLimited policy w.pool (txid_of e.tx)) w.pool
 
--- so it is after any events, from any opening, by the opening's policy, where their transactions are told apart by their ids
+-- after any events whose transactions are told apart by their ids, from any opening, families keep to the opening's policy
 abbrev pub RunsKeepFamilies : Type 0
 RunsKeepFamilies = (o : Start) (events : List Event) → All IsSpelled events → IsRunApart (opened_world o) events → KeepsFamilies o.policy (run_of (opened_world o) events).1
 
@@ -98,7 +98,7 @@ RunsKeepFamilies = (o : Start) (events : List Event) → All IsSpelled events �
 abbrev pub RunsKeepTheBudget : Type 0
 RunsKeepTheBudget = (o : Start) (events : List Event) → size_of (run_of (opened_world o) events).1.pool ≤ o.budget
 
--- events of no operator never lower the floor
+-- events of other callers than the operator never lower the floor
 abbrev pub OnlyOperatorsLowerTheFloor : Type 0
 OnlyOperatorsLowerTheFloor = (w : World) (events : List Event) → All (λ (e : Event). caller_of e ≢ Operator) events → w.floor ≤ (run_of w events).1.floor
 
@@ -108,7 +108,7 @@ AdmissionsLeaveNothingStale =
     (w : World) (peer now : ℕ) (transaction : Option Tx) (txid : List ℕ) (fee vsize replaced : ℕ) → (step_of w (Submit peer now transaction)).0 ≡ Admitted txid fee vsize replaced
     → All (IsYoung now) (step_of w (Submit peer now transaction)).1.pool
 
--- so it is after a transaction that a user sends
+-- after a transaction that a user sends no entry came more than two weeks before it
 abbrev pub CallsLeaveNothingStale : Type 0
 CallsLeaveNothingStale =
     (w : World) (call : UserCall) (id : Id) (txid : List ℕ) → (step_of w (Calls call)).0 ≡ Answered (Answer id (Sent txid)) → All (IsYoung call.time) (step_of w (Calls call)).1.pool

@@ -35,18 +35,18 @@ closed_reply (SetFloor rate) = None
 closed_reply (Turn switch on) = None
 closed_reply (Extend disconnect now blocks) = None
 
--- after any events a closed session is as it was, and each event of its peer among them is answered so
+-- after any events a closed session is as it was, and each event of its peer among them has the reply to a closed session
 abbrev pub ClosedStaysClosed : Type 0
 ClosedStaysClosed =
     (w : World) (events : List Event) (peer : ℕ) (s : Session) → session_of w.sessions peer ≡ Some s → s.is_open ≡ false
     → (session_of (run_of w events).1.sessions peer ≡ Some s)
     × ((k : ℕ) (event : Event) → slice_get events k ≡ Some event → caller_of event ≡ Peer peer → slice_get (run_of w events).0 k ≡ closed_reply event)
 
--- a rate above all money changes nothing
+-- a fee filter above all money changes nothing
 abbrev pub GreatRatesChangeNothing : Type 0
 GreatRatesChangeNothing = (w : World) (peer rate : ℕ) → max_money < rate → (step_of w (FeeFilter peer rate)).1 ≡ w
 
--- events of other callers leave a peer's session, or that it has none
+-- events of other callers leave a peer's session as it was, and open none for it
 abbrev pub PeersAreSeparate : Type 0
 PeersAreSeparate =
     (w : World) (events : List Event) (peer : ℕ) → All (λ (e : Event). caller_of e ≢ Peer peer) events
@@ -56,13 +56,13 @@ PeersAreSeparate =
 abbrev pub IsOtherError : RpcError → Type 0
 IsOtherError error = error ≢ errors.Denied MempoolFull
 
--- a call that was not made or has an error; A46 apart
+-- a call that was not allowed, or that failed with an error other than A46
 abbrev pub IsFailed : RpcReply → Type 0
 IsFailed NotAllowed = Unit {0}
 IsFailed (Answer id result) = ⊥
 IsFailed (Failure id error) = IsOtherError error
 
--- a denial by any rule but A46, under which what left the pool stays away
+-- a denial by any rule but A46, under which the entries that left the pool don't come back
 abbrev pub IsDenied : Reply → Type 0
 IsDenied (Entered flags) = ⊥
 IsDenied Left = ⊥
@@ -77,7 +77,7 @@ IsDenied Set = ⊥
 IsDenied (Moved moved) = ⊥
 IsDenied (Refused denial) = Unit {0}
 
--- events that are all denied so leave the chain, the pool and its floor
+-- events that are all denied, by other rules than A46, leave the chain, the pool and its floor as they were
 abbrev pub DenialsLeaveThePool : Type 0
 DenialsLeaveThePool =
     (w : World) (events : List Event) → All IsDenied (run_of w events).0

@@ -27,7 +27,7 @@ abbrev pub submitted_in : Result Request CallError → Option (Option Tx)
 submitted_in (Ok request) = submitted_by request.command
 submitted_in (Err error) = None
 
--- the submission of an event, where it makes one
+-- the submission of an event, if it makes one
 abbrev pub submission_of : Event → Option (Option Tx)
 submission_of (Enter peer address) = None
 submission_of (Leave peer) = None
@@ -41,12 +41,12 @@ submission_of (SetFloor rate) = None
 submission_of (Set switch on) = None
 submission_of (Extend disconnect now blocks) = None
 
--- a submission that may stand in the place of this one, where there is any, is the same
+-- the submission that stands for this one, if there is one, is the same
 abbrev pub StandsFor : Option (Option Tx) → Option (Option Tx) → Type 0
 StandsFor None submission = Unit {0}
 StandsFor (Some another) submission = submission ≡ Some another
 
--- the coin of each input of a submission, where there is one, by the view of a state
+-- the coin of each input of a submission, if it has one in the view of a state
 abbrev pub coins_of : World → Option Tx → List (Option Coin)
 coins_of w None = []
 coins_of w (Some tx) = map (λ (i : TxIn). view_coin w.chain w.pool i.prevout) tx.inputs

@@ -36,7 +36,7 @@ standing_of w = standing w.chain w.pool w.floor w.verdicts w.policy
 abbrev pub flags_at : World → Address → Permissions
 flags_at w address = flags_of w.whitelist address
 
--- the state of an opening: no entries, no floor, no peers
+-- the state of an opening: no entries, a floor of 0, no peers
 abbrev pub opened_world : Start → World
 opened_world o = record {
   chain = opened o.coins o.times;

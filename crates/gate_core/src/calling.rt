@@ -1,4 +1,4 @@
-//! What users call, planned.
+//! The plans of users' calls.
 ghost use Rattle.std.specs.Prelude.{◌≡◌, IfOk};
 ghost use Rattle.std.specs.Option.{option_copied};
 ghost use Rattle.gate_core.specs.Submissions.{StandsFor, submitted_by, submitted_in};
@@ -22,7 +22,7 @@ use gate_tx::Txid;
 use std::alloc::Global;
 use std::hash::BuildHasher;
 
-/// An answer with which nothing changes.
+/// A plan with this answer that changes nothing.
 fn answered(alloc: Global, answer: RpcReply) -> Result<Plan, Memory>
     ensures reply { IfOk result (λ plan. plan.reply ≡ Reply.Rpc answer) }
     ensures change { IfOk result (λ plan. plan.change ≡ Change.Nothing) }
@@ -30,7 +30,7 @@ fn answered(alloc: Global, answer: RpcReply) -> Result<Plan, Memory>
     Ok(Plan::telling(Reply::Rpc(Boxed::new(alloc, answer)?)))
 }
 
-/// The answer to the call of this id, with which nothing changes.
+/// A plan that answers the call with this id and changes nothing.
 fn telling(alloc: Global, id: &Id, outcome: Result<RpcResult, RpcError>) -> Result<Plan, Memory>
     ensures ok { IfOk result (λ plan. (w : World) → Plans w (told w id.now outcome) plan) }
     ensures change { IfOk result (λ plan. plan.change ≡ Change.Nothing) }
@@ -45,7 +45,7 @@ fn telling(alloc: Global, id: &Id, outcome: Result<RpcResult, RpcError>) -> Resu
     )
 }
 
-/// What a call results in that asks for the ids of an entry's family.
+/// The result of a call that asks for the ids of an entry's ancestors or descendants.
 fn of_ids(found: Option<Kept<Txid>>) -> Result<RpcResult, RpcError>
     ensures { result ≡ of_entry Txids found }
 {
@@ -55,7 +55,7 @@ fn of_ids(found: Option<Kept<Txid>>) -> Result<RpcResult, RpcError>
     }
 }
 
-/// What a call results in that asks for what is known of an entry.
+/// The result of a call that asks for what is known of an entry.
 fn of_info(found: Option<EntryInfo>) -> Result<RpcResult, RpcError>
     ensures { result ≡ of_entry Entry found }
 {
@@ -76,7 +76,7 @@ impl<S: BuildHasher + Copy + Drop> Parts<S> {
         }
     }
 
-    /// What a call gives. A submission may stand for the one that it makes.
+    /// The plan of a call. `prepared` may stand for the submission that the call makes.
     pub(crate) fn calling(
         &mut self,
         alloc: Global,
@@ -140,7 +140,7 @@ impl<S: BuildHasher + Copy + Drop> Parts<S> {
         }
     }
 
-    /// Whether a transaction would enter.
+    /// The plan of `testmempoolaccept`, which answers whether a transaction would enter.
     fn testing(&self, alloc: Global, id: &Id, transaction: &Prepared) -> Result<Plan, Memory>
         ensures ok { IfOk result (Plans (world_of self.now) (told (world_of self.now) id.now (tested (standing_of (world_of self.now)) transaction.now))) }
         ensures change { IfOk result (λ plan. plan.change ≡ Change.Nothing) }
@@ -157,7 +157,7 @@ impl<S: BuildHasher + Copy + Drop> Parts<S> {
         telling(alloc, id, outcome)
     }
 
-    /// Lets a transaction enter.
+    /// The plan of `sendrawtransaction`, which lets a transaction enter if it is granted.
     #[tactic(auto, using(gate_admit::proofs::Submitting::planned_nothing))]
     fn sending(
         &mut self,

@@ -12,7 +12,8 @@ use std::alloc::Global;
 use std::hash::BuildHasher;
 
 impl<S: BuildHasher + Copy + Drop> Parts<S> {
-    /// Blocks are disconnected, so many, and these connected in their place; or the rule that fails, and nothing changes.
+    /// Disconnects this many blocks and connects these in their place, at this second. A denial names the first rule
+    /// that fails, and nothing changes.
     pub(crate) fn change_chain(
         &mut self,
         alloc: Global,

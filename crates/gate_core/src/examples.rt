@@ -1,7 +1,7 @@
 //! The step at small states, by computation.
 ghost use Rattle.gate_core.specs.Examples.{CallSteps, GuardedSteps, PermittedSteps, SmallSteps};
 
-/// What peers are answered, without permissions and with them, and what users are.
+/// The replies to peers, without permissions and with them, and to users.
 pub(crate) fn small_steps()
     ensures small { SmallSteps }
     ensures permitted { PermittedSteps }

@@ -5,17 +5,18 @@ ghost use Rattle.gate_core.specs.Runs.{AdmissionsLeaveNothingStale, CallsLeaveNo
 ghost use Rattle.gate_core.specs.SessionLaws.{ClosedStaysClosed, DenialsLeaveThePool, GreatRatesChangeNothing, PeersAreSeparate};
 
 /// The refusal of an event names a rule on its caller that fails, with none failing before it in the written order, and an
-/// event that is not refused fails none.
+/// event without a refusal fails none.
 pub fn access_follows_the_order()
     ensures { AccessFollowsTheOrder }
 {}
 
-/// Where a rule on peers asks for a flag, a peer without it is denied what the rule guards, and the pool stays.
+/// If a rule on peers asks for a flag, a peer without it is denied what the rule guards, and the pool stays as it is.
 pub fn flags_guard()
     ensures { FlagsGuard }
 {}
 
-/// Only a transaction that comes while the node takes blocks only closes the session of a peer with noban.
+/// Only one denial closes the session of a peer with noban: that of a transaction that comes while the node takes
+/// blocks only.
 pub fn noban_is_kept()
     ensures { NobanIsKept }
 {}
@@ -25,8 +26,8 @@ pub fn closed_sessions_change_nothing()
     ensures { ClosedSessionsChangeNothing }
 {}
 
-/// A call of a method that the user's list lacks is not allowed and changes nothing, and a user who may not send
-/// transactions changes nothing, whatever the calls say.
+/// A call of a method that the user's list lacks is not allowed and changes nothing, and no call of a user who may not
+/// send transactions changes anything, whatever the calls say.
 pub fn lists_bar()
     ensures barred { ListsBar }
     ensures senders { OnlySendersChange }
@@ -44,13 +45,13 @@ pub fn steps_give_the_run()
 {}
 
 /// From a good state, a run whose transactions are told apart by their ids ends in a good state, whatever was answered.
-/// That the transactions of an event have a text is told by `Event::recall_spelled`.
+/// That the transactions of an event have a text is shown by `Event::recall_spelled`.
 pub fn runs_end_good()
     ensures { RunsEndGood }
 {}
 
-/// A session that is closed is the same after any events, and each event of its peer among them is answered by P2,
-/// entering by P3.
+/// A closed session is the same after any events, and each event of its peer among them is denied by P2, an entering by
+/// P3.
 pub fn closed_stays_closed()
     ensures { ClosedStaysClosed }
 {}
@@ -60,7 +61,7 @@ pub fn great_rates_change_nothing()
     ensures { GreatRatesChangeNothing }
 {}
 
-/// No event of a peer changes another peer's session, with its rate, or makes one.
+/// No event of a peer changes another peer's session, its fee filter included, or opens one.
 pub fn peers_are_separate()
     ensures { PeersAreSeparate }
 {}
@@ -70,16 +71,16 @@ pub fn denials_leave_the_pool()
     ensures { DenialsLeaveThePool }
 {}
 
-/// After any events, from any opening, no outpoint is spent by two entries of the pool. Every listing among the replies
-/// has, in order of admission, exactly the txids of the entries at that point that the rate of the peer which asked doesn't
-/// hide; every answer to `getrawmempool` has those of the whole pool.
+/// After any events, from any opening, no outpoint is spent twice in the pool. Every listing among the replies has, in
+/// order of admission, exactly the txids of the entries at that point that the fee filter of the peer that asked
+/// doesn't hide; every answer to `getrawmempool` has those of the whole pool.
 pub fn runs_keep_the_pool_sound()
     ensures { RunsKeepThePoolSound }
 {}
 
 /// After any events whose transactions are told apart by their ids, from any opening: each input of each entry has a coin,
-/// and each entry has at most as many ancestors as the opening's policy says, or 2, of 101,000 virtual bytes, and one
-/// descendant more than it says, of 111,000, itself among each.
+/// and each entry has at most as many ancestors as the opening's policy says, or 2 if it says 1, of at most 101,000
+/// virtual bytes, and at most one descendant more than it says, of at most 111,000, itself among each.
 pub fn runs_keep_families()
     ensures { RunsKeepFamilies }
 {}
@@ -89,7 +90,7 @@ pub fn runs_keep_the_budget()
     ensures { RunsKeepTheBudget }
 {}
 
-/// Over any events in which no operator's is, the floor does not fall.
+/// Over any events of other callers than the operator, the floor does not fall.
 pub fn only_operators_lower_the_floor()
     ensures { OnlyOperatorsLowerTheFloor }
 {}

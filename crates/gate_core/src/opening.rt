@@ -11,17 +11,18 @@ use std::marker::Model;
 pub struct Opening<S: BuildHasher + Copy + Drop> {
     /// The most virtual bytes that the pool may hold.
     pub budget: u64,
-    /// What is asked of families and of replacements.
+    /// The limits of families and the rule on replacements.
     pub policy: Policy,
     pub coins: Kept<OpeningCoin>,
     /// The times of the blocks in seconds, from height 0 on.
     pub times: Kept<u32>,
     pub verdicts: Verdicts<S>,
-    /// What peers are permitted by their addresses.
+    /// What peers are permitted by their addresses (Bitcoin Core's `-whitelist`).
     pub whitelist: Whitelist,
-    /// Which methods users may call.
+    /// Which methods users may call (Bitcoin Core's `-rpcwhitelist`).
     pub rpcwhitelist: RpcWhitelist,
-    /// Whether the node takes blocks only: transactions then come from peers with relay alone.
+    /// Whether the node takes blocks only (Bitcoin Core's `-blocksonly`): it then takes transactions only from peers
+    /// with relay.
     pub blocksonly: bool,
     /// Whether bloom filters are on at the start, so that every peer may ask for a listing.
     pub bloom: bool,

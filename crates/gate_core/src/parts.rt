@@ -1,4 +1,4 @@
-//! What a state is made of, and its step in two: a plan that takes all memory and changes nothing, and its change.
+//! The parts of a state, and its step in two: a plan that takes all memory and changes nothing, and its commit.
 ghost use Rattle.std.specs.Prelude.{◌≡◌, ◌≢◌, IfOk};
 ghost use Rattle.std.specs.Option.{option_copied};
 ghost use Rattle.gate_core.specs.Submissions.{StandsFor, submission_of};
@@ -40,8 +40,8 @@ pub(crate) struct Parts<S: BuildHasher + Copy + Drop> {
 }
 
 impl<S: BuildHasher + Copy + Drop> Parts<S> {
-    /// The reply to an event that is not the chain's, and what it will change: the memory for that is taken, and nothing
-    /// changes yet. A submission may stand for that of the event.
+    /// The plan of any event but the chain's: the reply to it, and what it will change. The memory for the change is
+    /// taken, and nothing changes yet. `prepared` may stand for the event's submission.
     #[tactic(auto, unfolding(crate::specs::Steps::step_of))]
     pub(crate) fn plan(
         &mut self,
@@ -83,8 +83,8 @@ impl<S: BuildHasher + Copy + Drop> Parts<S> {
         }
     }
 
-    /// Makes a change that fits, without memory; the denial where what was to enter is gone again, which takes the place of
-    /// whatever reply was planned.
+    /// Makes a change that fits, without memory. It returns the denial of a newcomer that does not stay in the pool,
+    /// which takes the place of the reply that was planned.
     pub(crate) fn commit(&mut self, change: Change) -> Option<Denial>
         requires { Fits change self.old.sessions self.old.pool }
         ensures { (reply : Reply) → (settled reply result, world_of self.new) ≡ made_by reply change (world_of self.old) }
@@ -101,7 +101,7 @@ impl<S: BuildHasher + Copy + Drop> Parts<S> {
         None
     }
 
-    /// Enters what was granted; the denial where it is gone again.
+    /// Enters what was granted, and returns its denial if it does not stay in the pool.
     fn admit(&mut self, coming: Coming) -> Option<Denial>
         requires { Fits (Change.Admit coming) self.old.sessions self.old.pool }
         ensures { (reply : Reply) → (settled reply result, world_of self.new) ≡ made_by reply (Change.Admit coming) (world_of self.old) }
@@ -142,7 +142,7 @@ impl<S: BuildHasher + Copy + Drop> Parts<S> {
         }
     }
 
-    /// The same verdicts, and a copy of the sessions.
+    /// The verdicts, shared, and a copy of the sessions.
     fn copy_sessions(&self, alloc: Global) -> Result<(Counted<Verdicts<S>>, Sessions), Memory>
         ensures verdicts { IfOk result (λ copies. copies.0 ≡ self.now.verdicts) }
         ensures sessions { IfOk result (λ copies. copies.1.all ≡ self.now.sessions.all) }
@@ -157,7 +157,7 @@ impl<S: BuildHasher + Copy + Drop> Parts<S> {
         }
     }
 
-    /// A copy of the whole, with the same verdicts.
+    /// A copy of all parts, which shares the verdicts.
     pub(crate) fn copy(&self, alloc: Global) -> Result<Parts<S>, Memory>
         ensures { IfOk result (λ copy. world_of copy ≡ world_of self.now) }
     {

@@ -1,4 +1,4 @@
-//! What peers ask, planned.
+//! The plans of peers' events.
 ghost use Rattle.std.specs.Prelude.{◌≡◌, ◌<◌, ◌≤◌, ◌^◌, None, IfOk};
 ghost use Rattle.gate_chain.specs.Times.{tip_of};
 ghost use Rattle.gate_bytes.specs.Order.{first_failing};
@@ -23,7 +23,7 @@ use std::hash::BuildHasher;
 /// The most headers that are given at a time (Bitcoin Core's `MAX_HEADERS_RESULTS`).
 const MOST_HEADERS: u32 = 2_000;
 
-/// Blocks that are older than the tip by more seconds than these, a week, are historical (Bitcoin Core's
+/// Blocks that are older than the tip by more than this many seconds, a week, are historical (Bitcoin Core's
 /// `HISTORICAL_BLOCK_AGE`).
 const HISTORICAL_AGE: u64 = 604_800;
 
@@ -35,7 +35,7 @@ impl<S: BuildHasher + Copy + Drop> Parts<S> {
         self.whitelist.flags_of(address)
     }
 
-    /// A refusal to a peer, which closes the peer's session where that follows.
+    /// The plan of a refusal to a peer, which closes the peer's session if that follows from the refusal.
     #[inline(always)]
     fn refusing(&self, peer: u64, refusal: Refusal) -> Plan
         ensures reply { Plans (world_of self.now) (refused (world_of self.now) peer refusal) result }
@@ -95,7 +95,7 @@ impl<S: BuildHasher + Copy + Drop> Parts<S> {
         }
     }
 
-    /// The rate in force for a peer that asks for one.
+    /// The rate in force once a peer has asked for this one: a rate above all money changes nothing (BIP 133).
     fn rate_after(&self, peer: u64, rate: u64) -> u64
         ensures { result ≡ rate_after self.now.sessions.all peer rate }
     {
@@ -214,7 +214,7 @@ impl<S: BuildHasher + Copy + Drop> Parts<S> {
 }
 
 impl<S: BuildHasher + Copy + Drop> Parts<S> {
-    /// The time of a height up to the tip.
+    /// The time of the block at a height up to the tip, in seconds since 1970; 0 for any other height.
     fn seconds(&self, height: u32) -> u64
         ensures value { result ≡ seconds_at self.now.chain height }
         ensures small { result < 2 ^ 32 }
@@ -265,7 +265,7 @@ impl<S: BuildHasher + Copy + Drop> Parts<S> {
         None
     }
 
-    /// The time of the block of a height.
+    /// The plan of a request for a block: the reply has the time of the block at this height.
     pub(crate) fn giving_block(&self, peer: u64, height: u32) -> Plan
         ensures plans { Plans (world_of self.now) (block_step (world_of self.now) peer height) result }
         ensures fits { (sessions : Seated) (pool : Pooled) → Fits result.change sessions pool }
@@ -279,7 +279,7 @@ impl<S: BuildHasher + Copy + Drop> Parts<S> {
         }
     }
 
-    /// How many headers follow a height.
+    /// The plan of a request for headers: the reply says how many follow this height.
     pub(crate) fn giving_headers(&self, peer: u64, height: u32) -> Plan
         ensures plans { Plans (world_of self.now) (headers_step (world_of self.now) peer height) result }
         ensures fits { (sessions : Seated) (pool : Pooled) → Fits result.change sessions pool }

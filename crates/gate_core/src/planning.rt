@@ -1,4 +1,4 @@
-//! What a step is planned as.
+//! The plan of a step: its reply, and what it changes.
 use gate_admit::Coming;
 use gate_bytes::Boxed;
 use gate_message::{Reply, Switch};
@@ -16,7 +16,8 @@ pub(crate) enum Change {
     Admit { coming: Boxed<Coming> },
 }
 
-/// What an event changes, and the reply to it; a denial takes the reply's place where what comes does not stay in the pool.
+/// What an event changes, and the reply to it; a denial takes the reply's place if the newcomer does not stay in the
+/// pool.
 #[derive(Drop)]
 pub(crate) struct Plan {
     pub(crate) reply: Reply,
@@ -26,7 +27,7 @@ pub(crate) struct Plan {
 impl Plan {
     ghost use Rattle.std.specs.Prelude.{◌≡◌};
 
-    /// A reply with which nothing changes.
+    /// A plan with this reply that changes nothing.
     pub(crate) fn telling(reply: Reply) -> Plan
         ensures reply { result.reply ≡ reply }
         ensures change { result.change ≡ Change.Nothing }

@@ -146,7 +146,8 @@ impl<S: BuildHasher + Copy + Drop> State<S> {
         Ok(reply.settled(denial))
     }
 
-    /// The same step, with copies of the reply, which are made between the two. A submission may stand for that of the event.
+    /// The step of any event but the chain's, with copies of the reply, which are made between the plan and its commit.
+    /// `prepared` may stand for the event's submission.
     fn plan_and_record(
         &mut self,
         alloc: Global,
@@ -165,7 +166,7 @@ impl<S: BuildHasher + Copy + Drop> State<S> {
         Ok(replies.settled(denial))
     }
 
-    /// What the chain's event comes to.
+    /// The outcome of a chain event: what moved, or the first rule that fails, and then nothing changes.
     fn change_chain(
         &mut self,
         alloc: Global,
@@ -179,7 +180,8 @@ impl<S: BuildHasher + Copy + Drop> State<S> {
         self.parts.change_chain(alloc, disconnect, now, blocks)
     }
 
-    /// One step, which nothing but memory can keep from being made: the reply to an event, and the state after it.
+    /// Makes one step, and returns the reply to the event. Only running out of memory can prevent it; the state is then
+    /// what it was.
     #[tactic(auto, unfolding(crate::specs::Steps::step_of))]
     pub fn apply(&mut self, alloc: Global, event: &Event) -> Result<Reply, Memory>
         ensures ok { IfOk result (λ reply. (reply, self.new) ≡ step_of self.old event.now) }
@@ -198,7 +200,7 @@ impl<S: BuildHasher + Copy + Drop> State<S> {
         }
     }
 
-    /// The same step, with copies of the reply. A submission may stand for that of the event.
+    /// The step of any event, with copies of the reply. `prepared` may stand for the event's submission.
     #[tactic(auto, unfolding(crate::specs::Steps::step_of))]
     fn record(
         &mut self,
@@ -224,7 +226,7 @@ impl<S: BuildHasher + Copy + Drop> State<S> {
         }
     }
 
-    /// The same step, and that it keeps a good state good. After `Memory` the state is what it was.
+    /// Makes one step as `apply` does, and keeps a good state good. After `Memory` the state is what it was.
     pub fn step(&mut self, alloc: Global, event: &Event) -> Result<Reply, StepFault>
         ensures ok { IfOk result (λ reply. StepGives self.old event.now reply self.new) }
         ensures err { OnErr result (self.new ≡ self.old) }
@@ -235,10 +237,10 @@ impl<S: BuildHasher + Copy + Drop> State<S> {
         Ok(reply)
     }
 
-    /// The same step, with two copies of its reply. All memory is taken before anything changes.
+    /// Makes one step as `step` does, with two copies of its reply. All memory is taken before anything changes.
     ///
-    /// What stands for the event's submission is the same transaction, but may have reports on its inputs: the step is that
-    /// of the event, and takes less time.
+    /// `prepared`, which may stand for the event's submission, is the same transaction, but may have reports on its
+    /// inputs: the step is that of the event, and takes less time.
     pub fn step_recorded(
         &mut self,
         alloc: Global,
@@ -288,7 +290,7 @@ impl<S: BuildHasher + Copy + Drop> State<S> {
         self.parts.budget
     }
 
-    /// What is asked of families and of replacements.
+    /// The limits of families and the rule on replacements.
     pub fn policy(&self) -> &Policy
         ensures { result.now ≡ self.now.policy }
     {
@@ -326,7 +328,7 @@ impl<S: BuildHasher + Copy + Drop> State<S> {
         &self.parts.switches
     }
 
-    /// The same state once more: only verdicts and transactions, which never change, are shared.
+    /// A copy of the state: only verdicts and transactions, which never change, are shared.
     pub fn copy(&self, alloc: Global) -> Result<State<S>, Memory>
         ensures { IfOk result (λ copy. copy ≡ self.now) }
     {

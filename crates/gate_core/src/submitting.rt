@@ -1,4 +1,4 @@
-//! Submissions of events: which an event makes, and what is found of one before its step is made.
+//! Submissions of events: the one that an event makes, and the coins of its inputs before its step is made.
 ghost use Rattle.std.specs.Prelude.{◌≡◌, Some, IfOk, map};
 ghost use Rattle.std.specs.Option.{option_copied};
 ghost use Rattle.gate_admit.specs.Coins.{view_coin};
@@ -24,7 +24,7 @@ fn submission_by(command: &Command) -> Option<&Prepared>
     }
 }
 
-/// The submission of an event, where it makes one: a peer's, or one that a user sends or tests.
+/// The submission of an event, if it makes one: a peer's, or one that a user sends or tests.
 pub fn submission(event: &Event) -> Option<&Prepared>
     ensures { option_copied result ≡ submission_of event.now }
 {
@@ -38,7 +38,7 @@ pub fn submission(event: &Event) -> Option<&Prepared>
     }
 }
 
-/// What stands for a submission, where there is such, and else the submission.
+/// The submission that stands for another, if there is one, else that other.
 pub(crate) fn standing_for<'a>(
     another: Option<&'a Prepared>,
     submission: &'a Prepared,
@@ -52,7 +52,7 @@ pub(crate) fn standing_for<'a>(
     }
 }
 
-/// A coin of its own.
+/// A copy of a lent coin, with a script of its own.
 fn owned_coin(alloc: Global, coin: &LentCoin<'_>) -> Result<Coin, Memory>
     ensures { IfOk result (λ owned. owned ≡ coin.now) }
 {
@@ -65,7 +65,7 @@ fn owned_coin(alloc: Global, coin: &LentCoin<'_>) -> Result<Coin, Memory>
     })
 }
 
-/// The same, where there is one.
+/// A copy of a lent coin, if there is one, with a script of its own.
 fn owned(alloc: Global, coin: &Option<LentCoin<'_>>) -> Result<Option<Coin>, Memory>
     ensures { IfOk result (λ owned. owned ≡ coin.now) }
 {
@@ -75,7 +75,7 @@ fn owned(alloc: Global, coin: &Option<LentCoin<'_>>) -> Result<Option<Coin>, Mem
     }
 }
 
-/// The coin of each input, where there is one.
+/// The coin of each input, in their order; None for an input that has no coin.
 fn input_coins<S: BuildHasher + Copy + Drop>(
     alloc: Global,
     chain: &Chain<S>,
@@ -93,7 +93,8 @@ fn input_coins<S: BuildHasher + Copy + Drop>(
 }
 
 impl<S: BuildHasher + Copy + Drop> State<S> {
-    /// The coin of each input of a submission in turn, where it has one now. What spells no transaction has no inputs.
+    /// The coin of each input of a submission, in their order; None for an input that has no coin now. A submission
+    /// that spells no transaction has no inputs.
     pub fn coins(&self, alloc: Global, submission: &Prepared) -> Result<Vec<Option<Coin>>, Memory>
         ensures { IfOk result (λ coins. coins.items ≡ coins_of self.now submission.now) }
     {

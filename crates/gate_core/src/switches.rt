@@ -1,10 +1,11 @@
-//! What the operator has turned on and off.
+//! The switches that the operator turns on and off.
 ghost use Rattle.std.specs.Prelude.{◌≡◌};
 ghost use Rattle.gate_core.specs.Switching.{switched, unswitched};
 
 use gate_message::Switch;
 
-/// The switches as they stand.
+/// Whether bloom filters are on, whether the upload target is reached, whether that for historical blocks is, and
+/// whether the initial block download goes on.
 #[derive(Clone, Copy, Debug, PartialEq, Eq)]
 pub struct Switches {
     pub bloom: bool,
@@ -14,7 +15,7 @@ pub struct Switches {
 }
 
 impl Switches {
-    /// Those of an opening: all are off but bloom filters, where they are on there.
+    /// The switches of an opening: all are off, except for bloom filters if the opening has them on.
     pub(crate) fn opened(bloom: bool) -> Switches
         ensures { result ≡ unswitched bloom }
     {

@@ -14,7 +14,7 @@ block_from (Err fault) = None
 abbrev pub block_of : List ℕ → Option Block
 block_of word = block_from (decode_of word)
 
--- what stands between single spaces
+-- the words of a text, which stand between single spaces
 abbrev pub words_of : List ℕ → List (List ℕ)
 words_of text = slice_split (λ b. b == 32) text
 
@@ -22,6 +22,6 @@ words_of text = slice_split (λ b. b == 32) text
 abbrev pub has_gap : List (List ℕ) → Bool
 has_gap words = list_any (λ word. length word == 0) words
 
--- what each word spells, where none is empty
+-- what each word spells, or `None` if a word is empty
 abbrev pub blocks_of : List ℕ → Option (List (Option Block))
 blocks_of text = if has_gap (words_of text) then None else Some (map block_of (words_of text))

@@ -30,7 +30,7 @@ decoded_from (Err fault) = None
 abbrev pub prepared_of : List ℕ → Option Tx
 prepared_of text = decoded_from (decode_of text)
 
--- a number, and what stands after its space
+-- a number, and the text after its space
 abbrev pub numbered_of : List ℕ → Option (ℕ × List ℕ)
 numbered_of text = do
   p ← part_of text

@@ -14,17 +14,17 @@ use Rattle.gate_message.specs.declared.event.Event.TheVariants.{Enter, Leave, Tx
 use Rattle.gate_message.specs.declared.switch.Switch.{Switch}
 use Rattle.gate_message.specs.declared.switch.Switch.TheVariants.{Bloom, Upload, Historic, Download}
 
--- the text of a transaction in hex of lower case; what spelled none is `-`
+-- a transaction in hex in lower case, or `-` for a word that spelled none
 abbrev pub transaction_word : Option Tx → List ℕ
 transaction_word None = codes "-"
 transaction_word (Some tx) = encode_lower (text tx)
 
--- the text of a block in hex of lower case; what spelled none is `-`
+-- a block in hex in lower case, or `-` for a word that spelled none
 abbrev pub block_word : Option Block → List ℕ
 block_word None = codes "-"
 block_word (Some block) = encode_lower (block_text block)
 
--- each after a space
+-- the words of blocks, each after a space
 abbrev pub block_words : List (Option Block) → List ℕ
 block_words blocks = flat_map (λ block. codes " " ++ block_word block) blocks
 
@@ -44,7 +44,7 @@ enter_text peer address = codes "peer " ++ (decimal peer ++ (codes " enter " ++ 
 abbrev pub tx_text : ℕ → ℕ → Option Tx → List ℕ
 tx_text peer now transaction = codes "peer " ++ (decimal peer ++ (codes " tx " ++ (decimal now ++ (codes " " ++ transaction_word transaction))))
 
--- the JSON as it was read
+-- the line of a user's call, with its JSON as it was read
 abbrev pub call_text : UserCall → List ℕ
 call_text call = codes "user " ++ (call.user ++ (codes " rpc " ++ (decimal call.time ++ (codes " " ++ call.json))))
 

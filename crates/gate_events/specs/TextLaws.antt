@@ -9,7 +9,7 @@ use Rattle.gate_events.specs.EventTexts.{text_of}
 abbrev pub TextsSpell : Type 0
 TextsSpell = (line : List ℕ) (event : Event) → line_event line ≡ Some event → line_event (text_of event) ≡ Some event
 
--- and its text is one line within the limits, which isn't skipped, as that line was
+-- the text of an event that a line within the limits spells is one line within the limits, and isn't skipped
 abbrev pub TextsAreLines : Type 0
 TextsAreLines = (line : List ℕ) (event : Event) → line_event line ≡ Some event → LacksNewline line → length line ≤ line_limit
     → LacksNewline (text_of event) × (length (text_of event) ≤ line_limit) × (is_skipped (text_of event) ≡ false)

@@ -35,7 +35,7 @@ fn has_gap(words: &[&[u8]]) -> bool
     words.iter().any(|word| word.is_empty())
 }
 
-/// The blocks that the words of a text spell, where no word is empty.
+/// The blocks that the words of a text spell, or `None` if a word is empty.
 pub(crate) fn blocks_in(alloc: Global, text: &str) -> Result<Option<Kept<Option<Block>>>, Memory>
     ensures { IfOk result (λ blocks. blocks ≡ blocks_of text.now) }
 {

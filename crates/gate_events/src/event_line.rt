@@ -22,7 +22,7 @@ pub fn event_on(alloc: Global, line: &[u8]) -> Result<Option<Event>, Memory>
     }
 }
 
-/// The event that a line spells, or `None` where it has no form.
+/// The event that a line spells, or `None` if it has no form.
 pub fn read_event(alloc: Global, line: &str) -> Result<Option<Event>, Memory>
     ensures { IfOk result (λ event. event ≡ event_of line.now) }
 {
@@ -61,7 +61,7 @@ fn peer_event(alloc: Global, rest: &str) -> Result<Option<Event>, Memory>
     }
 }
 
-/// A peer's event of a word and what stands behind it.
+/// The event of a peer by its word and the text behind the word.
 fn worded_event(alloc: Global, peer: u64, word: &str, rest: &str) -> Result<Option<Event>, Memory>
     ensures { IfOk result (λ event. event ≡ worded_event peer (word.now, rest.now)) }
 {
@@ -121,7 +121,7 @@ fn timed_blocks(alloc: Global, text: &str) -> Result<Option<(u64, Kept<Option<Bl
     }
 }
 
-/// A number, and what stands after its space.
+/// A number, and the text after its space.
 fn numbered(text: &str) -> Option<(u64, &str)>
     ensures { MatchOption result (numbered_of text.now ≡ None) (λ p. numbered_of text.now ≡ Some (p.0, p.1.now)) }
 {

@@ -21,7 +21,7 @@ fn digit(byte: u8) -> u8
     }
 }
 
-/// The bytes that a text of digits spells, as `hex::decode` reads them, or `None` where it spells none.
+/// The bytes that a text of digits spells, as `hex::decode` reads them, or `None` if it spells none.
 pub(crate) fn decode(alloc: Global, text: &[u8]) -> Result<Option<Vec<u8>>, Memory>
     ensures { IfOk result (λ bytes. MatchOption bytes (IsErr (decode_of text.now)) (λ spelled. decode_of text.now ≡ Ok spelled.items)) }
 {

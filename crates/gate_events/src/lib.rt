@@ -1,7 +1,7 @@
 //! The event that a line spells, and the one text of each event.
 //!
-//! The main clauses are those of [`event_on`], the event of the line's definition or none where the line has no form, and of
-//! [`event_text`]; [`texts_spell`] says that the text spells the event.
+//! The main clauses are those of [`event_on`], the event of the line's definition or `None` if the line has no form,
+//! and of [`event_text`]; [`texts_spell`] says that the text spells the event.
 #![tactic(auto)]
 
 mod chain_line;

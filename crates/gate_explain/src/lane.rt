@@ -21,7 +21,7 @@ use std::hash::BuildHasher;
 use std::marker::Model;
 use std::time::Clock;
 
-/// A state, and what is told of the events that it answers: contracts see the state.
+/// A state, with the totals and the progress of its run: contracts see the state.
 #[derive(Drop)]
 struct Run<S: BuildHasher + Copy + Drop> {
     state: State<S>,
@@ -49,8 +49,8 @@ impl<S: BuildHasher + Copy + Drop> Run<S> {
     }
 }
 
-/// The way to answer events by steps of a state. It reads the state before each step, and tells of the reply on standard
-/// error.
+/// The way to answer events by steps of a state. It reads the state before each step, and explains the reply on
+/// standard error.
 #[derive(Drop)]
 struct Explaining<'a, T> {
     alloc: Global,
@@ -59,7 +59,7 @@ struct Explaining<'a, T> {
 }
 
 impl<T: Clock + Eprint> Explaining<'_, T> {
-    /// What will be decided of the submission of an event. Without memory for it nothing is known.
+    /// What will be decided on the submission of an event. Without memory for it nothing is known.
     fn explained<S: BuildHasher + Copy + Drop>(
         &self,
         state: &State<S>,
@@ -71,14 +71,15 @@ impl<T: Clock + Eprint> Explaining<'_, T> {
         }
     }
 
-    /// Tells of a reply. Without memory for it nothing is told, and what standard error doesn't take is lost.
+    /// Explains a reply on standard error. Without memory for that nothing is said, and what standard error doesn't
+    /// take is lost.
     fn tell(&self, explained: &Option<Explained>, reply: &Reply) {
         if let Ok(Some(text)) = reply_told(self.alloc, explained, reply) {
             let _written = eprintln!(self.rt; "gate: line {}: {text}", self.telling.place.line());
         }
     }
 
-    /// Makes the step of an event, and tells of the reply. The run is told of before the event.
+    /// Makes the step of an event, and explains its reply. The progress of the run is reported before the step.
     fn advance<S: BuildHasher + Copy + Drop>(
         &self,
         run: &mut Run<S>,
@@ -109,7 +110,7 @@ impl<S: BuildHasher + Copy + Drop, T: Clock + Eprint> Answers<Run<S>> for Explai
 
     ghost answers = { Steps };
 
-    /// A step that memory ran out in is answered too.
+    /// A step in which memory ran out has a reply line too: `fault memory`.
     fn answer(&self, run: &mut Run<S>, event: &Event, reply: &mut String) -> Result<(), Memory> {
         match self.advance(run, event) {
             Ok(answer) => set_answer(self.alloc, &answer, reply),
@@ -118,7 +119,7 @@ impl<S: BuildHasher + Copy + Drop, T: Clock + Eprint> Answers<Run<S>> for Explai
     }
 }
 
-/// What came of a run, and what its state is then.
+/// The summary of a run: its totals, and its state at the end.
 fn summary<S: BuildHasher + Copy + Drop>(
     alloc: Global,
     end: &Run<S>,
@@ -135,7 +136,7 @@ fn summary<S: BuildHasher + Copy + Drop>(
     )?)
 }
 
-/// Says what came of a run.
+/// Says the summary of a run on standard error.
 fn tell_summary<T: Eprint, S: BuildHasher + Copy + Drop>(
     rt: &T,
     alloc: Global,
@@ -170,10 +171,10 @@ fn run_explained<T: Clock + Eprint, S: BuildHasher + Copy + Drop, R: Source, W: 
     run_lane(alloc, answers, run, reader, writer)
 }
 
-/// Opens a gate from the front of the input, and runs a lane over the rest, as `run_gate` of `gate_prog` does: what is written
-/// is the same. What it says on standard error of denials, by the line where the reader stands, is by its form apart from
-/// that: it is given each state to read alone.
-// Where it stood within its caller, other jobs would keep its part of the stack, too.
+/// Opens a gate from the front of the input, and runs a lane over the rest: what it writes is what `run_gate` of
+/// `gate_prog` writes. On standard error it explains denials, each with the number of its line. That changes no reply,
+/// by its form: the explanation is lent each state only to read.
+// If it were inlined, other jobs would keep its part of the stack, too.
 #[inline(never)]
 pub fn run_gate_explained<T: Clock + Eprint, S: BuildHasher + Copy + Drop, R: Source, W: Sink>(
     rt: &T,

@@ -2,28 +2,28 @@
 use crate::telling::Telling;
 use std::time::{Clock, Instant};
 
-/// So many events pass between two looks at the clock.
+/// This many events pass between two looks at the clock.
 const EVENTS: u64 = 100;
 
-/// So many seconds pass at least between two lines, and before the first.
+/// At least this many seconds pass between two lines, and before the first.
 const SECONDS: u64 = 5;
 
-/// When a run was last told of while it went on.
+/// When a run began, and when its next line of progress is due.
 #[derive(Clone, Copy)]
 pub(crate) struct Progress {
-    /// None where nothing is told.
+    /// `None` if no progress is reported.
     begun: Option<Instant>,
     next: u64,
 }
 
-/// How many in a hundred bytes of an input of this length were read; none where it has no length.
+/// The percent of an input of this length that were read; `None` if the length is 0.
 fn percent(bytes: u64, length: u64) -> Option<u64> {
     let parts = (u128::from(bytes) * 100).checked_div(u128::from(length))?;
     Some(parts.min(100) as u64)
 }
 
 impl Progress {
-    /// The run begins now. Without a clock nothing is told.
+    /// The run begins now. Without a clock no progress is reported.
     pub(crate) fn begin<T: Clock>(rt: &T, telling: &Telling<'_>) -> Progress {
         let begun = if telling.progress {
             Instant::now(rt).ok()
@@ -36,7 +36,7 @@ impl Progress {
         }
     }
 
-    /// The seconds since the beginning, where a line is due after so many events.
+    /// The seconds since the beginning, if a line is due after this many events.
     fn due<T: Clock>(&mut self, rt: &T, events: u64) -> Option<u64> {
         if events % EVENTS != 0 {
             return None;
@@ -49,7 +49,7 @@ impl Progress {
         Some(seconds)
     }
 
-    /// Tells of a run that has come so far, where a line is due.
+    /// Reports the progress of a run after this many events, if a line is due.
     pub(crate) fn tell<T: Clock + Eprint>(&mut self, rt: &T, telling: &Telling<'_>, events: u64) {
         let Some(seconds) = self.due(rt, events) else {
             return;

@@ -1,4 +1,4 @@
-//! What came of the events of a run, counted.
+//! The totals of the events of a run, by their replies.
 use crate::denied::rule_in;
 use gate_bytes::Memory;
 use gate_figures::Explained;
@@ -14,7 +14,7 @@ struct Count {
     times: u64,
 }
 
-/// What came of events.
+/// The totals of the events of a run.
 #[derive(Drop)]
 pub(crate) struct Tally {
     alloc: Global,
@@ -23,7 +23,7 @@ pub(crate) struct Tally {
     replaced: u64,
     denied: u64,
     faults: u64,
-    /// In the order of the rules.
+    /// The count of each rule, in the order of the rules.
     counts: Vec<Count>,
 }
 
@@ -60,7 +60,7 @@ fn no_counts(alloc: Global) -> Result<Vec<Count>, Memory> {
 }
 
 impl Tally {
-    /// Nothing came of nothing. Without memory for them rules are not counted one by one.
+    /// The totals before the first event. Without memory for it, the rules are not counted one by one.
     pub(crate) fn new(alloc: Global) -> Tally {
         let counts = match no_counts(alloc) {
             Ok(counts) => counts,
@@ -112,7 +112,7 @@ impl Tally {
         }
     }
 
-    /// How often each rule was named, in parentheses; nothing where none was.
+    /// How often each rule was named, in parentheses; empty if none was.
     fn rules_text(&self) -> Result<String, Memory> {
         let mut text = String::new(self.alloc);
         for count in self.counts.as_slice() {
@@ -127,7 +127,7 @@ impl Tally {
         Ok(text)
     }
 
-    /// `812 events: 640 admitted, 12 replaced, 160 denied (A25 90, A35 70)`, and how often memory ran out, where it did.
+    /// `812 events: 640 admitted, 12 replaced, 160 denied (A25 90, A35 70)`, and how often memory ran out, if it did.
     pub(crate) fn text(&self) -> Result<String, Memory> {
         let rules = self.rules_text()?;
         let mut text = format!(in self.alloc;

@@ -1,12 +1,12 @@
 use gate_causes::Place;
 
-/// By what a run is told of.
+/// What the explanation of a run goes by.
 #[derive(Clone, Copy)]
 pub struct Telling<'a> {
-    /// Where its reader stands.
+    /// Where the reader of the run stands.
     pub place: &'a Place,
-    /// Whether it is told of while it goes on.
+    /// Whether progress is reported while the run goes on.
     pub progress: bool,
-    /// How many bytes its input has, where that is known.
+    /// How many bytes the input has, if that is known.
     pub length: Option<u64>,
 }

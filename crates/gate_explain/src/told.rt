@@ -1,4 +1,4 @@
-//! What is told of a reply.
+//! What is said of a reply.
 use crate::denied::{call_fault, denial_in, rule_in};
 use gate_bytes::Memory;
 use gate_figures::{Explained, Figures};
@@ -6,8 +6,8 @@ use gate_message::Reply;
 use gate_rules::rules_named;
 use std::alloc::Global;
 
-/// The figures of the rule that a reply names, where the explanation has some. A transaction that was granted and is gone
-/// again is explained by none.
+/// The figures of the rule that a reply names, if the explanation has some. For a transaction that was granted and then
+/// left the pool again there are none.
 fn figures_for(explained: &Option<Explained>, reply: &Reply) -> Option<Figures> {
     match explained {
         Some(Err(explanation)) if denial_in(reply) == Some(explanation.denial) =>
@@ -25,9 +25,8 @@ fn rule_text(alloc: Global, name: &str) -> Result<String, Memory> {
     }
 }
 
-/// What is told of a reply that says a rule fails: the rule by its name, and its figures; of a rule without figures its
-/// sentence. What is told of a call that is answered by another error is what is wrong with it. Of other replies nothing is
-/// told.
+/// What is said of a reply: if it says that a rule fails, the name of the rule and its figures, or its sentence if it
+/// has no figures; if it answers a call by another error, what is wrong with the call. Other replies have `None`.
 pub(crate) fn reply_told(
     alloc: Global,
     explained: &Option<Explained>,

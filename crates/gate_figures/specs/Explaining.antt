@@ -20,7 +20,7 @@ abbrev pub explained : Standing → Option Tx → Result Grant Denial → Result
 explained over submission (Ok grant) = Ok grant
 explained over submission (Err denial) = Err (record { denial = denial; figures = figures_for over submission denial })
 
--- what is decided of the submission that an event makes, with the figures
+-- what is decided on the submission that an event makes, with the figures
 abbrev pub explanation_of : Standing → Option (Option Tx) → Option (Result Grant Explanation)
 explanation_of over None = None
 explanation_of over (Some submission) = Some (explained over submission (decision_of First over submission))

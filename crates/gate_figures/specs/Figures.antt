@@ -31,7 +31,7 @@ use Rattle.gate_figures.specs.declared.figures.Figures.TheVariants.{Large, Small
 
 -- ---- outputs
 
--- the first output that is dust, the first at this index
+-- the first output that is dust, among outputs from this index on
 abbrev pub dust : ℕ → List TxOut → Option Figures
 dust index [] = None
 dust index (output ∷ outputs) =
@@ -39,83 +39,83 @@ dust index (output ∷ outputs) =
 
 -- ---- coins
 
--- the first input without a coin, the first at this index
+-- the first input without a coin, among inputs from this index on
 abbrev pub coinless : History → List Admitted → ℕ → List TxIn → Option Figures
 coinless chain entries index [] = None
 coinless chain entries index (input ∷ inputs) =
     if is_none (view_coin chain entries input.prevout) then Some (NoCoin index input.prevout) else coinless chain entries (index + 1) inputs
 
--- a coin that the input at this index spends, where a coinbase made it and it is too young for the next block
+-- the coin that the input at this index spends, if it is a coinbase's and too young for the next block
 abbrev pub young_by : ℕ → ℕ → Option Coin → Option Figures
 young_by next_height index None = None
 young_by next_height index (Some coin) = if is_immature next_height coin then Some (Young index coin.height next_height) else None
 
--- the first of them, input by input, the first at this index
+-- the first input whose coin is a coinbase's and too young for the next block, among inputs from this index on
 abbrev pub young : History → List Admitted → ℕ → List TxIn → Option Figures
 young chain entries index [] = None
 young chain entries index (input ∷ inputs) =
     option_or (young_by (tip_of chain + 1) index (view_coin chain entries input.prevout)) (young chain entries (index + 1) inputs)
 
--- ---- entries that spend what the transaction spends
+-- ---- entries that conflict with the transaction
 
--- an entry that spends what the input at this index does, where it doesn't say that it may be replaced
+-- the entry that spends the outpoint of the input at this index, if it doesn't signal that it may be replaced
 abbrev pub firm_by : ℕ → Option Admitted → Option Figures
 firm_by index None = None
 firm_by index (Some e) = if signals e.tx then None else Some (Spent index (txid_of e.tx))
 
--- the first of them, input by input, the first at this index
+-- the first such entry, input by input, among inputs from this index on
 abbrev pub firm : List Admitted → ℕ → List TxIn → Option Figures
 firm entries index [] = None
 firm entries index (input ∷ inputs) = option_or (firm_by index (spender_of entries input.prevout)) (firm entries (index + 1) inputs)
 
--- the rate of a fee for a size; a fee that 64 bits don't hold has none
+-- the feerate of a fee for a size; a fee that 64 bits don't hold has no feerate
 unfoldable pub rate_at : ℕ → Option ℕ → Option ℕ
 rate_at fee None = None
 rate_at fee (Some vsize) = if nat_lt (2 ^ 64 - 1) fee then None else Some (feerate fee vsize)
 
--- an entry that spends what an input does, where it pays at least this rate
+-- the entry that spends the outpoint of an input, if it pays at least this feerate
 abbrev pub outpaid_by : ℕ → Option Admitted → Option Figures
 outpaid_by rate None = None
 outpaid_by rate (Some e) = if nat_lt (feerate e.fee e.vsize) rate then None else Some (Outpaid rate (feerate e.fee e.vsize) (txid_of e.tx))
 
--- the first of them, input by input
+-- the first entry, input by input, that spends the outpoint of an input and pays at least this feerate
 abbrev pub outpaid : List Admitted → ℕ → List TxIn → Option Figures
 outpaid entries rate [] = None
 outpaid entries rate (input ∷ inputs) = option_or (outpaid_by rate (spender_of entries input.prevout)) (outpaid entries rate inputs)
 
--- the same at a rate, where there is one
+-- the first such entry, input by input; none if there is no feerate
 unfoldable pub outpaid_at : List Admitted → Option ℕ → List TxIn → Option Figures
 outpaid_at entries None inputs = None
 outpaid_at entries (Some rate) inputs = outpaid entries rate inputs
 
 -- ---- fees
 
--- what its coins hold
+-- the total value of a transaction's coins
 abbrev pub coins_at : History → List Admitted → Tx → ℕ
 coins_at chain entries tx = coins_value (coins_of chain entries tx.inputs)
 
--- what they hold above what its outputs do
+-- the fee of a transaction: the value of its coins above that of its outputs
 abbrev pub fee_at : History → List Admitted → Tx → ℕ
 fee_at chain entries tx = coins_at chain entries tx - outputs_value tx
 
--- what its signature operations cost
+-- the cost of a transaction's signature operations
 abbrev pub cost_at : History → List Admitted → Tx → ℕ
 cost_at chain entries tx = sigop_cost (reported tx.inputs (coins_of chain entries tx.inputs)) tx.outputs
 
--- the size in virtual bytes at a cost, of which nothing is asked where the cost is past its limit
+-- the virtual size of a transaction at a cost of its signature operations; none if the cost is past its limit
 abbrev pub sized : ℕ → Tx → Option ℕ
 sized cost tx = if nat_lt 16000 cost then None else Some (vsize_of cost tx)
 
--- its size in virtual bytes
+-- the virtual size of a transaction
 abbrev pub vsize_at : History → List Admitted → Tx → Option ℕ
 vsize_at chain entries tx = sized (cost_at chain entries tx) tx
 
--- what it pays, and the fee of its size at a rate
+-- the fee that is paid, and the fee that a size needs at a feerate
 unfoldable pub pays : ℕ → ℕ → Option ℕ → Option Figures
 pays rate fee None = None
 pays rate fee (Some vsize) = Some (Pays fee (required_fee rate vsize))
 
--- what it pays, what those that it would replace pay, and what is asked above that
+-- the fee that is paid, the fees of the entries that would be replaced, and what has to be paid above them
 unfoldable pub pays_above : ℕ → ℕ → Option ℕ → Option Figures
 pays_above gone fee None = None
 pays_above gone fee (Some vsize) = Some (Above fee gone (required_fee incremental_relay_rate vsize))
@@ -126,7 +126,7 @@ pays_above gone fee (Some vsize) = Some (Above fee gone (required_fee incrementa
 abbrev pub allowed_ancestors : Policy → ℕ → ℕ
 allowed_ancestors policy vsize = if nat_le vsize carve_out_size then most_ancestors policy else policy.ancestors
 
--- the transaction's ancestors and itself, where they are too many, or too large
+-- the transaction's ancestors and itself, if they are too many or too large
 abbrev pub crowded : Policy → List Admitted → Option ℕ → Option Figures
 crowded policy above None = None
 crowded policy above (Some vsize) =
@@ -140,7 +140,7 @@ abbrev pub is_good : Option Verdict → Bool
 is_good (Some Good) = true
 is_good other = false
 
--- the first input whose verdict is not a good one, the first at this index
+-- the first input whose verdict is not a good one, among inputs from this index on
 abbrev pub doubted : VerdictTable → List ℕ → ℕ → List TxIn → Option Figures
 doubted verdicts wtxid index [] = None
 doubted verdicts wtxid index (input ∷ inputs) =

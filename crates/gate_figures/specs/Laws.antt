@@ -14,8 +14,8 @@ use Rattle.gate_figures.specs.declared.figures.Figures.{Figures}
 use Rattle.gate_figures.specs.declared.figures.Figures.TheVariants.{Large, Small, Weighs, Dust, Final, Spent, NoCoin, Young, Balance, Costs, Pays, Ancestors, AncestorsSized, Outpaid, Descendants, Above, Input}
 use Rattle.gate_figures.specs.Figures.{figures_of, is_good}
 
--- figures are past what is allowed, and by the policy no less is allowed, or below what is needed; no coin is there, or no good
--- verdict; and only where the policy asks for signals is an entry named that doesn't signal
+-- figures are past what is allowed, and the policy allows no less than that, or below what is needed; an outpoint has no coin, or
+-- an input no good verdict; and an entry that doesn't signal is named only if the policy asks for signals
 abbrev pub Decide : Standing → Figures → Type 0
 Decide over (Large size) = 1000000 < size
 Decide over (Small size) = size < 82
@@ -35,6 +35,6 @@ Decide over (Descendants count) = 100 < count
 Decide over (Above fee gone needs) = fee - gone < needs
 Decide over (Input input wtxid) = is_good (verdict_of over.verdicts wtxid input) ≡ false
 
--- where a transaction is denied, the figures of the rule that denies it decide
+-- if a transaction is denied, the figures of the rule that denies it decide
 abbrev pub FiguresDecide : Type 0
 FiguresDecide = (over : Standing) (tx : Tx) (denial : Denial) → decision_of First over (Some tx) ≡ Err denial → IfSome (figures_of over tx denial) (Decide over)

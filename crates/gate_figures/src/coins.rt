@@ -11,7 +11,7 @@ use gate_tx::TxIn;
 use std::alloc::Global;
 use std::hash::BuildHasher;
 
-/// How deep a coinbase's coin has to stand (Bitcoin Core's `COINBASE_MATURITY`).
+/// How many blocks deep a coinbase's coin has to be before it is spent (Bitcoin Core's `COINBASE_MATURITY`).
 const MATURITY: u32 = 100;
 
 /// The coins of the inputs that have one, in their order.
@@ -57,7 +57,7 @@ fn is_immature(next: u32, coin: &LentCoin<'_>) -> bool
     coin.is_coinbase() && next.saturating_sub(coin.height()) < MATURITY
 }
 
-/// The coin of an input, where a coinbase made it and it is too young for the next block.
+/// The coin of an input, if it is a coinbase's and too young for the next block.
 fn young_by(next: u32, input: usize, coin: Option<LentCoin<'_>>) -> Option<Figures>
     ensures { result ≡ young_by next input coin.entry }
 {
@@ -72,7 +72,7 @@ fn young_by(next: u32, input: usize, coin: Option<LentCoin<'_>>) -> Option<Figur
     })
 }
 
-/// The first input whose coin a coinbase made and is too young for the next block.
+/// The first input whose coin is a coinbase's and too young for the next block.
 pub(crate) fn young<S: BuildHasher + Copy + Drop>(
     chain: &Chain<S>,
     pool: &Pool<S>,

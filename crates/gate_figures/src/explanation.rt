@@ -2,7 +2,7 @@ use crate::figures::Figures;
 use gate_admit::Grant;
 use gate_standard::Denial;
 
-/// Why a submission is denied: the rule that decides, and its figures, where the rule has some.
+/// Why a submission is denied: the rule that decides, and its figures, if the rule has some.
 #[derive(Clone, Copy, Debug, PartialEq, Eq)]
 pub struct Explanation {
     pub denial: Denial,

@@ -22,8 +22,8 @@ const MOST_ANCESTORS_SIZE: u128 = 101_000;
 /// How large a transaction may be for the second try (Bitcoin Core's `EXTRA_DESCENDANT_TX_SIZE_LIMIT`).
 const CARVE_OUT_VSIZE: u64 = 10_000;
 
-/// How many ancestors a transaction of this size may have, itself among them: a small one may have a parent in any case, by
-/// the second try.
+/// How many ancestors a transaction of this size may have, itself among them: a small transaction may have a parent in
+/// any case, by the second try.
 fn allowed_ancestors(policy: &Policy, vsize: u64) -> usize
     ensures { result ≡ allowed_ancestors policy.now vsize }
 {
@@ -34,7 +34,7 @@ fn allowed_ancestors(policy: &Policy, vsize: u64) -> usize
     }
 }
 
-/// The ancestors of a transaction with these inputs, and itself, where they are too many or too large.
+/// The ancestors of a transaction with these inputs, and itself, if they are too many or too large.
 pub(crate) fn crowded<S: BuildHasher + Copy + Drop>(
     alloc: Global,
     policy: &Policy,
@@ -62,7 +62,7 @@ pub(crate) fn crowded<S: BuildHasher + Copy + Drop>(
     Ok(None)
 }
 
-/// What the entries pay that a transaction would replace.
+/// The total fee of the entries that a transaction would replace, in satoshi.
 pub(crate) fn fees_gone<S: BuildHasher + Copy + Drop>(
     alloc: Global,
     pool: &Pool<S>,
@@ -76,7 +76,7 @@ pub(crate) fn fees_gone<S: BuildHasher + Copy + Drop>(
     Ok(add_up(pool, gone.as_slice()).fees)
 }
 
-/// How many are below the entry of an id, itself among them, as the pool keeps it.
+/// How many descendants the entry of an id has, itself among them, as the pool keeps that number.
 fn count_below<S: BuildHasher + Copy + Drop>(pool: &Pool<S>, id: &Txid) -> u64
     requires { IsEntry pool.now.entries id.now }
     ensures { result ≡ length (descendants_of pool.now.entries id.now) }
@@ -84,8 +84,8 @@ fn count_below<S: BuildHasher + Copy + Drop>(pool: &Pool<S>, id: &Txid) -> u64
     pool.totals(id).unwrap().below.count
 }
 
-/// How many descendants entries have together, given by their ids, themselves among them. An entry below two of them counts
-/// twice.
+/// How many descendants the entries of these ids have in total, themselves among them. A descendant of two entries
+/// counts twice.
 fn count_below_all<S: BuildHasher + Copy + Drop>(pool: &Pool<S>, ids: &[Txid]) -> u128
     requires { (test : Admitted → Bool) × AreIdsOf ids.now (filter test pool.now.entries) }
     ensures { ForEntriesOf ids.now pool.now.entries (λ some. result ≡ descendant_count pool.now.entries some) }
@@ -98,7 +98,7 @@ fn count_below_all<S: BuildHasher + Copy + Drop>(pool: &Pool<S>, ids: &[Txid]) -
     sum
 }
 
-/// How many descendants the entries have that a transaction conflicts with, themselves among them.
+/// How many descendants the entries that a transaction conflicts with have in total, themselves among them.
 pub(crate) fn descendant_count<S: BuildHasher + Copy + Drop>(
     alloc: Global,
     pool: &Pool<S>,

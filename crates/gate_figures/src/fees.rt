@@ -1,4 +1,4 @@
-//! What a transaction pays, and for what size.
+//! The fee of a transaction, and the virtual size that it pays for.
 ghost use Rattle.std.specs.Prelude.{◌≡◌, ◌≤◌, ◌<◌, ◌^◌, IfOk, IfSome, length};
 ghost use Rattle.gate_tx.specs.Money.{amount_or_zero};
 ghost use Rattle.gate_admit.specs.Reports.{output_sigops, reported, sigop_cost, vsize_of};
@@ -19,25 +19,26 @@ use std::hash::BuildHasher;
 /// The most that signature operations may cost (Bitcoin Core's `MAX_STANDARD_TX_SIGOPS_COST`).
 const MAX_COST: u128 = 16_000;
 
-/// What a replacement pays for its own relay, in satoshi per 1,000 virtual bytes.
+/// The feerate that a replacement pays for its own relay, in satoshi per 1,000 virtual bytes (Bitcoin Core's
+/// `DEFAULT_INCREMENTAL_RELAY_FEE`).
 const INCREMENTAL_RELAY_RATE: u64 = 1000;
 
-/// What a transaction pays over a chain and a pool, and for what size.
+/// The fee of a transaction over a chain and a pool, and the virtual size that it pays for.
 #[derive(Clone, Copy)]
 pub(crate) struct Price {
-    /// What its coins hold, in satoshi.
+    /// The total value of the transaction's coins, in satoshi.
     pub(crate) coins: u128,
-    /// What its outputs hold, in satoshi.
+    /// The total value of the transaction's outputs, in satoshi.
     pub(crate) outputs: u128,
-    /// What the coins hold above what the outputs do.
+    /// The value of the coins above that of the outputs, in satoshi.
     pub(crate) fee: u128,
-    /// What its signature operations cost.
+    /// The cost of the transaction's signature operations.
     pub(crate) cost: u128,
-    /// Its size in virtual bytes, where the cost is within its limit.
+    /// The transaction's virtual size, if the cost is within its limit.
     pub(crate) vsize: Option<u64>,
 }
 
-/// What a coin holds.
+/// The value of a coin, in satoshi.
 fn coin_amount(coin: &LentCoin<'_>) -> u128
     ensures value { result ≡ amount_or_zero coin.now.value }
     ensures small { result < 2 ^ 63 }
@@ -46,7 +47,7 @@ fn coin_amount(coin: &LentCoin<'_>) -> u128
     if value < 0 { 0 } else { value as u128 }
 }
 
-/// What an output holds.
+/// The value of an output, in satoshi.
 fn output_amount(output: &TxOut) -> u128
     ensures value { result ≡ amount_or_zero output.now.value }
     ensures small { result < 2 ^ 63 }
@@ -58,7 +59,7 @@ fn output_amount(output: &TxOut) -> u128
     }
 }
 
-/// What the coins hold.
+/// The total value of coins, in satoshi.
 fn coins_value(coins: &[LentCoin<'_>]) -> u128
     ensures { result ≡ coins_value coins.now }
 {
@@ -69,7 +70,7 @@ fn coins_value(coins: &[LentCoin<'_>]) -> u128
     sum
 }
 
-/// What the outputs hold.
+/// The total value of a transaction's outputs, in satoshi.
 fn outputs_value(tx: &Transaction) -> u128
     ensures { result ≡ outputs_value tx.now }
 {
@@ -95,14 +96,14 @@ fn reported(alloc: Global, inputs: &[TxIn], coins: &[LentCoin<'_>]) -> Result<Ve
     Ok(found)
 }
 
-/// What the script of an output counts.
+/// How many signature operations the script of an output counts.
 fn output_sigops(output: &TxOut) -> u64
     ensures { result ≡ output_sigops output.now }
 {
     sigops(output.script.as_slice(), false)
 }
 
-/// What the signature operations of a transaction cost.
+/// The cost of the signature operations of a transaction.
 fn sigop_cost(tx: &Transaction, answers: &[Answers]) -> u128
     requires { length answers.now ≤ length tx.now.inputs }
     ensures { result ≡ sigop_cost answers.now tx.now.outputs }
@@ -119,7 +120,7 @@ fn sigop_cost(tx: &Transaction, answers: &[Answers]) -> u128
     cost + 4 * count
 }
 
-/// The size in virtual bytes of a transaction whose signature operations cost so much.
+/// The virtual size of a transaction whose signature operations have this cost.
 #[tactic(auto, using(gate_admit::proofs::Weighing::positive))]
 fn vsize_of(cost: u64, tx: &Identified) -> u64
     requires { cost ≤ 16000 }
@@ -129,7 +130,7 @@ fn vsize_of(cost: u64, tx: &Identified) -> u64
     (tx.weight() as u64).max(20 * cost).div_ceil(4)
 }
 
-/// The same, where the cost is within its limit.
+/// The virtual size of a transaction whose signature operations have this cost, if that is within its limit.
 fn sized(cost: u128, tx: &Identified) -> Option<u64>
     ensures size { result ≡ sized cost tx.now }
     ensures some { IfSome result (λ vsize. 0 < vsize) }
@@ -141,7 +142,7 @@ fn sized(cost: u128, tx: &Identified) -> Option<u64>
 }
 
 impl Price {
-    /// That of a transaction.
+    /// The price of a transaction over a chain and a pool.
     pub(crate) fn of<S: BuildHasher + Copy + Drop>(
         alloc: Global,
         chain: &Chain<S>,
@@ -171,7 +172,7 @@ impl Price {
     }
 }
 
-/// What is paid, and the fee of a size at a rate.
+/// The figures of a fee that is paid: the fee, and the fee that a size needs at a feerate.
 #[tactic(auto, unfolding(crate::specs::Figures::pays))]
 pub(crate) fn pays(rate: u64, fee: u128, vsize: Option<u64>) -> Option<Figures>
     ensures { result ≡ pays rate fee vsize }
@@ -180,7 +181,8 @@ pub(crate) fn pays(rate: u64, fee: u128, vsize: Option<u64>) -> Option<Figures>
     Some(Figures::Pays { fee, needs })
 }
 
-/// What is paid, what those pay that would be replaced, and what is asked above that.
+/// The figures of a fee that is paid: the fee, the fees of the entries that would be replaced, and what has to be paid
+/// above them.
 #[tactic(auto, unfolding(crate::specs::Figures::pays_above))]
 pub(crate) fn pays_above(gone: u128, fee: u128, vsize: Option<u64>) -> Option<Figures>
     ensures { result ≡ pays_above gone fee vsize }

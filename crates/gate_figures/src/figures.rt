@@ -2,89 +2,91 @@
 use gate_tx::{OutPoint, Txid, Wtxid};
 use std::fmt;
 
-/// What decides that a rule denies a transaction.
+/// The figures by which a rule denies a transaction.
 #[derive(Clone, Copy, Debug, PartialEq, Eq)]
 pub enum Figures {
-    /// Its size without witnesses, in bytes, which is too large.
+    /// The transaction's size without witnesses, in bytes, which is too large.
     Large {
         size: usize,
     },
-    /// The same, which is too small.
+    /// The transaction's size without witnesses, in bytes, which is too small.
     Small {
         size: usize,
     },
-    /// Its weight.
+    /// The transaction's weight, which is too large.
     Weighs {
         weight: usize,
     },
-    /// An output, its value, and what it has to be worth, in satoshi.
+    /// An output, its value, and the value that it needs, in satoshi.
     Dust {
         output: usize,
         value: i64,
         needs: u64,
     },
-    /// Its locktime, the height of the next block, and the median time past of the tip.
+    /// The transaction's locktime, the height of the next block, and the median time past of the tip.
     Final {
         locktime: u32,
         height: u32,
         median: u32,
     },
-    /// An input, and the entry that spends its outpoint and doesn't say that it may be replaced.
+    /// An input, and the entry that spends its outpoint and doesn't signal that it may be replaced.
     Spent {
         input: usize,
         by: Txid,
     },
-    /// An input, and the outpoint that it spends: there is no such coin.
+    /// An input, and the outpoint that it spends, which has no coin.
     NoCoin {
         input: usize,
         outpoint: OutPoint,
     },
-    /// An input whose coin a coinbase made, the coin's height, and that of the next block.
+    /// An input whose coin is a coinbase's, the coin's height, and that of the next block.
     Young {
         input: usize,
         height: u32,
         next: u32,
     },
-    /// What its coins hold, and what its outputs do, in satoshi.
+    /// The total value of the transaction's coins, and that of its outputs, in satoshi.
     Balance {
         coins: u128,
         outputs: u128,
     },
-    /// What its signature operations cost.
+    /// The cost of the transaction's signature operations, which is too high.
     Costs {
         cost: u128,
     },
-    /// What it pays, and what is asked, in satoshi.
+    /// The fee that the transaction pays, and the fee that it needs, in satoshi.
     Pays {
         fee: u128,
         needs: u128,
     },
-    /// How many ancestors it would have, and how many a transaction of its size may have, with itself among each.
+    /// How many ancestors the transaction would have, and how many it may have by its size, itself among them.
     Ancestors {
         count: u128,
         most: usize,
     },
-    /// What its ancestors and itself would take, in virtual bytes.
+    /// The total virtual size of the transaction and its ancestors, which is too large.
     AncestorsSized {
         size: u128,
     },
-    /// The rate that it pays, in satoshi per 1,000 virtual bytes, and an entry that it conflicts with, which pays no less.
+    /// The transaction's feerate, and an entry that it conflicts with, whose feerate is no lower; in satoshi per 1,000
+    /// virtual bytes.
     Outpaid {
         rate: u128,
         most: u128,
         by: Txid,
     },
-    /// How many descendants the entries have that it conflicts with, with themselves.
+    /// How many descendants the entries that the transaction conflicts with have in total, themselves among them.
     Descendants {
         count: u128,
     },
-    /// What it pays, what those that it would replace pay, and what is asked above that, in satoshi.
+    /// The fee that the transaction pays, the fees of the entries that it would replace, and what it has to pay above
+    /// them, in satoshi.
     Above {
         fee: u128,
         gone: u128,
         needs: u128,
     },
-    /// An input of the transaction with this id.
+    /// An input of the transaction with this wtxid, whose verdict is missing or not good.
     Input {
         input: u32,
         wtxid: Wtxid,

@@ -25,7 +25,8 @@ use gate_tx::Identified;
 use std::alloc::Global;
 use std::hash::BuildHasher;
 
-/// What every transaction has to pay, in satoshi per 1,000 virtual bytes.
+/// The feerate that every transaction has to pay, in satoshi per 1,000 virtual bytes (Bitcoin Core's
+/// `DEFAULT_MIN_RELAY_TX_FEE`).
 const MIN_RELAY_RATE: u64 = 1000;
 
 /// The median time past of the tip.
@@ -35,7 +36,7 @@ fn tip_median<S: BuildHasher + Copy + Drop>(chain: &Chain<S>) -> u32
     chain.mtp(chain.tip()).unwrap()
 }
 
-/// The figures of a rule on what a transaction pays and for what size; of other rules there are none.
+/// The figures of a rule on a transaction's fee, cost or size; any other rule has none here.
 #[tactic(auto, unfolding(crate::specs::Figures::paying_figures))]
 fn paying_figures<S: BuildHasher + Copy + Drop>(
     alloc: Global,
@@ -155,9 +156,9 @@ fn explain_submission<S: BuildHasher + Copy + Drop>(
     }
 }
 
-/// What is decided of the transaction that an event submits, by the state before the event: its grant, or the first rule of
-/// the written order that fails, with the figures of its definition. Of an event that submits nothing nothing is said, and
-/// nothing of the rules on its caller.
+/// What is decided on the transaction that an event submits, by the state before the event: its grant, or the first
+/// rule of the written order that fails, with the figures of its definition. It is `None` for an event that submits
+/// nothing. The rules on the event's caller are left aside.
 pub fn explain<S: BuildHasher + Copy + Drop>(
     alloc: Global,
     state: &State<S>,

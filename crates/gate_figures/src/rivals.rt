@@ -1,4 +1,4 @@
-//! The entries that spend what a transaction spends, and don't give way.
+//! The entries that conflict with a transaction, and that it can't replace.
 ghost use Rattle.std.specs.Prelude.{◌≡◌, ◌<◌, IfSome};
 ghost use Rattle.std.specs.Option.{option_copied};
 ghost use Rattle.gate_figures.specs.Figures.{firm, firm_by, outpaid, outpaid_at, outpaid_by, rate_at};
@@ -10,7 +10,7 @@ use gate_standard::rate_of;
 use gate_tx::TxIn;
 use std::hash::BuildHasher;
 
-/// An entry that spends what this input does, where it doesn't say that it may be replaced.
+/// The entry that spends the outpoint of this input, if it doesn't signal that it may be replaced.
 fn firm_by(input: usize, spender: Option<&Entry>) -> Option<Figures>
     ensures { result ≡ firm_by input (option_copied spender.entry) }
 {
@@ -24,7 +24,7 @@ fn firm_by(input: usize, spender: Option<&Entry>) -> Option<Figures>
     })
 }
 
-/// The first input whose outpoint an entry spends that doesn't say that it may be replaced.
+/// The first input whose outpoint is spent by an entry that doesn't signal that it may be replaced.
 pub(crate) fn firm<S: BuildHasher + Copy + Drop>(pool: &Pool<S>, inputs: &[TxIn]) -> Option<Figures>
     ensures { result ≡ firm pool.now.entries 0 inputs.now }
 {
@@ -36,7 +36,7 @@ pub(crate) fn firm<S: BuildHasher + Copy + Drop>(pool: &Pool<S>, inputs: &[TxIn]
     None
 }
 
-/// The rate of a fee for a size, in satoshi per 1,000 virtual bytes.
+/// The feerate of a fee for a size, in satoshi per 1,000 virtual bytes.
 #[tactic(auto, unfolding(crate::specs::Figures::rate_at))]
 pub(crate) fn rate_at(fee: u128, vsize: Option<u64>) -> Option<u128>
     requires { IfSome vsize (λ vsize. 0 < vsize) }
@@ -49,7 +49,7 @@ pub(crate) fn rate_at(fee: u128, vsize: Option<u64>) -> Option<u128>
     Some(rate_of(fee as u64, vsize))
 }
 
-/// An entry that spends what an input does, where it pays at least this rate.
+/// The entry that spends the outpoint of an input, if it pays at least this feerate.
 fn outpaid_by(rate: u128, spender: Option<&Entry>) -> Option<Figures>
     ensures { result ≡ outpaid_by rate (option_copied spender.entry) }
 {
@@ -65,7 +65,7 @@ fn outpaid_by(rate: u128, spender: Option<&Entry>) -> Option<Figures>
     })
 }
 
-/// The first entry, input by input, that spends what the transaction spends and pays at least this rate.
+/// The first entry, input by input, that spends the outpoint of an input and pays at least this feerate.
 fn outpaid<S: BuildHasher + Copy + Drop>(
     pool: &Pool<S>,
     inputs: &[TxIn],
@@ -81,7 +81,7 @@ fn outpaid<S: BuildHasher + Copy + Drop>(
     None
 }
 
-/// The same at a rate, where there is one.
+/// The first entry, input by input, that conflicts and pays at least this feerate; `None` if there is no feerate.
 #[tactic(auto, unfolding(crate::specs::Figures::outpaid_at))]
 pub(crate) fn outpaid_at<S: BuildHasher + Copy + Drop>(
     pool: &Pool<S>,

@@ -1,4 +1,4 @@
-//! The input that a verdict is missing of, or bad.
+//! The input whose verdict is missing or bad.
 ghost use Rattle.std.specs.Prelude.{◌≡◌};
 ghost use Rattle.gate_tx.specs.Ids.{wtxid_of};
 ghost use Rattle.gate_figures.specs.Figures.{doubted, is_good};

@@ -27,7 +27,7 @@ ancestors_of g id = filter (λ n. reaches (steps_of g) n.id id) g
 abbrev pub descendants_of : List Node → List ℕ → List Node
 descendants_of g id = filter (λ n. reaches (steps_of g) id n.id) g
 
--- the nodes that are left without an id and all that is below it
+-- the nodes, except that of an id and all that are below it
 abbrev pub without_family : List Node → List ℕ → List Node
 without_family g id = filter (λ n. not (reaches (steps_of g) id n.id)) g
 
@@ -43,15 +43,15 @@ with_parent id children n = record n { parents = n.parents ++ cond (among childr
 abbrev pub with_above : List Node → Node → List (List ℕ) → List Node
 with_above g n children = map (with_parent n.id children) g ++ n ∷ []
 
--- a node that names an id no more among its parents
+-- a node without an id among its parents
 abbrev pub without_parent : List ℕ → Node → Node
 without_parent id n = record n { parents = without_id id n.parents }
 
--- the nodes without one, which the others name no more as a parent
+-- the nodes, except that of an id, and without that id among the parents of the others
 abbrev pub without_root : List Node → List ℕ → List Node
 without_root g id = map (without_parent id) (filter (λ n. not (bytes_eq n.id id)) g)
 
--- a node without parents has an id
+-- an id is that of a node without parents
 abbrev pub is_root : List Node → List ℕ → Bool
 is_root g id = list_any (λ n. bytes_eq n.id id && length n.parents == 0) g
 
@@ -60,7 +60,7 @@ abbrev pub are_apart : List Node → Bool
 are_apart [] = true
 are_apart (n ∷ g) = not (has g n.id) && are_apart g
 
--- nodes are a graph: each id is one node's, each parent is a node, and no step leads back
+-- nodes are a graph: each id is one node's, each parent is a node, and no chain leads back to its start
 pub record IsGraph (g : List Node) : Type 0 where
   pub apart : are_apart g ≡ true
   pub closed : (a b : List ℕ) → Contains (steps_of g) (a, b) → has g a ≡ true

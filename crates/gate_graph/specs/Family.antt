@@ -19,7 +19,7 @@ pub data Leads (steps : List (List ℕ × List ℕ)) : List ℕ → List ℕ →
   here : {a : List ℕ} → Leads steps a a
   down : {a b c : List ℕ} → Contains steps (a, b) → Leads steps b c → Leads steps a c
 
--- the same as a test: with one step more, a chain goes round it or through it once
+-- the test for `Leads`: with one step more, a chain either avoids that step or goes through it once
 unfoldable pub reaches : List (List ℕ × List ℕ) → List ℕ → List ℕ → Bool
 reaches [] a b = bytes_eq a b
 reaches (s ∷ ss) a b = reaches ss a b || (reaches ss a s.0 && reaches ss s.1 b)

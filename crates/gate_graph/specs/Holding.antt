@@ -39,11 +39,11 @@ module _ {T : Type 0} where
   abbrev pub with_parents : Vec (List ℕ) → Held T → Held T
   with_parents parents h = record h { parents = parents }
 
-  -- a change of the node with an id alone
+  -- a change that is made to the node of an id alone
   abbrev pub at_id : List ℕ → (Held T → Held T) → Held T → Held T
   at_id id f h = cond (bytes_eq h.id id) (f h) h
 
--- the id that stands at a place, and those that stand at some
+-- the id that stands at a place, and those that stand at some places
 abbrev pub id_at : List (Option (List ℕ)) → ℕ → List ℕ
 id_at spots place = unwrap_or (at spots place) []
 
@@ -60,7 +60,7 @@ pub record IsPlaced {T : Type 0} (slots : List (Option (Held T))) (n : ℕ) (loo
   pub count : n ≡ length (entries_of slots)
 
 module _ {T : Type 0} where
-  -- the nodes that are left without some
+  -- the nodes, except those of some ids
   abbrev pub left_of : List (List ℕ) → List (Held T) → List (Held T)
   left_of ids hs = filter (λ h. not (among ids h.id)) hs
 
@@ -76,11 +76,11 @@ module _ {T : Type 0} where
   abbrev pub nodes_in : List (Node × T) → List Node
   nodes_in g = map (λ p. p.0) g
 
-  -- what is below an id, with what it carries, gone
+  -- the nodes, each with what it carries, except that of an id and all that are below it
   abbrev pub without_below : List (Node × T) → List ℕ → List (Node × T)
   without_below g id = filter (λ p. not (reaches (steps_of (nodes_in g)) id p.0.id)) g
 
-  -- one node gone
+  -- the nodes, each with what it carries, except that of an id
   abbrev pub without_one : List (Node × T) → List ℕ → List (Node × T)
   without_one g id = filter (λ p. not (bytes_eq p.0.id id)) g
 
@@ -90,13 +90,13 @@ pub record Stored (T : Type 0) : Type 0 where
   pub spots : List (Option (List ℕ))
   pub room : ℕ
 
--- a node has a place in the index and among the slots
+-- if there is room, one more node has a place in the index and among the slots
 pub record HasSpot (room spare len capacity : ℕ) : Type 0 where
   pub place : 0 < room → 0 < spare
   pub slot : 0 < room → len < capacity
 
 -- a graph: its nodes in the order of adding, each with what it carries, which id stands at each place, and the room that was
--- taken beforehand: a node that names fewer than `room` is put without memory
+-- taken beforehand: a node that names fewer than `room` parents is put without memory
 pub record Carried (T : Type 0) : Type 0 where
   pub nodes : List (Node × T)
   pub places : List (Option (List ℕ))
@@ -106,7 +106,7 @@ pub record Carried (T : Type 0) : Type 0 where
 abbrev pub load_in : {T : Type 0} → List (Node × T) → List ℕ → Option T
 load_in g id = option_map (λ p. p.1) (find (λ p. bytes_eq p.0.id id) g)
 
--- beyond what was there before, what the nodes below an id carry, and nothing else
+-- a list that grew by what the node of an id and those below it carry, and by nothing else
 pub record AreGone {T : Type 0} (g : List (Node × T)) (id : List ℕ) (before after : List T) : Type 0 where
   pub more : List T
   pub is : after ≡ before ++ more

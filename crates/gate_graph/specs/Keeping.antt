@@ -10,7 +10,7 @@ use Rattle.gate_graph.specs.Walking.{AreClear}
 use Rattle.gate_graph.specs.Weighing.{AreSmall, IsWeighed}
 
 -- no two nodes share an id, each has its totals and its children are listed, and there is room to find families; ids that are
--- no node's may be named, and steps may lead back
+-- no node's may be named, and a chain may lead back to its start
 pub record IsKept {T : Type 0} (hs : List (Held T)) (lists : Lists) (found above : ℕ) : Type 0 where
   pub apart : are_apart (nodes_of hs) ≡ true
   pub linked : IsLinked (nodes_of hs) lists
@@ -19,7 +19,7 @@ pub record IsKept {T : Type 0} (hs : List (Held T)) (lists : Lists) (found above
   pub found_room : length hs ≤ found
   pub above_room : length hs ≤ above
 
--- a node that names fewer than `room` has a place, room in the lists of those that it names, and room to find families with it
+-- a node that names fewer than `room` parents has a place, room in their lists, and room to find families with it
 pub record HasRoom (room slots lists : ℕ) (count found above : ℕ) : Type 0 where
   pub slot : 0 < room → 0 < slots
   pub lists_room : room ≤ lists + 1
@@ -31,14 +31,14 @@ pub record HasMarks (room slots : ℕ) (marks : List Bool) (capacity : ℕ) : Ty
   pub clear : AreClear slots marks
   pub more : 0 < room → slots < capacity
 
--- what nodes in slots are kept as, with the lists of what names what, what walks write into, and the room that was taken
+-- what holds of the slots, the lists of which node names which, what walks write into, and the room that was taken
 abbrev pub AreKept : {T : Type 0} → Stored T → Lists → Scratch → ℕ → Type 0
 AreKept slots lists scratch room =
     IsKept slots.held lists (vec_capacity scratch.found) (vec_capacity scratch.above)
     × HasRoom room slots.room lists.room (length slots.held) (vec_capacity scratch.found) (vec_capacity scratch.above)
     × HasMarks room (length slots.spots) scratch.marks.items (vec_capacity scratch.marks)
 
--- what walks over so many slots write into, of which so many hold a node
+-- what walks write into, over `slots` slots of which `count` hold a node
 pub record IsScratchFor (slots count : ℕ) (scratch : Scratch) : Type 0 where
   pub marks : AreClear slots scratch.marks.items
   pub found : count ≤ vec_capacity scratch.found

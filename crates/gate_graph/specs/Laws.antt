@@ -22,9 +22,9 @@ pub record HaveEachOnce (g : List Node) : Type 0 where
 abbrev pub FamiliesHaveEachOnce : Type 0
 FamiliesHaveEachOnce = (g : List Node) → IsGraph g → HaveEachOnce g
 
--- a node put between others joins their families: a chain leads where one led, and from the node and all above its
--- parents to the node and all below its children; what is below the node are its children's families and itself, what is
--- above it those of its parents
+-- a node put between others joins their families: a chain leads where one led, and from the node, its parents and all
+-- above them to the node, its children and all below them; below the node are its children and all below them, and
+-- itself, above it its parents and all above them, and itself
 pub record JoinsFamilies (g : List Node) (n : Node) (children : List (List ℕ)) : Type 0 where
   pub graph : IsGraph (with_above g n children)
   pub chains : (a b : List ℕ) → reaches (steps_of (with_above g n children)) a b ≡ (reaches (steps_of g) a b || ((bytes_eq a n.id || is_above g n.parents a) && (bytes_eq b n.id || is_below g children b)))
@@ -34,7 +34,8 @@ pub record JoinsFamilies (g : List Node) (n : Node) (children : List (List ℕ))
 abbrev pub NodesJoinFamilies : Type 0
 NodesJoinFamilies = (g : List Node) (n : Node) (children : List (List ℕ)) → IsGraph g → fault_of_above g n.id n.parents children ≡ None → JoinsFamilies g n children
 
--- a node without parents that goes leaves a graph, with the chains between all others; nothing else leads to it
+-- without a node that has no parents, a graph stays a graph, with the same chains between all other nodes; no other node
+-- was above it
 pub record LeavesFamilies (g : List Node) (id : List ℕ) : Type 0 where
   pub graph : IsGraph (without_root g id)
   pub chains : (a b : List ℕ) → a ≢ id → reaches (steps_of (without_root g id)) a b ≡ reaches (steps_of g) a b

@@ -16,7 +16,7 @@ pub record Lists : Type 0 where
 abbrev pub link_eq : Link → Link → Bool
 link_eq a b = bytes_eq a.parent b.parent && (a.number == b.number)
 
--- the first n that are found
+-- the ids that are found at the numbers below n, in order
 abbrev pub listed : (ℕ → Option (List ℕ)) → ℕ → List (List ℕ)
 listed look zero = []
 listed look (suc n) = listed look n ++ option_to_list (look n)
@@ -24,7 +24,7 @@ listed look (suc n) = listed look n ++ option_to_list (look n)
 abbrev pub link : List ℕ → ℕ → Link
 link id n = record { parent = id; number = n }
 
--- how many the list of an id has, and which
+-- how many ids the list of an id has, and which
 abbrev pub count_in : Lists → List ℕ → ℕ
 count_in lists id = unwrap_or (lookup (bytes_eq id) lists.counts) 0
 
@@ -47,11 +47,11 @@ IsUnlisted id lists = (a : List ℕ) → among (listing lists a) id ≡ false
 abbrev pub including : List ℕ → List (List ℕ) → List (List ℕ)
 including id ids = cond (among ids id) ids (ids ++ id ∷ [])
 
--- what is looked up where what stood at one key was put at another
+-- a look-up after what stood at the key `from` was moved to the key `to`
 abbrev pub moved : (Link → Option (List ℕ)) → Link → Link → Link → Option (List ℕ)
 moved look from to k = cond (link_eq from k) None (cond (link_eq to k) (look from) (look k))
 
--- a list with its last at a place, whatever stood there, and one fewer
+-- a list whose last id was moved to a place, over what stood there, so that it has one fewer
 abbrev pub HasLastAt : ℕ → List (List ℕ) → List (List ℕ) → Type 0
 HasLastAt number before after = (k : ℕ) (d : List ℕ) → k < length after → get_or after k d ≡ get_or before (if k == number then length after else k) d
 
@@ -62,23 +62,23 @@ pub record IsListed (lists : Lists) (links_spare counts_spare : ℕ) : Type 0 wh
   pub links_room : lists.room ≤ links_spare
   pub counts_room : lists.room ≤ counts_spare
 
--- each id lists those to which a step leads from it
+-- the list of each id has exactly the ids to which a step leads from it
 pub record IsLinked (g : List Node) (lists : Lists) : Type 0 where
   pub linked : (a b : List ℕ) → Contains (listing lists a) b ↔ Contains (steps_of g) (a, b)
 
--- lists without an id in one of them
+-- lists of which one lost an id
 pub record IsWithout (parent child : List ℕ) (before after : Lists) : Type 0 where
   pub fewer : (a b : List ℕ) → Contains (listing after a) b → Contains (listing before a) b
   pub still : (a b : List ℕ) → Contains (listing before a) b → Contains (listing after a) b ⊎ ((a ≡ parent) × (b ≡ child))
   pub gone : Contains (listing after parent) child → ⊥
 
--- lists without an id in some of them
+-- lists of which some lost an id
 pub record AreWithout (parents : List (List ℕ)) (child : List ℕ) (before after : Lists) : Type 0 where
   pub fewer : (a b : List ℕ) → Contains (listing after a) b → Contains (listing before a) b
   pub still : (a b : List ℕ) → Contains (listing before a) b → Contains (listing after a) b ⊎ (Contains parents a × (b ≡ child))
   pub gone : (a : List ℕ) → Contains parents a → Contains (listing after a) child → ⊥
 
--- lists with an id at the end of some of them
+-- lists of which some have one id more
 pub record AreWith (parents : List (List ℕ)) (child : List ℕ) (before after : Lists) : Type 0 where
   pub still : (a b : List ℕ) → Contains (listing before a) b → Contains (listing after a) b
   pub more : (a : List ℕ) → Contains parents a → Contains (listing after a) child

@@ -13,11 +13,11 @@ use Rattle.gate_graph.specs.declared.held.Sums.{Sums}
 use Rattle.gate_graph.specs.Slots.{entries_of}
 use Rattle.gate_graph.specs.Weighing.{sums_of}
 
--- fees over a size; over 0 counts as over 1
+-- fees over a size; a size of 0 counts as 1
 abbrev pub rate : ℕ → ℕ → Fraction
 rate fees size = record { fees = fees; size = max size 1 }
 
--- fees over a size, or those of a family where that is more
+-- a fee over a size, or the fees of a family over its size if that is more
 unfoldable pub rate_with : ℕ → ℕ → Sums → Fraction
 rate_with fee size family = if is_lt (rate_cmp (rate fee size) (rate family.fees family.size)) then rate family.fees family.size else rate fee size
 
@@ -27,11 +27,11 @@ abbrev pub rate_in : List Node → Node → Fraction
 rate_in g n = rate_with n.fee n.size (sums_of (descendants_of g n.id))
 
 module _ {T : Type 0} where
-  -- the same of what a node keeps
+  -- what a node is ranked by, from the totals that it keeps
   abbrev pub rate_of : Held T → Fraction
   rate_of h = rate_with h.fee h.size h.totals.below
 
-  -- the node that ranks least, of equals the last
+  -- the node that ranks least, of equal ones the last
   abbrev pub least_of : List (Node × T) → Option (Node × T)
   least_of g = least_by rate_cmp (λ p. rate_in (nodes_in g) p.0) g
 

@@ -38,7 +38,7 @@ pub record AreStanding (spots : List (Option (List ℕ))) (found : List ℕ) : T
   pub stand : (p : ℕ) → Contains found p → is_some (at spots p) ≡ true
   pub once : are_once (ids_at spots found) ≡ true
 
--- of nodes' ids, those that stand at these places are those to which a chain leads this way from an id
+-- the nodes at these places are those to which a chain leads this way from an id
 abbrev pub AreLed : Way → List Node → List (Option (List ℕ)) → List ℕ → List ℕ → Type 0
 AreLed way g spots x found = (b : List ℕ) → has g b ≡ true → among (ids_at spots found) b ≡ is_led way g x b
 
@@ -50,7 +50,7 @@ pub record IsSearch (g : List Node) (spots : List (Option (List ℕ))) (marks : 
   pub standing : AreStanding spots found
   pub nodes : (id : List ℕ) → Contains (ids_at spots found) id → has g id ≡ true
 
--- ids were added to those found before: all of which this holds
+-- ids with a property were added to those found before, so that all ids with it are there
 pub record AreFound (P : List ℕ → Type 0) (before after : List (List ℕ)) : Type 0 where
   pub more : List (List ℕ)
   pub is : after ≡ before ++ more
@@ -65,10 +65,10 @@ AreFoundAt spots P before after = AreFound P (ids_at spots before) (ids_at spots
 abbrev pub AreLedOn : Way → List Node → List (Option (List ℕ)) → List ℕ → List ℕ → Type 0
 AreLedOn way g spots before after = (x : List ℕ) → Begins way g x (ids_at spots before) → AreLed way g spots x after
 
--- it is this node's id
+-- an id is this one, and a node's
 abbrev pub IsNode : List Node → List ℕ → List ℕ → Type 0
 IsNode g id b = (id ≡ b) × (has g b ≡ true)
 
--- it is the id of a node, and one of these
+-- an id is one of these, and a node's
 abbrev pub IsOneOf : List Node → List (List ℕ) → List ℕ → Type 0
 IsOneOf g ids b = Contains ids b × (has g b ≡ true)

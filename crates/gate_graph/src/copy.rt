@@ -1,4 +1,4 @@
-//! The same nodes again, in memory of their own.
+//! Copies of nodes, in memory of their own.
 ghost use Rattle.std.specs.Prelude.{◌≡◌, ◌<◌, ◌+◌, ◌^◌, ◌++◌, ◌∷◌, [], Some, false, true, sum_by, OnOk, IfOk};
 ghost use Rattle.gate_graph.specs.declared.held.Held.{Held as Kept};
 ghost use Rattle.gate_graph.specs.Families.{are_apart, has};
@@ -17,7 +17,7 @@ use gate_bytes::{Copied, Memory};
 use std::alloc::Global;
 use std::hash::BuildHasher;
 
-/// Puts a copy of a node behind others, with its totals as they are.
+/// Puts a copy of a node at the end, with its totals as they are.
 fn put_copy<T: Copied, S: BuildHasher + Copy + Drop>(
     alloc: Global,
     held: &Held<T>,
@@ -46,7 +46,7 @@ fn put_copy<T: Copied, S: BuildHasher + Copy + Drop>(
     Ok(())
 }
 
-/// The same, where there is no hole.
+/// Puts a copy of the node in a slot at the end, with its totals as they are; nothing for a hole.
 fn copy_slot<T: Copied, S: BuildHasher + Copy + Drop>(
     alloc: Global,
     slot: &Option<Held<T>>,
@@ -65,7 +65,7 @@ fn copy_slot<T: Copied, S: BuildHasher + Copy + Drop>(
     }
 }
 
-/// The same for each slot.
+/// Puts copies of the nodes in all slots at the end, in their order, without the holes.
 pub(crate) fn copy_each<T: Copied, S: BuildHasher + Copy + Drop>(
     alloc: Global,
     from: &[Option<Held<T>>],
@@ -85,7 +85,7 @@ pub(crate) fn copy_each<T: Copied, S: BuildHasher + Copy + Drop>(
     Ok(())
 }
 
-/// So many marks, none of which is set.
+/// A list of `count` marks, none of which is set.
 fn clear_marks(alloc: Global, count: usize) -> Result<Vec<bool>, Memory>
     ensures { IfOk result (λ marks. AreClear count marks.items) }
 {
@@ -96,7 +96,7 @@ fn clear_marks(alloc: Global, count: usize) -> Result<Vec<bool>, Memory>
     Ok(marks)
 }
 
-/// What walks over so many slots write into, of which so many hold a node.
+/// What walks write into, over `slots` slots of which `count` hold a node.
 pub(crate) fn scratch_for(alloc: Global, slots: usize, count: usize) -> Result<Scratch, Memory>
     ensures { IfOk result (λ scratch. IsScratchFor slots count scratch) }
 {

@@ -5,16 +5,16 @@ use gate_bytes::Memory;
 use std::alloc::{AllocError, AllocFailed};
 use thiserror::Error;
 
-/// Why a node is not added.
+/// Why a node was not added to a graph.
 #[derive(Clone, Copy, Debug, PartialEq, Eq, Error)]
 pub enum GraphFault {
-    /// The id is a node's already.
+    /// A node has this id already.
     #[error("the id is a node's already")]
     Present,
-    /// One that should be next to it is no node.
+    /// An id that was given as a parent or a child is no node's.
     #[error("a neighbour is no node")]
     NoNode,
-    /// It would be above itself. A node without children never is.
+    /// The node would be above itself. This never happens to a node that is added without children.
     #[error("the node would be above itself")]
     Cycle,
     #[error("out of memory")]

@@ -19,7 +19,7 @@ use std::alloc::Global;
 use std::collections::BTreeSet;
 use std::hash::BuildHasher;
 
-/// Adds ids that were not found yet.
+/// Adds each of these ids to those that were found, unless it is there already.
 fn insert_each<S: BuildHasher>(
     found: &mut IndexSet<NodeId, S>,
     ids: &[NodeId],
@@ -32,7 +32,7 @@ fn insert_each<S: BuildHasher>(
     Ok(())
 }
 
-/// The same for what an id lists.
+/// Adds the ids in the list of an id, which are its children, to those that were found, unless they are there already.
 fn insert_listed<S: BuildHasher + Drop>(
     found: &mut IndexSet<NodeId, S>,
     links: &Links<S>,
@@ -62,7 +62,7 @@ pub(crate) fn children<T: Drop, S: BuildHasher + Copy + Drop>(
     Ok(found)
 }
 
-/// The same for what is one step from an id.
+/// Adds the ids that are one step from an id this way, its parents or its children, to those that were found.
 fn insert_next<T: Drop, S: BuildHasher + Drop>(
     slots: &Slots<T, S>,
     links: &Links<S>,
@@ -83,7 +83,7 @@ fn insert_next<T: Drop, S: BuildHasher + Drop>(
     }
 }
 
-/// Adds these ids, as nodes have them.
+/// Adds each of these ids, converted to a node's id, to those that were found, unless it is there already.
 fn insert_ids<S: BuildHasher>(found: &mut IndexSet<NodeId, S>, ids: &[Id]) -> Result<(), Memory>
     ensures { OnOk result (found.new.keys ≡ insert_all bytes_eq found.old.keys ids.now) }
 {
@@ -93,7 +93,7 @@ fn insert_ids<S: BuildHasher>(found: &mut IndexSet<NodeId, S>, ids: &[Id]) -> Re
     Ok(())
 }
 
-/// All that a chain leads to this way from one of these ids, each once and the ids first, whether they are nodes or not.
+/// All ids to which a chain leads this way from one of these, each once and these first, whether they are nodes or not.
 pub(crate) fn find<T: Drop, S: BuildHasher + Copy + Drop>(
     alloc: Global,
     slots: &Slots<T, S>,

@@ -27,7 +27,7 @@ impl Copied for Bare {
     }
 }
 
-/// The same ids, as nodes have them.
+/// Converts ids to nodes' ids, in their order.
 fn node_ids(alloc: Global, ids: &[Id]) -> Result<Vec<NodeId>, Memory>
     ensures { IfOk result (λ nodes. nodes.items ≡ ids.now) }
 {
@@ -58,7 +58,7 @@ impl<S: BuildHasher + Copy + Drop> Model for Graph<S> {
 }
 
 impl<S: BuildHasher + Copy + Drop> Graph<S> {
-    /// A graph without nodes, which hashes by what is handed in.
+    /// A graph without nodes, whose tables hash by `hasher`.
     pub fn new(alloc: Global, hasher: S) -> Graph<S>
         ensures { result ≡ [] }
     {
@@ -96,7 +96,7 @@ impl<S: BuildHasher + Copy + Drop> Graph<S> {
         Ok(meets(&above, children))
     }
 
-    /// What speaks against a node between these.
+    /// The first fault of a new node with these parents and children.
     fn above_fault(
         &self,
         id: &Id,
@@ -117,7 +117,7 @@ impl<S: BuildHasher + Copy + Drop> Graph<S> {
         Ok(fault)
     }
 
-    /// Adds a node below others, and above none. A parent may be named more than once.
+    /// Adds a node below its parents, and above no node. A parent may be named more than once.
     pub fn add_leaf(
         &mut self,
         id: Id,
@@ -132,9 +132,9 @@ impl<S: BuildHasher + Copy + Drop> Graph<S> {
         self.add_above(id, parents, &[], size, fee)
     }
 
-    /// Adds a node below some and above others, as a transaction that comes back from a block stands above those that
-    /// spend its outputs. It goes behind all others, its children name it as their last parent, and both ways one may be
-    /// named more than once. The memory is taken before anything is changed.
+    /// Adds a node below its parents and above its children, as a transaction that comes back from a block stands above
+    /// those that spend its outputs. It is the last in the order of adding, and its children name it as their last
+    /// parent. A parent or a child may be given more than once. If memory runs out, the graph is as it was.
     pub fn add_above(
         &mut self,
         id: Id,
@@ -164,7 +164,8 @@ impl<S: BuildHasher + Copy + Drop> Graph<S> {
         }
     }
 
-    /// What the families of a node come to, each with the node itself: stored, and lent without memory.
+    /// The totals of a node's ancestors and of its descendants, each with the node itself, which are stored; none for
+    /// an id that is no node's.
     pub fn totals(&self, id: &Id) -> Option<&Totals>
         ensures found { is_some result ≡ has self.now id.now }
         ensures totals { IfSome result (λ totals. totals.now ≡ totals_of self.now id.now) }
@@ -179,8 +180,8 @@ impl<S: BuildHasher + Copy + Drop> Graph<S> {
         self.nodes.is_root(&NodeId::new(*id))
     }
 
-    /// Takes out a node without parents, and it alone: its children lose it as a parent. It takes no memory. The others
-    /// move up, to keep their order.
+    /// Takes out a node without parents, and no other: its children lose it as a parent. The nodes that are left keep
+    /// their order. It takes no memory.
     pub fn remove_root(&mut self, id: &Id)
         requires { is_root self.old id.now ≡ true }
         ensures { self.new ≡ without_root self.old id.now }
@@ -191,7 +192,7 @@ impl<S: BuildHasher + Copy + Drop> Graph<S> {
         self.nodes.tidy();
     }
 
-    /// The ids that a chain leads to one way, without the node's own.
+    /// The ids of the nodes to which a chain leads this way from an id, without that id, in the order of adding.
     fn others(&self, alloc: Global, id: &Id, way: Way) -> Result<Vec<Id>, Memory>
         ensures { IfOk result (λ ids. ids.items ≡ without_id id.now (ids_of (filter (λ n. is_led way self.now id.now n.id) self.now))) }
     {
@@ -201,22 +202,22 @@ impl<S: BuildHasher + Copy + Drop> Graph<S> {
         Ok(ids)
     }
 
-    /// What is above a node, in the order of adding; nothing for an id that is no node's.
+    /// The ids of a node's ancestors without its own, in the order of adding; none for an id that is no node's.
     pub fn ancestors(&self, alloc: Global, id: &Id) -> Result<Vec<Id>, Memory>
         ensures { IfOk result (λ ids. ids.items ≡ without_id id.now (ids_of (ancestors_of self.now id.now))) }
     {
         self.others(alloc, id, Way::Up)
     }
 
-    /// What is below a node, in the order of adding; nothing for an id that is no node's.
+    /// The ids of a node's descendants without its own, in the order of adding; none for an id that is no node's.
     pub fn descendants(&self, alloc: Global, id: &Id) -> Result<Vec<Id>, Memory>
         ensures { IfOk result (λ ids. ids.items ≡ without_id id.now (ids_of (descendants_of self.now id.now))) }
     {
         self.others(alloc, id, Way::Down)
     }
 
-    /// Takes out a node and all that is below it, and gives their ids in the order of adding; nothing for an id that is
-    /// no node's. The memory is taken before anything is changed. What is left is gone through once, to keep its order.
+    /// Takes out a node and all that is below it, and returns their ids in the order of adding; none for an id that is
+    /// no node's. The memory is taken before anything is changed. The nodes that are left keep their order.
     pub fn remove_family(&mut self, id: &Id) -> Result<Vec<Id>, Memory>
         ensures removed { IfOk result (λ ids. ids.items ≡ ids_of (descendants_of self.old id.now)) }
         ensures ok { OnOk result (self.new ≡ without_family self.old id.now) }

@@ -1,6 +1,6 @@
 use crate::id::NodeId;
 
-/// What nodes come to.
+/// The number of some nodes, and the sums of their sizes and fees.
 #[derive(Clone, Copy, Debug, PartialEq, Eq)]
 pub struct Sums {
     /// How many there are.
@@ -11,7 +11,7 @@ pub struct Sums {
     pub fees: u128,
 }
 
-/// What is above a node and what is below it, each with the node itself.
+/// The sums of a node's ancestors and of its descendants, each with the node itself.
 #[derive(Clone, Copy, Debug, PartialEq, Eq)]
 pub struct Totals {
     /// The ancestors.
@@ -20,7 +20,7 @@ pub struct Totals {
     pub below: Sums,
 }
 
-/// What a node weighs by itself.
+/// The size and the fee of one node.
 #[derive(Clone, Copy)]
 pub(crate) struct Weight {
     pub(crate) size: u64,
@@ -33,7 +33,7 @@ pub struct Held<T: Drop> {
     pub id: NodeId,
     pub size: u64,
     pub fee: u64,
-    /// The ids that it names.
+    /// The ids that it names as its parents.
     pub parents: Vec<NodeId>,
     pub totals: Totals,
     /// What it carries.

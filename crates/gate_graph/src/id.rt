@@ -3,10 +3,10 @@ ghost use Rattle.std.specs.Prelude.{◌≡◌};
 use std::hash::{Hash, Hasher};
 use std::marker::Model;
 
-/// The id of a node, as a transaction's id: 32 bytes.
+/// The id of a node: 32 bytes, like a transaction's id.
 pub type Id = [u8; 32];
 
-/// The same bytes, which a table hashes in one go.
+/// The id of a node, which a table hashes in one go.
 #[derive(Clone, Copy, Debug, PartialEq, Eq, PartialOrd, Ord)]
 pub struct NodeId {
     bytes: Id,

@@ -2,7 +2,7 @@ ghost use Rattle.std.specs.Prelude.{List, ℕ, IsTrue, ◌↔◌};
 ghost use Rattle.gate_graph.specs.Family.{reaches, Leads};
 ghost use Rattle.gate_graph.specs.Laws.{FamiliesHaveEachOnce, NodesJoinFamilies, RootsLeaveFamilies, RootsComeAndGo};
 
-/// Whatever the steps, an id is reached from another exactly where a chain of steps leads there.
+/// Whatever the steps, `reaches` holds of two ids exactly if a chain of steps leads from the first to the second.
 pub fn reaching_is_leading()
     ensures { (steps : List (List ℕ × List ℕ)) (a b : List ℕ) → IsTrue (reaches steps a b) ↔ Leads steps a b }
 {}
@@ -12,7 +12,7 @@ pub fn families_have_each_once()
     ensures { FamiliesHaveEachOnce }
 {}
 
-/// What adding a node between others does to families, over the definitions.
+/// What adding a node between parents and children does to families.
 pub fn nodes_join_families()
     ensures { NodesJoinFamilies }
 {}

@@ -1,4 +1,4 @@
-//! Lists of ids, one for each id, which share their room. Each list has each id once.
+//! Lists of ids, one for each id, in tables that they share. No list has an id twice.
 ghost use Rattle.std.specs.Prelude.{◌≡◌, ◌≢◌, ◌<◌, ◌+◌, ℕ, List, length, get_or, cond, ◌≤◌, false, Some, None, IsSome, IfSome, IfNone, ◌++◌, ◌∷◌, [], OnOk};
 ghost use Rattle.std.specs.Str.{bytes_eq};
 ghost use Rattle.std.specs.Option.{unwrap_or};
@@ -14,14 +14,14 @@ use std::alloc::Global;
 use std::hash::BuildHasher;
 use std::marker::Model;
 
-/// The place of an id in the list of another.
+/// A place in the list of an id: the id whose list it is, and the number of the place, from 0.
 #[derive(Clone, Copy, Debug, PartialEq, Eq, Hash)]
 pub(crate) struct Link {
     pub(crate) parent: NodeId,
     pub(crate) number: u64,
 }
 
-/// Writes what stands at a place where something stands already. It takes no room.
+/// Overwrites the id at a place where one stands already. It uses up no room.
 fn write_link<S: BuildHasher>(links: &mut IndexMap<Link, NodeId, S>, at: &Link, id: NodeId)
     requires { IsSome (get link_eq links.old at.now) }
     ensures look { (k : ALink) → get link_eq links.new k ≡ cond (link_eq at.now k) (Some id) (get link_eq links.old k) }
@@ -32,7 +32,7 @@ fn write_link<S: BuildHasher>(links: &mut IndexMap<Link, NodeId, S>, at: &Link, 
     }
 }
 
-/// Writes a count where there is one already. It takes no room.
+/// Overwrites the count of an id that has one already. It uses up no room.
 fn write_count<S: BuildHasher>(counts: &mut IndexMap<NodeId, u64, S>, id: &NodeId, count: u64)
     requires { IsSome (get bytes_eq counts.old id.now) }
     ensures look { (a : List ℕ) → get bytes_eq counts.new a ≡ cond (bytes_eq id.now a) (Some count) (get bytes_eq counts.old a) }
@@ -43,7 +43,7 @@ fn write_count<S: BuildHasher>(counts: &mut IndexMap<NodeId, u64, S>, id: &NodeI
     }
 }
 
-/// Puts what stands last at another place.
+/// Moves the last id of a list to another place of that list, over the id that stands there.
 fn move_last<S: BuildHasher>(
     links: &mut IndexMap<Link, NodeId, S>,
     id: &NodeId,
@@ -71,7 +71,7 @@ fn move_last<S: BuildHasher>(
     let _ = links.swap_remove(&end);
 }
 
-/// Writes how many the list of an id has.
+/// Writes how many ids the list of an id has; a count of 0 is removed.
 fn set_count<S: BuildHasher>(counts: &mut IndexMap<NodeId, u64, S>, id: &NodeId, count: u64)
     requires { IsSome (get bytes_eq counts.old id.now) }
     ensures room { spare counts.old ≤ spare counts.new }
@@ -118,7 +118,7 @@ impl<S: BuildHasher + Copy + Drop> Links<S> {
 }
 
 impl<S: BuildHasher + Drop> Links<S> {
-    /// How many the list of an id has.
+    /// How many ids the list of an id has.
     pub(crate) fn count(&self, id: &NodeId) -> u64
         ensures { result ≡ length (listing self.now id.now) }
     {
@@ -128,7 +128,7 @@ impl<S: BuildHasher + Drop> Links<S> {
         }
     }
 
-    /// One of the list of an id.
+    /// The id at a place of the list of another.
     pub(crate) fn at(&self, id: &NodeId, number: u64) -> &NodeId
         requires { number < length (listing self.now id.now) }
         ensures { result.now ≡ get_or (listing self.now id.now) number result.now }
@@ -141,7 +141,7 @@ impl<S: BuildHasher + Drop> Links<S> {
             .unwrap()
     }
 
-    /// Takes the memory for so many more.
+    /// Takes the memory for this many more ids, in whatever lists.
     pub(crate) fn reserve(&mut self, more: usize) -> Result<(), Memory>
         ensures links { self.new.links ≡ self.old.links }
         ensures counts { self.new.counts ≡ self.old.counts }
@@ -154,7 +154,7 @@ impl<S: BuildHasher + Drop> Links<S> {
         Ok(())
     }
 
-    /// Puts an id at the end of the list of another, which has so many and not this one, for which there is room.
+    /// Puts an id at the end of the list of another, which has `number` ids and not this one. There is room for it.
     fn push(&mut self, parent: &NodeId, number: u64, child: &NodeId)
         requires room { 0 < self.old.room }
         requires end { number ≡ length (listing self.old parent.now) }
@@ -175,7 +175,7 @@ impl<S: BuildHasher + Drop> Links<S> {
         let _ = put_count.unwrap();
     }
 
-    /// Whether the list of an id, which has so many, has another, which stands nowhere in it but at its end.
+    /// Whether the list of `parent`, which has `number` ids, has `child`, which can stand only at its end.
     fn ends_with(&self, parent: &NodeId, number: u64, child: &NodeId) -> bool
         requires end { number ≡ length (listing self.now parent.now) }
         requires last { IsOnlyLast child.now (listing self.now parent.now) }
@@ -201,7 +201,7 @@ impl<S: BuildHasher + Drop> Links<S> {
         }
     }
 
-    /// Takes one out of the list of an id; the last of the list takes its place.
+    /// Takes the id at a place out of the list of another; the last id of the list takes its place.
     fn swap_out(&mut self, id: &NodeId, number: u64)
         requires { number < length (listing self.old id.now) }
         ensures room { self.new.room ≡ self.old.room }
@@ -215,7 +215,7 @@ impl<S: BuildHasher + Drop> Links<S> {
         set_count(&mut self.counts, id, last);
     }
 
-    /// Takes all out of the list of an id.
+    /// Empties the list of an id.
     pub(crate) fn drop_list(&mut self, id: &NodeId)
         ensures empty { listing self.new id.now ≡ [] }
         ensures others { (a : List ℕ) → a ≢ id.now → listing self.new a ≡ listing self.old a }
@@ -228,7 +228,7 @@ impl<S: BuildHasher + Drop> Links<S> {
         }
     }
 
-    /// Where an id stands in the list of another, looked for from its end.
+    /// Where `child` stands in the list of `parent`, searched from its end.
     fn place_in(&self, parent: &NodeId, child: &NodeId) -> Option<u64>
         ensures within { IfSome result (λ number. number < length (listing self.now parent.now)) }
         ensures there { IfSome result (λ number. get_or (listing self.now parent.now) number [] ≡ child.now) }
@@ -244,7 +244,7 @@ impl<S: BuildHasher + Drop> Links<S> {
         None
     }
 
-    /// Takes an id out of the list of another, which has it once.
+    /// Takes `child` out of the list of `parent`, if it is there.
     pub(crate) fn remove(&mut self, parent: &NodeId, child: &NodeId)
         ensures lists { IsWithout parent.now child.now self.old self.new }
         ensures room { self.new.room ≡ self.old.room }

@@ -1,4 +1,4 @@
-//! Nodes that name an id more or less, which no node has: no totals change.
+//! An id that no node has is added to the parents of nodes, or taken out of them: no totals change.
 ghost use Rattle.std.specs.Prelude.{◌≡◌, false, true, is_some, map, Contains, OnOk, OnErr};
 ghost use Rattle.gate_graph.specs.Family.{Node};
 ghost use Rattle.gate_graph.specs.Families.{among, has, are_apart, with_parent, without_parent};
@@ -34,7 +34,7 @@ fn push_parent<T: Drop, S: BuildHasher + Copy + Drop>(
     Ok(())
 }
 
-/// Lets the node of an id name another as its last parent, unless it names it already.
+/// Makes the node of `child`, if there is one, name `parent` as its last parent, unless it names it already.
 fn name<T: Drop, S: BuildHasher + Copy + Drop>(
     slots: &mut Slots<T, S>,
     links: &mut Links<S>,
@@ -65,8 +65,8 @@ fn name<T: Drop, S: BuildHasher + Copy + Drop>(
     }
 }
 
-/// Lets the nodes of these ids name another, which nothing names, as their last parent. Where memory runs out, some of them
-/// name it.
+/// Makes the nodes of these ids name `parent`, which nothing names, as their last parent. If memory runs out, some of
+/// them may name it.
 pub(crate) fn name_each<T: Drop, S: BuildHasher + Copy + Drop>(
     slots: &mut Slots<T, S>,
     links: &mut Links<S>,
@@ -107,7 +107,7 @@ fn drop_parent<T: Drop, S: BuildHasher + Copy + Drop>(
     let _ = slots.relist(place, parents);
 }
 
-/// Takes an id out of the parents of the node of another.
+/// Takes `parent` out of the parents of the node of `child`, if there is one.
 fn drop_name<T: Drop, S: BuildHasher + Copy + Drop>(
     slots: &mut Slots<T, S>,
     child: &NodeId,
@@ -124,7 +124,7 @@ fn drop_name<T: Drop, S: BuildHasher + Copy + Drop>(
     }
 }
 
-/// Takes an id out of the parents of all that name it. It takes no memory.
+/// Takes an id out of the parents of all nodes that name it. It takes no memory.
 pub(crate) fn unname<T: Drop, S: BuildHasher + Copy + Drop>(
     slots: &mut Slots<T, S>,
     links: &mut Links<S>,

@@ -25,8 +25,8 @@ use std::alloc::Global;
 use std::hash::BuildHasher;
 use std::marker::Model;
 
-/// Nodes in the order of adding, each with what it carries, and with the totals of its families. A node may name ids that are
-/// no node's, and nothing is asked of where its steps lead.
+/// Nodes in the order of adding, each with what it carries, and with the totals of its families. A node may name ids
+/// that are no node's, and a chain of steps may lead back to its start.
 #[derive(Drop)]
 pub struct Nodes<T: Drop, S: BuildHasher + Copy + Drop> {
     slots: Slots<T, S>,
@@ -47,7 +47,7 @@ impl<T: Drop, S: BuildHasher + Copy + Drop> Model for Nodes<T, S> {
 }
 
 impl<T: Drop, S: BuildHasher + Copy + Drop> Nodes<T, S> {
-    /// No nodes, in tables that hash by what is handed in.
+    /// No nodes, in tables that hash by `hasher`.
     pub fn new(alloc: Global, hasher: S) -> Nodes<T, S>
         ensures { result.nodes ≡ [] }
     {
@@ -75,7 +75,8 @@ impl<T: Drop, S: BuildHasher + Copy + Drop> Nodes<T, S> {
         self.slots.contains(id)
     }
 
-    /// What the families of a node come to, for a node: stored, and lent without memory.
+    /// The totals of a node's ancestors and of its descendants, each with the node itself, which are stored; none for
+    /// an id that is no node's.
     pub fn totals(&self, id: &NodeId) -> Option<&Totals>
         ensures found { is_some result ≡ has (nodes_in self.now.nodes) id.now }
         ensures totals { IfSome result (λ totals. totals.now ≡ totals_of (nodes_in self.now.nodes) id.now) }
@@ -93,7 +94,7 @@ impl<T: Drop, S: BuildHasher + Copy + Drop> Nodes<T, S> {
         self.slots.size()
     }
 
-    /// What a node carries, for a node.
+    /// What a node carries; none for an id that is no node's.
     pub fn load(&self, id: &NodeId) -> Option<&T>
         ensures { option_copied result ≡ load_in self.now.nodes id.now }
     {
@@ -103,7 +104,8 @@ impl<T: Drop, S: BuildHasher + Copy + Drop> Nodes<T, S> {
         }
     }
 
-    /// One of the nodes that name an id, whether a node has that id or not: the one that `take_one` unlists at the least cost.
+    /// The id of one of the nodes that name an id, whether a node has that id or not: of the one that is unlisted at
+    /// the least cost when it is taken out.
     pub fn child(&self, id: &NodeId) -> Option<&NodeId>
         ensures some { IfSome result (λ child. Contains (children_of (nodes_in self.now.nodes) id.now) child.now) }
         ensures none { IfNone result (children_of (nodes_in self.now.nodes) id.now ≡ []) }
@@ -131,7 +133,7 @@ impl<T: Drop, S: BuildHasher + Copy + Drop> Nodes<T, S> {
         self.slots.as_slice()
     }
 
-    /// Where a node stands among all, holes counted.
+    /// Where a node stands in `as_slice`, holes counted.
     pub fn place(&self, id: &NodeId) -> Option<usize>
         ensures sound { IfSome result (λ place. at self.now.places place ≡ Some id.now) }
         ensures whole { (place : ℕ) → at self.now.places place ≡ Some id.now → result ≡ Some place }
@@ -139,8 +141,8 @@ impl<T: Drop, S: BuildHasher + Copy + Drop> Nodes<T, S> {
         self.slots.place(id)
     }
 
-    /// The node that ranks least, of equals the last. A node is ranked by its own fee over its size, or by the fees over the
-    /// sizes of all that is below it, itself among them, whichever is greater.
+    /// The node that ranks least, of equal ones the last. A node is ranked by its own fee over its size, or by the fees
+    /// over the sizes of all that is below it, itself among them, whichever is greater.
     pub fn least(&self) -> Option<&Held<T>>
         ensures node { option_map (λ h. (node_of h, h.load)) (option_copied result) ≡ least_of self.now.nodes }
         ensures totals { IfSome result (λ h. h.now.totals ≡ totals_of (nodes_in self.now.nodes) h.now.id) }
@@ -148,7 +150,8 @@ impl<T: Drop, S: BuildHasher + Copy + Drop> Nodes<T, S> {
         self.slots.least()
     }
 
-    /// Closes the holes where they are more than half of all. It takes no memory, and gives up the room that was taken.
+    /// Closes the holes if they are more than half of all places. It takes no memory, and gives up the room that was
+    /// taken.
     pub fn tidy(&mut self)
         ensures { self.new.nodes ≡ self.old.nodes }
     {
@@ -156,7 +159,7 @@ impl<T: Drop, S: BuildHasher + Copy + Drop> Nodes<T, S> {
         tidy(&mut self.slots, &mut self.scratch.marks);
     }
 
-    /// Takes the memory for a node that names so many.
+    /// Takes the memory to put one node that names this many parents.
     pub fn reserve(&mut self, parents: usize) -> Result<(), Memory>
         ensures nodes { self.new.nodes ≡ self.old.nodes }
         ensures room { OnOk result (parents < self.new.room) }
@@ -177,9 +180,9 @@ impl<T: Drop, S: BuildHasher + Copy + Drop> Nodes<T, S> {
         Ok(())
     }
 
-    /// Puts a node at the end, below those that it names and above those that name it. It takes no memory, and uses up the
-    /// room that was taken. Where nothing names the node it costs what is above it, and where it names no node what is below
-    /// it; else the totals of what is above it and below it are found afresh.
+    /// Puts a node at the end, below those that it names and above those that name it. It takes no memory, and uses up
+    /// the room that was taken. If nothing names the node, this takes a walk over its ancestors; else, if it names no
+    /// node, one over its descendants; else the totals of all its ancestors and descendants are found afresh.
     pub fn put(&mut self, id: NodeId, parents: Vec<NodeId>, size: u64, fee: u64, load: T)
         requires room { length parents.items < self.old.room }
         requires new { has (nodes_in self.old.nodes) id ≡ false }
@@ -205,8 +208,8 @@ impl<T: Drop, S: BuildHasher + Copy + Drop> Nodes<T, S> {
         put_node(&mut self.slots, &mut self.links, &mut self.scratch, held);
     }
 
-    /// Takes out a node and all that is below its id, and puts what they carry at the end of a list with room. It takes no
-    /// memory, and keeps the room that was taken.
+    /// Takes out the node of an id, if there is one, and all nodes below that id, and puts what they carry at the end
+    /// of a list with room. It takes no memory, and keeps the room that was taken.
     pub fn take_family(&mut self, id: &NodeId, gone: &mut Vec<T>)
         requires { vec_len gone.old + length self.old.nodes ≤ vec_capacity gone.old }
         ensures room { self.new.room ≡ self.old.room }
@@ -223,8 +226,9 @@ impl<T: Drop, S: BuildHasher + Copy + Drop> Nodes<T, S> {
         );
     }
 
-    /// Takes out a node alone, and gives what it carries: what names it stays. It takes no memory. Where the node names no
-    /// node it costs what is below it; else the totals of what is above it and below it are found afresh.
+    /// Takes out a node alone, and returns what it carries: nodes that name it stay. It takes no memory, and gives up
+    /// the room that was taken. If the node names no node, this takes a walk over its descendants; else the totals of
+    /// all its ancestors and descendants are found afresh.
     pub fn take_one(&mut self, id: &NodeId) -> Option<T>
         ensures left { self.new.nodes ≡ without_one self.old.nodes id.now }
         ensures load { result ≡ load_in self.old.nodes id.now }
@@ -245,7 +249,8 @@ impl<T: Drop, S: BuildHasher + Copy + Drop> Nodes<T, S> {
         }
     }
 
-    /// All that a chain leads to this way from one of these ids, each once and the ids first, whether they are nodes or not.
+    /// All ids to which a chain leads this way from one of these, each once and these first, whether they are nodes or
+    /// not.
     pub(crate) fn find(
         &self,
         alloc: Global,
@@ -264,8 +269,8 @@ impl<T: Drop, S: BuildHasher + Copy + Drop> Nodes<T, S> {
         in_order(alloc, &self.slots, found)
     }
 
-    /// Lets the nodes of these ids name another, which nothing names, as their last parent. Where memory runs out, some of them
-    /// name it.
+    /// Makes the nodes of these ids name `parent`, which nothing names, as their last parent. If memory runs out, some
+    /// of them may name it.
     pub(crate) fn name_each(&mut self, children: &[Id], parent: &NodeId) -> Result<(), Memory>
         requires none { has (nodes_in self.old.nodes) parent.now ≡ false }
         requires unnamed { (n : Node) → Contains (nodes_in self.old.nodes) n → among n.parents parent.now ≡ false }
@@ -276,7 +281,8 @@ impl<T: Drop, S: BuildHasher + Copy + Drop> Nodes<T, S> {
         name_each(&mut self.slots, &mut self.links, children, parent)
     }
 
-    /// Makes ready for a node that is put above others: they name its id, and there is memory for it and for so many parents.
+    /// Makes ready for a node that is put above its children: they name its id, and there is memory for it and for this
+    /// many parents.
     pub(crate) fn make_ready(
         &mut self,
         id: &NodeId,
@@ -293,7 +299,8 @@ impl<T: Drop, S: BuildHasher + Copy + Drop> Nodes<T, S> {
         self.reserve(parents)
     }
 
-    /// Takes an id that no node has out of the parents of all that name it. It takes no memory.
+    /// Takes an id that no node has out of the parents of all nodes that name it. It takes no memory, and gives up the
+    /// room that was taken.
     pub(crate) fn unname(&mut self, id: &NodeId)
         requires { has (nodes_in self.old.nodes) id.now ≡ false }
         ensures { nodes_in self.new.nodes ≡ map (without_parent id.now) (nodes_in self.old.nodes) }
@@ -302,7 +309,7 @@ impl<T: Drop, S: BuildHasher + Copy + Drop> Nodes<T, S> {
         unname(&mut self.slots, &mut self.links, id);
     }
 
-    /// The same nodes again, with what they carry. No totals are found anew, and the holes are left out.
+    /// A copy of the nodes, with what they carry. Their totals are copied, and the holes are left out.
     pub fn copy(&self, alloc: Global) -> Result<Nodes<T, S>, Memory>
     where
         T: Copied,

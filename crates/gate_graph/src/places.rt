@@ -13,7 +13,7 @@ use gate_ranking::Rate;
 use indexmap::IndexMap;
 use std::hash::BuildHasher;
 
-/// What stands at a place.
+/// The node that stands at a place.
 pub(crate) fn standing<T: Drop>(slots: &[Option<Held<T>>], place: usize) -> &Held<T>
     requires { is_some (at slots.now place) ≡ true }
     ensures { at slots.now place ≡ Some result.now }
@@ -21,7 +21,7 @@ pub(crate) fn standing<T: Drop>(slots: &[Option<Held<T>>], place: usize) -> &Hel
     slots[place].as_ref().unwrap()
 }
 
-/// Takes out what stands at a place.
+/// Takes out the node that stands at a place, and leaves a hole.
 pub(crate) fn empty<T: Drop>(slots: &mut Vec<Option<Held<T>>>, place: usize) -> Held<T>
     requires { is_some (at slots.old.items place) ≡ true }
     ensures taken { at slots.old.items place ≡ Some result }
@@ -32,7 +32,7 @@ pub(crate) fn empty<T: Drop>(slots: &mut Vec<Option<Held<T>>>, place: usize) -> 
     slots[place].take().unwrap()
 }
 
-/// Writes the totals of what stands at a place.
+/// Writes the totals of the node at a place, if one stands there.
 pub(crate) fn write<T: Drop>(slots: &mut Vec<Option<Held<T>>>, place: usize, totals: Totals)
     ensures written { slots.new.items ≡ slice_set slots.old.items place (option_map (with_totals totals) (at slots.old.items place)) }
     ensures len { vec_len slots.new ≡ vec_len slots.old }
@@ -45,7 +45,7 @@ pub(crate) fn write<T: Drop>(slots: &mut Vec<Option<Held<T>>>, place: usize, tot
     }
 }
 
-/// Writes the parents of what stands at a place, and gives those that it had.
+/// Writes the parents of the node at a place, and returns those that it had.
 pub(crate) fn rewrite<T: Drop>(
     slots: &mut Vec<Option<Held<T>>>,
     place: usize,
@@ -63,7 +63,7 @@ pub(crate) fn rewrite<T: Drop>(
     }
 }
 
-/// The id of what stands at a place.
+/// The id of the node at a place; none for a hole or beyond the end.
 pub(crate) fn id_at<T: Drop>(slots: &[Option<Held<T>>], place: usize) -> Option<NodeId>
     ensures { result ≡ option_map (λ h. h.id) (at slots.now place) }
 {
@@ -76,8 +76,8 @@ pub(crate) fn id_at<T: Drop>(slots: &[Option<Held<T>>], place: usize) -> Option<
     }
 }
 
-/// What a node is ranked by: its own fee over its size, or the fees over the sizes of all that is below it, itself among them,
-/// whichever is greater.
+/// What a node is ranked by: its own fee over its size, or the fees over the sizes of all that is below it, itself
+/// among them, whichever is greater.
 #[tactic(auto, unfolding(crate::specs::Ranks::rate_with))]
 pub(crate) fn rate_of<T: Drop>(held: &Held<T>) -> Rate
     ensures { result ≡ the_rate held.now }

@@ -1,4 +1,4 @@
-//! Nodes put below others.
+//! Nodes put below those that they name and above those that name them.
 ghost use Rattle.std.specs.Prelude.{◌≡◌, ◌≤◌, ◌<◌, ◌^◌, ◌+◌, ◌++◌, ◌∷◌, [], true, false, is_some, length};
 ghost use Rattle.std.specs.Vec.{vec_capacity};
 ghost use Rattle.gate_graph.specs.Families.{has, are_apart};
@@ -18,8 +18,8 @@ use crate::walk::{Heading, Scratch, Way, walk};
 use crate::weigh::{burden_all, raise_all, weigh};
 use std::hash::BuildHasher;
 
-/// Puts an id that is in no list at the end of the lists of others, for which there is room: once in each, however often the
-/// other stands among these.
+/// Puts an id that is in no list at the end of the list of each of these parents, for which there is room: once in each
+/// list, however often a parent is named.
 pub(crate) fn link<S: BuildHasher + Drop>(links: &mut Links<S>, parents: &[NodeId], child: &NodeId)
     requires room { length parents.now ≤ links.old.room }
     requires new { IsUnlisted child.now links.old }
@@ -30,7 +30,7 @@ pub(crate) fn link<S: BuildHasher + Drop>(links: &mut Links<S>, parents: &[NodeI
     }
 }
 
-/// Gives the last node, which nothing names, its totals, and adds it to what is below each node above it.
+/// Gives the last node, which nothing names, its totals, and adds it to the descendant totals of each node above it.
 pub(crate) fn settle<T: Drop, S: BuildHasher + Drop>(
     slots: &mut Slots<T, S>,
     links: &Links<S>,
@@ -77,7 +77,7 @@ pub(crate) fn settle<T: Drop, S: BuildHasher + Drop>(
     slots.set_totals(place, totals);
 }
 
-/// Gives the last node, which names no node, its totals, and adds it to what is above each node below it.
+/// Gives the last node, which names no node, its totals, and adds it to the ancestor totals of each node below it.
 fn settle_root<T: Drop, S: BuildHasher + Drop>(
     slots: &mut Slots<T, S>,
     links: &Links<S>,
@@ -115,7 +115,7 @@ fn settle_root<T: Drop, S: BuildHasher + Drop>(
         },
     );
     let sums = weigh(slots, scratch.found.as_slice());
-    // The walk finds the node too, so that it is added to what is above itself.
+    // The walk finds the node too, so that it is added to its own ancestor totals.
     let totals = Totals {
         above: Sums {
             count: 0,
@@ -128,8 +128,8 @@ fn settle_root<T: Drop, S: BuildHasher + Drop>(
     burden_all(slots, scratch.found.as_slice(), size, fee);
 }
 
-/// Gives the last node, which others name, its totals, and mends those of what is around it: by differences where it names no
-/// node, else afresh.
+/// Gives the last node, which other nodes name, its totals, and changes those of its ancestors and descendants: by
+/// differences if it names no node, else by finding them afresh.
 fn settle_named<T: Drop, S: BuildHasher + Drop>(
     slots: &mut Slots<T, S>,
     links: &Links<S>,
@@ -159,8 +159,9 @@ fn settle_named<T: Drop, S: BuildHasher + Drop>(
     }
 }
 
-/// Puts a node below those that it names and above those that name it, for which there is room: the totals of what is around
-/// it are changed by differences where nothing names it or it names no node, and else are found afresh. It takes no memory.
+/// Puts a node below those that it names and above those that name it, for which there is room. The totals of its
+/// ancestors and descendants change by differences if nothing names it or it names no node, and else are found afresh.
+/// It takes no memory.
 pub(crate) fn put_node<T: Drop, S: BuildHasher + Drop>(
     slots: &mut Slots<T, S>,
     links: &mut Links<S>,

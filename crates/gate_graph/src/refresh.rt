@@ -60,7 +60,7 @@ fn refresh<T: Drop, S: BuildHasher + Drop>(
     slots.set_totals(place, Totals { above, below });
 }
 
-/// The same for each of these nodes.
+/// Finds the totals of each of these nodes afresh.
 pub(crate) fn refresh_each<T: Drop, S: BuildHasher + Drop>(
     slots: &mut Slots<T, S>,
     links: &Links<S>,
@@ -85,7 +85,7 @@ pub(crate) fn refresh_each<T: Drop, S: BuildHasher + Drop>(
     }
 }
 
-/// Finds the totals of all that is above an id and below it afresh, its own among them.
+/// Finds the totals of a node, and of each of its ancestors and descendants, afresh.
 pub(crate) fn refresh_around<T: Drop, S: BuildHasher + Drop>(
     slots: &mut Slots<T, S>,
     links: &Links<S>,

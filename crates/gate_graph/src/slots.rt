@@ -82,7 +82,7 @@ impl<T: Drop, S: BuildHasher + Drop> Slots<T, S> {
         self.slots.as_slice().len()
     }
 
-    /// The id that stands at a place.
+    /// The id of the node at a place; none for a hole or beyond the end.
     pub(crate) fn id(&self, place: usize) -> Option<NodeId>
         ensures { result ≡ at self.now.spots place }
     {
@@ -102,7 +102,7 @@ impl<T: Drop, S: BuildHasher + Drop> Slots<T, S> {
         self.size
     }
 
-    /// The node that ranks least, of equals the last.
+    /// The node that ranks least, of equal ones the last.
     pub(crate) fn least(&self) -> Option<&Held<T>>
         ensures { option_copied result ≡ least_by rate_cmp rate_of self.now.held }
     {
@@ -138,7 +138,7 @@ impl<T: Drop, S: BuildHasher + Drop> Slots<T, S> {
         standing(&self.slots, place)
     }
 
-    /// Writes the totals of a node.
+    /// Writes the totals of a node, and ranks it by them.
     pub(crate) fn set_totals(&mut self, place: usize, totals: Totals)
         requires { is_some (at self.old.spots place) ≡ true }
         ensures held { self.new.held ≡ map (at_id (id_at self.old.spots place) (with_totals totals)) self.old.held }
@@ -150,7 +150,7 @@ impl<T: Drop, S: BuildHasher + Drop> Slots<T, S> {
         self.ranking.update(place, rate);
     }
 
-    /// Writes the parents of a node, and gives those that it had.
+    /// Writes the parents of a node, and returns those that it had.
     pub(crate) fn relist(&mut self, place: usize, parents: Vec<NodeId>) -> Vec<NodeId>
         requires { is_some (at self.old.spots place) ≡ true }
         ensures had { option_map (λ h. h.parents) (find (λ h. has_id h (id_at self.old.spots place)) self.old.held) ≡ Some result }
@@ -176,7 +176,7 @@ impl<T: Drop, S: BuildHasher + Drop> Slots<T, S> {
         held
     }
 
-    /// Takes the memory for one more.
+    /// Takes the memory for one more node.
     pub(crate) fn reserve(&mut self) -> Result<(), Memory>
         ensures held { self.new.held ≡ self.old.held }
         ensures spots { self.new.spots ≡ self.old.spots }
@@ -190,7 +190,7 @@ impl<T: Drop, S: BuildHasher + Drop> Slots<T, S> {
         Ok(())
     }
 
-    /// Puts a node at the end, for which there is room, and tells its place.
+    /// Puts a node at the end, for which there is room, and returns its place.
     pub(crate) fn put(&mut self, held: Held<T>) -> usize
         requires room { 0 < self.old.room }
         requires new { has (nodes_of self.old.held) held.id ≡ false }

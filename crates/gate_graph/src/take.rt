@@ -1,4 +1,4 @@
-//! Nodes taken out with all that is below them, without memory.
+//! Nodes taken out, alone or with all that is below them, without memory.
 ghost use Rattle.std.specs.Prelude.{◌≡◌, ◌==◌, ◌≤◌, ◌<◌, ◌+◌, ◌++◌, ◌∷◌, [], IsTrue, None, not, true, is_some, Some, ℕ, List, filter, length, slice_set, vec_len};
 ghost use Rattle.std.specs.Vec.{vec_capacity};
 ghost use Rattle.gate_graph.specs.Families.{has, are_apart};
@@ -18,7 +18,7 @@ use crate::walk::{Heading, Scratch, Way, walk, walk_below};
 use crate::weigh::{ease_all, lower_above_each};
 use std::hash::BuildHasher;
 
-/// Takes an id out of the lists of others.
+/// Takes an id out of the list of each of these parents.
 fn unlink<S: BuildHasher + Drop>(links: &mut Links<S>, parents: &[NodeId], child: &NodeId)
     ensures lists { AreWithout parents.now child.now links.old links.new }
     ensures room { links.new.room ≡ links.old.room }
@@ -28,7 +28,7 @@ fn unlink<S: BuildHasher + Drop>(links: &mut Links<S>, parents: &[NodeId], child
     }
 }
 
-/// Takes out a node, and gives what it carries.
+/// Takes out a node, and returns what it carries. No totals change.
 fn pull_one<T: Drop, S: BuildHasher + Drop>(
     slots: &mut Slots<T, S>,
     links: &mut Links<S>,
@@ -56,7 +56,7 @@ fn pull_one<T: Drop, S: BuildHasher + Drop>(
     load
 }
 
-/// Takes out each of these nodes, and puts what it carries at the end of a list with room.
+/// Takes out each of these nodes, and puts what it carries at the end of a list with room. No totals change.
 fn pull_each<T: Drop, S: BuildHasher + Drop>(
     slots: &mut Slots<T, S>,
     links: &mut Links<S>,
@@ -81,7 +81,8 @@ fn pull_each<T: Drop, S: BuildHasher + Drop>(
     }
 }
 
-/// Takes out a node and all that is below it, and gives what they carry. What is left has the totals of what is left.
+/// Takes out the node of an id, if there is one, and all nodes below that id, and puts what they carry at the end of a
+/// list with room. The nodes that are left keep the totals of their families as these are now.
 pub(crate) fn take_family<T: Drop, S: BuildHasher + Drop>(
     slots: &mut Slots<T, S>,
     links: &mut Links<S>,
@@ -113,7 +114,8 @@ pub(crate) fn take_family<T: Drop, S: BuildHasher + Drop>(
     ensures capacity { vec_capacity gone.new ≡ vec_capacity gone.old }
 {
     walk_below(slots, links, &mut scratch.marks, &mut scratch.found, id);
-    // A walk finds what names a node in the order of its list. From the end each stands last in the list when it is taken out.
+    // A walk finds the children of a node in the order of its list. From the end, each child stands last in that list
+    // when it is taken out.
     scratch.found.reverse();
     lower_above_each(
         slots,
@@ -133,8 +135,8 @@ fn leave_out(places: &mut Vec<usize>, place: usize)
     places.retain(|other| *other != place);
 }
 
-/// Takes out a node alone, and gives what it carries: what names it stays. The totals of what was above it and of what is
-/// below it are found afresh, so that nothing is asked of the steps.
+/// Takes out a node alone, and returns what it carries: nodes that name it stay. The totals of its ancestors and
+/// descendants are found afresh, which is right wherever the steps lead.
 fn take_alone<T: Drop, S: BuildHasher + Drop>(
     slots: &mut Slots<T, S>,
     links: &mut Links<S>,
@@ -192,8 +194,8 @@ fn take_alone<T: Drop, S: BuildHasher + Drop>(
     load
 }
 
-/// Takes out a node that names no node, and it alone, and gives what it carries: what names it stays, and has one less above
-/// it.
+/// Takes out a node that names no node, alone, and returns what it carries: nodes that name it stay. It is subtracted
+/// from the ancestor totals of each of its descendants.
 fn take_root<T: Drop, S: BuildHasher + Drop>(
     slots: &mut Slots<T, S>,
     links: &mut Links<S>,
@@ -252,7 +254,8 @@ fn names_none<T: Drop, S: BuildHasher + Drop>(slots: &Slots<T, S>, ids: &[NodeId
     ids.iter().all(|id| !slots.contains(id))
 }
 
-/// Takes out a node alone, by differences where it names no node.
+/// Takes out a node alone, and returns what it carries; none for an id that is no node's. Totals change by differences
+/// if the node names no node, and else are found afresh.
 pub(crate) fn take_one<T: Drop, S: BuildHasher + Drop>(
     slots: &mut Slots<T, S>,
     links: &mut Links<S>,

@@ -1,5 +1,5 @@
-//! Walks from a node, to all nodes that a chain of steps leads to, in room that was taken beforehand. They find places of
-//! slots; each slot has a mark, which is set where a walk has been, and none is set between walks.
+//! Walks from a node, to all nodes that a chain of steps leads to, in room that was taken beforehand. They find places
+//! of slots; each slot has a mark, which is set where a walk has been, and none is set between walks.
 ghost use Rattle.std.specs.Prelude.{◌≡◌, ◌≤◌, ◌<◌, ◌+◌, ◌||◌, ◌&&◌, ◌∷◌, [], ℕ, List, true, false, is_some, length, get_or, Contains};
 ghost use Rattle.std.specs.Vec.{vec_capacity};
 ghost use Rattle.gate_graph.specs.Families.{has, are_apart};
@@ -64,7 +64,7 @@ fn add<T: Drop, S: BuildHasher + Drop>(
     }
 }
 
-/// The same for each of these ids.
+/// Adds the place of each of these ids, unless it is no node's or was found before.
 fn add_each<T: Drop, S: BuildHasher + Drop>(
     slots: &Slots<T, S>,
     marks: &mut Vec<bool>,
@@ -83,7 +83,7 @@ fn add_each<T: Drop, S: BuildHasher + Drop>(
     }
 }
 
-/// The same for what an id lists.
+/// Adds the place of each id in the list of another, its children, unless it is no node's or was found before.
 fn add_listed<T: Drop, S: BuildHasher + Drop>(
     slots: &Slots<T, S>,
     links: &Links<S>,
@@ -104,7 +104,8 @@ fn add_listed<T: Drop, S: BuildHasher + Drop>(
     }
 }
 
-/// The same for the nodes one step from what stands at a place.
+/// Adds the places of the nodes that are one step from the node at a place, its parents or its children, unless they
+/// were found before.
 fn open<T: Drop, S: BuildHasher + Drop>(
     slots: &Slots<T, S>,
     links: &Links<S>,
@@ -251,7 +252,7 @@ pub(crate) fn walk_below<T: Drop, S: BuildHasher + Drop>(
     }
 }
 
-/// Closes the holes where they are more than half of the slots, with their marks.
+/// Closes the holes if they are more than half of the slots, and drops as many marks.
 pub(crate) fn tidy<T: Drop, S: BuildHasher + Drop>(slots: &mut Slots<T, S>, marks: &mut Vec<bool>)
     requires { AreClear (length slots.old.spots) marks.old.items }
     ensures held { slots.new.held ≡ slots.old.held }

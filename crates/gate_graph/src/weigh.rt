@@ -17,7 +17,7 @@ use crate::slots::Slots;
 use crate::walk::{Heading, Way, walk};
 use std::hash::BuildHasher;
 
-/// Sums without one of this size and fee.
+/// Sums with one node of this size and fee less.
 fn less(sums: Sums, size: u64, fee: u64) -> Sums
     requires { IsWithin size fee sums }
     ensures { result ≡ one_less size fee sums }
@@ -29,7 +29,7 @@ fn less(sums: Sums, size: u64, fee: u64) -> Sums
     }
 }
 
-/// Takes one of this size and fee off what is below a node.
+/// Subtracts one node of this size and fee from the descendant totals of a node.
 fn lower<T: Drop, S: BuildHasher + Drop>(slots: &mut Slots<T, S>, place: usize, size: u64, fee: u64)
     requires apart { are_apart (nodes_of slots.old.held) ≡ true }
     requires stands { is_some (at slots.old.spots place) ≡ true }
@@ -46,7 +46,7 @@ fn lower<T: Drop, S: BuildHasher + Drop>(slots: &mut Slots<T, S>, place: usize, 
     slots.set_totals(place, totals);
 }
 
-/// The same for each of these nodes.
+/// Subtracts one node of this size and fee from the descendant totals of each of these nodes.
 fn lower_all<T: Drop, S: BuildHasher + Drop>(
     slots: &mut Slots<T, S>,
     places: &[usize],
@@ -65,7 +65,7 @@ fn lower_all<T: Drop, S: BuildHasher + Drop>(
     }
 }
 
-/// Takes one of this size and fee off what is above a node.
+/// Subtracts one node of this size and fee from the ancestor totals of a node.
 fn ease<T: Drop, S: BuildHasher + Drop>(slots: &mut Slots<T, S>, place: usize, size: u64, fee: u64)
     requires apart { are_apart (nodes_of slots.old.held) ≡ true }
     requires stands { is_some (at slots.old.spots place) ≡ true }
@@ -81,7 +81,7 @@ fn ease<T: Drop, S: BuildHasher + Drop>(slots: &mut Slots<T, S>, place: usize, s
     slots.set_totals(place, totals);
 }
 
-/// The same for each of these nodes.
+/// Subtracts one node of this size and fee from the ancestor totals of each of these nodes.
 pub(crate) fn ease_all<T: Drop, S: BuildHasher + Drop>(
     slots: &mut Slots<T, S>,
     places: &[usize],
@@ -99,7 +99,7 @@ pub(crate) fn ease_all<T: Drop, S: BuildHasher + Drop>(
     }
 }
 
-/// Sums with one more of this size and fee.
+/// Sums with one node of this size and fee more.
 fn more(sums: Sums, size: u64, fee: u64) -> Sums
     requires { Fits size fee sums }
     ensures { result ≡ one_more size fee sums }
@@ -111,7 +111,7 @@ fn more(sums: Sums, size: u64, fee: u64) -> Sums
     }
 }
 
-/// Adds one of this size and fee to what is below a node.
+/// Adds one node of this size and fee to the descendant totals of a node.
 fn raise<T: Drop, S: BuildHasher + Drop>(slots: &mut Slots<T, S>, place: usize, size: u64, fee: u64)
     requires apart { are_apart (nodes_of slots.old.held) ≡ true }
     requires stands { is_some (at slots.old.spots place) ≡ true }
@@ -127,7 +127,7 @@ fn raise<T: Drop, S: BuildHasher + Drop>(slots: &mut Slots<T, S>, place: usize, 
     slots.set_totals(place, totals);
 }
 
-/// The same for each of these nodes.
+/// Adds one node of this size and fee to the descendant totals of each of these nodes.
 pub(crate) fn raise_all<T: Drop, S: BuildHasher + Drop>(
     slots: &mut Slots<T, S>,
     places: &[usize],
@@ -145,7 +145,7 @@ pub(crate) fn raise_all<T: Drop, S: BuildHasher + Drop>(
     }
 }
 
-/// Adds one of this size and fee to what is above a node.
+/// Adds one node of this size and fee to the ancestor totals of a node.
 fn burden<T: Drop, S: BuildHasher + Drop>(
     slots: &mut Slots<T, S>,
     place: usize,
@@ -166,7 +166,7 @@ fn burden<T: Drop, S: BuildHasher + Drop>(
     slots.set_totals(place, totals);
 }
 
-/// The same for each of these nodes.
+/// Adds one node of this size and fee to the ancestor totals of each of these nodes.
 pub(crate) fn burden_all<T: Drop, S: BuildHasher + Drop>(
     slots: &mut Slots<T, S>,
     places: &[usize],
@@ -184,7 +184,7 @@ pub(crate) fn burden_all<T: Drop, S: BuildHasher + Drop>(
     }
 }
 
-/// Takes a node off what is below each node above it, and below itself.
+/// Subtracts a node from the descendant totals of each of its ancestors, and from its own.
 fn lower_above<T: Drop, S: BuildHasher + Drop>(
     slots: &mut Slots<T, S>,
     links: &Links<S>,
@@ -222,7 +222,7 @@ fn lower_above<T: Drop, S: BuildHasher + Drop>(
     lower_all(slots, above.as_slice(), size, fee);
 }
 
-/// The same for each of these nodes.
+/// Subtracts each of these nodes from the descendant totals of each of its ancestors, and from its own.
 pub(crate) fn lower_above_each<T: Drop, S: BuildHasher + Drop>(
     slots: &mut Slots<T, S>,
     links: &Links<S>,
@@ -249,7 +249,7 @@ pub(crate) fn lower_above_each<T: Drop, S: BuildHasher + Drop>(
     }
 }
 
-/// What the nodes at these places come to.
+/// The sums of the nodes at these places.
 pub(crate) fn weigh<T: Drop, S: BuildHasher + Drop>(slots: &Slots<T, S>, places: &[usize]) -> Sums
     requires apart { are_apart (nodes_of slots.now.held) ≡ true }
     requires small { AreSmall (nodes_of slots.now.held) }

@@ -1,4 +1,4 @@
-//! The calls that leave the gate standing.
+//! The calls that don't end the gate.
 ghost use Rattle.std.specs.Prelude.{◌≡◌};
 
 use crate::colliding::Colliding;
@@ -39,7 +39,7 @@ fn keep<N: Base>(passes: &mut Vec<Pass<N>>, made: Result<Pass<N>, Memory>) -> Re
     }
 }
 
-/// Gives out a pass between marks, and gives whether memory was there.
+/// Gives out a pass between marks, and says whether memory sufficed.
 fn enroll<N: Base, R: Print>(
     rt: &R,
     alloc: Global,
@@ -66,7 +66,7 @@ fn enroll_caller<N: Base, R: Print>(
     enroll(rt, alloc, table, &caller)
 }
 
-/// Looks up the coins of a submission between marks, and gives whether memory was there.
+/// Looks up the coins of a submission between marks, and says whether memory sufficed.
 fn look<N: Base, R: Print>(
     rt: &R,
     alloc: Global,
@@ -95,7 +95,7 @@ fn look_last<N: Base, R: Print>(
     }
 }
 
-/// Makes an event between marks, and gives whether memory was there.
+/// Makes an event between marks, and says whether memory sufficed.
 fn apply<N: Base, R: Print>(
     rt: &R,
     alloc: Global,
@@ -126,7 +126,7 @@ fn apply_last<N: Base, R: Print>(
     }
 }
 
-/// Writes how many calls were settled, and gives whether memory was there.
+/// Writes how many calls were settled, and says whether memory sufficed.
 fn tell_settled<N: Base, R: Print>(
     rt: &R,
     made: &Result<Settled, SettleFault<N>>,
@@ -154,7 +154,7 @@ fn handed_back<N: Base>(alloc: Global, made: Result<Settled, SettleFault<N>>) ->
     }
 }
 
-/// Settles the passes between marks, and gives whether memory was there.
+/// Settles the passes between marks, and says whether memory sufficed.
 fn settle<N: Base, R: Print>(
     rt: &R,
     alloc: Global,
@@ -171,7 +171,7 @@ fn settle<N: Base, R: Print>(
     told
 }
 
-/// Makes a call over the last event, and gives whether memory was there.
+/// Makes a call over the last event, and says whether memory sufficed.
 fn make<N: Base, R: Print>(
     rt: &R,
     alloc: Global,
@@ -190,7 +190,7 @@ fn make<N: Base, R: Print>(
     }
 }
 
-/// Writes whether a gate and its passes are told as before.
+/// Writes whether a gate and its passes have the same text as before.
 pub(crate) fn tell_table<N: Base, R: Print>(
     rt: &R,
     alloc: Global,
@@ -202,7 +202,7 @@ pub(crate) fn tell_table<N: Base, R: Print>(
     tell_change(rt, before, after.as_str())
 }
 
-/// Makes a call, and writes whether the gate and its passes are told as before.
+/// Makes a call, and writes whether the gate and its passes have the same text as before.
 fn make_told<N: Base, R: Print>(
     rt: &R,
     alloc: Global,
@@ -216,7 +216,7 @@ fn make_told<N: Base, R: Print>(
     Ok(made)
 }
 
-/// Makes a call, and once more where memory was not there.
+/// Makes a call, and once more if memory ran out.
 fn make_again<N: Base, R: Print>(
     rt: &R,
     alloc: Global,

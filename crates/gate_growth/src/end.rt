@@ -24,7 +24,7 @@ fn tell_finished<R: Print>(rt: &R, count: u64, entries: usize) -> Result<(), Fau
     Ok(())
 }
 
-/// Writes the mark behind an end, and what it came to.
+/// Writes the mark behind an end, and its outcome.
 fn tell_end<N: Base, R: Print>(rt: &R, made: &Finished<N>) -> Result<(), Fault> {
     rt.write_all(ENDS)?;
     match made {
@@ -56,7 +56,7 @@ fn handed_back<N: Base>(made: Finished<N>) -> Option<Table<N>> {
     }
 }
 
-/// Writes whether a gate that was handed back is told as before, and the mark before its end.
+/// Writes whether a gate that was handed back has the same text as before, and the mark before its end.
 fn begin_again<N: Base, R: Print>(
     rt: &R,
     alloc: Global,
@@ -85,7 +85,7 @@ fn finish_again<N: Base, R: Print>(
     told
 }
 
-/// Finishes a gate, and once more where memory was not there.
+/// Finishes a gate, and once more if memory ran out.
 fn finish_told<N: Base, R: Print>(
     rt: &R,
     alloc: Global,
@@ -105,7 +105,7 @@ fn finish_told<N: Base, R: Print>(
     }
 }
 
-/// Makes all events, writes the mark before an end, and gives what the gate was told by.
+/// Makes all events, writes the mark before an end, and gives the text of the gate at that mark.
 fn begin<N: Base, R: Print>(
     rt: &R,
     alloc: Global,

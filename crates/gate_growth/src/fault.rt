@@ -14,7 +14,7 @@ pub(crate) enum Fault {
     Read,
     #[error("the output could not be written")]
     Write,
-    /// A call was refused for another reason than want of memory.
+    /// A call was refused for another reason than being out of memory.
     #[error("a call was not made")]
     Call,
     #[error("out of memory")]
@@ -57,7 +57,7 @@ impl From<OpeningFault> for Fault {
     }
 }
 
-/// What fails otherwise is a write.
+/// A failed read is a `LaneFault`, so any other fault of input and output is a failed write.
 impl From<io::Error> for Fault {
     fn from(_error: io::Error) -> Fault {
         Fault::Write

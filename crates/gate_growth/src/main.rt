@@ -1,10 +1,11 @@
 //! A program of the tests, no part of the product: calls at a gate, each between two marks.
 //!
-//! Standard input has an opening, a line `---`, events, a line `---`, and questions, which are events too. The events are
-//! made, the last of them by a call of each kind. A call stands between the lines `> NAME` and `< NAME`, each of which is
-//! out at once, so that a test can refuse growths of memory between them. Then stands what the call gave, or `fault memory`,
-//! and `unchanged` or `changed`: whether all that was lent to it is told as it was told before. Where memory ran out the
-//! call is made once more. The words `step`, `calls`, `settle` and `finish` ask for calls of these kinds alone.
+//! Standard input has an opening, a line `---`, events, a line `---`, and questions, which are events too. The events
+//! are made, the last of them by a call of each kind. A call is made between the lines `> NAME` and `< NAME`, each of
+//! which is out at once, so that a test can refuse growths of memory between them. What the call gave follows, or
+//! `fault memory`, and then `unchanged` or `changed`: whether all that was lent to the call has the same text as
+//! before. If memory ran out, the call is made once more. The words `step`, `calls`, `settle` and `finish` ask for
+//! calls of these kinds alone.
 #![tactic(auto)]
 
 mod calls;

@@ -11,7 +11,7 @@ fn push_sums(text: &mut String, family: &str, sums: &Sums) -> Result<(), Memory>
     Ok(())
 }
 
-/// What is above an entry, itself left out.
+/// The totals of an entry's ancestors, itself left out.
 fn push_ancestors(
     alloc: Global,
     text: &mut String,
@@ -24,7 +24,7 @@ fn push_ancestors(
     }
 }
 
-/// An entry and what is below it.
+/// The totals of an entry and its descendants.
 fn push_descendants(
     alloc: Global,
     text: &mut String,

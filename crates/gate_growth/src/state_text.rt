@@ -132,8 +132,8 @@ fn push_copy(
     pushed
 }
 
-/// What a state is told by: its settings, chain and pool, the coins and the sessions of the events, and what a copy of it
-/// replies to the questions.
+/// What the text of a state has: its settings, chain and pool, the coins and the sessions of the events, and what a
+/// copy of it replies to the questions.
 pub(crate) fn push_state(
     alloc: Global,
     text: &mut String,

@@ -9,7 +9,7 @@ use gate_message::Event;
 use std::alloc::Global;
 use std::io::Print;
 
-/// Makes a step between marks, and gives whether memory was there.
+/// Makes a step between marks, and says whether memory sufficed.
 fn step<R: Print>(
     rt: &R,
     alloc: Global,
@@ -25,7 +25,7 @@ fn step<R: Print>(
     told
 }
 
-/// Writes whether a state is told as before.
+/// Writes whether a state has the same text as before.
 fn tell_state<R: Print>(
     rt: &R,
     alloc: Global,
@@ -37,7 +37,7 @@ fn tell_state<R: Print>(
     tell_change(rt, before, after.as_str())
 }
 
-/// Makes a step, and writes whether the state is told as before.
+/// Makes a step, and writes whether the state has the same text as before.
 fn step_told<R: Print>(
     rt: &R,
     alloc: Global,
@@ -51,7 +51,7 @@ fn step_told<R: Print>(
     Ok(made)
 }
 
-/// Makes a step that no mark stands round.
+/// Makes a step without marks around it.
 fn step_quietly(alloc: Global, state: &mut State<Colliding>, event: &Event) -> Result<(), Fault> {
     match state.step(alloc, event) {
         Ok(reply) => {
@@ -62,7 +62,7 @@ fn step_quietly(alloc: Global, state: &mut State<Colliding>, event: &Event) -> R
     }
 }
 
-/// Makes the events as steps, the last one between marks, and once more where memory was not there.
+/// Makes the events as steps, the last one between marks, and once more if memory ran out.
 pub(crate) fn step_last<R: Print>(
     rt: &R,
     alloc: Global,

@@ -1,4 +1,4 @@
-//! What lies under the lock of a gate, with the passes that were given out.
+//! What is under the lock of a gate, with the passes that were given out.
 ghost use Rattle.std.specs.Prelude.{◌≡◌};
 
 use crate::colliding::Colliding;
@@ -143,7 +143,7 @@ fn push_given(text: &mut String, count: u64) -> Result<(), Memory> {
     Ok(())
 }
 
-/// What a gate and its passes are told by: state, journal, the passes given out, and their calls.
+/// What the text of a gate and its passes has: state, journal, the passes given out, and their calls.
 fn push_table<N: Base>(
     alloc: Global,
     text: &mut String,

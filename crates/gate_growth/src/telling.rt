@@ -14,7 +14,7 @@ pub(crate) fn tell_refusal<R: Print>(rt: &R) -> Result<(), Fault> {
     Ok(())
 }
 
-/// The same of a call that was not made.
+/// Writes that a call ran out of memory, and says that it was not made.
 pub(crate) fn tell_unmade<R: Print>(rt: &R) -> Result<bool, Fault> {
     tell_refusal(rt)?;
     Ok(false)
@@ -26,7 +26,7 @@ fn tell_reply<R: Print>(rt: &R, alloc: Global, reply: &Reply) -> Result<bool, Fa
     Ok(true)
 }
 
-/// Writes the reply of a step, and gives whether it was made.
+/// Writes the reply of a step, and says whether the step was made.
 pub(crate) fn tell_step<R: Print>(
     rt: &R,
     alloc: Global,
@@ -43,7 +43,7 @@ fn tell_receipt<R: Print>(rt: &R, alloc: Global, receipt: &Receipt) -> Result<bo
     tell_reply(rt, alloc, &receipt.reply)
 }
 
-/// Writes the receipt of a call, and gives whether it was made.
+/// Writes the receipt of a call, and says whether the call was made.
 pub(crate) fn tell_call<R: Print>(
     rt: &R,
     alloc: Global,
@@ -66,7 +66,7 @@ fn tell_coins<R: Print>(rt: &R, found: usize, inputs: usize) -> Result<bool, Fau
     Ok(true)
 }
 
-/// Writes for how many inputs a coin was found, and gives whether the look was made.
+/// Writes for how many inputs a coin was found, and says whether the look was made.
 pub(crate) fn tell_look<R: Print>(
     rt: &R,
     made: &Result<Vec<Option<Coin>>, Memory>,
@@ -77,7 +77,7 @@ pub(crate) fn tell_look<R: Print>(
     }
 }
 
-/// Writes the number of a pass, where one was given out, and gives whether it was.
+/// Writes the number of a pass, if one was given out, and says whether it was.
 pub(crate) fn tell_pass<R: Print>(rt: &R, number: Option<u64>) -> Result<bool, Fault> {
     match number {
         Some(number) => {

@@ -4,7 +4,7 @@ use Rattle.gate_tx.specs.declared.transaction.TxIn.{TxIn}
 use Rattle.gate_inputs.specs.declared.answer.Answers.{Answers}
 use Rattle.gate_inputs.specs.Reports.{is_standard_spend, is_witness_standard, sigop_cost_of}
 
--- of an input that spends a coin of this script
+-- the answers for an input that spends a coin of this script
 unfoldable pub answers_of : TxIn → List ℕ → Answers
 answers_of input script = record {
   standard = is_standard_spend input script;

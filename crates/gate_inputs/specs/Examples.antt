@@ -1,8 +1,8 @@
--- Inputs and scripts on which the definitions are tried: what they come to is computed by the prover.
+-- Inputs and scripts on which the definitions are tried: the prover computes what they say.
 use Rattle.std.specs.Prelude.{ℕ, List, [], ◌∷◌, ◌++◌, replicate}
 use Rattle.gate_tx.specs.declared.transaction.TxIn.{TxIn}
 
--- with such a script and witness
+-- an input with this script and witness
 abbrev pub signed : List ℕ → List (List ℕ) → TxIn
 signed script witness = record {
   prevout = record { txid = replicate 32 0x11; index = 0 };
@@ -18,10 +18,10 @@ to_script_hash = 0xa9 ∷ 20 ∷ (replicate 20 0x22 ++ (0x87 ∷ []))
 abbrev pub to_taproot : List ℕ
 to_taproot = 0x51 ∷ 32 ∷ replicate 32 0x22
 
--- pushes a program of version 0 with a script hash
+-- a script that pushes a program of version 0 with a script hash
 abbrev pub nested : List ℕ
 nested = 34 ∷ 0x00 ∷ 32 ∷ replicate 32 0x22
 
--- an item of so many bytes, a leaf script of OP_1, and what stands last
+-- a witness of an item of `size` bytes, a leaf script of OP_1, and the last item
 abbrev pub leaf_spend : ℕ → List ℕ → List (List ℕ)
 leaf_spend size control = replicate size 1 ∷ (0x51 ∷ []) ∷ control ∷ []

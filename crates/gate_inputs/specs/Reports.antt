@@ -16,7 +16,7 @@ use Rattle.gate_script.specs.Witness.{witness_program_of}
 abbrev pub last_of : {A : Type 0} → List A → Option A
 last_of xs = slice_get xs (length xs - 1)
 
--- what is made of the last item and those before it, or of none
+-- what `some` makes of the last item and those before it, or `none` if there is no item
 unfoldable pub from_last : {A B : Type 0} → B → (A → List A → B) → List A → B
 from_last none some xs = option_map_or (λ x. some x (take (length xs - 1) xs)) (last_of xs) none
 
@@ -53,7 +53,7 @@ is_standard_spend input script = is_standard_by (template_of script) (redeem_of 
 abbrev pub program_by : Template → Option (List ℕ) → List ℕ → Option (ℕ × List ℕ)
 program_by form redeem script = option_and_then witness_program_of (if is_pay_to_script_hash form then redeem else Some script)
 
--- MAX_STANDARD_P2WSH_STACK_ITEM_SIZE, and MAX_STANDARD_TAPSCRIPT_STACK_ITEM_SIZE
+-- 80 is MAX_STANDARD_P2WSH_STACK_ITEM_SIZE, and MAX_STANDARD_TAPSCRIPT_STACK_ITEM_SIZE
 abbrev pub are_at_most_80_bytes : List (List ℕ) → Bool
 are_at_most_80_bytes items = list_all (λ item. nat_le (length item) 80) items
 
@@ -65,7 +65,7 @@ is_standard_p2wsh_stack script items = nat_le (length script) 3600 && nat_le (le
 abbrev pub is_standard_p2wsh : List (List ℕ) → Bool
 is_standard_p2wsh witness = from_last true is_standard_p2wsh_stack witness
 
--- what ends a Taproot witness of two items or more: no annex, and where it is a control block of leaf version 0xc0,
+-- the last item of a Taproot witness of two items or more is no annex; if it is a control block of leaf version 0xc0,
 -- the items before the leaf script have at most 80 bytes (BIP 341, BIP 342)
 abbrev pub is_standard_script_path : List ℕ → List (List ℕ) → Bool
 is_standard_script_path [] items = false
@@ -91,11 +91,11 @@ is_witness_standard input script =
 
 -- ---- the cost of its signature operations
 
--- the redeem script that counts: that of an input that only pushes
+-- the redeem script whose operations count: that of an input whose script only pushes
 abbrev pub counted_redeem : Template → List ℕ → Option (List ℕ)
 counted_redeem form script = if is_pay_to_script_hash form && is_push_only script then redeem_of script else None
 
--- what a witness script counts, the last item
+-- what the witness script counts, which is the last item
 abbrev pub script_cost : List (List ℕ) → ℕ
 script_cost witness = option_map_or (sigops_of true) (last_of witness) 0
 

@@ -3,8 +3,8 @@
 pub struct Answers {
     /// Whether the coin and the script under a script hash are of a kind that is relayed.
     pub standard: bool,
-    /// Whether the witness is.
+    /// Whether the witness is of a kind that is relayed.
     pub witness_standard: bool,
-    /// What the signature operations cost; at most 2^64 - 1, which less than 2^50 bytes don't reach.
+    /// The cost of the signature operations; at most 2^64 - 1, which no input of less than 2^50 bytes reaches.
     pub sigop_cost: u64,
 }

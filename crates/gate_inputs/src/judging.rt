@@ -19,7 +19,7 @@ const MOST_REDEEM_SIGOPS: u64 = 15;
 const WITNESS_SCALE: u64 = 4;
 
 /// The answers for an input and the script of the coin that it spends. The pushes of the input's
-/// script are read where the coin is locked by a script hash, and once for all three.
+/// script are read only if the coin is locked by a script hash, and once for all three answers.
 pub fn answers(alloc: Global, input: &TxIn, script: &[u8]) -> Result<Answers, Memory>
     ensures { IfOk result (λ a. a ≡ answers_of input.now script.now) }
 {
@@ -60,7 +60,7 @@ fn direct(input: &TxIn, form: Template, script: &[u8]) -> Answers
     }
 }
 
-/// The answers under a script hash, where the input's script pushes this redeem script.
+/// The answers under a script hash, if the input's script pushes this redeem script.
 fn under_script_hash(input: &TxIn, redeem: &[u8]) -> Answers
     ensures { result ≡ answers_by ScriptHash input.now (Some redeem.now) [] }
 {
@@ -73,7 +73,7 @@ fn under_script_hash(input: &TxIn, redeem: &[u8]) -> Answers
     }
 }
 
-/// The answers under a script hash, where it pushes none.
+/// The answers under a script hash, if the input's script pushes no redeem script.
 fn without_redeem_script(input: &TxIn) -> Answers
     ensures { result ≡ answers_by ScriptHash input.now None [] }
 {
@@ -94,7 +94,7 @@ fn is_relayed(form: Template) -> bool
     )
 }
 
-/// What the input's script, so many operations of a redeem script, and the witness program cost.
+/// The cost of the input's script, of `redeem` operations in a redeem script, and of the witness program.
 fn cost(input: &TxIn, redeem: u64, program: Option<(u8, &[u8])>) -> u64
     ensures { result ≡ cost_with input.now redeem (option_map (λ p. (p.0, p.1.now)) program.entry) }
 {

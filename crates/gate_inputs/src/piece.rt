@@ -5,9 +5,9 @@ use std::alloc::Global;
 /// An input of a transaction with the coin that it spends.
 #[derive(Debug, Drop, PartialEq, Eq)]
 pub struct Piece {
-    /// Whose input it is.
+    /// The id of the transaction whose input it is.
     pub wtxid: Wtxid,
-    /// Which of its inputs.
+    /// The input's place in the transaction, from 0.
     pub index: u32,
     pub input: TxIn,
     pub coin: Coin,

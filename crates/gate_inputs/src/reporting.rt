@@ -55,7 +55,7 @@ impl InputReport {
         self.answers.witness_standard
     }
 
-    /// At most 2^64 - 1, which less than 2^50 bytes don't reach.
+    /// The cost of the signature operations; at most 2^64 - 1, which no input of less than 2^50 bytes reaches.
     pub fn sigop_cost(&self) -> u64
         ensures { result ≡ min (sigop_cost_of self.now.input self.now.coin.script) (2 ^ 64 - 1) }
     {

@@ -9,11 +9,11 @@ use gate_tx::{Witness, WitnessItems};
 /// `MAX_STANDARD_P2WSH_SCRIPT_SIZE`).
 const LONGEST_SCRIPT: usize = 3600;
 
-/// The most items before it (`MAX_STANDARD_P2WSH_STACK_ITEMS`).
+/// The most items before a witness script (`MAX_STANDARD_P2WSH_STACK_ITEMS`).
 const MOST_ITEMS: usize = 100;
 
-/// The longest of these items (`MAX_STANDARD_P2WSH_STACK_ITEM_SIZE`), and of those before a Taproot
-/// leaf script (`MAX_STANDARD_TAPSCRIPT_STACK_ITEM_SIZE`).
+/// The longest item in bytes before a witness script (`MAX_STANDARD_P2WSH_STACK_ITEM_SIZE`), and
+/// before a Taproot leaf script (`MAX_STANDARD_TAPSCRIPT_STACK_ITEM_SIZE`).
 const LONGEST_ITEM: usize = 80;
 
 /// What an annex begins with (BIP 341).
@@ -24,7 +24,7 @@ const LEAF_VERSION: u8 = 0xc0;
 
 const LEAF_MASK: u8 = 0xfe;
 
-/// Whether policy lets the witness pass, of a coin of that template, where the spend meets that program.
+/// Whether policy lets the witness pass, for a coin of this template whose spend meets this program.
 pub(crate) fn allows_witness(
     form: Template,
     witness: &Witness,
@@ -62,7 +62,7 @@ fn is_standard_p2wsh(witness: &Witness) -> bool
     }
 }
 
-/// Whether that is a witness script with items before it.
+/// Whether policy lets a witness script and the items before it pass.
 fn is_standard_p2wsh_stack(script: &[u8], items: WitnessItems<'_>) -> bool
     ensures { result ≡ is_standard_p2wsh_stack script.now items.entry }
 {

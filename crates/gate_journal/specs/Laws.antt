@@ -1,4 +1,4 @@
--- What legal journals come to.
+-- Laws of legal journals.
 use Rattle.std.specs.Prelude.{◌≡◌, ℕ, List, ◌++◌, ◌↔◌, take}
 use Rattle.gate_core.specs.World.{World}
 use Rattle.gate_journal.specs.declared.entry.Entry.{Entry}

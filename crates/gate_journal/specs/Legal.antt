@@ -1,4 +1,4 @@
--- Journals, and which of them are those of a run; rounds, of which each goes on from the state that the one before leaves.
+-- Journals, and which of them are those of a run; rounds, each of which goes on from the state that the round before it leaves.
 use Rattle.std.specs.Prelude.{◌≡◌, ◌≢◌, ◌<◌, ◌≤◌, ℕ, ◌-◌, Bool, MatchBool, List, [], ◌∷◌, flat_map, map, take, length}
 use Rattle.gate_message.specs.declared.event.Event.{Event}
 use Rattle.gate_message.specs.declared.reply.Reply.{Reply}
@@ -26,19 +26,19 @@ events_of entries = map (λ (e : Entry). e.event) entries
 abbrev pub replies_of : List Entry → List Reply
 replies_of entries = map (λ (e : Entry). e.reply) entries
 
--- a journal is legal from a state where its replies are those of the run over its events
+-- a journal is legal from a state if its replies are those of the run over its events
 abbrev pub IsLegal : World → List Entry → Type 0
 IsLegal w entries = replies_of entries ≡ (run_of w (events_of entries)).0
 
--- this says whether the reply of an entry is that of the step from a state; where it is, the step leads to the next state
+-- whether the reply of an entry is that of the step from a state; if it is, the step leads to the next state
 abbrev pub Replays : World → Entry → World → Bool → Type 0
 Replays w e next same = MatchBool same ((e.reply, next) ≡ step_of w e.event) (e.reply ≢ (step_of w e.event).0)
 
--- the state that it leads to
+-- the state that a journal leads to
 abbrev pub state_after : World → List Entry → World
 state_after w entries = (run_of w (events_of entries)).1
 
--- the journal is legal up to the entry before that of this number, from 1, and with it it isn't
+-- the journal is legal up to the entry before the one with this number, from 1, but not with that entry
 pub record IsFirstIllegal (w : World) (entries : List Entry) (number : ℕ) : Type 0 where
   pub counted : 0 < number
   pub within : number ≤ length entries
@@ -47,17 +47,17 @@ pub record IsFirstIllegal (w : World) (entries : List Entry) (number : ℕ) : Ty
 
 -- ---- rounds
 
--- a list of rounds is legal from a state where the first is legal from it, and each next from the state that the one before
+-- a list of rounds is legal from a state if the first is legal from it, and each next from the state that the round before it
 -- leaves
 abbrev pub AreLegalRounds : World → List (List Entry) → Type 0
 AreLegalRounds w [] = Unit {0}
 AreLegalRounds w (round ∷ rounds) = IsLegal w round × AreLegalRounds (state_after w round) rounds
 
--- the state that the last of them leaves
+-- the state that the last of the rounds leaves
 abbrev pub state_after_rounds : World → List (List Entry) → World
 state_after_rounds w [] = w
 state_after_rounds w (round ∷ rounds) = state_after_rounds (state_after w round) rounds
 
--- their entries, joined to one list
+-- the entries of rounds, joined to one list
 abbrev pub joined : List (List Entry) → List Entry
 joined rounds = flat_map (λ (round : List Entry). round) rounds

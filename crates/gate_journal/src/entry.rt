@@ -1,4 +1,4 @@
-//! What a journal keeps of an event.
+//! An entry of a journal: what it keeps of an event.
 use gate_bytes::{Copied, Memory};
 use gate_message::{Event, Reply};
 use std::alloc::Global;

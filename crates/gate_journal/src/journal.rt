@@ -58,14 +58,14 @@ impl Journal {
         self.entries.is_empty()
     }
 
-    /// Whether it has all the entries that it may have.
+    /// Whether it has 100,000 entries, the most that it may have.
     pub fn is_full(&self) -> bool
         ensures { IsTrue result ↔ (entry_limit ≤ length self.now.entries) }
     {
         self.entries.len() >= MAX_ENTRIES
     }
 
-    /// Makes room for one entry more.
+    /// Makes room for one more entry.
     pub fn reserve(&mut self) -> Result<(), Memory>
         ensures entries { self.new.entries ≡ self.old.entries }
         ensures room { OnOk result (0 < self.new.room) }

@@ -1,4 +1,4 @@
-//! Whether a journal is the one of a run.
+//! Whether a journal is that of a run.
 ghost use Rattle.std.specs.Prelude.{◌≡◌, ◌↔◌, IfOk, IfSome, None};
 ghost use Rattle.gate_journal.specs.Legal.{IsLegal, IsFirstIllegal, Replays};
 
@@ -10,7 +10,7 @@ use gate_message::is_same_reply;
 use std::alloc::Global;
 use std::hash::BuildHasher;
 
-/// Makes the event of an entry: whether the reply is the one that was recorded.
+/// Makes the event of an entry, and says whether the reply is the one that was recorded.
 fn replays<S: BuildHasher + Copy + Drop>(
     alloc: Global,
     state: &mut State<S>,
@@ -24,8 +24,8 @@ fn replays<S: BuildHasher + Copy + Drop>(
     Ok(same)
 }
 
-/// The number, from 1, of the first of these entries whose reply is not that of the step after those before it. The state
-/// goes on with them.
+/// The number, from 1, of the first of these entries whose reply is not that of the step after the entries before it.
+/// The state makes each step up to that entry.
 fn first_illegal<S: BuildHasher + Copy + Drop>(
     alloc: Global,
     state: &mut State<S>,
@@ -43,8 +43,8 @@ fn first_illegal<S: BuildHasher + Copy + Drop>(
     Ok(None)
 }
 
-/// The number, from 1, of the first entry whose reply is not that of the step after those before it: `None` where the
-/// journal is legal from this state. The events are stepped through in a copy of the state.
+/// The number, from 1, of the first entry whose reply is not that of the step after the entries before it; `None` if
+/// the journal is legal from this state. The steps are made in a copy of the state.
 pub fn replay_check<S: BuildHasher + Copy + Drop>(
     alloc: Global,
     state: &State<S>,

@@ -1,4 +1,4 @@
--- What a lane may write for the lines of its input, and what becomes of the value that answers them.
+-- What a lane may write for the lines of its input, and how the value that answers them changes.
 use Rattle.std.specs.Prelude.{◌≡◌, ℕ, ◌+◌, ◌≤◌, nat_lt, nat_le, true, List, [], ◌∷◌, ◌++◌, length, Option, Some, None, IfSome, MatchBool, Result, Ok, Err}
 use Rattle.std.specs.Io.{StartsWith}
 use Rattle.std.specs.Io.KnownBytes.{Appends, Consumes}
@@ -9,22 +9,22 @@ use Rattle.gate_lines.specs.Lines.{line_limit, count_limit, LacksNewline, EachLa
 use Rattle.gate_lines.specs.Refused.{bad_line, line_too_long, too_many_lines}
 use Rattle.gate_events.specs.EventLines.{line_event}
 
--- the bytes of a reader or of a writer, where these are known
+-- the bytes of a reader or of a writer, if these are known
 abbrev pub Known : Type 0
 Known = Option (List ℕ)
 
--- ---- what a line is answered
+-- ---- the reply to a line
 
 -- which reply lines an event may have, from a value to a value
 abbrev pub Answering : Type 0 → Type 1
 Answering V = V → Event → List ℕ → V → Type 0
 
--- the one reply line to an event, or to a line of no form
+-- the one reply line to an event, or to a line without a form
 abbrev pub EventAnswered : {V : Type 0} → Answering V → V → Option Event → List ℕ → V → Type 0
 EventAnswered Answers old None reply new = (reply ≡ bad_line) × (new ≡ old)
 EventAnswered Answers old (Some event) reply new = Answers old event reply new
 
--- the reply lines to one line within the limits: none to one that is skipped
+-- the reply lines to one line within the limits: none to a line that is skipped
 abbrev pub LineAnswered : {V : Type 0} → Answering V → V → List ℕ → List (List ℕ) → V → Type 0
 LineAnswered Answers old line [] new = (is_skipped line ≡ true) × (new ≡ old)
 LineAnswered Answers old line (reply ∷ []) new = MatchBool (is_skipped line) ⊥ (EventAnswered Answers old (line_event line) reply new)
@@ -56,18 +56,18 @@ LaneUnread Answers input rest before after old new =
     × Consumes input rest (unlines lines ++ piece) × EachLacksNewline lines × LacksNewline piece
     × Appends before after (unlines replies) × Run Answers 0 old lines replies new
 
--- what of a last reply line went out before the fault: a front of it, and nothing where memory ran out
+-- the part of a last reply line that went out before the fault: a prefix of it, or nothing if memory ran out
 abbrev pub SentOf : LaneFault → List (List ℕ) → List ℕ → Type 0
 SentOf faults.Write last part = StartsWith (unlines last) part
 SentOf faults.Memory last part = part ≡ []
 SentOf faults.Read last part = ⊥
 
--- all of these reply lines but a last one were sent, and a part of that one
+-- all of these reply lines but at most the last were sent whole, and a part of the last
 abbrev pub AllSentButOne : LaneFault → List (List ℕ) → List ℕ → Type 0
 AllSentButOne fault replies sent = (whole : List (List ℕ)) × (last : List (List ℕ)) × (part : List ℕ)
     × (replies ≡ whole ++ last) × (length last ≤ 1) × (sent ≡ unlines whole ++ part) × SentOf fault last part
 
--- the writer failed, or memory ran out: what went out is a front of the run's text, and the value is the run's after the
+-- the writer failed, or memory ran out: what went out is a prefix of the run's text, and the value is the run's after the
 -- lines whose replies went out whole, with at most one line more
 abbrev pub StoppedBy : {V : Type 0} → Answering V → LaneFault → ℕ → Known → Known → Known → V → V → Type 0
 StoppedBy Answers fault number input before after old new =
@@ -75,7 +75,7 @@ StoppedBy Answers fault number input before after old new =
     × FirstLines input lines × Run Answers number old lines replies new
     × Appends before after sent × AllSentButOne fault replies sent
 
--- what running a lane came to
+-- how running a lane ended
 abbrev pub LaneRan : {V : Type 0} → Answering V → Known → Known → Known → Known → V → V → Result ℕ LaneFault → Type 0
 LaneRan Answers input rest before after old new (Ok count) = LaneDone Answers input before after old new count
 LaneRan Answers input rest before after old new (Err faults.Read) = LaneUnread Answers input rest before after old new

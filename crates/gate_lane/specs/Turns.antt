@@ -10,7 +10,7 @@ use Rattle.gate_lane.specs.declared.lane.Turn.{Turn}
 use Rattle.gate_lane.specs.declared.lane.Turn.TheVariants.{Went, Ended}
 use Rattle.gate_lane.specs.Lanes.{Answering, Known, EventAnswered, LineAnswered, Run, SentOf, StoppedBy, LaneUnread}
 
--- memory ran out before the answer, or behind it
+-- memory ran out before the answer to an event, or after it
 abbrev pub EventLost : {V : Type 0} → Answering V → V → Option Event → V → Type 0
 EventLost Answers old event new = (new ≡ old) ⊎ ((reply : List ℕ) × EventAnswered Answers old event reply new)
 
@@ -35,7 +35,7 @@ Unresponded Answers fault before after old line new =
     ⊎ ((reply : List ℕ) × (part : List ℕ) × LineAnswered Answers old line (reply ∷ []) new
     × Appends before after part × SentOf fault (reply ∷ []) part)
 
--- what answering a line came to
+-- how answering a line ended
 abbrev pub LineTaken : {V : Type 0} → Answering V → Known → Known → V → List ℕ → V → Result ℕ LaneFault → Type 0
 LineTaken Answers before after old line new (Ok count) = Responded Answers before after old line new count
 LineTaken Answers before after old line new (Err faults.Write) = Unresponded Answers faults.Write before after old line new
@@ -46,7 +46,7 @@ LineTaken Answers before after old line new (Err faults.Read) = ⊥
 abbrev pub AllLines : Known → List (List ℕ) → Type 0
 AllLines input lines = IfSome input (λ bytes. lines_of bytes ≡ lines)
 
--- what a turn did, where so many lines were counted before it, and so many after it
+-- what a turn did, with `number` lines counted before it and `next` lines after it
 abbrev pub TurnTaken : {V : Type 0} → Answering V → ℕ → ℕ → Known → Known → Known → Known → V → V → Result Turn LaneFault → Type 0
 TurnTaken Answers number next input rest before after old new (Ok (Went count)) = (line : List ℕ) × (replies : List (List ℕ))
     × (number < count_limit) × (next ≡ number + 1) × Consumes input rest (line ++ 10 ∷ []) × LacksNewline line × (length line ≤ line_limit)
@@ -59,7 +59,7 @@ TurnTaken Answers number next input rest before after old new (Err faults.Write)
 TurnTaken Answers number next input rest before after old new (Err faults.Memory) =
     StoppedBy Answers faults.Memory number input before after old new
 
--- what answering all lines came to, before what was written is sent
+-- how answering all lines ended, before what was written is sent
 abbrev pub LaneCame : {V : Type 0} → Answering V → Known → Known → Known → Known → V → V → Result ℕ LaneFault → Type 0
 LaneCame Answers input rest before after old new (Ok count) = (lines : List (List ℕ)) × (replies : List (List ℕ))
     × AllLines input lines × Run Answers 0 old lines replies new × Appends before after (unlines replies) × (count ≡ length replies)

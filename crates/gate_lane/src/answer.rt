@@ -15,14 +15,14 @@ pub trait Answers<V> {
     // Which reply lines an event may have, from a value to a value.
     ghost answers: { Answering V };
 
-    /// Puts the reply line to an event, without its newline, in the place of what `reply` holds. Where memory runs out, the
-    /// value is as before or that of an answer.
+    /// Replaces what `reply` holds with the reply line to an event, without its newline. If memory runs out, the value
+    /// is as before or as after an answer.
     fn answer(&self, value: &mut V, event: &Event, reply: &mut String) -> Result<(), Memory>
         ensures ok { OnOk result (answers value.old event.now (string_bytes reply.new) value.new) }
         ensures err { OnErr result ((value.new ≡ value.old) ⊎ ((line : List ℕ) × answers value.old event.now line value.new)) };
 }
 
-/// Puts a text in the place of what `reply` holds, in its memory where it has room.
+/// Replaces what `reply` holds with a text, in the memory of `reply` if that has room.
 pub fn set_text(reply: &mut String, text: &str) -> Result<(), Memory>
     ensures { OnOk result (string_bytes reply.new ≡ text.now) }
 {
@@ -30,7 +30,7 @@ pub fn set_text(reply: &mut String, text: &str) -> Result<(), Memory>
     Ok(reply.push_str(text)?)
 }
 
-/// Puts the line of an answer, without its newline, in the place of what `reply` holds.
+/// Replaces what `reply` holds with the line of an answer, without its newline.
 pub fn set_answer(alloc: Global, answer: &Reply, reply: &mut String) -> Result<(), Memory>
     ensures { OnOk result (string_bytes reply.new ≡ reply_text answer.now) }
 {
@@ -38,7 +38,7 @@ pub fn set_answer(alloc: Global, answer: &Reply, reply: &mut String) -> Result<(
     answer.push_text(alloc, reply)
 }
 
-/// Puts the reply line to what a line spells in the place of what `reply` holds.
+/// Replaces what `reply` holds with the reply line to what a line spells.
 fn answer_read<V, A: Answers<V>>(
     answers: &A,
     value: &mut V,
@@ -54,7 +54,7 @@ fn answer_read<V, A: Answers<V>>(
     }
 }
 
-/// Answers a line within the limits, and tells whether it has a reply line: that line, with its newline, then stands in
+/// Answers a line within the limits, and says whether it has a reply line: that line, with its newline, then stands in
 /// `reply`. A line that is skipped has none.
 pub(crate) fn answer<V, A: Answers<V>>(
     alloc: Global,

@@ -7,7 +7,7 @@ use crate::answer::{Answers, answer};
 use gate_lines::{LaneFault, Lines, Next, Sink, Source};
 use std::alloc::Global;
 
-/// What a turn came to, with the number of reply lines that it wrote.
+/// How a turn ended, with the number of reply lines that it wrote.
 #[derive(Clone, Copy, Debug, PartialEq, Eq)]
 pub(crate) enum Turn {
     Went(u64),
@@ -112,9 +112,9 @@ fn answer_lines<V, A: Answers<V>, R: Source, W: Sink>(
 
 /// Runs a lane to the end of its input, or to the first line past a limit, and gives the number of reply lines.
 ///
-/// A reply line is out before the lane waits for more input, and all of them before it returns, where the writer can
-/// send them on. After a fault the value is that of the lines answered. Where the lane and then the writer's last sending
-/// fail, the lane's fault is told.
+/// A reply line is out before the lane waits for more input, and all of them before it returns, if the writer can
+/// send them on. After a fault the value is that of the lines answered. If the lane and then the writer's last sending
+/// fail, the lane's fault is returned.
 pub fn run_lane<V, A: Answers<V>, R: Source, W: Sink>(
     alloc: Global,
     answers: &A,

@@ -26,19 +26,19 @@ type Hasher = BuildHasherDefault<FoldHasher>;
 const OPENING: &[u8] =
     b"budget 1000000\ntimes 101 1000 600\ncoin 1111111111111111111111111111111111111111111111111111111111111111 0 100000 1 plain 00142222222222222222222222222222222222222222\ncoin 1212121212121212121212121212121212121212121212121212121212121212 0 100000 1 plain 00142222222222222222222222222222222222222222\nverdict * ok\n";
 
-/// A peer that enters and submits what spends both with a fee of 178 satoshi.
+/// A peer that enters and submits a transaction that spends both coins with a fee of 178 satoshi.
 const SUBMITS: &[u8] =
     b"peer 1 enter 192.0.2.1\npeer 1 tx 5000 0200000000010211111111111111111111111111111111111111111111111111111111111111110000000000fdffffff12121212121212121212121212121212121212121212121212121212121212120000000000fdffffff018e0c030000000000160014222222222222222222222222222222222222222202483030303030303030303030303030303030303030303030303030303030303030303030303030303030303030303030303030303030303030303030303030303030303030303030302102020202020202020202020202020202020202020202020202020202020202020202483030303030303030303030303030303030303030303030303030303030303030303030303030303030303030303030303030303030303030303030303030303030303030303030302102020202020202020202020202020202020202020202020202020202020202020200000000\n";
 
 /// A user that asks for the pool.
 const LISTS: &[u8] = b"user b rpc 5000 {\"method\":\"getrawmempool\",\"params\":[],\"id\":1}\n";
 
-/// What the check and the lanes tell each other, each set to 1 once it was so.
+/// What the check and the lanes tell each other: each flag is set to 1 once its event came.
 #[derive(Drop)]
 struct Flags {
     /// The check met the first input.
     first: AtomicU64,
-    /// It met the second.
+    /// The check met the second input.
     second: AtomicU64,
     /// The pool was listed in the other lane.
     listed: AtomicU64,
@@ -70,7 +70,7 @@ impl Flags {
         flag.load(Ordering::SeqCst) == 1
     }
 
-    /// Whether both inputs were met, the pool was listed, the submission answered, and nothing given up.
+    /// Whether both inputs were met, the pool was listed, the submission was answered, and nobody gave up.
     fn all_came(&self) -> bool {
         Flags::is_set(&self.first)
             && Flags::is_set(&self.second)

@@ -1,4 +1,4 @@
-//! A gate at its end gives its state, or goes on where a pass is lacking.
+//! A gate at its end gives its state, or goes on if a pass is missing.
 ghost use Rattle.std.specs.Prelude.{◌≡◌};
 
 use crate::passes::{Hasher, called, opened};
@@ -26,7 +26,7 @@ fn floored<N: Base, R: Wait>(
     )
 }
 
-/// How many entries and calls there were at an end, where they differ.
+/// How many entries and calls there were at an end, if they differ.
 fn counts_of<N: Base>(fault: &FinishFault<N, Hasher>) -> Option<(u64, u64)> {
     match &fault.fault {
         SettleFault {
@@ -37,7 +37,7 @@ fn counts_of<N: Base>(fault: &FinishFault<N, Hasher>) -> Option<(u64, u64)> {
     }
 }
 
-/// The gate that goes on.
+/// The gate that is handed back, to go on.
 fn gone_on<N: Base>(fault: FinishFault<N, Hasher>) -> Gate<N, Hasher> {
     let FinishFault { shared, fault } = fault;
     drop(fault);
@@ -56,7 +56,7 @@ fn next_number<N: Base, R: Wait>(
     Ok(number)
 }
 
-/// What differs at the end of a gate whose one pass is lacking, and the number of the call after that.
+/// What differs at the end of a gate whose one pass is missing, and the number of the call after that.
 fn goes_on<N: Base, R: Wait>(
     rt: &R,
     alloc: Global,

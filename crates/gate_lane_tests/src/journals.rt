@@ -1,4 +1,4 @@
-//! Journals of some thousand entries, replayed.
+//! Journals of 3,000 entries, replayed.
 use crate::passes::{Hasher, add, opened};
 use gate_bytes::Memory;
 use gate_core::{Event, Reply, State};
@@ -8,7 +8,7 @@ use std::test::Fail;
 
 const ENTRIES: u64 = 3_000;
 
-/// An operator's event, with the reply that it gets or with another.
+/// An operator's event, with the reply that it gets or with another reply.
 fn entry(rate: u64, is_right: bool) -> Entry {
     Entry {
         pass: 1,
@@ -17,7 +17,7 @@ fn entry(rate: u64, is_right: bool) -> Entry {
     }
 }
 
-/// A journal of as many events, of which the one with this number, from 1, has another reply than it gets.
+/// A journal of `ENTRIES` events. The one with the number `wrong`, from 1, has another reply than it gets.
 fn journal(alloc: Global, wrong: u64) -> Result<Journal, Memory> {
     let mut journal = Journal::new(alloc);
     for number in 1..ENTRIES + 1 {
@@ -28,7 +28,7 @@ fn journal(alloc: Global, wrong: u64) -> Result<Journal, Memory> {
     Ok(journal)
 }
 
-/// The first illegal entry of such a journal.
+/// The first illegal entry of a journal whose entry with the number `wrong` has another reply than it gets.
 fn first_illegal(alloc: Global, state: &State<Hasher>, wrong: u64) -> Result<Option<u64>, Memory> {
     let journal = journal(alloc, wrong)?;
     let found = replay_check(alloc, state, &journal);

@@ -53,7 +53,7 @@ fn coins(alloc: Global) -> Result<Vec<OpeningCoin>, Memory> {
     Ok(Vec::from_array(alloc, [coin])?)
 }
 
-/// Each script is good.
+/// Verdicts by which each script is good.
 fn verdicts(alloc: Global, hasher: Hasher) -> Verdicts<Hasher> {
     let mut verdicts = Verdicts::new(alloc, hasher);
     verdicts.answer_others(Verdict::Good);
@@ -87,7 +87,7 @@ pub(crate) fn opened(alloc: Global) -> Result<State<Hasher>, Fail> {
     Ok(State::open(alloc, hasher, opening)?)
 }
 
-/// The same state twice.
+/// Two equal states.
 fn opened_twice(alloc: Global) -> Result<(State<Hasher>, State<Hasher>), Fail>
     ensures { IfOk result (λ states. states.1 ≡ states.0) }
 {

@@ -35,12 +35,12 @@ fn lane(alloc: Global, text: &'static [u8]) -> Lane<&'static [u8], Vec<u8>> {
     }
 }
 
-/// Whether a lane went to its end, and wrote this text of so many lines.
+/// Whether a lane went to its end, and wrote this text of `lines` lines.
 fn wrote(end: &LaneEnd<Vec<u8>>, text: &[u8], lines: u64) -> bool {
     end.result == Ok(lines) && end.writer.as_slice() == text
 }
 
-/// A lane with lines of all kinds, one with none that asks for anything, and one of one event.
+/// A lane with lines of all kinds, one whose lines ask for nothing, and one of one event.
 fn three_lanes(alloc: Global) -> Result<Vec<Lane<&'static [u8], Vec<u8>>>, AllocError> {
     let mixed = lane(
         alloc,
@@ -64,7 +64,7 @@ fn three_wrote(ends: &[LaneEnd<Vec<u8>>]) -> bool {
         && wrote(single, b"set\n", 1)
 }
 
-/// Whether the passes settle with the gate, with so many calls.
+/// Whether the passes settle with the gate, with this many calls.
 fn settles<N: Base, T: Wait>(
     rt: &T,
     alloc: Global,
@@ -108,7 +108,7 @@ fn lanes_are_answered(rt: HostRuntime) -> Result<(), Fail> {
     lanes_answer_over::<Brand, _>(&rt, rt.alloc(), opened(rt.alloc())?)
 }
 
-/// A reader whose bytes come once a flag is set, if it has one. It waits for 10,000,000 turns, and then tells that it gave up.
+/// A reader whose bytes come once a flag is set, if it has one. After 10,000,000 turns it gives up, and says so.
 #[derive(Drop)]
 struct Waits<'a> {
     bytes: &'a [u8],
@@ -116,7 +116,7 @@ struct Waits<'a> {
     gave_up: &'a AtomicU64,
 }
 
-/// Whether the flag was set within so many turns.
+/// Whether the flag was set within 10,000,000 turns.
 pub(crate) fn was_set(flag: &AtomicU64) -> bool {
     for _ in 0..10_000_000u64 {
         if flag.load(Ordering::SeqCst) == 1 {
@@ -232,7 +232,7 @@ fn a_lane_waits_for_another(rt: HostRuntime) -> Result<(), Fail> {
     lanes_run_at_once_over::<Brand, _>(&rt, rt.alloc(), opened(rt.alloc())?)
 }
 
-/// Whether there is one pass, of so many calls.
+/// Whether there is one pass, of `calls` calls.
 fn one_pass<N: Base>(passes: &[Pass<N>], calls: usize) -> bool {
     let [pass] = passes else {
         return false;
@@ -258,7 +258,7 @@ fn answered(ends: &[LaneEnd<Vec<u8>>]) -> bool {
 
 const TWO_EVENTS: &[u8] = b"operator bloom on\noperator floor 5\noperator";
 
-/// A reader that breaks in a line: what stands before that line is answered.
+/// A reader that breaks in a line: the lines before it are answered.
 fn reader_breaks<N: Base + Send + Sync, T: Threads + Wait + Abort + Sync>(
     rt: &T,
     alloc: Global,

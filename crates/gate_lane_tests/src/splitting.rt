@@ -77,7 +77,7 @@ fn rounds_begin_with_a_lane(rt: HostRuntime) -> Result<(), Fail> {
     Ok(())
 }
 
-/// So many lines `---`, and what stands between them.
+/// This many lines `---`, with a text between them.
 fn partings(alloc: Global, count: usize, between: &str) -> Result<String, Fail> {
     let mut text = String::new(alloc);
     for _ in 0..count {
@@ -87,7 +87,7 @@ fn partings(alloc: Global, count: usize, between: &str) -> Result<String, Fail> 
     Ok(text)
 }
 
-/// In how many rounds a text of so many lines `---` is parted; `None` where it has too many lanes.
+/// How many rounds a text of `count` lines `---` is parted into; `None` if it has too many lanes.
 fn rounds_of_partings(alloc: Global, count: usize, between: &str) -> Result<Option<usize>, Fail> {
     let text = partings(alloc, count, between)?;
     let mut reader = text.as_bytes();

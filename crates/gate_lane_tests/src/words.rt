@@ -1,4 +1,4 @@
-//! The words in which faults of steps, calls and openings are told.
+//! The words in which faults of steps, calls and openings are printed.
 use gate_core::{Reply, StepFault};
 use gate_lanes::SplitFault;
 use gate_opening::{OpeningFault, OpeningToken};
@@ -7,7 +7,7 @@ use std::alloc::Global;
 use std::fmt;
 use std::test::Fail;
 
-/// Whether a value is printed so.
+/// Whether a value is printed as `wanted`.
 fn prints<T: fmt::Display>(alloc: Global, value: &T, wanted: &str) -> Result<bool, Fail> {
     let printed = format!(in alloc; "{value}")?;
     Ok(printed.as_str() == wanted)

@@ -1,4 +1,4 @@
--- Rounds: gates one after another, each on the state that the one before led to.
+-- Rounds: gates one after another, each on the state that the round before led to.
 use Rattle.std.specs.Prelude.{◌≡◌, ℕ, ◌≤◌, ◌⊎◌, List, [], ◌∷◌, length, map, Option, Some, None}
 use Rattle.std.specs.Global.{Vec}
 use Rattle.gate_core.specs.World.{World}
@@ -17,22 +17,22 @@ use Rattle.gate_lanes.specs.declared.round.Conclusion.TheVariants as conclusions
 
 -- ---- one round
 
--- These passes settle with a legal journal from this state, of at most 100,000 entries, which leads to the next state. That
--- is good where the first is and the run of the passes' events is apart.
+-- These passes settle with a legal journal from this state, of at most 100,000 entries, which leads to the next state. The next
+-- state is good if the first is and the run of the passes' events is apart.
 pub record SettlesTo (w : World) (passes : List PassView) (settled : Settled) (next : World) : Type 0 where
   pub few : length settled.journal.entries ≤ entry_limit
   pub settles : SettlesAll w passes settled
   pub leads : next ≡ state_after w settled.journal.entries
   pub good : EndsGood w passes next
 
--- what passes do that were not settled, by the cause
+-- the conclusion for passes that were not settled, by the cause
 abbrev pub unsettled_by : Unsettled → Conclusion
 unsettled_by (causes.Missing receipt) = conclusions.Differs
 unsettled_by (causes.CountDiffers journal passes) = conclusions.Differs
 unsettled_by causes.Memory = conclusions.Unknown
 
--- the passes settle, and lead to the next state; or, whatever memory there is, they don't; or that is not known. There is a
--- next state just where they settle.
+-- The passes settle, and lead to the next state; or, whatever memory there is, they don't; or that is not known. There is a
+-- next state exactly if they settle.
 abbrev pub Concludes : World → List PassView → Conclusion → Option World → Type 0
 Concludes w passes (conclusions.Settles settled) None = ⊥
 Concludes w passes (conclusions.Settles settled) (Some next) = SettlesTo w passes settled next
@@ -41,7 +41,7 @@ Concludes w passes conclusions.Differs (Some next) = ⊥
 Concludes w passes conclusions.Unknown None = Unit {0}
 Concludes w passes conclusions.Unknown (Some next) = ⊥
 
--- what a round came to: the ends of its lanes, and what their passes do
+-- how a round ended: the ends of its lanes, and whether their passes settle
 pub record RoundLeft : Type 0 where
   pub ends : List Left
   pub conclusion : Conclusion
@@ -53,7 +53,7 @@ round_left ends conclusion = record { ends = ends; conclusion = conclusion }
 abbrev pub left_by : {W : Type 0} → (W → Option (List ℕ)) → RoundEnd W → RoundLeft
 left_by contents end = round_left (all_left contents end.ends.items) end.conclusion
 
--- from this state the lanes of a round ran, and this is what it came to, and the state that it leads to
+-- from this state the lanes of a round ran, the round ended like this, and it leads to this next state, if it settles
 abbrev pub RoundRan : World → List Given → RoundLeft → Option World → Type 0
 RoundRan w lanes round next = (passes : List PassView) × LanesRan lanes round.ends passes × Concludes w passes round.conclusion next
 
@@ -63,16 +63,16 @@ RoundRan w lanes round next = (passes : List PassView) × LanesRan lanes round.e
 abbrev pub rounds_given : {R W : Type 0} → (R → Option (List ℕ)) → (W → Option (List ℕ)) → List (Vec (Lane R W)) → List (List Given)
 rounds_given remaining contents rounds = map (λ lanes. all_given remaining contents lanes.items) rounds
 
--- from this state the rounds of these lanes settled one after another, each on the state that the one before led to, and the
--- last leads to this one
+-- from this state the rounds of these lanes settled one after another, each on the state that the round before led to, and the
+-- last leads to this state
 abbrev pub RoundsSettled : World → List (List Given) → List RoundLeft → World → Type 0
 RoundsSettled w [] [] last = last ≡ w
 RoundsSettled w [] (round ∷ rounds) last = ⊥
 RoundsSettled w (lanes ∷ more) [] last = ⊥
 RoundsSettled w (lanes ∷ more) (round ∷ rounds) last = (next : World) × RoundRan w lanes round (Some next) × RoundsSettled next more rounds last
 
--- from this state the rounds of these lanes ran one after another, each on the state that the one before led to; none ran
--- behind one that doesn't settle
+-- from this state the rounds of these lanes ran one after another, each on the state that the round before led to; no round ran
+-- after one that doesn't settle
 abbrev pub RoundsRan : World → List (List Given) → List RoundLeft → Type 0
 RoundsRan w [] [] = Unit {0}
 RoundsRan w [] (round ∷ rounds) = ⊥

@@ -1,4 +1,4 @@
-//! Why an input is not parted.
+//! Why an input could not be divided into lanes.
 ghost use Rattle.std.specs.Prelude.{◌≡◌};
 
 use gate_bytes::Memory;
@@ -6,10 +6,10 @@ use gate_lines::LaneFault;
 use std::alloc::{AllocError, AllocFailed};
 use thiserror::Error;
 
-/// Why an input was not parted into lanes.
+/// Why an input could not be divided into lanes.
 #[derive(Clone, Copy, Debug, PartialEq, Eq, Error)]
 pub enum SplitFault {
-    /// The reader failed, or a line goes past a limit.
+    /// The reader failed, a line goes past a limit, or a round behind the first doesn't begin with a line `---`.
     #[error("the input could not be read")]
     Read,
     /// There are more than 64 lanes.

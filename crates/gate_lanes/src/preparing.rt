@@ -36,7 +36,7 @@ fn piece_of(
     }
 }
 
-/// The inputs of a submission that have a coin, each with it. An input without a coin gives no piece.
+/// The inputs of a submission that have a coin, each with its coin. An input without a coin gives no piece.
 fn pieces_of(
     alloc: Global,
     candidate: &Candidate<'_>,
@@ -58,7 +58,7 @@ fn pieces_of(
 }
 
 impl<N: Base, S: BuildHasher + Copy + Drop, T: Wait, C: InputCheck> Access<'_, N, S, T, C> {
-    /// Reports on the inputs of a submission, by the coins that they have now.
+    /// Reports on the inputs of a submission, by the coins that these inputs have now.
     fn reports(
         &self,
         submission: &Prepared,
@@ -72,7 +72,8 @@ impl<N: Base, S: BuildHasher + Copy + Drop, T: Wait, C: InputCheck> Access<'_, N
         }
     }
 
-    /// The submission with reports on its inputs. What a rule on a transaction alone denies is neither looked up nor checked.
+    /// The submission with reports on its inputs. If a rule on the transaction alone denies it, its inputs are neither
+    /// looked up nor checked.
     fn with_reports(&self, submission: &Prepared) -> Result<Option<Prepared>, Memory>
         ensures { IfOk result (λ prepared. StandsFor prepared (Some submission.now)) }
     {
@@ -87,7 +88,7 @@ impl<N: Base, S: BuildHasher + Copy + Drop, T: Wait, C: InputCheck> Access<'_, N
         Ok(Some(prepared.with_reports(Kept::from_vec(reports))))
     }
 
-    /// The submission of an event with reports on its inputs. Where memory runs out there is none: the call makes the
+    /// The submission of an event with reports on its inputs. If memory runs out it is `None`, and the call makes the
     /// reports itself.
     pub(crate) fn prepared(&self, event: &Event) -> Option<Prepared>
         ensures { StandsFor result (submission_of event.now) }

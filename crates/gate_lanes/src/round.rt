@@ -17,32 +17,32 @@ use std::marker::Brand;
 use std::sync::Wait;
 use std::thread::Threads;
 
-/// What the passes of lanes come to with the journal of their gate.
+/// Whether the passes of lanes settle with the journal of their gate.
 #[derive(Drop)]
 pub enum Conclusion {
-    /// They settle.
+    /// The passes settle.
     Settles(Settled),
-    /// They don't, whatever memory there is.
+    /// The passes don't settle, whatever memory there is.
     Differs,
-    /// Memory ran out before it was known.
+    /// Memory ran out before it was known whether the passes settle.
     Unknown,
 }
 
-/// What the lanes of a round came to: the end of each, and what their passes do.
+/// How a round ended: the end of each of its lanes, and whether their passes settle.
 #[derive(Drop)]
 pub struct RoundEnd<W> {
     pub ends: Vec<LaneEnd<W>>,
     pub conclusion: Conclusion,
 }
 
-/// A round that ended, and the state that the next one begins with, where this one settles.
+/// A round that ended, and the state that the next round begins with, if this one settles.
 #[derive(Drop)]
 pub struct Round<S: BuildHasher + Copy + Drop, W> {
     pub end: RoundEnd<W>,
     pub next: Option<State<S>>,
 }
 
-/// What passes that were not settled with a journal do.
+/// The conclusion for passes that were not settled with a journal, by the cause.
 fn unsettled(why: &Unsettled) -> Conclusion
     ensures { result ≡ unsettled_by why.now }
 {
@@ -52,7 +52,7 @@ fn unsettled(why: &Unsettled) -> Conclusion
     }
 }
 
-/// Settles passes with the journal of their gate, and takes the state out of it where they do.
+/// Settles passes with the journal of their gate, and takes the state out of the gate if they settle.
 fn conclude<N: Base, S: BuildHasher + Copy + Drop>(
     alloc: Global,
     gate: Gate<N, S>,
@@ -62,7 +62,7 @@ fn conclude<N: Base, S: BuildHasher + Copy + Drop>(
 {
     match finish(alloc, gate, passes) {
         Ok((settled, state)) => {
-            // The journal's bound is told where it is lent.
+            // Lending the entries makes the bound of the journal known.
             let _entries = settled.journal.entries();
             (Conclusion::Settles(settled), Some(state))
         }
@@ -74,7 +74,7 @@ fn conclude<N: Base, S: BuildHasher + Copy + Drop>(
     }
 }
 
-/// Runs lanes over a gate on the state of a name, and ends it.
+/// Runs lanes over a gate on the state of a name, and ends the gate.
 fn run_named<
     N: Base + Send + Sync,
     S: BuildHasher + Copy + Drop + Send + Sync,
@@ -112,11 +112,11 @@ where
     }
 }
 
-/// Runs lanes over a gate on this state, as `run_lanes` does, settles their passes with its journal, and ends the gate. Where
-/// they settle, the state that this leads to is the next round's: that gate's journal is empty, its receipts begin at 1, and
-/// no pass of this one fits it.
+/// Runs lanes over a gate on this state, as `run_lanes` does, settles their passes with its journal, and ends the gate.
+/// If they settle, the state that the journal leads to is the next round's: the gate of that round has an empty
+/// journal, its receipts begin at 1, and no pass of this round fits it.
 ///
-/// `Memory` is that of `run_lanes`: what the lanes did and wrote is lost then.
+/// `Memory` is that of `run_lanes`: what the lanes did and wrote is then lost.
 pub fn run_round<
     S: BuildHasher + Copy + Drop + Send + Sync,
     T: Threads + Wait + Sync,
@@ -141,8 +141,8 @@ where
     run_named::<Brand, S, T, C, R, W>(rt, alloc, state, check, lanes, workers)
 }
 
-/// Runs rounds one after another, each on the state that the one before led to. The last one that is told is the first that
-/// doesn't settle, where there is one: none is run behind it.
+/// Runs rounds one after another, each on the state that the round before led to. The last round returned is the first
+/// that doesn't settle, if there is one: no round is run after it.
 pub fn run_rounds<
     S: BuildHasher + Copy + Drop + Send + Sync,
     T: Threads + Wait + Sync,

@@ -32,7 +32,7 @@ abbrev pub EachLacksNewline : List (List ℕ) → Type 0
 EachLacksNewline [] = Unit {0}
 EachLacksNewline (line ∷ lines) = LacksNewline line × EachLacksNewline lines
 
--- the first lines of an input, where it is known
+-- the first lines of an input, if it is known
 abbrev pub FirstLines : Option (List ℕ) → List (List ℕ) → Type 0
 FirstLines input lines = IfSome input (λ bytes. (more : List (List ℕ)) × (lines_of bytes ≡ lines ++ more))
 
@@ -41,6 +41,6 @@ abbrev pub is_skipped : List ℕ → Bool
 is_skipped [] = true
 is_skipped (x ∷ xs) = x == 35
 
--- what a line is read as: one that isn't text has no form
+-- what a line is read as: a line that isn't UTF-8 has no form
 abbrev pub if_text : {X : Type 0} → (List ℕ → Option X) → List ℕ → Option X
 if_text form line = if is_utf8 line then form line else None

@@ -1,4 +1,4 @@
--- What one look at a reader moves to a line, of which so many more bytes may be kept.
+-- What one look at a reader moves to a line, of which `room` more bytes may be kept.
 use Rattle.std.specs.Prelude.{◌≡◌, ℕ, ◌+◌, ◌<◌, ◌≤◌, Bool, true, false, List, [], ◌∷◌, ◌++◌, length, take, Option, Some, None, OnSome, Result, Ok, Err}
 use Rattle.std.specs.Io.KnownBytes.{Consumes, IsAtEnd}
 use Rattle.gate_lines.specs.declared.fault.LaneFault.{LaneFault}
@@ -14,12 +14,12 @@ PartShown More bytes old new room = LacksNewline bytes × (length bytes ≤ room
 PartShown TooLong bytes old new room = LacksNewline bytes × (length bytes ≡ room + 1) × (new ≡ old)
 PartShown End bytes old new room = (bytes ≡ []) × (new ≡ old)
 
--- the line that the bytes begin with was moved, where its newline is among them and it may be kept
+-- the line that the bytes begin with was moved, if its newline is among them and it may be kept
 abbrev pub LineShown : Option ℕ → List ℕ → List ℕ → List ℕ → ℕ → Type 0
 LineShown (Some taken) shown old new room = (taken ≤ length shown) × PartShown Newline (take taken shown) old new room
 LineShown None shown old new room = LacksNewline (take (room + 1) shown) × (new ≡ old)
 
--- the reader ended, where its bytes were known
+-- the reader ended, if its bytes were known
 abbrev pub Ends : Part → Option (List ℕ) → Option (List ℕ) → Type 0
 Ends End input rest = OnSome input (IsAtEnd rest)
 Ends Newline input rest = Unit {0}

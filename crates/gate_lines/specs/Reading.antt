@@ -11,7 +11,7 @@ use Rattle.gate_lines.specs.Lines.{LacksNewline, line_limit}
 abbrev pub PieceRead : Option (List ℕ) → Option (List ℕ) → Type 0
 PieceRead old new = (piece : List ℕ) × Consumes old new piece × LacksNewline piece
 
--- a line of at most so many bytes
+-- a line of at most `most` bytes was read
 abbrev pub LineReadWithin : ℕ → Option (List ℕ) → Option (List ℕ) → List ℕ → Result Found LaneFault → Type 0
 LineReadWithin most old new line (Ok Whole) = Consumes old new (line ++ 10 ∷ []) × LacksNewline line × (length line ≤ most)
 LineReadWithin most old new line (Ok Rest) = Consumes old new line × OnSome old (IsAtEnd new) × LacksNewline line × (length line ≤ most) × (0 < length line)
@@ -26,14 +26,14 @@ LineReadWithin most old new line (Err faults.Write) = ⊥
 abbrev pub LineRead : Option (List ℕ) → Option (List ℕ) → List ℕ → Result Found LaneFault → Type 0
 LineRead old new line result = LineReadWithin line_limit old new line result
 
--- the same, of a line before which what was written may be sent on: where that fails, nothing was read
+-- a line was read, before which what was written may be sent on: if that fails, nothing was read
 abbrev pub LineAsked : Option (List ℕ) → Option (List ℕ) → List ℕ → Result Found LaneFault → Type 0
 LineAsked old new line (Ok found) = LineRead old new line (Ok found)
 LineAsked old new line (Err faults.Read) = LineRead old new line (Err faults.Read)
 LineAsked old new line (Err faults.Memory) = LineRead old new line (Err faults.Memory)
 LineAsked old new line (Err faults.Write) = Consumes old new []
 
--- whether the input ends, and what was taken to tell
+-- whether the input ends, and the bytes that were taken to find out
 abbrev pub EndTold : Option (List ℕ) → Option (List ℕ) → Result Bool LaneFault → Type 0
 EndTold old new (Ok true) = Consumes old new [] × OnSome old (IsAtEnd new)
 EndTold old new (Ok false) = (byte : ℕ) × Consumes old new (byte ∷ [])

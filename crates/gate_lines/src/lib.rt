@@ -1,8 +1,8 @@
 //! The lines that the gate reads, their words and numbers, and the texts that it writes.
 //!
-//! The main clauses are those of [`Lines::next`] and of [`Sink::write_text`]: which bytes a reader lost for a line, and which
-//! a writer was given, whatever the outcome. [`Lines`] counts the lines of a reader and bounds them. A reader in memory never
-//! fails, and a writer in memory fails only when out of memory.
+//! The main clauses are those of [`Lines::next`] and of [`Sink::write_text`]: which bytes were taken from a reader for
+//! a line, and which were given to a writer, whatever the outcome. [`Lines`] counts the lines of a reader and bounds
+//! them. A reader in memory never fails, and a writer in memory fails only when out of memory.
 #![tactic(auto)]
 
 mod fault;

@@ -15,12 +15,12 @@ pub const MAX_LINE: usize = 16_777_216;
 /// The most lines that one reader may give.
 pub const MAX_LINES: u64 = 1_000_000;
 
-/// What stands at the reader's place.
+/// What was found where a line was to be read.
 #[derive(Clone, Copy, Debug, PartialEq, Eq)]
 pub enum Found {
     /// A line with its newline.
     Whole,
-    /// What is left after the last newline: it isn't empty.
+    /// A last line without a newline. It isn't empty.
     Rest,
     /// Nothing: the input ends here.
     End,
@@ -30,7 +30,8 @@ pub enum Found {
 
 /// Reads the next line into `line`, without its newline, and never keeps more than `MAX_LINE` bytes of it.
 ///
-/// After a fault `line` holds the bytes that were taken. Of a line that is too long one byte more than the limit is taken.
+/// After a fault `line` holds the bytes that were taken. Of a line that is too long, one byte more than the limit is
+/// taken.
 pub fn next_line<R: Source>(reader: &mut R, line: &mut Vec<u8>) -> Result<Found, LaneFault>
     ensures read { LineRead (R.remaining reader.old) (R.remaining reader.new) line.new.items result }
     ensures kept { length line.new.items ≤ line_limit }
@@ -39,7 +40,7 @@ pub fn next_line<R: Source>(reader: &mut R, line: &mut Vec<u8>) -> Result<Found,
     next_line_within(reader, line, MAX_LINE)
 }
 
-/// The same, of a line that may have `most` bytes.
+/// Reads the next line as [`next_line`] does, with a limit of `most` bytes.
 pub fn next_line_within<R: Source>(
     reader: &mut R,
     line: &mut Vec<u8>,
@@ -64,7 +65,7 @@ pub fn next_line_within<R: Source>(
     }
 }
 
-/// Whether the input ends here. Where it doesn't, one byte of it is taken.
+/// Whether the input ends here. If it doesn't, one byte of it is taken.
 pub fn has_ended<R: Source>(reader: &mut R, line: &mut Vec<u8>) -> Result<bool, LaneFault>
     ensures told { EndTold (R.remaining reader.old) (R.remaining reader.new) result }
     ensures steady { R.steady ≡ true → IfErr result (λ fault. fault ≢ LaneFault.Read) }

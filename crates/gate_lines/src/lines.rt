@@ -13,12 +13,12 @@ use gate_bytes::Memory;
 use std::alloc::Global;
 use std::marker::Model;
 
-/// What stands at a reader's place, behind the lines that were counted.
+/// What a reader gave after the lines that were counted.
 #[derive(Clone, Copy, Debug, PartialEq, Eq)]
 pub enum Next {
     /// A line with its newline.
     Whole,
-    /// What is left after the last newline: it isn't empty.
+    /// A last line without a newline. It isn't empty.
     Rest,
     /// Nothing: the input ends here.
     End,
@@ -43,7 +43,7 @@ impl Model for Lines {
     ghost invariant = { λ l. l.count ≤ count_limit };
 }
 
-/// What follows all lines that a reader may give.
+/// Says whether the input ends after the last line that a reader may give.
 fn tell_end<R: Source>(reader: &mut R, line: &mut Vec<u8>) -> Result<Next, LaneFault>
     ensures told { PastTold (R.remaining reader.old) (R.remaining reader.new) result }
     ensures steady { R.steady ≡ true → IfErr result (λ fault. fault ≢ LaneFault.Read) }
@@ -56,7 +56,7 @@ fn tell_end<R: Source>(reader: &mut R, line: &mut Vec<u8>) -> Result<Next, LaneF
 }
 
 impl Lines {
-    /// No line yet.
+    /// The lines of a reader before the first one is read.
     pub fn new(alloc: Global) -> Lines
         ensures { result ≡ record { line = []; count = 0 } }
     {
@@ -88,7 +88,7 @@ impl Lines {
         Ok(self.line.push(b'\n')?)
     }
 
-    /// Counts what was found.
+    /// Counts what was found, if it is a line.
     fn counted(&mut self, found: Found) -> Next
         requires { self.old.count < count_limit }
         ensures { FoundCounted found self.old self.new result }
@@ -107,7 +107,7 @@ impl Lines {
         }
     }
 
-    /// Reads the next line, of at most `MAX_LINE` bytes. Behind `MAX_LINES` lines it only tells whether the input ends.
+    /// Reads the next line, of at most `MAX_LINE` bytes. After `MAX_LINES` lines it only says whether the input ends.
     pub fn next<R: Source>(&mut self, reader: &mut R) -> Result<Next, LaneFault>
         ensures taken { NextTaken line_limit (R.remaining reader.old) (R.remaining reader.new) self.old self.new result }
         ensures few { self.new.count ≤ count_limit }
@@ -116,7 +116,7 @@ impl Lines {
         self.next_within(reader, MAX_LINE)
     }
 
-    /// The same, of a line that may have `most` bytes.
+    /// Reads the next line as [`Lines::next`] does, with a limit of `most` bytes.
     pub fn next_within<R: Source>(&mut self, reader: &mut R, most: usize) -> Result<Next, LaneFault>
         ensures taken { NextTaken most (R.remaining reader.old) (R.remaining reader.new) self.old self.new result }
         ensures few { self.new.count ≤ count_limit }
@@ -129,8 +129,8 @@ impl Lines {
         Ok(self.counted(found))
     }
 
-    /// The same as [`Lines::next`]. Where not all of the line waits in memory, what was written is sent on before anything
-    /// is read.
+    /// Reads the next line as [`Lines::next`] does. If not all of the line waits in memory, what was written is sent on
+    /// before anything is read.
     pub fn next_or_send<R: Source, W: Sink>(
         &mut self,
         reader: &mut R,

@@ -6,7 +6,7 @@ ghost use Rattle.gate_lines.specs.Numbers.{number_of, small_number_of, no_leadin
 /// The greatest number that a line may name: the greatest whole number that every JSON reader keeps exact.
 pub const MAX_NUMBER: u64 = 9_007_199_254_740_991;
 
-/// Whether no zero stands before other digits.
+/// Whether the text has no leading zero.
 fn lacks_leading_zero(text: &[u8]) -> bool
     ensures { result ≡ no_leading_zero text.now }
 {
@@ -25,7 +25,7 @@ fn begins_with_plus(text: &[u8]) -> bool
     }
 }
 
-/// The number that the text is, at most `MAX_NUMBER`.
+/// The number that the text spells in decimal, at most `MAX_NUMBER`; `None` for any other text.
 pub fn read_number(text: &str) -> Option<u64>
     ensures { result ≡ number_of text.now }
 {
@@ -41,12 +41,12 @@ pub fn read_number(text: &str) -> Option<u64>
     }
 }
 
-/// A text is a number just where it is what is printed for that number.
+/// That a text is read as a number exactly if it is that number's decimal text.
 pub fn numbers_are_decimal()
     ensures { (text : List ℕ) (n : ℕ) → (number_of text ≡ Some n) ↔ ((text ≡ decimal n) × (n ≤ max_number)) }
 {}
 
-/// The number that the text is, where it fits 32 bits, as heights, times of blocks and places do.
+/// The number that the text spells in decimal, if it fits 32 bits, as heights, times of blocks and places do.
 pub fn read_small_number(text: &str) -> Option<u32>
     ensures { result ≡ small_number_of text.now }
 {

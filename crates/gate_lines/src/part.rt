@@ -10,7 +10,7 @@ use memchr::memchr;
 pub enum Part {
     /// The rest of the line, with its newline.
     Newline,
-    /// Some bytes of it, and no newline yet.
+    /// Some bytes of the line, and no newline yet.
     More,
     /// A byte more than may be kept.
     TooLong,
@@ -18,7 +18,7 @@ pub enum Part {
     End,
 }
 
-/// Appends to `line` the line that `shown` begins with, where its newline is shown and it has at most `room` bytes, and
+/// Appends to `line` the line that `shown` begins with, if its newline is shown and it has at most `room` bytes, and
 /// gives how many of the bytes that are shown were taken.
 pub(crate) fn append_line(
     shown: &[u8],

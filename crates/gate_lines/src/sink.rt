@@ -16,8 +16,8 @@ pub trait Sink: Write {
     // The bytes that the writer took and has not sent on yet.
     ghost held: { Self → List ℕ };
 
-    /// Writes all of the text. A writer that fails, or that takes nothing of some bytes, is `Write`; after `Memory` nothing
-    /// of the text was taken.
+    /// Writes all of the text. The fault is `Write` if the writer fails or takes none of the bytes; after `Memory`
+    /// nothing of the text was taken.
     fn write_text(&mut self, text: &[u8]) -> Result<(), LaneFault>
         ensures written { TextWritten (Self.contents self.old) (Self.contents self.new) text.now result }
         ensures steady { steady ≡ true → IfErr result (λ fault. fault ≢ LaneFault.Write) };
@@ -45,8 +45,8 @@ impl Sink for Vec<u8> {
     }
 }
 
-/// A writer with a buffer, over one that may fail. Its bytes in clauses are those that the one behind it has, and then
-/// those in the buffer.
+/// A writer with a buffer, over a writer that may fail. In clauses its bytes are those that the writer behind it has,
+/// and then those in the buffer.
 impl<W: Write + Drop> Sink for BufWriter<W> {
     ghost steady = { false };
 

@@ -13,9 +13,9 @@ pub trait Source: BufRead {
     // Whether no read of this type fails.
     ghost steady: { Bool };
 
-    /// Moves the next line to the end of `line`, where all of it waits in memory and has at most `room` bytes, and tells
-    /// whether it did; its newline is taken and not kept. Else nothing is taken. It reads nothing, so it never waits. A
-    /// reader over bytes in memory has all of them waiting.
+    /// Moves the next line to the end of `line` if all of it waits in memory and has at most `room` bytes, and says
+    /// whether it did; the line's newline is taken and not kept. Otherwise nothing is taken. It reads nothing, so it
+    /// never waits. A reader over bytes in memory has all of them waiting.
     fn take_waiting(&mut self, line: &mut Vec<u8>, room: usize) -> Result<bool, Memory>
         ensures taken { WaitingTaken (Self.remaining self.old) (Self.remaining self.new) line.old.items line.new.items room result }
         ensures none { steady ≡ true → IfOk result (λ taken. taken ≡ false → IfSome (Self.remaining self.old) (λ bytes. LacksNewline (take (room + 1) bytes))) };
@@ -85,7 +85,7 @@ impl<R: Read> Source for BufReader<R> {
     }
 }
 
-/// Takes the line that a reader shows, where it shows all of it. A reader that holds some bytes shows them without a read.
+/// Takes the line that a reader shows, if it shows all of it. A reader that holds some bytes shows them without a read.
 fn take_shown_line<R: BufRead>(
     reader: &mut R,
     line: &mut Vec<u8>,

@@ -1,4 +1,4 @@
-//! What was written goes out before a wait.
+//! Sending what was written before a read that may wait.
 ghost use Rattle.std.specs.Prelude.{◌≡◌, ◌≢◌, [], true, IfErr};
 ghost use Rattle.std.specs.Io.KnownBytes.{Appends};
 ghost use Rattle.gate_lines.specs.Reading.{LineAsked};
@@ -8,7 +8,7 @@ use crate::line::{Found, MAX_LINE, next_line};
 use crate::sink::Sink;
 use crate::source::Source;
 
-/// Reads the next line as [`next_line`] does. Where not all of it waits in memory, what was written is sent on before
+/// Reads the next line as [`next_line`] does. If not all of it waits in memory, what was written is sent on before
 /// anything is read.
 pub fn next_line_or_send<R: Source, W: Sink>(
     reader: &mut R,

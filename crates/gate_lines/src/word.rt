@@ -4,7 +4,7 @@ ghost use Rattle.gate_lines.specs.Words.{part_of, is_word};
 
 use memchr::memchr;
 
-/// What stands before the first space, and what stands after it.
+/// The text before the first space and the text after it, or none if there is no space.
 pub fn next_word(line: &str) -> Option<(&str, &str)>
     ensures { MatchOption result (part_of line.now ≡ None) (λ p. part_of line.now ≡ Some (p.0.now, p.1.now)) }
 {

@@ -1,4 +1,4 @@
--- When a transaction is final: its locktime lies behind the next block, or each of its sequences waives the locktime.
+-- When a transaction is final: its locktime is 0 or below its threshold, or each of its sequences waives the locktime.
 use Rattle.std.specs.Prelude.{ℕ, ◌==◌, ◌||◌, nat_lt, Bool, if◌then◌else◌}
 use Rattle.std.specs.List.{list_all}
 use Rattle.gate_tx.specs.Tx.{Tx}

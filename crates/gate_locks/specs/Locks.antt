@@ -26,15 +26,15 @@ span_of sequence = bit_and sequence 0xffff
 abbrev pub median_at : History → ℕ → ℕ
 median_at chain height = unwrap_or (mtp_of chain height) 0
 
--- the next block stands at least the length of the lock above the coin's
+-- the next block is at least the length of the lock above the coin's
 abbrev pub is_height_lock_met : History → ℕ → ℕ → Bool
 is_height_lock_met chain span height = nat_le (height + span) (tip_of chain + 1)
 
--- the tip's median time past lies at least the length of the lock behind that of the block before the coin's
+-- the tip's median time past is at least the length of the lock after that of the block before the coin's
 abbrev pub is_time_lock_met : History → ℕ → ℕ → Bool
 is_time_lock_met chain span height = nat_le (median_at chain (height - 1) + 512 * span) (median_at chain (tip_of chain))
 
--- the lock of an input, whose coin stands at a height
+-- the lock of an input whose coin has this height
 unfoldable pub is_lock_met_by : History → ℕ → ℕ → Bool
 is_lock_met_by chain sequence height =
     is_disabled sequence

@@ -15,7 +15,7 @@ pub(crate) fn locktimes()
     ensures waived { is_final_at (timed 5 0xffff_ffff) 5 9 ≡ true }
 {}
 
-/// Locks of blocks, at tip 4: the next block stands 3 above a coin of height 2.
+/// Locks by height, at tip 4: the next block is 3 above a coin of height 2.
 #[tactic(auto, unfolding(crate::specs::Locks::sequence_locks_met_by, crate::specs::Locks::is_lock_met_by))]
 pub(crate) fn blocks()
     ensures met { sequence_locks_met_by (locked (pos 2) 3) (2 ∷ []) five_blocks ≡ true }
@@ -26,7 +26,7 @@ pub(crate) fn blocks()
     ensures unconfirmed { sequence_locks_met_by (locked (pos 2) 0) (5 ∷ []) five_blocks ≡ true }
 {}
 
-/// Locks of 512 seconds, at tip 4, whose median time past is 2200: that of height 1 is 1600.
+/// Locks by time, in units of 512 seconds, at tip 4: its median time past is 2200, and that of height 1 is 1600.
 #[tactic(auto, unfolding(crate::specs::Locks::sequence_locks_met_by, crate::specs::Locks::is_lock_met_by, gate_chain::specs::Times::mtp_of, gate_chain::specs::Times::mtp_at, gate_chain::specs::Median::median_of))]
 pub(crate) fn seconds()
     ensures met { sequence_locks_met_by (locked (pos 2) 0x0040_0001) (2 ∷ []) five_blocks ≡ true }

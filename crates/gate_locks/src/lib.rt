@@ -1,4 +1,4 @@
-//! Absolute and relative locks: whether a transaction may stand in the next block (locktimes with BIP 113, and BIP 68).
+//! Absolute and relative timelocks: whether a transaction may be in the next block (locktimes with BIP 113; BIP 68).
 //!
 //! Nothing here takes memory. The main clause is that of `sequence_locks_met`, which says that the relative lock of each
 //! input is met exactly by BIP 68.

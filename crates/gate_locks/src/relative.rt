@@ -18,8 +18,8 @@ const SPAN: u32 = 0xffff;
 /// The unit of a lock by time, in seconds.
 const SECONDS: u64 = 512;
 
-/// Whether the relative lock of each input is met in the next block (BIP 68). The heights are those of the inputs' coins,
-/// one for each input; a coin of an unconfirmed transaction stands at the height of the next block.
+/// Whether the relative lock of each input is met in the next block (BIP 68). The heights are those of the inputs'
+/// coins, one for each input; a coin of an unconfirmed transaction has the height of the next block.
 #[tactic(auto, unfolding(crate::specs::Locks::sequence_locks_met_by))]
 pub fn sequence_locks_met<S: BuildHasher + Copy + Drop>(
     tx: &Transaction,

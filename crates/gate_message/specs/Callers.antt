@@ -18,7 +18,7 @@ caller_of (SetFloor rate) = Operator
 caller_of (Set switch on) = Operator
 caller_of (Extend disconnect now blocks) = Chain
 
--- the number of a peer
+-- the number of the peer, if the caller is one
 abbrev pub peer_of : Caller → Option ℕ
 peer_of (Peer peer) = Some peer
 peer_of (User user) = None

@@ -44,7 +44,7 @@ abbrev pub closing : Permissions → Then
 closing flags = if flags.noban then Keep else Close
 
 -- what follows for the session of a peer with these flags; only a transaction that comes while the node takes blocks only
--- closes whatever the flags are
+-- closes the session whatever the flags are
 abbrev pub then_of : Permissions → Refusal → Then
 then_of flags PeerUnknown = Keep
 then_of flags PeerClosed = Keep

@@ -1,4 +1,4 @@
--- Which reply is given to an event of the chain, and which takes the place of one.
+-- The reply to a chain event, and the denial that takes the place of a reply that was planned.
 use Rattle.std.specs.Prelude.{Option, Some, None, Result, Ok, Err}
 use Rattle.gate_chain.specs.declared.ChainDenial.{ChainDenial}
 use Rattle.gate_standard.specs.declared.Denial.{Denial}
@@ -10,7 +10,7 @@ use Rattle.gate_message.specs.declared.refusal.Then.TheVariants.{Keep}
 use Rattle.gate_message.specs.declared.reply.Reply.{Reply}
 use Rattle.gate_message.specs.declared.reply.Reply.TheVariants.{Entered, Left, Admitted, Listing, Block, Headers, Filter, Rpc, Denied, Set, Moved, Refused}
 
--- what is told of an event that came to this
+-- the reply to a chain event with this outcome
 abbrev pub chain_reply : Result Move ChainDenial → Reply
 chain_reply (Ok moved) = Moved moved
 chain_reply (Err denial) = Refused denial
@@ -32,8 +32,8 @@ denied_instead Set denial = Denied (Admission denial) Keep
 denied_instead (Moved moved) denial = Denied (Admission denial) Keep
 denied_instead (Refused denied) denial = Denied (Admission denial) Keep
 
--- the reply once the change is made: the planned one, or in its place the denial of what was granted and is gone again (A46),
--- which closes nothing
+-- the reply once the change is made: the planned one, or in its place the denial of a transaction that was granted and has left
+-- the pool again (A46), which closes no session
 abbrev pub settled : Reply → Option Denial → Reply
 settled reply None = reply
 settled reply (Some denial) = denied_instead reply denial

@@ -13,7 +13,7 @@ use Rattle.gate_rpc.specs.Calls.{request_of}
 use Rattle.gate_message.specs.declared.event.Event.{Event}
 use Rattle.gate_message.specs.declared.event.Event.TheVariants.{Enter, Leave, Tx as Submit, Mempool, GetBlock, Headers, FeeFilter, Rpc, SetFloor, Set, Chain as Extend}
 
--- what a command offers the pool
+-- the transaction that a command offers to the pool
 abbrev pub offered_by : Command → Option Tx
 offered_by (SendRawTransaction transaction) = transaction
 offered_by (TestMempoolAccept transaction) = None
@@ -41,7 +41,7 @@ transactions_of (SetFloor rate) = []
 transactions_of (Set switch on) = []
 transactions_of (Extend disconnect now blocks) = block_transactions (present blocks)
 
--- the event's transactions have a text, as each that was read has
+-- the event's transactions have a text, as each transaction that was read has
 abbrev pub IsSpelled : Event → Type 0
 IsSpelled (Enter peer address) = Unit {0}
 IsSpelled (Leave peer) = Unit {0}

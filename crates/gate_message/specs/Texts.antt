@@ -21,19 +21,19 @@ abbrev pub admitted_text : List ℕ → ℕ → ℕ → ℕ → List ℕ
 admitted_text txid fee vsize replaced =
     codes "admitted " ++ (id_text txid ++ (codes " fee " ++ (decimal fee ++ (codes " vsize " ++ (decimal vsize ++ (codes " replaced " ++ decimal replaced))))))
 
--- how many there are, and then each after a space
+-- how many txids there are, and then each after a space
 abbrev pub listing_text : List (List ℕ) → List ℕ
 listing_text txids = codes "listing " ++ decimal (length txids) ++ flat_map (λ txid. codes " " ++ id_text txid) txids
 
--- the time of the block of a height
+-- a height, and the time of the block there
 abbrev pub block_text : ℕ → ℕ → List ℕ
 block_text height time = codes "block " ++ (decimal height ++ (codes " " ++ decimal time))
 
--- how many headers follow, and the height of the first
+-- the height of the first header that follows, and how many follow
 abbrev pub headers_text : ℕ → ℕ → List ℕ
 headers_text first count = codes "headers " ++ (decimal first ++ (codes " " ++ decimal count))
 
--- the rate under which entries are hidden from a peer
+-- the rate below which entries are hidden from a peer
 abbrev pub filter_text : ℕ → List ℕ
 filter_text rate = codes "filter " ++ decimal rate
 

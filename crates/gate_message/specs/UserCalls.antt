@@ -15,7 +15,7 @@ pub record UserCall : Type 0 where
 abbrev pub called : List ℕ → ℕ → List ℕ → UserCall
 called user time json = record { user = user; time = time; json = json }
 
--- the name of the method that is called, where the text was read so far
+-- the name of the method that is called, if the text was read that far
 abbrev pub name_called : Result Request CallError → Option (List ℕ)
 name_called (Ok request) = Some (method_name (method_of request.command))
 name_called (Err error) = called_name error

@@ -37,7 +37,7 @@ fn kept(alloc: Global, text: &str) -> Result<Text, Memory>
     Ok(Text::from_string(String::from_str(alloc, text)?))
 }
 
-/// What a text of JSON asks for.
+/// What a text of JSON asks for, or the first fault in it.
 fn read_request(alloc: Global, json: &str) -> Result<Result<Request, CallError>, Memory>
     ensures { IfOk result (λ request. request ≡ request_of json.now) }
 {
@@ -87,7 +87,7 @@ impl Call {
         &self.request
     }
 
-    /// The name of the method that is called, where one was read.
+    /// The name of the method that is called, if one was read.
     pub fn method(&self) -> Option<&str>
         ensures { option_map (λ name. name.now) result ≡ name_called (request_of self.now.json) }
     {
@@ -103,7 +103,7 @@ impl Call {
     ghost use Rattle.gate_tx.specs.Text.{IsTx};
     ghost use Rattle.gate_message.specs.Spelled.{offered};
 
-    /// That the transaction that it offers has a text: it does nothing.
+    /// Recalls for a proof that the transaction that the call sends has a text: it does nothing.
     pub(crate) fn recall_spelled(&self)
         ensures { IfSome (offered (request_of self.now.json)) IsTx }
     {
@@ -138,7 +138,7 @@ impl Copied for Call {
     }
 }
 
-/// Calls are equal where their users, seconds and texts are: what these ask for is then the same.
+/// Calls are equal if their users, seconds and JSON are: they then ask for the same.
 impl PartialEq for Call {
     ghost use Rattle.gate_message.specs.Equality.{call_eq, call_decides};
     ghost use Rattle.gate_submission.specs.Equality.{deciding};

@@ -11,7 +11,7 @@ pub enum Caller {
     User(Text),
     /// The one that runs the node.
     Operator,
-    /// Where blocks come from.
+    /// The chain, from which blocks come.
     Chain,
 }
 

@@ -32,7 +32,7 @@ pub enum Event {
     Mempool {
         peer: u64,
     },
-    /// A peer asks for the block of a height.
+    /// A peer asks for the block at a height.
     GetBlock {
         peer: u64,
         height: u32,
@@ -42,7 +42,7 @@ pub enum Event {
         peer: u64,
         height: u32,
     },
-    /// A peer asks that its listings leave out what pays less, in satoshi per 1,000 virtual bytes (BIP 133).
+    /// A peer asks that its listings leave out entries that pay less, in satoshi per 1,000 virtual bytes (BIP 133).
     FeeFilter {
         peer: u64,
         rate: u64,
@@ -53,13 +53,13 @@ pub enum Event {
     SetFloor {
         rate: u64,
     },
-    /// The operator turns something on or off.
+    /// The operator turns a switch on or off.
     Set {
         switch: Switch,
         on: bool,
     },
-    /// So many blocks are disconnected, and these connected in their place, at this second. A block that could not be read is
-    /// `None`.
+    /// This many blocks are disconnected, and these connected in their place, at this second. A block that could not be
+    /// read is `None`.
     Chain {
         disconnect: u64,
         now: u64,
@@ -70,7 +70,7 @@ pub enum Event {
 impl Event {
     ghost use Rattle.gate_message.specs.Callers.{caller_of};
 
-    /// Who makes it.
+    /// Who makes the event.
     pub fn caller(&self, alloc: Global) -> Result<Caller, Memory>
         ensures { IfOk result (λ caller. caller ≡ caller_of self.now) }
     {
@@ -96,7 +96,7 @@ impl Event {
 impl Event {
     ghost use Rattle.gate_message.specs.Callers.{caller_of, peer_of};
 
-    /// The peer that makes it, where one does.
+    /// The peer that makes the event, if one does.
     fn peer(&self) -> Option<u64>
         ensures { result ≡ peer_of (caller_of self.now) }
     {
@@ -115,7 +115,7 @@ impl Event {
         }
     }
 
-    /// Whether this caller makes it.
+    /// Whether this caller makes the event.
     pub fn is_of(&self, caller: &Caller) -> bool
         ensures { IsTrue result ↔ (caller_of self.now ≡ caller.now) }
     {
@@ -141,7 +141,7 @@ impl Event {
 impl Event {
     ghost use Rattle.gate_message.specs.Spelled.{IsSpelled};
 
-    /// That its transactions have a text: it does nothing.
+    /// Recalls for a proof that the event's transactions have a text: it does nothing.
     pub fn recall_spelled(&self)
         ensures { IsSpelled self.now }
     {

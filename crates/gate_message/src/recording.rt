@@ -1,4 +1,4 @@
-//! A reply for each who keeps it.
+//! Copies of a reply, one for each keeper.
 ghost use Rattle.std.specs.Prelude.{◌≡◌, IfOk};
 ghost use Rattle.gate_message.specs.Replies.{chain_reply, settled};
 ghost use Rattle.gate_message.specs.Recording.{AreCopies};
@@ -53,7 +53,7 @@ impl Replies {
         }
     }
 
-    /// Those to the chain's event, which take no memory.
+    /// The reply to a chain event with its copies, which take no memory.
     pub fn of_chain(outcome: Result<Moved, ChainDenial>) -> Replies
         ensures reply { result.reply ≡ chain_reply outcome }
         ensures copies { AreCopies result }
@@ -65,7 +65,7 @@ impl Replies {
         }
     }
 
-    /// These, or in the place of each the denial of what they say was admitted.
+    /// These replies, or in the place of each the denial of the transaction that it says was admitted.
     pub fn settled(self, denial: Option<Denial>) -> Replies
         ensures reply { result.reply ≡ settled self.reply denial }
         ensures copies { AreCopies self → AreCopies result }

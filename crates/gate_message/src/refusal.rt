@@ -1,4 +1,4 @@
-//! Why an event is refused, and what follows for the session.
+//! Why an event is denied, and what follows for the session.
 ghost use Rattle.std.specs.Prelude.{◌≡◌, ◌++◌, OnOk, codes, string_bytes};
 ghost use Rattle.gate_message.specs.Refusals.{closing, rule_text, refusal_token, then_of, then_text};
 
@@ -18,7 +18,7 @@ pub enum Then {
 }
 
 impl Then {
-    /// What a refusal that closes does to the session of a peer with these flags.
+    /// What a refusal that closes a session does to that of a peer with these flags.
     fn closing(flags: &Permissions) -> Then
         ensures { result ≡ closing flags.now }
     {
@@ -29,7 +29,7 @@ impl Then {
         }
     }
 
-    /// As it stands in the line of a denial, between two spaces.
+    /// The word for it in the line of a denial, between two spaces.
     pub(crate) fn between_spaces(&self) -> &'static str
         ensures { result.now ≡ codes " " ++ (then_text self.now ++ codes " ") }
     {
@@ -62,7 +62,8 @@ pub enum Refusal {
     HeadersDuringDownload,
     /// P9: there is no block of the height that is asked for.
     UnknownBlock,
-    /// P10: a block that is more than a week older than the tip is asked for while the target for such blocks is reached.
+    /// P10: a block that is more than a week older than the tip is asked for while the upload target for such blocks is
+    /// reached.
     HistoricalUploadTarget,
     /// A rule of admission.
     Admission(Denial),

@@ -1,14 +1,14 @@
 //! What the operator turns on and off.
 
-/// What is turned on or off.
+/// A switch, named by what holds while it is on.
 #[derive(Clone, Copy, Debug, PartialEq, Eq)]
 pub enum Switch {
-    /// Bloom filters, with which every peer may ask for a listing (BIP 35, BIP 111).
+    /// Bloom filters are on, with which every peer may ask for a listing (BIP 35, BIP 111).
     Bloom,
-    /// That the node has uploaded as much as it may.
+    /// The node has uploaded as much as it may.
     Upload,
-    /// That it has uploaded as much of old blocks as it may.
+    /// The node has uploaded as much of old blocks as it may.
     Historic,
-    /// That it makes its initial block download.
+    /// The node is in its initial block download.
     Download,
 }

@@ -51,7 +51,7 @@ groups_of (char ∷ text) = numbers_of (slice_split (λ c. c == 58) (char ∷ te
 abbrev pub begins_with_colon : List ℕ → Bool
 begins_with_colon text = slice_index text 0 == 58
 
--- what stands before the first double colon, and after it
+-- the text before the first double colon, and the text after it
 abbrev pub elided : List ℕ → Option (List ℕ × List ℕ)
 elided [] = None
 elided (char ∷ text) =
@@ -62,7 +62,7 @@ elided (char ∷ text) =
 abbrev pub eight : List ℕ → Option (List ℕ)
 eight groups = if length groups == 8 then Some groups else None
 
--- with zeros between them, one or more, up to eight groups
+-- eight groups: the first and the last of them, with one or more zeros between
 abbrev pub filled : List ℕ → List ℕ → Option (List ℕ)
 filled head tail = if nat_lt (length head + length tail) 8 then Some (head ++ replicate (8 - length head - length tail) 0 ++ tail) else None
 
@@ -95,7 +95,7 @@ canonical a = if is_mapped a then inner a else a
 abbrev pub address_of : List ℕ → Option Address
 address_of text = option_map canonical (written_of text)
 
--- the one text that is printed for it: of an IPv6 address all eight groups, in lower case without leading zeros
+-- the one text that is printed for an address: of an IPv6 address all eight groups, in lower case without leading zeros
 abbrev pub address_text : Address → List ℕ
 address_text (V4 octets) = ipv4_text octets
 address_text (V6 groups) = join_with_byte 58 (map (digits 16 false) groups)

@@ -37,7 +37,7 @@ abbrev pub flags_at : List ℕ → Result Whitelist NetFault → Result (Option 
 flags_at text (Ok whitelist) = Ok (option_map (λ a. permissions_text (flags_of whitelist a)) (address_of text))
 flags_at text (Err fault) = Err fault
 
--- the flags of an address under entries that give relay where they have no words, as they are printed
+-- the flags of an address, as they are printed, under entries that give relay if they have no words
 abbrev pub flags : List (List ℕ) → List ℕ → Result (Option (List ℕ)) NetFault
 flags entries text = flags_at text (whitelist_of entries true false)
 

@@ -24,7 +24,7 @@ has Addr flags = flags.addr
 abbrev pub gives : Whitelist → Flag → WhitelistEntry → Bool
 gives whitelist flag entry = has flag entry.permissions || (entry.is_implicit && has flag (implicit_flags whitelist))
 
--- an address has a flag just where an entry whose subnet has the address gives it
+-- an address has a flag exactly if an entry whose subnet has the address gives the flag
 abbrev pub FlagsAreGiven : Type 0
 FlagsAreGiven = (whitelist : Whitelist) (a : Address) (flag : Flag) → has flag (flags_of whitelist a) ≡ list_any (λ entry. is_in a entry.subnet && gives whitelist flag entry) whitelist.entries
 

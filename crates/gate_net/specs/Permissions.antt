@@ -26,7 +26,7 @@ pub record IsComplete (flags : Permissions) : Type 0 where
   pub download : flags.noban ≡ true → flags.download ≡ true
   pub relay : flags.forcerelay ≡ true → flags.relay ≡ true
 
--- the flags that stand in either
+-- the flags that are set in either
 abbrev pub union : Permissions → Permissions → Permissions
 union a b = record {
   bloomfilter = a.bloomfilter || b.bloomfilter;
@@ -57,7 +57,7 @@ words =
     ∷ (codes "all", all_permissions)
     ∷ []
 
--- what a word permits, where it is one
+-- what a word permits, if it is one of the words
 unfoldable pub permitted_by : List ℕ → Option Permissions
 permitted_by word = lookup (bytes_eq word) words
 
@@ -65,11 +65,11 @@ abbrev pub permitted_together : List (List ℕ) → Option Permissions
 permitted_together [] = Some no_permissions
 permitted_together (word ∷ rest) = option_and_then (λ flags. option_map (union flags) (permitted_together rest)) (permitted_by word)
 
--- what the words between the commas of a text permit together, where each is a word
+-- what the words between the commas of a text permit together, if each is one of the words
 abbrev pub permissions_of : List ℕ → Option Permissions
 permissions_of text = permitted_together (slice_split (λ char. char == 44) text)
 
--- what entries without words give, where the whitelist gives them relay, and forcerelay with relay
+-- what entries without words give, by whether the whitelist gives them relay, and forcerelay with relay
 abbrev pub implicit_by : Bool → Bool → Permissions
 implicit_by relay forcerelay = record {
   bloomfilter = false;

@@ -14,7 +14,7 @@ use Rattle.gate_net.specs.Subnets.{Subnet, host, netmask, subnet_of}
 abbrev pub has_slash : List ℕ → Bool
 has_slash text = list_any (λ char. char == 47) text
 
--- one to three digits, which may begin with zeros, whose number n is at most so great
+-- one to three digits, which may begin with zeros, whose number n is at most `most`
 abbrev pub IsLength : ℕ → List ℕ → ℕ → Type 0
 IsLength most text n = (0 < length text) × (length text < 4) × (all_ascii_digits text ≡ true) × (digits_value 10 text ≡ n) × (n ≤ most)
 
@@ -31,7 +31,7 @@ SpellsLength (V6 groups) text n = IsLength 128 text n
 abbrev pub SpellsHost : List ℕ → Subnet → Type 0
 SpellsHost text subnet = (has_slash text ≡ false) × ((written : Address) × Spells text written × (subnet ≡ host (canonical written)))
 
--- the text has this before its first slash, and that behind it
+-- the text has `left` before its first slash, and `right` behind it
 abbrev pub IsParted : List ℕ → List ℕ → List ℕ → Type 0
 IsParted text left right = (text ≡ left ++ 47 ∷ right) × (has_slash left ≡ false)
 
@@ -41,11 +41,11 @@ SpellsRange text subnet =
     (left : List ℕ) × (right : List ℕ) × IsParted text left right
     × Spells left subnet.address × (is_mapped subnet.address ≡ false) × SpellsLength subnet.address right subnet.prefix
 
--- a text is read as a subnet just where it spells that subnet
+-- a text is read as a subnet exactly if it spells that subnet
 abbrev pub SubnetsAreSpelled : Type 0
 SubnetsAreSpelled = (text : List ℕ) (subnet : Subnet) → (subnet_of text ≡ Ok subnet) ↔ (SpellsHost text subnet ⊎ SpellsRange text subnet)
 
--- N3 is told just where an IPv4-mapped address stands before the slash
+-- N3 is named exactly if an IPv4-mapped address stands before the slash
 abbrev pub MappedSubnetsAreTold : Type 0
 MappedSubnetsAreTold =
     (text : List ℕ) → (subnet_of text ≡ Err MappedSubnet)

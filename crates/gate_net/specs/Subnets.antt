@@ -24,14 +24,14 @@ abbrev pub bits_of : Address → ℕ
 bits_of (V4 octets) = from_be_bytes w32 octets
 bits_of (V6 groups) = from_be_bytes w128 (octets_of groups)
 
--- the first bits of an address, n of them
+-- the first n bits of an address
 abbrev pub first_bits : ℕ → Address → ℕ
 first_bits n a = bits_of a / 2 ^ (width a - n)
 
 abbrev pub is_same_family : Address → Address → Bool
 is_same_family a b = width a == width b
 
--- an address is in a subnet of its own family where it begins with the same bits
+-- an address is in a subnet of its own family if it begins with the same bits
 abbrev pub is_in : Address → Subnet → Bool
 is_in a subnet = is_same_family a subnet.address && first_bits subnet.prefix a == first_bits subnet.prefix subnet.address
 
@@ -51,23 +51,23 @@ mask_below (suc n) bits = if bits == netmask n then Some n else mask_below n bit
 unfoldable pub mask_length : ℕ → Option ℕ
 mask_length bits = mask_below 33 bits
 
--- a number of one to three digits, at most so great
+-- a number of one to three digits, of at most `most`
 abbrev pub is_length : ℕ → List ℕ → Bool
 is_length most text = nat_lt 0 (length text) && (nat_lt (length text) 4 && (all_ascii_digits text && nat_le (digits_value 10 text) most))
 
 unfoldable pub length_of : ℕ → List ℕ → Option ℕ
 length_of most text = if is_length most text then Some (digits_value 10 text) else None
 
--- what stands behind the slash: a number of bits, or of an IPv4 address a netmask
+-- how many bits the text behind the slash counts: as a number, or of an IPv4 address also as a netmask
 abbrev pub prefix_of : Address → List ℕ → Option ℕ
 prefix_of (V4 octets) text = option_or (length_of 32 text) (option_and_then (λ mask. mask_length (from_be_bytes w32 mask)) (dotted_of text))
 prefix_of (V6 groups) text = length_of 128 text
 
--- a text parted at the first such byte
+-- the text before the first byte `char` and the text after it
 unfoldable pub parted_at : ℕ → List ℕ → Option (List ℕ × List ℕ)
 parted_at char text = if nat_lt (position_or_len (λ b. b == char) text) (length text) then Some (before_first (λ b. b == char) text, after_first (λ b. b == char) text) else None
 
--- what is written with a slash: an IPv4-mapped address has no subnets
+-- a subnet that is written with a slash: an IPv4-mapped address has none
 abbrev pub slashed : List ℕ → Option Address → Result Subnet NetDenial
 slashed text None = Err BadSubnet
 slashed text (Some a) = if is_mapped a then Err MappedSubnet else ok_or (option_map (λ n. record { address = a; prefix = n }) (prefix_of a text)) BadSubnet

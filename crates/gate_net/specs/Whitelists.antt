@@ -33,7 +33,7 @@ in_front (Err denial) rest = Err denial
 in_front (Ok entry) (Err denial) = Err denial
 in_front (Ok entry) (Ok entries) = Ok (entry ∷ entries)
 
--- the entries that texts spell, or what is wrong with the first that spells none
+-- the entries that texts spell, or what is wrong with the first that spells no entry
 abbrev pub entries_of : List (List ℕ) → Result (List WhitelistEntry) NetDenial
 entries_of [] = Ok []
 entries_of (text ∷ texts) = in_front (entry_of text) (entries_of texts)

@@ -9,7 +9,7 @@ use std::net::IpAddr;
 
 /// An IPv4 or IPv6 address. An IPv6 address in ::ffff:0:0/96 is its IPv4 address (RFC 4291, 2.5.5.2).
 ///
-/// Contracts see the four octets of the one, and the eight groups of the other, from the left.
+/// Contracts see the four octets of an IPv4 address, and the eight groups of an IPv6 address, from the left.
 #[derive(Clone, Copy, Debug, PartialEq, Eq)]
 pub struct Address {
     ip: IpAddr,
@@ -30,7 +30,7 @@ impl Model for Address {
 
 /// The address as it is written, mapped or not.
 ///
-/// std reads an IPv6 text whose end is written as IPv4 too, and this doesn't.
+/// The standard library also reads an IPv6 text whose end is written as IPv4. This doesn't.
 pub(crate) fn written(text: &str) -> Option<IpAddr>
     ensures { option_map seen result ≡ written_of text.now }
 {

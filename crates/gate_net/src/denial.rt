@@ -9,7 +9,7 @@ use std::fmt;
 pub enum NetDenial {
     /// N1: a word is no permission.
     UnknownPermission,
-    /// N2: the text of the subnet is none.
+    /// N2: the text spells no subnet.
     BadSubnet,
     /// N3: the subnet is one of IPv4 addresses mapped into IPv6.
     MappedSubnet,

@@ -6,7 +6,7 @@ use gate_bytes::Memory;
 use std::alloc::Global;
 use std::marker::Model;
 
-/// Seven flags, of which noban brings download with it, and forcerelay relay.
+/// Seven flags, of which noban brings download with it, and forcerelay brings relay.
 #[derive(Clone, Copy, Debug, PartialEq, Eq)]
 pub struct Permissions {
     bloomfilter: bool,
@@ -128,7 +128,7 @@ impl Permissions {
         }
     }
 
-    /// What the words between the commas permit together. `None` where one of them is no word.
+    /// What the words between the commas permit together. `None` if one of them is no word.
     pub fn parse(text: &str) -> Option<Permissions>
         ensures { result ≡ permissions_of text.now }
     {
@@ -139,7 +139,7 @@ impl Permissions {
         Some(flags)
     }
 
-    /// The flags that stand in either.
+    /// The flags that are set in either.
     pub fn union(&self, other: &Permissions) -> Permissions
         ensures { result ≡ union self.now other.now }
     {
@@ -169,28 +169,28 @@ impl Permissions {
         }
     }
 
-    /// It may ask for a listing while bloom filters are off.
+    /// Whether the peer may ask for a listing while bloom filters are off.
     pub fn bloomfilter(&self) -> bool
         ensures { result ≡ self.now.bloomfilter }
     {
         self.bloomfilter
     }
 
-    /// No refusal closes its session.
+    /// Whether no refusal closes the peer's session.
     pub fn noban(&self) -> bool
         ensures { result ≡ self.now.noban }
     {
         self.noban
     }
 
-    /// What it submits is relayed again, even where it is in the pool already.
+    /// Whether what the peer submits is relayed again, even if it is in the pool already.
     pub fn forcerelay(&self) -> bool
         ensures { result ≡ self.now.forcerelay }
     {
         self.forcerelay
     }
 
-    /// It may submit while the node takes blocks only.
+    /// Whether the peer may submit while the node takes blocks only.
     pub fn relay(&self) -> bool
         ensures is { result ≡ self.now.relay }
         ensures implied { self.now.forcerelay ≡ true → result ≡ true }
@@ -198,14 +198,14 @@ impl Permissions {
         self.relay
     }
 
-    /// It may ask for a listing at any time.
+    /// Whether the peer may ask for a listing at any time.
     pub fn mempool(&self) -> bool
         ensures { result ≡ self.now.mempool }
     {
         self.mempool
     }
 
-    /// It may ask for headers and blocks where others may not.
+    /// Whether the peer may ask for headers and blocks when other peers may not.
     pub fn download(&self) -> bool
         ensures is { result ≡ self.now.download }
         ensures implied { self.now.noban ≡ true → result ≡ true }
@@ -213,7 +213,7 @@ impl Permissions {
         self.download
     }
 
-    /// It may ask for addresses as often as it wants.
+    /// Whether the peer may ask for addresses as often as it wants.
     pub fn addr(&self) -> bool
         ensures { result ≡ self.now.addr }
     {

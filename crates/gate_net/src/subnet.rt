@@ -29,7 +29,7 @@ impl Model for Subnet {
     ghost inverse = { λ s. record { address = s.address; prefix = s.prefix } };
 }
 
-/// The netmask of so many ones.
+/// The netmask, of 32 bits, that begins with this many ones.
 fn mask_of(ones: u32) -> u64
     requires { ones ≤ 32 }
     ensures { result ≡ netmask ones }
@@ -37,7 +37,7 @@ fn mask_of(ones: u32) -> u64
     (1 << 32) - (1 << (32 - ones))
 }
 
-/// How many ones a netmask has, which stand before its zeros.
+/// How many ones a netmask has before its zeros; none if a one follows a zero.
 fn ones_of(mask: Ipv4Addr) -> Option<u8>
     ensures { result ≡ mask_length (ipv4_bits mask) }
 {
@@ -59,7 +59,7 @@ fn begins_with_plus(text: &[u8]) -> bool
     }
 }
 
-/// A number of one to three digits, which may be zeros in front, at most `most`.
+/// Reads a number of one to three digits, which may begin with zeros, of at most `most`.
 fn read_length(text: &str, most: u8) -> Option<u8>
     ensures { result ≡ length_of most text.now }
 {
@@ -90,7 +90,7 @@ fn read_prefix(ip: IpAddr, text: &str) -> Option<u8>
     }
 }
 
-/// What stands before the first such byte, and after it.
+/// The text before the first `at` and the text after it, or none if there is no `at`.
 pub(crate) fn part(text: &str, at: char) -> Option<(&str, &str)>
     requires { at < 128 }
     ensures { MatchOption result (parted_at at text.now ≡ None) (λ p. parted_at at text.now ≡ Some (p.0.now, p.1.now)) }
@@ -125,7 +125,7 @@ impl Subnet {
         }
     }
 
-    /// The address stands before the slash, and the text behind it.
+    /// Reads a subnet from the address before the slash and the text behind it.
     fn read_slashed(ip: IpAddr, text: &str) -> Result<Subnet, NetDenial>
         ensures { result ≡ slashed text.now (Some (seen ip)) }
     {
@@ -163,7 +163,7 @@ impl Subnet {
         Subnet::read(text).ok()
     }
 
-    /// Whether the address is of the same family and begins with the same bits.
+    /// Whether the address is of the subnet's family and begins with the bits of the subnet that count.
     pub fn contains(&self, address: &Address) -> bool
         ensures { result ≡ is_in address.now self.now }
     {

@@ -10,7 +10,7 @@ use crate::permissions::Permissions;
 use gate_bytes::{Copied, Kept, Memory, Text};
 use std::alloc::Global;
 
-/// Entries, and what those without words give beside noban, download and mempool.
+/// Entries, and what entries without words give besides noban, download and mempool.
 #[derive(Debug, Drop, PartialEq, Eq)]
 pub struct Whitelist {
     pub entries: Kept<WhitelistEntry>,
@@ -21,7 +21,7 @@ pub struct Whitelist {
 }
 
 impl Whitelist {
-    /// Reads each text as an entry. The fault is that of the first text that is none.
+    /// Reads each text as an entry. A denial is that of the first text that is no entry.
     pub fn parse(
         alloc: Global,
         entries: &[Text],
@@ -49,7 +49,7 @@ impl Whitelist {
         Permissions::implicit(self.relay, self.forcerelay)
     }
 
-    /// The union of what the entries give whose subnet has the address.
+    /// The union of the flags that the entries give whose subnet has the address.
     pub fn flags_of(&self, address: &Address) -> Permissions
         ensures { result ≡ flags_of self.now address.now }
     {
@@ -65,7 +65,7 @@ impl Whitelist {
     }
 }
 
-/// What the entries that match give, those without words apart.
+/// The flags of the matching entries that have words, and whether an entry without words matches.
 #[derive(Clone, Copy)]
 struct Found {
     flags: Permissions,

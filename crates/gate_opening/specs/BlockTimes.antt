@@ -2,7 +2,7 @@
 use Rattle.std.specs.Prelude.{ℕ, zero, suc, ◌+◌, ◌^◌, nat_le, Bool, List, [], ◌∷◌}
 use Rattle.std.specs.List.{list_any}
 
--- so many times, the first of them and the step to each next
+-- this many times, by the first of them and the step to each next
 abbrev pub times_from : ℕ → ℕ → ℕ → List ℕ
 times_from zero first step = []
 times_from (suc count) first step = first ∷ times_from count (first + step) step

@@ -1,4 +1,4 @@
--- Limits of families that a line sets, and what was said of each.
+-- Limits on ancestors and descendants that a line sets, and what was said of each.
 use Rattle.std.specs.Prelude.{ℕ, if◌then◌else◌, List, codes, Option, Some, None}
 use Rattle.std.specs.Str.{bytes_eq}
 use Rattle.gate_opening.specs.declared.limit.Limit.{Limit}

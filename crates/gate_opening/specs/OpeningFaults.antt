@@ -25,7 +25,7 @@ token_text tokens.CoinTwice = codes "coin-twice"
 abbrev pub line_of_coin : List ℕ → ℕ → ℕ
 line_of_coin lines coin = unwrap_or (slice_get lines coin) 0
 
--- a fault of the chain, at the line of its coin, and at line 0 where it is of none
+-- a fault of the chain, at the line of its coin, or at line 0 if it is not a coin's
 abbrev pub located : List ℕ → OpenFault → OpeningFault
 located lines chain.Memory = faults.Memory
 located lines chain.NoTimes = faults.Line 0 tokens.NoTimes

@@ -70,7 +70,7 @@ abbrev pub script_from : Result (List ℕ) FromHexError → Option (List ℕ)
 script_from (Ok script) = Some script
 script_from (Err fault) = None
 
--- a script in hex, `-` where it is empty
+-- a script in hex, or `-` for an empty one
 abbrev pub script_of : List ℕ → Option (List ℕ)
 script_of text =
     if length text == 0 then None
@@ -141,12 +141,12 @@ limit_line_of limit text = do
   count ← number_of text
   if is_count count then Some (says.Limit limit count) else None
 
--- a setting, or a limit of families
+-- a setting, or a limit on ancestors or descendants
 abbrev pub other_line_of : Option Limit → List ℕ → List ℕ → Option OpeningLine
 other_line_of None name text = set_line_of name text
 other_line_of (Some limit) name text = limit_line_of limit text
 
--- a line's name, and what stands after it
+-- what a line says, by its name and the text after it
 abbrev pub named_line : List ℕ × List ℕ → Option OpeningLine
 named_line p =
     if bytes_eq p.0 (codes "budget") then budget_line_of p.1

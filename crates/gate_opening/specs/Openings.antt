@@ -19,7 +19,7 @@ opening_length (line ∷ lines) = length line + 1 + (if is_end line then 0 else 
 abbrev pub opening_part : List ℕ → List ℕ
 opening_part text = take (opening_length (lines_of text)) text
 
--- just the opening was read
+-- exactly the opening was read
 abbrev pub LeavesRest : Option (List ℕ) → Option (List ℕ) → Type 0
 LeavesRest input rest = IfSome input (λ text. Consumes input rest (opening_part text))
 
@@ -32,7 +32,7 @@ OpeningUnread input rest =
 
 -- ---- steps
 
--- what reading one more line did, where so many were before it
+-- what reading one more line did, with this many lines before it
 abbrev pub StepTaken : ℕ → Option (List ℕ) → Option (List ℕ) → Said → Said → Result Step OpeningFault → Type 0
 StepTaken number input rest old new (Ok Went) = (line : List ℕ)
     × Consumes input rest (line ++ 10 ∷ []) × LacksNewline line × (length line ≤ line_limit)
@@ -43,7 +43,7 @@ StepTaken number input rest old new (Err (Line line token)) = IfSome input (λ t
 StepTaken number input rest old new (Err Read) = PieceRead input rest
 StepTaken number input rest old new (Err Memory) = Unit {0}
 
--- what reading all lines gave, where nothing was said before
+-- what reading all lines gave, if nothing was said before
 abbrev pub OpeningGathered : Option (List ℕ) → Option (List ℕ) → Said → Result (Unit {0}) OpeningFault → Type 0
 OpeningGathered input rest said (Ok done) =
     IfSome input (λ text. (all_said 0 nothing_said (lines_of text) ≡ Ok said) × Consumes input rest (opening_part text))

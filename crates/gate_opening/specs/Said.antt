@@ -30,7 +30,7 @@ use Rattle.gate_opening.specs.OpeningLines.{said_by}
 use Rattle.gate_opening.specs.OpeningFaults.{located}
 use Rattle.gate_opening.specs.BlockTimes.{times_from, some_too_great}
 
--- what was said, with the line of each coin, the entries of the whitelist, and the texts of those of the lists of methods
+-- what was said, with the line of each coin, the entries of the whitelist, and the texts of the entries of the lists of methods
 pub record Said : Type 0 where
   pub budget : Option ℕ
   pub times : List ℕ
@@ -48,7 +48,7 @@ nothing_said = record { budget = None; times = []; coins = []; coin_lines = []; 
 
 -- ---- one line
 
--- so many more times are more than an opening may have, or one of them doesn't fit 32 bits
+-- with this many more times there are more than an opening may have, or one of them doesn't fit 32 bits
 abbrev pub exceeds : ℕ → ℕ → ℕ → ℕ → Bool
 exceeds held count first step = nat_lt times_limit (held + count) || some_too_great (times_from count first step)
 
@@ -59,7 +59,7 @@ abbrev pub entry_fault : Result WhitelistEntry NetDenial → Option OpeningToken
 entry_fault (Ok entry) = None
 entry_fault (Err denial) = Some (tokens.Whitelist denial)
 
--- what is wrong with one more line: a setting, or a verdict on an input, stands once
+-- what is wrong with one more line: a setting, or a verdict on an input, may stand only once
 abbrev pub line_fault : Said → OpeningLine → Option OpeningToken
 line_fault said (says.Budget budget) = fault_if (is_some said.budget) tokens.BadLine
 line_fault said (says.Times count first step) = fault_if (exceeds (length said.times) count first step) tokens.TimesLimit
@@ -112,7 +112,7 @@ abbrev pub on_said : Result Said OpeningFault → (Said → Result Said OpeningF
 on_said (Ok said) next = next said
 on_said (Err fault) next = Err fault
 
--- What is said after these lines, where so many were before them. The limits are tested before anything else of a line.
+-- What is said after these lines, with this many lines before them. The limits are tested before anything else of a line.
 abbrev pub all_said : ℕ → Said → List (List ℕ) → Result Said OpeningFault
 all_said number said [] = Ok said
 all_said number said (line ∷ lines) =
@@ -139,7 +139,7 @@ lists_in said = record {
   is_default_on = default_of said.settings.rpcwhitelistdefault said.rpcwhitelist;
 }
 
--- 25 and 25 where nothing is said; no line says a number that no policy has
+-- the policy: both limits are 25 if nothing is said; no line says a number that no policy has
 abbrev pub policy_in : Said → Policy
 policy_in said =
     unwrap_or (policy_of (unwrap_or said.limits.ancestors 25) (unwrap_or said.limits.descendants 25) (unwrap_or said.settings.mempoolfullrbf false))

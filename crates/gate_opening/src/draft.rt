@@ -80,7 +80,7 @@ impl<S: BuildHasher + Copy + Drop> Draft<S> {
         }
     }
 
-    /// Takes a line by its number, from 1, that isn't the opening's last.
+    /// Adds what a line says, by its number, from 1. The line isn't the one that ends the opening.
     pub(crate) fn take(
         &mut self,
         alloc: Global,
@@ -197,7 +197,7 @@ impl<S: BuildHasher + Copy + Drop> Draft<S> {
         Ok(())
     }
 
-    /// What is asked of families and of replacements.
+    /// The policy on ancestors, descendants and replacements.
     fn policy(&self) -> Policy
         ensures { result ≡ policy_in self.now }
     {

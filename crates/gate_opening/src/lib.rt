@@ -1,7 +1,7 @@
 //! The opening of a gate: coins, block times, verdicts and settings, a line each.
 //!
-//! The main clauses are those of [`read_opening`]: what is read is the state that the text spells, or its first fault with
-//! its line, and what stands behind the opening is left unread.
+//! The main clauses are those of [`read_opening`]: what is read is the state that the text spells, or its first fault
+//! with its line, and the input behind the opening is left unread.
 #![tactic(auto)]
 
 mod draft;

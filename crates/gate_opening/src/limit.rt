@@ -1,13 +1,13 @@
-//! Limits of families.
+//! Limits on ancestors and descendants.
 ghost use Rattle.std.specs.Prelude.{◌≡◌};
 ghost use Rattle.gate_opening.specs.Limits.{limit_named, no_limits, limit_in, with_limit};
 
-/// A limit of families that a line sets.
+/// A limit on ancestors or on descendants that a line sets.
 #[derive(Clone, Copy, Debug, PartialEq, Eq)]
 pub(crate) enum Limit {
     /// How many ancestors a transaction may have, itself among them.
     Ancestors,
-    /// How many descendants each of them may have.
+    /// How many descendants each ancestor of a transaction may have.
     Descendants,
 }
 

@@ -12,7 +12,7 @@ use gate_lines::{Lines, Next, Source};
 use std::alloc::Global;
 use std::hash::BuildHasher;
 
-/// What reading one line of an opening came to.
+/// How reading one line of an opening ended.
 #[derive(Clone, Copy, Debug, PartialEq, Eq)]
 pub(crate) enum Step {
     Went,
@@ -58,7 +58,7 @@ fn take_step<S: BuildHasher + Copy + Drop, R: Source>(
     }
 }
 
-/// Reads all that an opening says into a draft that holds nothing.
+/// Reads all that an opening says into an empty draft.
 fn gather<S: BuildHasher + Copy + Drop, R: Source>(
     alloc: Global,
     reader: &mut R,
@@ -77,8 +77,10 @@ fn gather<S: BuildHasher + Copy + Drop, R: Source>(
     }
 }
 
-/// Reads an opening and opens its state, with an empty pool. What stands behind its line `---` is left unread. The
+/// Reads an opening and opens its state, with an empty pool. The input behind its line `---` is left unread. The
 /// hasher serves every map of ids and outpoints.
+///
+/// An opening with faults is refused by the first of them, with its line.
 pub fn read_opening<S: BuildHasher + Copy + Drop, R: Source>(
     alloc: Global,
     hasher: S,

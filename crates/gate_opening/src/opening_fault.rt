@@ -11,7 +11,7 @@ use thiserror::Error;
 /// What is wrong with an opening.
 #[derive(Clone, Copy, Debug, PartialEq, Eq)]
 pub enum OpeningToken {
-    /// A line of no form, past a limit, or that says again what was said.
+    /// A line without a form, past a limit, or that says a second time what may be said once.
     BadLine,
     /// More than 1,000,000 block times, or one after the first of its line that doesn't fit 32 bits.
     TimesLimit,
@@ -25,7 +25,7 @@ pub enum OpeningToken {
 }
 
 impl OpeningToken {
-    /// The word that is printed for it.
+    /// The word that is printed for this fault.
     pub fn as_str(&self) -> &'static str
         ensures { result.now ≡ token_text self.now }
     {
@@ -51,10 +51,10 @@ impl fmt::Display for OpeningToken {
     }
 }
 
-/// Why there is no state of an opening.
+/// Why an opening gives no state.
 #[derive(Clone, Copy, Debug, PartialEq, Eq, Error)]
 pub enum OpeningFault {
-    /// The first fault: the number of its line, from 1, or 0 where no line is at fault.
+    /// The first fault: the number of its line, from 1, or 0 if no line is at fault.
     #[error("opening {0} {1}")]
     Line(u64, OpeningToken),
     /// The reader failed; an interrupted read is a failure too.
@@ -64,7 +64,7 @@ pub enum OpeningFault {
     Memory,
 }
 
-/// A fault of a reader, which none writes to.
+/// A fault of a reader. A reader has no fault of writing, which counts as one of reading here.
 impl From<LaneFault> for OpeningFault {
     ghost from_gives = { λ lane fault. fault ≡ unread_by lane };
 

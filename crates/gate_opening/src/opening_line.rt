@@ -30,14 +30,14 @@ pub(crate) enum OpeningLine {
     OtherVerdicts(Verdict),
     /// An entry of the whitelist, or the rule that it breaks.
     Whitelist(Result<WhitelistEntry, NetDenial>),
-    /// An entry of the lists of methods.
+    /// An entry of the lists of methods that users may call.
     RpcWhitelist(Text),
     Set(Setting, bool),
-    /// How many transactions a family may have, the new one among them.
+    /// A limit on ancestors or descendants: how many transactions it allows, the new one among them.
     Limit(Limit, u64),
 }
 
-/// What a line says, or `None` where it has no form.
+/// What a line says, or `None` if it has no form.
 pub(crate) fn read_opening_line(alloc: Global, line: &str) -> Result<Option<OpeningLine>, Memory>
     ensures { IfOk result (λ read. read ≡ opening_line_of line.now) }
 {
@@ -68,7 +68,7 @@ pub(crate) fn read_opening_line(alloc: Global, line: &str) -> Result<Option<Open
     }
 }
 
-/// `N`
+/// `N`, behind the name `budget`
 fn budget_line(rest: &str) -> Option<OpeningLine>
     ensures { result ≡ budget_line_of rest.now }
 {
@@ -80,7 +80,7 @@ fn budget_line(rest: &str) -> Option<OpeningLine>
     }
 }
 
-/// `COUNT FIRST STEP`
+/// `COUNT FIRST STEP`, behind the name `times`
 fn times_line(rest: &str) -> Option<OpeningLine>
     ensures { result ≡ times_line_of rest.now }
 {
@@ -164,7 +164,7 @@ fn is_coinbase(kind: &str) -> Option<bool>
     }
 }
 
-/// A script in hex, `-` where it is empty.
+/// A script in hex, or `-` for an empty one.
 fn read_script(alloc: Global, text: &str) -> Result<Option<Kept<u8>>, Memory>
     ensures { IfOk result (λ script. script ≡ script_of text.now) }
 {

@@ -11,11 +11,11 @@ pub(crate) enum Setting {
     BlocksOnly,
     /// Whitelist entries without words give relay.
     WhitelistRelay,
-    /// They give forcerelay.
+    /// Whitelist entries without words give forcerelay.
     WhitelistForceRelay,
     /// Users without a list of methods may call none.
     RpcWhitelistDefault,
-    /// Every entry may be replaced.
+    /// Every entry of the pool may be replaced, even one that doesn't signal it (BIP 125).
     FullRbf,
 }
 

@@ -1,4 +1,4 @@
--- Entries that are told apart by their ids and by what they spend.
+-- Entries of which no two share an id or spend one outpoint.
 use Rattle.std.specs.Prelude.{◌≡◌, ◌≢◌, true, false, List}
 use Rattle.std.specs.List.{AllPairs}
 use Rattle.gate_tx.specs.declared.OutPoint.{OutPoint}

@@ -1,4 +1,4 @@
--- The families of a pool's entries, and what takes the place of what.
+-- The families of a pool's entries, and which entries a transaction replaces.
 use Rattle.std.specs.Prelude.{◌≡◌, ◌≢◌, ℕ, Bool, ◌&&◌, not, List, [], ◌∷◌, ◌++◌, map, filter, length, sum_by, Contains}
 use Rattle.std.specs.List.{list_any, AllPairs}
 use Rattle.std.specs.Str.{bytes_eq}
@@ -24,7 +24,7 @@ steps entries = steps_of (map node_of entries)
 abbrev pub names : Admitted → List ℕ → Bool
 names e txid = list_any (λ (i : TxIn). bytes_eq i.prevout.txid txid) e.tx.inputs
 
--- the entries that spend its outputs, in order of admission
+-- the entries that spend outputs of the transaction with this id, in order of admission
 abbrev pub children_of : List Admitted → List ℕ → List Admitted
 children_of entries txid = filter (λ e. names e txid) entries
 
@@ -45,7 +45,7 @@ ancestors_above entries inputs = filter (λ e. list_any (λ (i : TxIn). reaches 
 abbrev pub parents_above : List Admitted → List TxIn → List Admitted
 parents_above entries inputs = filter (λ e. list_any (λ (i : TxIn). bytes_eq i.prevout.txid (txid_of e.tx)) inputs) entries
 
--- the entries that are left without an id and all that is below it
+-- the entries, except that of an id and all that are below it
 abbrev pub without_family : List Admitted → List ℕ → List Admitted
 without_family entries txid = filter (λ e. not (reaches (steps entries) txid (txid_of e.tx))) entries
 
@@ -57,7 +57,7 @@ is_below_some test entries e = list_any (λ a. test a && reaches (steps entries)
 abbrev pub all_below : (Admitted → Bool) → List Admitted → List Admitted
 all_below test entries = filter (is_below_some test entries) entries
 
--- the entries that are left without those that pass a test and all that is below them
+-- the entries, except those that pass a test and all that are below them
 abbrev pub without_below : (Admitted → Bool) → List Admitted → List Admitted
 without_below test entries = filter (λ e. not (is_below_some test entries e)) entries
 
@@ -76,7 +76,7 @@ conflicts_of entries tx = filter (is_conflict tx) entries
 abbrev pub replaced_of : List Admitted → Tx → List Admitted
 replaced_of entries tx = all_below (is_conflict tx) entries
 
--- an entry enters: what conflicts with it goes out, with all that is below, and it stands at the end
+-- the entries after one enters: those that conflict with it and all below them leave, and it stands at the end
 abbrev pub entered : List Admitted → Admitted → List Admitted
 entered entries e = without_below (is_conflict e.tx) entries ++ e ∷ []
 
@@ -90,7 +90,7 @@ pub record AreIdsOf (txids : List (List ℕ)) (entries : List Admitted) : Type 0
   pub all : (e : Admitted) → Contains entries e → Contains txids (txid_of e.tx)
   pub only : (txid : List ℕ) → Contains txids txid → (e : Admitted) × Contains entries e × (txid_of e.tx ≡ txid)
 
--- a fact of those entries whose ids these are, and of these with all that are below them
+-- a fact about the entries with these ids, and one about these and all that are below them
 abbrev pub OfThese : List Admitted → List (List ℕ) → (List Admitted → Type 0) → Type 0
 OfThese entries txids fact = (test : Admitted → Bool) → AreIdsOf txids (filter test entries) → fact (filter test entries)
 
@@ -101,14 +101,14 @@ BelowThese entries txids fact = (test : Admitted → Bool) → AreIdsOf txids (f
 abbrev pub fees_of : List Admitted → ℕ
 fees_of entries = sum_by (λ e. e.fee) entries
 
--- how many entries there are, and what they come to
+-- the number of entries, and the sums of their sizes and fees
 abbrev pub sums_of : List Admitted → Sums
 sums_of entries = record { count = length entries; size = size_of entries; fees = fees_of entries }
 
--- the same as nodes keep it
+-- the number of entries, and the sums of their sizes and fees, in the form that nodes keep
 abbrev pub summed : List Admitted → NodeSums
 summed entries = record { count = length entries; size = size_of entries; fees = fees_of entries }
 
--- what the families of an id come to, each with its own entry
+-- the totals of an id: the sums of its ancestors and of its descendants, each with its own entry
 abbrev pub totals_of : List Admitted → List ℕ → Totals
 totals_of entries txid = record { above = summed (ancestors_of entries txid); below = summed (descendants_of entries txid) }

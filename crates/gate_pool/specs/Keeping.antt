@@ -30,8 +30,8 @@ pub record IsIndexed (entries : List Admitted) (by_wtxid : List ℕ → Option (
   pub points : (point : OutPoint) → by_point point ≡ option_map (λ e. txid_of e.tx) (spender_of entries point)
   pub distinct : AreDistinct entries
 
--- of `count` entries none is on its way out, and each can go; one more of fewer inputs than `room` has a place in each index
--- and among the nodes
+-- of `count` entries none is on its way out, and there is room to take out all; one more, of fewer inputs than `room`, has a
+-- place in each index and among the nodes
 pub record HasRoom (room count nodes wtxid_spare point_spare parents leaving gone : ℕ) : Type 0 where
   pub none : leaving ≡ 0
   pub gone_room : count ≤ gone
@@ -43,7 +43,7 @@ pub record HasRoom (room count nodes wtxid_spare point_spare parents leaving gon
   pub points : room ≤ point_spare + 1
   pub parents_room : room ≤ parents + 1
 
--- room to list entries, and one more; no entry is older than the oldest; the least score is kept
+-- there is room to list all entries, and one more; none was admitted before the second `oldest`; the least score is kept
 pub record IsReady (entries : List Admitted) (room chosen : ℕ) (oldest : ℕ) (least : Option Score) : Type 0 where
   pub chosen_room : length entries ≤ chosen
   pub next : 0 < room → length entries + 1 ≤ chosen
@@ -51,7 +51,7 @@ pub record IsReady (entries : List Admitted) (room chosen : ℕ) (oldest : ℕ) 
   pub score : least ≡ least_of entries
   pub bounded : IfSome least (λ score. AreBounded score.family)
 
--- no entry has its ids, or spends what it spends
+-- an entry is new: no other has its ids, or spends what it spends
 pub record IsNew (entries : List Admitted) (e : Admitted) : Type 0 where
   pub txid : entry_by_txid entries (txid_of e.tx) ≡ None
   pub wtxid : entry_by_wtxid entries (wtxid_of e.tx) ≡ None

@@ -16,6 +16,6 @@ abbrev pub place_in : List (Option (List ℕ)) → List ℕ → Option ℕ
 place_in [] id = None
 place_in (s ∷ spots) id = if passes (λ x. bytes_eq x id) s then Some 0 else option_map suc (place_in spots id)
 
--- the id at a key once that of an entry was written, which has the key or not
+-- the id at a key after an entry was written: the entry's if it has the key, else the one before
 abbrev pub written : Admitted → Bool → Option (List ℕ) → Option (List ℕ)
 written e has before = if has then Some (txid_of e.tx) else before

@@ -16,7 +16,7 @@ pub record Admitted : Type 0 where
   pub vsize : ℕ
   pub time : ℕ
 
--- no entry is larger, in virtual bytes
+-- the largest size of an entry, in virtual bytes
 abbrev pub largest_vsize : ℕ
 largest_vsize = 10_000_000
 
@@ -26,7 +26,7 @@ pub record IsBounded (entry : Admitted) : Type 0 where
   pub least : 1 ≤ entry.vsize
   pub most : entry.vsize ≤ largest_vsize
 
--- no pool has more entries
+-- the largest number of entries in a pool
 abbrev pub most_entries : ℕ
 most_entries = 50_000_000
 
@@ -34,7 +34,8 @@ most_entries = 50_000_000
 abbrev pub is_before : ℕ → Admitted → Bool
 is_before time e = nat_lt e.time time
 
--- a pool: its entries in order of admission, and the room that was taken beforehand: an entry of fewer inputs enters without memory
+-- a pool: its entries in order of admission, and the room that was taken beforehand: an entry of fewer inputs than `room`
+-- enters without memory
 pub record Pooled : Type 0 where
   pub entries : List Admitted
   pub room : ℕ

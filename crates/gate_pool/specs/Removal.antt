@@ -9,10 +9,10 @@ use Rattle.gate_pool.specs.Family.{descendants_of, without_family}
 abbrev pub family_of_entry : List Admitted → List ℕ → List Admitted
 family_of_entry entries txid = if is_some (entry_by_txid entries txid) then descendants_of entries txid else []
 
--- the entries that are left without these
+-- the entries, except that of an id and all that are below it; all of them for an id that no entry has
 abbrev pub without_entry : List Admitted → List ℕ → List Admitted
 without_entry entries txid = if is_some (entry_by_txid entries txid) then without_family entries txid else entries
 
--- what spends an outpoint passes a test
+-- each entry that spends an outpoint passes a test
 abbrev pub PassesSpenders : (Admitted → Bool) → OutPoint → Type 0
 PassesSpenders test point = (e : Admitted) → spends e.tx.inputs point ≡ true → test e ≡ true

@@ -11,8 +11,8 @@ use Rattle.gate_pool.specs.declared.scores.Score.{Score}
 abbrev pub is_cheaper : ℕ → ℕ → ℕ → ℕ → Bool
 is_cheaper a b c d = nat_lt (a * d) (c * b)
 
--- an entry's score, where its descendants, itself among them, come to these sums: its own fee over its size where that is
--- no less than theirs
+-- an entry's score, if its descendants, itself among them, have these sums: its own fee over its size unless that is less
+-- than their fees over their sizes
 abbrev pub score_from : Admitted → Sums → Score
 score_from e family = record {
   txid = txid_of e.tx;
@@ -24,12 +24,12 @@ score_from e family = record {
 unfoldable pub score_of : List Admitted → Admitted → Score
 score_of entries e = score_from e (sums_of (descendants_of entries (txid_of e.tx)))
 
--- the lesser of two scores, of equals the later
+-- the lesser of two scores, of equal ones the later
 abbrev pub lesser : Score → Option Score → Score
 lesser first None = first
 lesser first (Some later) = if is_cheaper first.fees first.size later.fees later.size then first else later
 
--- the least score of some of the entries, of equals the last
+-- the least score of some of the entries, of equal ones the last
 abbrev pub least_among : List Admitted → List Admitted → Option Score
 least_among entries [] = None
 least_among entries (e ∷ some) = Some (lesser (score_of entries e) (least_among entries some))
@@ -37,7 +37,7 @@ least_among entries (e ∷ some) = Some (lesser (score_of entries e) (least_amon
 abbrev pub least_of : List Admitted → Option Score
 least_of entries = least_among entries entries
 
--- what entries within their bounds come to, where there is one and no pool has more: fees in satoshi, sizes in virtual bytes
+-- the bounds of the sums of at least one entry and at most `most_entries`: fees in satoshi, sizes in virtual bytes
 pub record AreBounded (sums : Sums) : Type 0 where
   pub least : 1 ≤ sums.size
   pub size : sums.size ≤ most_entries * largest_vsize

@@ -14,7 +14,7 @@ parents_of inputs = map (λ (i : TxIn). i.prevout.txid) inputs
 abbrev pub IsEntry : List Admitted → List ℕ → Type 0
 IsEntry entries txid = (e : Admitted) × Contains entries e × (txid_of e.tx ≡ txid)
 
--- it is the id of an entry that spends an output of the transaction with another
+-- an id is that of an entry that spends an output of the transaction `parent`
 abbrev pub IsChild : List Admitted → List ℕ → List ℕ → Type 0
 IsChild entries parent txid = (e : Admitted) × Contains entries e × (names e parent ≡ true) × (txid_of e.tx ≡ txid)
 
@@ -23,8 +23,8 @@ pub record AreEntries (entries : List Admitted) (txids : List (List ℕ)) : Type
   pub once : AllPairs (λ (a : List ℕ) (b : List ℕ). a ≢ b) txids
   pub only : (txid : List ℕ) → Contains txids txid → IsEntry entries txid
 
--- ids were added to those found before, each once: of `txids` those of entries, all of them where still no more than `most`
--- are found
+-- ids were added to those found before, each once: of `txids` those of entries, all of them if still no more than `most` are
+-- found
 pub record IsFound (most : ℕ) (entries : List Admitted) (txids before after : List (List ℕ)) (within : Bool) : Type 0 where
   pub more : List (List ℕ)
   pub is : after ≡ before ++ more

@@ -38,7 +38,7 @@ impl<S: BuildHasher + Copy + Drop> Pool<S> {
         self.is_free(entry.transaction().inputs())
     }
 
-    /// Puts an entry at the end. `is_new` is the test for what it asks.
+    /// Puts an entry at the end, for which `is_new` holds. If memory runs out, the pool is as it was.
     pub fn admit(&mut self, entry: Entry) -> Result<(), Memory>
         requires { IsNew self.old.entries entry }
         ensures ok { OnOk result (self.new.entries ≡ self.old.entries ++ entry ∷ []) }
@@ -61,8 +61,9 @@ impl<S: BuildHasher + Copy + Drop> Pool<S> {
         Ok(txids)
     }
 
-    /// Takes out the entry of an id and all that is below it, and gives their ids in order of admission. For an id that no
-    /// entry has, nothing is taken out, even where entries spend outputs of that transaction.
+    /// Takes out the entry of an id and all that is below it, and returns their ids in order of admission. For an id
+    /// that no entry has, nothing is taken out, even if entries spend outputs of that transaction. If memory runs out,
+    /// the pool is as it was.
     pub fn remove_family(&mut self, txid: &Txid) -> Result<Vec<Txid>, Memory>
         ensures removed { IfOk result (λ txids. txids.items ≡ listing_of (family_of_entry self.old.entries txid.now)) }
         ensures ok { OnOk result (self.new.entries ≡ without_entry self.old.entries txid.now) }

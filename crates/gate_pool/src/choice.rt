@@ -1,6 +1,6 @@
 use crate::entry::Entry;
 
-/// A choice of entries.
+/// A test that chooses entries.
 pub trait Test {
     ghost use Rattle.std.specs.Prelude.{◌≡◌, Bool};
     ghost use Rattle.gate_pool.specs.Pool.{Admitted};
@@ -11,7 +11,7 @@ pub trait Test {
         ensures { result ≡ chosen self.now entry.now };
 }
 
-/// The entries that were admitted before a second.
+/// The test that chooses the entries that were admitted before a second.
 #[derive(Clone, Copy)]
 pub(crate) struct Before {
     pub(crate) time: u64,

@@ -12,18 +12,18 @@ use gate_tx::{TxIn, Txid};
 use std::alloc::Global;
 use std::marker::Model;
 
-/// What entries come to.
+/// The number of some entries, and the sums of their sizes and fees.
 #[derive(Clone, Copy, Debug, PartialEq, Eq)]
 pub struct Sums {
     /// How many there are.
     pub count: usize,
-    /// Their sizes, in virtual bytes.
+    /// Their sizes, added up, in virtual bytes.
     pub size: u128,
-    /// Their fees, in satoshi.
+    /// Their fees, added up, in satoshi.
     pub fees: u128,
 }
 
-/// Entries above a transaction: their ids, each once, and what they come to.
+/// Entries above a transaction: their ids, each once, and their sums.
 #[derive(Drop)]
 pub struct Above {
     pub ids: Vec<Txid>,
@@ -84,7 +84,7 @@ impl<'a> Lent<'a> {
     }
 }
 
-/// Adds the id of an entry, unless it was found before. Tells whether there are no more than `most`.
+/// Adds an id, if an entry has it and it was not found before. Returns whether no more than `most` are found.
 fn add<V: FamilyView>(
     pool: &V,
     found: &mut Vec<Txid>,
@@ -99,7 +99,8 @@ fn add<V: FamilyView>(
     Ok(found.len() <= most)
 }
 
-/// The same, with the entry beside its id.
+/// Adds an id, and the entry that has it, if there is one and it was not found before. Returns whether no more than
+/// `most` are found.
 fn add_lent<'a, V: FamilyView>(
     pool: &'a V,
     found: &mut Vec<Txid>,
@@ -119,7 +120,7 @@ fn add_lent<'a, V: FamilyView>(
     Ok(found.len() <= most)
 }
 
-/// Adds those of the ids that are entries', until there are more than `most`.
+/// Adds those of the ids that entries have, until more than `most` are found. Returns whether no more are.
 fn add_all<V: FamilyView>(
     pool: &V,
     found: &mut Vec<Txid>,
@@ -136,7 +137,8 @@ fn add_all<V: FamilyView>(
     Ok(true)
 }
 
-/// Adds those of the ids that the inputs name that are entries', each with its entry, until there are more than `most`.
+/// Adds the ids of the entries whose outputs the inputs spend, each with its entry, until more than `most` are found.
+/// Returns whether no more are.
 fn add_parents<'a, V: FamilyView>(
     pool: &'a V,
     found: &mut Vec<Txid>,
@@ -155,7 +157,7 @@ fn add_parents<'a, V: FamilyView>(
     Ok(true)
 }
 
-/// What entries come to.
+/// The sums of these entries.
 fn sum(lent: &[Lent<'_>]) -> Sums
     ensures sums { result ≡ sums_of lent.now }
     ensures small { result.size < 2 ^ 100 }
@@ -173,8 +175,8 @@ fn sum(lent: &[Lent<'_>]) -> Sums
     sums
 }
 
-/// The entries above a transaction with these inputs: its parents in the pool, their parents, and so on, by their ids, and what
-/// they come to. None where there are more than `most`.
+/// The entries above a transaction with these inputs, by their ids, and their sums: its parents in the pool, their
+/// parents, and so on. None if there are more than `most`.
 pub fn family_above<V: FamilyView>(
     alloc: Global,
     pool: &V,
@@ -205,8 +207,8 @@ pub fn family_above<V: FamilyView>(
     Ok(Some(Above { ids: found, sums }))
 }
 
-/// The ids of the entries above a transaction with these inputs: its parents in the pool, their parents, and so on. None
-/// where there are more than `most`.
+/// The ids of the entries above a transaction with these inputs: its parents in the pool, their parents, and so on.
+/// None if there are more than `most`.
 pub fn ancestors<V: FamilyView>(
     alloc: Global,
     pool: &V,
@@ -223,7 +225,7 @@ pub fn ancestors<V: FamilyView>(
     Ok(Some(above.ids))
 }
 
-/// The ids of the entry of an id and of all that are above it. None where there are more than `most`.
+/// The ids of an entry and of all that are above it. None if there are more than `most`.
 pub fn ancestors_with<V: FamilyView>(
     alloc: Global,
     pool: &V,
@@ -259,7 +261,7 @@ pub fn parents<V: FamilyView>(alloc: Global, pool: &V, inputs: &[TxIn]) -> Resul
     Ok(found)
 }
 
-/// The ids of entries, given by theirs, with those of all that are below them. None where there are more than `most`.
+/// The ids of the entries with these ids and of all that are below them, each once. None if there are more than `most`.
 pub fn descendants<V: FamilyView>(
     alloc: Global,
     pool: &V,
@@ -286,7 +288,7 @@ pub fn descendants<V: FamilyView>(
     Ok(Some(found))
 }
 
-/// What entries, given by their ids, come to.
+/// The sums of the entries with these ids.
 pub fn add_up<V: FamilyView>(pool: &V, ids: &[Txid]) -> Sums
     ensures sums { OfThese (V.entries pool.now) ids.now (λ these. result ≡ sums_of these) }
     ensures small { result.size < 2 ^ 100 }

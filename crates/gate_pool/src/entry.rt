@@ -9,10 +9,10 @@ use gate_tx::{Identified, OutPoint, Transaction, Txid, Wtxid};
 use std::alloc::Global;
 use std::marker::Model;
 
-/// No entry is larger, in virtual bytes.
+/// The largest size of an entry, in virtual bytes.
 pub const LARGEST_VSIZE: u64 = 10_000_000;
 
-/// No pool has more entries.
+/// The largest number of entries in a pool.
 pub const MOST_ENTRIES: usize = 50_000_000;
 
 /// A transaction in the pool.
@@ -35,7 +35,8 @@ impl Model for Entry {
 }
 
 impl Entry {
-    /// The fee in satoshi, the size in virtual bytes, the time in seconds since 1970.
+    /// An entry of a transaction, its fee in satoshi, its size in virtual bytes, and the time of its admission in
+    /// seconds since 1970.
     pub fn new(identified: Counted<Identified>, fee: u64, vsize: u64, time: u64) -> Entry
         requires fee { fee ≤ max_money }
         requires least { 1 ≤ vsize }
@@ -50,7 +51,7 @@ impl Entry {
         }
     }
 
-    /// The bounds of its numbers: it does nothing.
+    /// States the bounds of the entry's numbers, for proofs: it does nothing.
     pub fn recall_bounds(&self)
         ensures { IsBounded self.now }
     {
@@ -81,7 +82,7 @@ impl Entry {
         self.identified.get().wtxid()
     }
 
-    /// In satoshi.
+    /// The fee, in satoshi.
     pub fn fee(&self) -> u64
         ensures value { result ≡ self.now.fee }
         ensures most { result ≤ max_money }
@@ -89,7 +90,7 @@ impl Entry {
         self.fee
     }
 
-    /// In virtual bytes.
+    /// The size, in virtual bytes.
     pub fn vsize(&self) -> u64
         ensures value { result ≡ self.now.vsize }
         ensures least { 1 ≤ result }
@@ -98,7 +99,7 @@ impl Entry {
         self.vsize
     }
 
-    /// The second at which it was admitted.
+    /// The second at which it was admitted, since 1970.
     pub fn time(&self) -> u64
         ensures { result ≡ self.now.time }
     {
@@ -115,7 +116,7 @@ impl Entry {
     }
 }
 
-/// One more owner of the same transaction, which takes no memory.
+/// A copy is one more owner of the same transaction. It takes no memory.
 impl Copied for Entry {
     fn copy(&self, alloc: Global) -> Result<Entry, Memory> {
         Ok(Entry {

@@ -1,7 +1,7 @@
 //! The pool: the transactions that wait for a block, found by id, by witness id and by what they spend.
 //!
-//! The main clauses are those of `Pool::reserve` and `Pool::replace`: memory is taken beforehand, and then an entry takes
-//! the place of all that conflicts with it, and of all that is below that, without memory.
+//! The main clauses are those of `Pool::reserve` and `Pool::replace`: memory is taken beforehand, and then an entry
+//! takes the place of all entries that conflict with it, and of all that are below these, without memory.
 #![tactic(auto)]
 
 mod changes;

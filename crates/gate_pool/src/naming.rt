@@ -7,7 +7,7 @@ use gate_graph::NodeId;
 use gate_tx::{TxIn, Txid};
 use std::alloc::Global;
 
-/// The id of a transaction, as nodes have it.
+/// Converts a transaction's id to a node's.
 pub(crate) fn node_id(txid: &Txid) -> NodeId
     ensures { result ≡ txid.now }
 {
@@ -16,7 +16,7 @@ pub(crate) fn node_id(txid: &Txid) -> NodeId
     NodeId::new(bytes)
 }
 
-/// The ids of nodes, as transactions have them.
+/// Converts nodes' ids to transactions' ids, in their order.
 pub(crate) fn txids_of(alloc: Global, ids: &[NodeId]) -> Result<Vec<Txid>, Memory>
     ensures { IfOk result (λ txids. txids.items ≡ ids.now) }
 {
@@ -27,7 +27,7 @@ pub(crate) fn txids_of(alloc: Global, ids: &[NodeId]) -> Result<Vec<Txid>, Memor
     Ok(txids)
 }
 
-/// The ids of the transactions whose outputs the inputs spend, one for each input, in a list with room.
+/// Writes the ids of the transactions whose outputs the inputs spend, one for each input, over a list with room.
 pub(crate) fn list_parents(parents: &mut Vec<NodeId>, inputs: &[TxIn])
     requires { length inputs.now ≤ vec_capacity parents.old }
     ensures { parents.new.items ≡ parents_of inputs.now }

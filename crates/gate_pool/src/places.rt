@@ -1,4 +1,4 @@
-//! What is found beside the ids of entries: who has a witness id, and who spends an outpoint.
+//! The indexes of entries by witness id and by spent outpoint.
 ghost use Rattle.std.specs.Prelude.{◌≡◌, ◌<◌, ◌≤◌, cond, Some, None, List, ℕ, length};
 ghost use Rattle.std.specs.List.{list_any};
 ghost use Rattle.std.specs.Str.{bytes_eq};
@@ -67,7 +67,7 @@ pub(crate) fn drop_entry<S: BuildHasher>(
     drop_points(spent, entry.transaction().inputs());
 }
 
-/// The same for each of these entries.
+/// Removes the witness id of each of these entries, and each outpoint that they spend.
 pub(crate) fn drop_each<S: BuildHasher>(
     wtxids: &mut IndexMap<Wtxid, Txid, S>,
     spent: &mut IndexMap<OutPoint, Txid, S>,

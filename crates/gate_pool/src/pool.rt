@@ -26,7 +26,7 @@ pub struct Pool<S: BuildHasher + Copy + Drop> {
     store: Store<S>,
     /// Room for the ids of entries that are chosen.
     chosen: Vec<NodeId>,
-    /// The least score of all.
+    /// The least score of all entries, of equal ones that of the last.
     least: Option<Score>,
     /// No entry was admitted before this second.
     oldest: u64,
@@ -45,7 +45,7 @@ impl<S: BuildHasher + Copy + Drop> Model for Pool<S> {
 }
 
 impl<S: BuildHasher + Copy + Drop> Pool<S> {
-    /// A pool without entries, which hashes by what is handed in.
+    /// A pool without entries, whose tables hash by `hasher`.
     pub fn new(alloc: Global, hasher: S) -> Result<Pool<S>, Memory>
         ensures { IfOk result (λ pool. pool.entries ≡ []) }
     {
@@ -69,14 +69,15 @@ impl<S: BuildHasher + Copy + Drop> Pool<S> {
         self.store.by_wtxid(wtxid)
     }
 
-    /// The entry that spends an output.
+    /// The entry that spends an outpoint.
     pub fn spender(&self, point: &OutPoint) -> Option<&Entry>
         ensures { option_copied result ≡ spender_of self.now.entries point.now }
     {
         self.store.spender(point)
     }
 
-    /// What the families of an entry come to: stored, and lent without memory.
+    /// The totals of an entry's ancestors and of its descendants, each with the entry itself, which are stored; none
+    /// for an id that no entry has.
     pub fn totals(&self, txid: &Txid) -> Option<&Totals>
         ensures found { is_some result ≡ is_some (entry_by_txid self.now.entries txid.now) }
         ensures totals { IfSome result (λ totals. totals.now ≡ totals_of self.now.entries txid.now) }
@@ -91,7 +92,7 @@ impl<S: BuildHasher + Copy + Drop> Pool<S> {
         self.store.count()
     }
 
-    /// In virtual bytes.
+    /// The sizes of all entries, added up, in virtual bytes.
     pub fn size(&self) -> u128
         ensures { result ≡ size_of self.now.entries }
     {
@@ -123,14 +124,15 @@ impl<S: BuildHasher + Copy + Drop> Pool<S> {
         self.store.allocator()
     }
 
-    /// That no two entries share an id or spend one outpoint: it does nothing.
+    /// States that no two entries share an id or spend one outpoint, for proofs: it does nothing.
     pub fn recall_distinct(&self)
         ensures { AreDistinct self.now.entries }
     {
         self.store.recall_distinct();
     }
 
-    /// Takes the memory for an entry of this many inputs. A pool of `MOST_ENTRIES` entries has none for another.
+    /// Takes the memory for an entry of this many inputs. It fails if memory runs out, or the pool has `MOST_ENTRIES`
+    /// entries.
     pub fn reserve(&mut self, inputs: usize) -> Result<(), Memory>
         ensures entries { self.new.entries ≡ self.old.entries }
         ensures room { OnOk result (inputs < self.new.room) }
@@ -143,8 +145,8 @@ impl<S: BuildHasher + Copy + Drop> Pool<S> {
         self.store.reserve(inputs)
     }
 
-    /// Puts an entry at the end, in the place of all that conflicts with it and of all that is below that. It takes no
-    /// memory, and uses up the room that was taken.
+    /// Puts an entry at the end, in place of all entries that conflict with it and of all that are below these. It
+    /// takes no memory, and uses up the room that was taken.
     pub fn replace(&mut self, entry: Entry)
         requires room { length entry.tx.inputs < self.old.room }
         requires txid { entry_by_txid self.old.entries (txid_of entry.tx) ≡ None }
@@ -157,7 +159,8 @@ impl<S: BuildHasher + Copy + Drop> Pool<S> {
         self.least = self.store.settle();
     }
 
-    /// Takes out the entry of an id and all that is below the id. It takes no memory, and gives up the room that was taken.
+    /// Takes out the entry of an id and all that is below the id. It takes no memory, and gives up the room that was
+    /// taken.
     pub fn take_family(&mut self, txid: &Txid)
         ensures { self.new.entries ≡ without_family self.old.entries txid.now }
     {
@@ -165,8 +168,8 @@ impl<S: BuildHasher + Copy + Drop> Pool<S> {
         self.least = self.store.settle();
     }
 
-    /// Takes out the entry of an id alone: what spends its outputs stays. It takes no memory, and gives up the room that was
-    /// taken.
+    /// Takes out the entry of an id alone: entries that spend its outputs stay. It takes no memory, and gives up the
+    /// room that was taken.
     pub fn remove_root(&mut self, txid: &Txid)
         ensures { self.new.entries ≡ filter (λ e. not (has_txid e txid.now)) self.old.entries }
     {
@@ -174,8 +177,8 @@ impl<S: BuildHasher + Copy + Drop> Pool<S> {
         self.least = self.store.settle();
     }
 
-    /// Takes out the entries that spend what one of the inputs spends, and all that is below them. It takes no memory, gives
-    /// up the room that was taken, and looks at nothing but these.
+    /// Takes out the entries that spend what one of the inputs spends, and all that is below them. It takes no memory,
+    /// and gives up the room that was taken. The entries are found by index, not by a search of the pool.
     pub fn take_spenders(&mut self, inputs: &[TxIn])
         ensures { self.new.entries ≡ without_below (spends_one_of inputs.now) self.old.entries }
     {
@@ -183,8 +186,9 @@ impl<S: BuildHasher + Copy + Drop> Pool<S> {
         self.least = self.store.settle();
     }
 
-    /// Takes out the entries that spend outputs of a transaction, whether that is an entry or not, and all that is below
-    /// them. It takes no memory, gives up the room that was taken, and looks at nothing but these.
+    /// Takes out the entries that spend outputs of a transaction, whether that is an entry or not, and all that is
+    /// below them. It takes no memory, and gives up the room that was taken. The entries are found by index, not by a
+    /// search of the pool.
     pub fn take_children(&mut self, txid: &Txid)
         ensures { self.new.entries ≡ without_below (λ e. names e txid.now) self.old.entries }
     {
@@ -192,8 +196,8 @@ impl<S: BuildHasher + Copy + Drop> Pool<S> {
         self.least = self.store.settle();
     }
 
-    /// Takes out the entries that pass a test and all that is below them. It takes no memory, and gives up the room that was
-    /// taken.
+    /// Takes out the entries that pass a test and all that is below them. It takes no memory, and gives up the room
+    /// that was taken.
     pub fn take_below<T: Test>(&mut self, test: &T)
         ensures { self.new.entries ≡ without_below (T.chosen test.now) self.old.entries }
     {
@@ -202,8 +206,9 @@ impl<S: BuildHasher + Copy + Drop> Pool<S> {
         self.least = self.store.settle();
     }
 
-    /// The same for the entries that were admitted before a second. It looks through the pool only where one that old has
-    /// entered, or was left there when it last did.
+    /// Takes out the entries that were admitted before a second and all that is below them. It takes no memory. It
+    /// searches the pool only if an entry that old was left after the last such search or has entered since, and then
+    /// gives up the room that was taken.
     pub fn take_before(&mut self, time: u64)
         ensures { self.new.entries ≡ without_below (is_before time) self.old.entries }
     {
@@ -213,7 +218,8 @@ impl<S: BuildHasher + Copy + Drop> Pool<S> {
         }
     }
 
-    /// The entry of least score, of equals the one that was admitted last. It takes no memory and looks at no other entry.
+    /// The least score of all entries, of equal ones that of the entry that was admitted last; none for an empty pool.
+    /// It is kept, so that this looks at no entry.
     pub fn least(&self) -> Option<&Score>
         ensures value { option_copied result ≡ least_of self.now.entries }
         ensures bounded { IfSome result (λ score. AreBounded score.now.family) }
@@ -221,7 +227,7 @@ impl<S: BuildHasher + Copy + Drop> Pool<S> {
         self.least.as_ref()
     }
 
-    /// A pool with the same entries, which hashes alike. The transactions are shared, and no totals are found anew.
+    /// A pool with the same entries, whose tables hash alike. The transactions are shared, and the totals are copied.
     pub fn copy(&self, alloc: Global) -> Result<Pool<S>, Memory>
         ensures { IfOk result (λ pool. pool.entries ≡ self.now.entries) }
     {

@@ -1,4 +1,4 @@
-//! What is read of the slots in which entries stand.
+//! What is read from the slots in which entries stand.
 ghost use Rattle.std.specs.Prelude.{◌≡◌, ◌<◌, ◌≤◌, ◌++◌, ◌∷◌, [], cond, List, ℕ, None, Some, filter, length, IfOk, OnOk, Contains};
 ghost use Rattle.std.specs.List.Sorted.{IsPermutation, IsNonDecreasingBy};
 ghost use Rattle.std.specs.Option.{unwrap_or};
@@ -24,7 +24,7 @@ use indexmap::IndexMap;
 use std::alloc::Global;
 use std::hash::BuildHasher;
 
-/// The ids of the entries, of which there are so many.
+/// The ids of the entries, of which there are `count`, in order of admission.
 pub(crate) fn txids_in(
     alloc: Global,
     slots: &[Option<Held<Entry>>],
@@ -42,7 +42,7 @@ pub(crate) fn txids_in(
     Ok(txids)
 }
 
-/// Puts the id of an entry into a list with room, if it passes a test.
+/// Puts the id of an entry at the end of a list with room, if the entry passes a test.
 fn choose_one<T: Test>(entry: &Entry, test: &T, chosen: &mut Vec<NodeId>)
     requires { length chosen.old.items < vec_capacity chosen.old }
     ensures ids { chosen.new.items ≡ chosen.old.items ++ cond (T.chosen test.now entry.now) (txid_of entry.now.tx ∷ []) [] }
@@ -53,7 +53,7 @@ fn choose_one<T: Test>(entry: &Entry, test: &T, chosen: &mut Vec<NodeId>)
     }
 }
 
-/// The ids of the entries that pass a test, in a list with room.
+/// Writes the ids of the entries that pass a test over a list with room.
 pub(crate) fn choose<T: Test>(slots: &[Option<Held<Entry>>], test: &T, chosen: &mut Vec<NodeId>)
     requires { length (standing slots.now) ≤ vec_capacity chosen.old }
     ensures ids { chosen.new.items ≡ listing_of (filter (T.chosen test.now) (standing slots.now)) }
@@ -68,7 +68,7 @@ pub(crate) fn choose<T: Test>(slots: &[Option<Held<Entry>>], test: &T, chosen: &
     }
 }
 
-/// The second at which the oldest entry was admitted, and the last second of all where there is none.
+/// The second at which the oldest entry was admitted, or `u64::MAX` if there is none.
 pub(crate) fn oldest_of(slots: &[Option<Held<Entry>>]) -> u64
     ensures { (e : Admitted) → Contains (standing slots.now) e → result ≤ e.time }
 {
@@ -82,7 +82,7 @@ pub(crate) fn oldest_of(slots: &[Option<Held<Entry>>]) -> u64
     oldest
 }
 
-/// Writes an entry's id at its witness id and at each outpoint that it spends.
+/// Writes an entry's id at its witness id and at each outpoint that it spends, in memory that it takes.
 fn index_one<S: BuildHasher>(
     entry: &Entry,
     wtxids: &mut IndexMap<Wtxid, Txid, S>,
@@ -97,7 +97,7 @@ fn index_one<S: BuildHasher>(
     Ok(())
 }
 
-/// The same for each of the entries, where nothing was written before.
+/// Writes the id of each entry at its witness id and at each outpoint that it spends, into empty indexes.
 pub(crate) fn index_each<S: BuildHasher>(
     slots: &[Option<Held<Entry>>],
     wtxids: &mut IndexMap<Wtxid, Txid, S>,
@@ -117,7 +117,7 @@ pub(crate) fn index_each<S: BuildHasher>(
     Ok(())
 }
 
-/// Where an entry stands among all, or 0.
+/// The place of an entry's node, or 0 if no entry has the id.
 fn place_of<S: BuildHasher + Copy + Drop>(nodes: &Nodes<Entry, S>, txid: &Txid) -> usize
     ensures { result ≡ unwrap_or (place_in nodes.now.places txid.now) 0 }
 {

@@ -5,21 +5,21 @@ use crate::closures::Sums;
 use crate::entry::Entry;
 use gate_tx::Txid;
 
-/// What an entry is worth: the fees over the size that decide, which are its own or those of its descendants, itself among
-/// them.
+/// What an entry is worth: its own fee over its size, or the fees over the sizes of its descendants, itself among them,
+/// whichever is greater as a fraction.
 #[derive(Clone, Copy, Debug, PartialEq, Eq)]
 pub struct Score {
     pub txid: Txid,
-    /// In satoshi.
+    /// The fees of that fraction, in satoshi.
     pub fees: u128,
-    /// In virtual bytes.
+    /// The size of that fraction, in virtual bytes.
     pub size: u128,
-    /// What it comes to with its descendants.
+    /// The sums of the entry's descendants, itself among them.
     pub family: Sums,
 }
 
 impl Score {
-    /// The score of an entry that comes to this with its descendants.
+    /// The score of an entry whose descendants, itself among them, have these sums.
     pub(crate) fn of(entry: &Entry, family: Sums) -> Score
         requires { AreBounded family }
         ensures { result ≡ score_from entry.now family }

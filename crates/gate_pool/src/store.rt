@@ -28,18 +28,18 @@ use std::alloc::Global;
 use std::hash::BuildHasher;
 use std::marker::Model;
 
-/// Entries in order of admission, each with its families, found by their ids and by what they spend.
+/// Entries in order of admission, each with the totals of its families, found by their ids and by what they spend.
 #[derive(Drop)]
 pub(crate) struct Store<S: BuildHasher + Copy + Drop> {
-    /// Each entry with its families: a node that names the transactions whose outputs it spends.
+    /// Each entry as a node, which names the transactions whose outputs the entry spends.
     nodes: Nodes<Entry, S>,
-    /// The entry that has a witness id, by its id.
+    /// The txid of the entry that has a witness id.
     wtxids: IndexMap<Wtxid, Txid, S>,
-    /// The entry that spends an outpoint, by its id.
+    /// The txid of the entry that spends an outpoint.
     spent: IndexMap<OutPoint, Txid, S>,
-    /// Room for what the next entry names.
+    /// Room for the ids that the next entry names.
     parents: Vec<NodeId>,
-    /// Room for entries that go; none is there between calls.
+    /// Room for entries that are taken out; it is empty between calls.
     gone: Vec<Entry>,
     room: usize,
 }
@@ -65,7 +65,7 @@ impl<S: BuildHasher + Copy + Drop> Model for Store<S> {
 }
 
 impl<S: BuildHasher + Copy + Drop> Store<S> {
-    /// No entries, in tables that hash by what is handed in.
+    /// No entries, in tables that hash by `hasher`.
     pub(crate) fn new(alloc: Global, hasher: S) -> Store<S>
         ensures entries { result.entries ≡ [] }
         ensures room { result.room ≡ 0 }
@@ -148,14 +148,14 @@ impl<S: BuildHasher + Copy + Drop> Store<S> {
         txids_of(alloc, found.as_slice())
     }
 
-    /// The second at which the oldest entry was admitted, and the last second of all where there is none.
+    /// The second at which the oldest entry was admitted, or `u64::MAX` if there is none.
     pub(crate) fn oldest(&self) -> u64
         ensures { (e : Admitted) → Contains self.now.entries e → result ≤ e.time }
     {
         oldest_of(self.nodes.as_slice())
     }
 
-    /// The least score of all, of equals that of the entry which was admitted last.
+    /// The least score of all entries, of equal ones that of the entry that was admitted last.
     fn least(&self) -> Option<Score>
         ensures value { result ≡ least_of self.now.entries }
         ensures bounded { IfSome result (λ score. AreBounded score.family) }
@@ -166,7 +166,7 @@ impl<S: BuildHasher + Copy + Drop> Store<S> {
         }
     }
 
-    /// The ids of the entries that pass a test, in a list with room.
+    /// Writes the ids of the entries that pass a test over a list with room.
     pub(crate) fn choose<T: Test>(&self, test: &T, chosen: &mut Vec<NodeId>)
         requires { length self.now.entries ≤ vec_capacity chosen.old }
         ensures ids { chosen.new.items ≡ listing_of (filter (T.chosen test.now) self.now.entries) }
@@ -184,14 +184,15 @@ impl<S: BuildHasher + Copy + Drop> Store<S> {
         *self.wtxids.allocator()
     }
 
-    /// That no two entries share an id or spend one outpoint: it does nothing.
+    /// States that no two entries share an id or spend one outpoint, for proofs: it does nothing.
     pub(crate) fn recall_distinct(&self)
         ensures { AreDistinct self.now.entries }
     {
         let _room = self.room;
     }
 
-    /// Takes the memory for an entry of this many inputs. Where there are `MOST_ENTRIES` entries there is none for another.
+    /// Takes the memory for an entry of this many inputs. It fails if memory runs out, or there are `MOST_ENTRIES`
+    /// entries.
     pub(crate) fn reserve(&mut self, inputs: usize) -> Result<(), Memory>
         ensures entries { self.new.entries ≡ self.old.entries }
         ensures room { OnOk result (inputs < self.new.room) }
@@ -308,7 +309,8 @@ impl<S: BuildHasher + Copy + Drop> Store<S> {
         }
     }
 
-    /// Closes holes where they are more than half, gives up the room that was taken, and tells the least score.
+    /// Closes holes if they are more than half of all places, gives up the room that was taken, and returns the least
+    /// score.
     pub(crate) fn settle(&mut self) -> Option<Score>
         ensures entries { self.new.entries ≡ self.old.entries }
         ensures room { self.new.room ≡ 0 }
@@ -319,7 +321,7 @@ impl<S: BuildHasher + Copy + Drop> Store<S> {
         self.least()
     }
 
-    /// Closes holes where they are more than half, and gives up the room that was taken.
+    /// Closes holes if they are more than half of all places, and gives up the room that was taken.
     fn tidy(&mut self)
         ensures entries { self.new.entries ≡ self.old.entries }
         ensures room { self.new.room ≡ 0 }
@@ -328,7 +330,7 @@ impl<S: BuildHasher + Copy + Drop> Store<S> {
         self.nodes.tidy();
     }
 
-    /// The same entries, in tables that hash alike. The transactions are shared, and no totals are found anew.
+    /// A copy of the entries, in tables that hash alike. The transactions are shared, and the totals are copied.
     pub(crate) fn copy(&self, alloc: Global) -> Result<Store<S>, Memory>
         ensures entries { IfOk result (λ copy. copy.entries ≡ self.now.entries) }
         ensures room { IfOk result (λ copy. copy.room ≡ 0) }

@@ -21,7 +21,7 @@ pub trait FamilyView {
     fn children(&self, alloc: Global, txid: &Txid) -> Result<Vec<Txid>, Memory>
         ensures { IfOk result (λ ids. AreIdsOf ids.items (children_of (entries self.now) txid.now)) };
 
-    /// That no two entries share an id: it does nothing.
+    /// States that no two entries share an id, for proofs: it does nothing.
     fn recall_apart(&self)
         ensures { AllPairs (λ (a : Admitted) (b : Admitted). txid_of a.tx ≢ txid_of b.tx) (entries self.now) };
 }

@@ -332,7 +332,7 @@ fn a_family_below_a_late_parent_goes_out(rt: HostRuntime) -> Result<(), Fail> {
     Ok(result?)
 }
 
-/// Takes a root out, if it is one.
+/// Takes a node out if it is a root, and says whether it is one.
 fn root_goes_out(graph: &mut Graph<Hashing>, id: Id) -> bool {
     let is_root = graph.is_root(&id);
     if is_root {
@@ -448,7 +448,7 @@ fn faults_are_told(rt: HostRuntime) -> Result<(), Fail> {
     Ok(())
 }
 
-/// How many are below a node, itself among them, by the totals that it keeps.
+/// Asserts how many nodes are below a node, itself among them, by the totals that it keeps.
 fn assert_kept_below(rt: &impl Abort, graph: &Graph<Hashing>, name: u8, count: u64) {
     match graph.totals(&named(name)) {
         Some(totals) => assert_eq!(rt; totals.below.count, count, "below {name}"),

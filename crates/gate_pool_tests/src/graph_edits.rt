@@ -1,5 +1,6 @@
 //! Edits from a fixed list, each of a graph and of a plain list, which find the same after it.
 use crate::draw::Draw;
+//! Edits from a fixed list, each made to a graph and to a plain list, which find the same after it.
 use crate::graph::{Hashing, empty, goes_out, is_above, is_below, named};
 use crate::plain_graph::{Plain, Row};
 use gate_bytes::Memory;
@@ -13,7 +14,7 @@ impl Draw {
         [(self.below(20) % 256) as u8; 32]
     }
 
-    /// Mostly the id of a row.
+    /// An id, mostly that of a row.
     fn known(&mut self, rows: &[Row]) -> Id {
         let place = self.below(24) as usize;
         match rows.get(place.checked_rem(rows.len()).unwrap_or(0)) {
@@ -22,7 +23,7 @@ impl Draw {
         }
     }
 
-    /// Mostly the id of no row.
+    /// An id, mostly that of no row.
     fn fresh(&mut self, plain: &Plain) -> Id {
         let mut id = self.id();
         for _ in 0..8 {
@@ -33,7 +34,7 @@ impl Draw {
         id
     }
 
-    /// Fewer ids than this.
+    /// Fewer than `end` ids, mostly those of rows.
     fn ids(&mut self, alloc: Global, rows: &[Row], end: u32) -> Result<Vec<Id>, Memory> {
         let mut ids = Vec::new(alloc);
         for _ in 0..self.below(end) {
@@ -48,12 +49,12 @@ fn size_of(id: &Id) -> u64 {
     u64::from(id[0]).wrapping_add(100)
 }
 
-/// Its fee.
+/// The fee of a node, by its id.
 fn fee_of(id: &Id) -> u64 {
     u64::from(id[0]).wrapping_mul(10)
 }
 
-/// What a node and others come to.
+/// The sums of a node and of others.
 fn summed(id: &Id, others: &[Id]) -> Sums {
     let mut sums = Sums {
         count: 1,
@@ -70,7 +71,7 @@ fn summed(id: &Id, others: &[Id]) -> Sums {
     sums
 }
 
-/// A graph, the list that it is compared with, and what the edits came to.
+/// A graph, the list that it is compared with, and counts of what the edits did.
 #[derive(Drop)]
 struct Pair {
     graph: Graph<Hashing>,
@@ -82,7 +83,7 @@ struct Pair {
 }
 
 impl Pair {
-    /// Takes a family out of both; says whether it is the same.
+    /// Takes a family out of graph and list; says whether it is the same in both.
     fn take_family(&mut self, alloc: Global, id: Id) -> Result<bool, GraphFault> {
         let family = self.plain.family(alloc, &id)?;
         self.plain.remove(family.as_slice());
@@ -91,7 +92,7 @@ impl Pair {
         Ok(same?)
     }
 
-    /// Takes a root out of both, if it is one in both; says whether it is the same.
+    /// Takes a node out of graph and list if it is a root of the graph; says whether the list agrees that it is one.
     fn take_root(&mut self, id: Id) -> bool {
         let is_root = self.graph.is_root(&id);
         let agrees = is_root == self.plain.is_root(&id);
@@ -103,7 +104,7 @@ impl Pair {
         agrees
     }
 
-    /// Adds a node to both; says whether it is refused where it must be.
+    /// Adds a node to graph and list; says whether the graph refuses it exactly if it must.
     fn add(
         &mut self,
         alloc: Global,
@@ -139,7 +140,7 @@ impl Pair {
         self.most = self.most.max(self.graph.count());
     }
 
-    /// Takes out what has the one id, or adds a node under the other, as is drawn.
+    /// Takes out the family of `gone` or the root `gone`, or adds a node with a fresh id, as is drawn.
     fn edit_drawn(
         &mut self,
         alloc: Global,
@@ -210,7 +211,7 @@ impl Pair {
         )
     }
 
-    /// Whether they find the same of all ids.
+    /// Whether graph and list find the same of all ids.
     fn agree(&self, alloc: Global) -> Result<bool, Memory> {
         for name in 0..20 {
             if !self.agree_on(alloc, named(name))? {
@@ -221,7 +222,7 @@ impl Pair {
     }
 }
 
-/// Edits both, and compares what they find then.
+/// Edits graph and list, and compares what they find then.
 fn edit_and_compare(
     rt: &(impl Abort + AllocGlobal),
     pair: &mut Pair,
@@ -248,7 +249,7 @@ fn assert_counts(rt: &impl Abort, pair: &Pair) {
     assert!(rt; pair.roots > 10);
 }
 
-/// Edits a new pair, which did enough of each at the end.
+/// Edits a new pair, and asserts that the edits did enough of each kind.
 fn edit_pair(rt: &(impl Abort + AllocGlobal), pair: &mut Pair) -> Result<(), GraphFault> {
     edit_often(rt, pair)?;
     assert_counts(rt, pair);

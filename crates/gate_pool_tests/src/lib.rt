@@ -1,4 +1,4 @@
-//! Tests of the ranking of rates, of the graph of ancestors, of the pool, of replacement, and of expiry and trim.
+//! Tests of the ranking of feerates, of the graph of ancestors, of the pool, of replacement, and of expiry and trim.
 #![tactic(auto)]
 
 #[cfg(test)]

@@ -14,7 +14,7 @@ enum Edit {
     TakeOne,
 }
 
-/// An edit of the node with a name, and what is there after it. A name of 0 is nobody's.
+/// An edit of the node with a name, and the least node and the total size after it. No node has the name 0.
 #[derive(Clone, Copy)]
 struct Row {
     edit: Edit,
@@ -109,7 +109,7 @@ fn the_least_follows_edits(rt: HostRuntime) -> Result<(), Fail> {
         // 1 has 400 over 200 with its child, 2 has 300 over 100
         put(2, 1, (100, 300), 1, 200),
         put(3, 0, (100, 150), 3, 300),
-        // as much as 3, and later
+        // 4 ranks as 3 does, and came later
         put(4, 0, (200, 300), 4, 500),
         take(Edit::TakeFamily, 4, 3, 300),
         // 2 stays, and has 300 over 100

@@ -22,7 +22,7 @@ fn one_output(alloc: Global) -> Result<Vec<TxOut>, Memory> {
     Ok(outputs)
 }
 
-/// A transaction of these inputs, where they make one.
+/// A transaction of these inputs, if they make one.
 pub(crate) fn paying(alloc: Global, inputs: Vec<TxIn>) -> Result<Option<Identified>, Memory> {
     match Transaction::new(2, inputs, one_output(alloc)?, 0) {
         Ok(transaction) => Ok(Some(Identified::new(alloc, transaction)?)),

@@ -28,7 +28,7 @@ fn drop_id(ids: &mut Vec<Id>, id: &Id) {
     ids.retain(|other| *other != *id);
 }
 
-/// Whether they share an id.
+/// Whether two lists share an id.
 fn meets(ids: &[Id], others: &[Id]) -> bool {
     ids.iter().any(|id| others.contains(id))
 }
@@ -48,7 +48,7 @@ impl Plain {
             .any(|row| row.id == *id && row.parents.is_empty())
     }
 
-    /// The rows' ids that are listed, in order.
+    /// The ids of the rows that were found, in the order of the rows.
     fn ordered(&self, alloc: Global, found: &[Id]) -> Result<Vec<Id>, Memory> {
         let mut ids = Vec::new(alloc);
         for row in self.rows.as_slice() {
@@ -59,7 +59,7 @@ impl Plain {
         Ok(ids)
     }
 
-    /// Finds the rows below those that were found.
+    /// Adds the children of the rows that were found.
     fn find_children(&self, found: &mut Vec<Id>) -> Result<(), Memory> {
         for row in self.rows.as_slice() {
             if meets(row.parents.as_slice(), found.as_slice()) && !found.contains(&row.id) {
@@ -69,7 +69,7 @@ impl Plain {
         Ok(())
     }
 
-    /// Finds the rows above those that were found.
+    /// Adds the parents of the rows that were found.
     fn find_parents(&self, found: &mut Vec<Id>) -> Result<(), Memory> {
         for row in self.rows.as_slice() {
             if found.contains(&row.id) {
@@ -79,7 +79,7 @@ impl Plain {
         Ok(())
     }
 
-    /// Finds all that is below those that were found.
+    /// Adds all descendants of the rows that were found.
     fn find_below(&self, found: &mut Vec<Id>) -> Result<(), Memory> {
         for _ in 0..self.rows.len() {
             let before = found.len();
@@ -91,7 +91,7 @@ impl Plain {
         Ok(())
     }
 
-    /// Finds all that is above those that were found.
+    /// Adds all ancestors of the rows that were found.
     fn find_above(&self, found: &mut Vec<Id>) -> Result<(), Memory> {
         for _ in 0..self.rows.len() {
             let before = found.len();
@@ -109,7 +109,7 @@ impl Plain {
         Ok(found)
     }
 
-    /// An id and all that is below it, if it is a row's.
+    /// An id and its descendants, or nothing if no row has the id.
     pub fn family(&self, alloc: Global, id: &Id) -> Result<Vec<Id>, Memory> {
         let found = self.found_below(alloc, id)?;
         let ids = self.ordered(alloc, found.as_slice());
@@ -129,7 +129,7 @@ impl Plain {
         Ok(found)
     }
 
-    /// All that is above an id.
+    /// The ancestors of an id.
     pub fn ancestors(&self, alloc: Global, id: &Id) -> Result<Vec<Id>, Memory> {
         let mut found = self.found_above(alloc, id)?;
         drop_id(&mut found, id);
@@ -155,7 +155,7 @@ impl Plain {
         Ok(false)
     }
 
-    /// Why a node is not added between these.
+    /// Why a node is not added between these parents and children, if it is not.
     pub fn fault(
         &self,
         alloc: Global,

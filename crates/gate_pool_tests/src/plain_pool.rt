@@ -27,7 +27,7 @@ impl Row {
     }
 }
 
-/// Whether two lists of ids have the same ids, each once where one of them does.
+/// Whether two lists are of one length and have the same ids.
 fn same_ids(found: &[Txid], wanted: &[Txid]) -> bool {
     found.len() == wanted.len()
         && found.iter().all(|txid| wanted.contains(txid))
@@ -48,7 +48,7 @@ pub struct Plain {
 }
 
 impl Plain {
-    /// Takes out what spends from the ids, and what is below that.
+    /// Takes out the rows that spend from the ids, and the descendants of those rows.
     fn drop_below(&mut self, mut ids: Vec<Txid>) -> Result<(), Memory> {
         for _ in 0..self.rows.len() {
             let Some(place) = self.rows.iter().position(|row| row.names(ids.as_slice())) else {
@@ -100,14 +100,14 @@ impl Plain {
         self.rows.retain(|row| row.txid != txid);
     }
 
-    /// Takes out what spends from an id, whether a row has it or not, and what is below that.
+    /// Takes out the rows that spend from an id, whether a row has it or not, and the descendants of those rows.
     pub fn take_children(&mut self, alloc: Global, txid: Txid) -> Result<(), Memory> {
         let mut ids = Vec::new(alloc);
         ids.push(txid)?;
         self.drop_below(ids)
     }
 
-    /// Takes out the rows that are smaller, which stands for an earlier time, and what is below them.
+    /// Takes out the rows that are smaller, which stands for an earlier time, and their descendants.
     pub fn take_before(&mut self, alloc: Global, vsize: u64) -> Result<(), Memory> {
         let mut ids = Vec::new(alloc);
         for row in self.rows.as_slice() {
@@ -119,7 +119,7 @@ impl Plain {
         self.drop_below(ids)
     }
 
-    /// The id of the row of least score, of equals the last, where each pays a fee of 1,000.
+    /// The id of the row of least score, the last of equal ones; each row pays a fee of 1,000.
     pub fn least(&self, alloc: Global) -> Result<Option<Txid>, Memory> {
         let mut least = None;
         let (mut fees, mut size) = (0_u128, 0_u128);
@@ -159,7 +159,7 @@ impl Plain {
         true
     }
 
-    /// Whether a pool has the same listing, count and size.
+    /// Whether a pool has the same listing, count and size as the list.
     pub fn is_listed<S: BuildHasher + Copy + Drop>(
         &self,
         alloc: Global,
@@ -183,7 +183,7 @@ impl Plain {
         self.rows.iter().any(|row| row.txid == *txid)
     }
 
-    /// Adds an id that is a row's, unless it was found before.
+    /// Adds an id if it is a row's, unless it was found before.
     fn add(&self, found: &mut Vec<Txid>, txid: &Txid) -> Result<(), Memory> {
         if self.has(txid) && !found.contains(txid) {
             found.push(*txid)?;
@@ -243,7 +243,7 @@ impl Plain {
         Ok(found)
     }
 
-    /// Whether a pool puts the ids of rows in their order.
+    /// Whether a pool puts the ids of rows in the order of the rows.
     pub fn agrees_on_order<S: BuildHasher + Copy + Drop>(
         &self,
         alloc: Global,
@@ -293,7 +293,7 @@ impl Plain {
         })
     }
 
-    /// The same of each row.
+    /// Whether a pool keeps the totals of each row's families that passes over the list find.
     pub fn agrees_on_each<S: BuildHasher + Copy + Drop>(
         &self,
         alloc: Global,
@@ -340,7 +340,7 @@ impl Plain {
         Ok(same_ids(children.as_slice(), wanted.as_slice()))
     }
 
-    /// Whether a walk finds above the inputs what passes over the list find.
+    /// Whether a walk finds the ancestors of the inputs that passes over the list find.
     pub fn agrees_above<S: BuildHasher + Copy + Drop>(
         &self,
         alloc: Global,
@@ -357,7 +357,7 @@ impl Plain {
         Ok(true)
     }
 
-    /// The same below the roots, and whether that comes to the same sums.
+    /// Whether a walk finds the descendants of the roots that passes over the list find, with the same sums.
     pub fn agrees_below<S: BuildHasher + Copy + Drop>(
         &self,
         alloc: Global,

@@ -60,7 +60,7 @@ fn make(alloc: Global, points: [OutPoint; 2], vsize: u64) -> Result<Option<Made>
     }
 }
 
-/// An output of one that is made already, or of a transaction outside.
+/// An output of a transaction that is made already, or of one outside.
 fn drawn_point(draw: &mut Draw, made: &[Made]) -> OutPoint {
     let outside = (draw.below(40) % 256) as u8;
     let txid = match made.get(draw.below(80) as usize) {
@@ -100,7 +100,8 @@ fn enter<S: BuildHasher + Copy + Drop>(pool: &mut Pool<S>, entry: Entry) -> Resu
     Ok(())
 }
 
-/// Takes a transaction's family out if it stands there, and else lets it enter. Tells whether the same ids went.
+/// Takes a transaction's family out if it is in the pool, else lets it enter. Says whether pool and list took out the
+/// same ids.
 fn edit<S: BuildHasher + Copy + Drop>(
     alloc: Global,
     pool: &mut Pool<S>,
@@ -136,7 +137,7 @@ fn families_agree<S: BuildHasher + Copy + Drop>(
     )
 }
 
-/// Whether a pool has the same listing, and puts the ids of all its entries in that order.
+/// Whether a pool has the same listing as the list, and puts the ids of all its entries in that order.
 fn order_agrees<S: BuildHasher + Copy + Drop>(
     alloc: Global,
     pool: &Pool<S>,
@@ -155,7 +156,7 @@ fn order_agrees<S: BuildHasher + Copy + Drop>(
     agrees
 }
 
-/// The same of a copy of the pool.
+/// Whether a copy of the pool has the same listing as the list, and puts the ids of all its entries in that order.
 fn copy_agrees<S: BuildHasher + Copy + Drop>(
     alloc: Global,
     pool: &Pool<S>,
@@ -168,7 +169,8 @@ fn copy_agrees<S: BuildHasher + Copy + Drop>(
     agrees
 }
 
-/// The oldest go, an entry goes alone, or what spends from or beside a transaction goes, as is drawn.
+/// Takes out the oldest entries, an entry alone, or the entries that spend from a transaction or conflict with it, as
+/// is drawn.
 fn edit_drawn<S: BuildHasher + Copy + Drop>(
     alloc: Global,
     draw: &mut Draw,
@@ -193,7 +195,7 @@ fn edit_drawn<S: BuildHasher + Copy + Drop>(
         }
         5 => {
             pool.take_spenders(one.identified.get().transaction().inputs());
-            // it stands in the place of all that spend what it spends, and goes alone
+            // the row replaces all rows that spend what it spends, and is then taken out alone
             plain.replace(alloc, one.row)?;
             plain.remove_alone(one.row.txid);
             Ok(())
@@ -202,7 +204,7 @@ fn edit_drawn<S: BuildHasher + Copy + Drop>(
     }
 }
 
-/// One edit, and now and then another kind. Tells whether the same ids went by the first.
+/// Makes an edit, and now and then one of another kind. Says whether pool and list took out the same ids in the first.
 fn edit_some<S: BuildHasher + Copy + Drop>(
     alloc: Global,
     draw: &mut Draw,
@@ -244,7 +246,7 @@ fn all_agree<S: BuildHasher + Copy + Drop>(
     )
 }
 
-/// Three hundred edits of a list that is the same each time. Gives the first after which something differs.
+/// Makes three hundred edits, the same ones in each run. Gives the number of the first after which something differs.
 fn edit_often<S: BuildHasher + Copy + Drop>(
     alloc: Global,
     draw: &mut Draw,
@@ -262,7 +264,7 @@ fn edit_often<S: BuildHasher + Copy + Drop>(
     Ok(if copied { None } else { Some(300) })
 }
 
-/// The same from an empty pool, beside an empty list.
+/// Makes three hundred edits of a pool beside an empty list, and gives the first after which something differs.
 fn edit_beside<S: BuildHasher + Copy + Drop>(
     alloc: Global,
     draw: &mut Draw,

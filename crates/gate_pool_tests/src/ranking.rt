@@ -7,7 +7,7 @@ use std::cmp::Ordering;
 use std::process::Abort;
 use std::test::Fail;
 
-/// Fees over a size, those of another rate, and how the first compares with the second.
+/// The fees and the size of a feerate, those of another feerate, and how the first compares with the second.
 type Pair = (u128, u128, u128, u128, Ordering);
 
 #[test]
@@ -16,7 +16,7 @@ fn rates_compare_as_fractions(rt: HostRuntime) -> Result<(), Fail> {
         (1, 2, 2, 4, Ordering::Equal),
         (1, 3, 1, 2, Ordering::Less),
         (3, 2, 1, 1, Ordering::Greater),
-        // over 0 counts as over 1
+        // a size of 0 counts as 1
         (5, 0, 5, 1, Ordering::Equal),
         (u128::MAX, 2, u128::MAX, 3, Ordering::Greater),
         (
@@ -94,7 +94,7 @@ fn the_least_follows_steps(rt: HostRuntime) -> Result<(), Fail> {
     let rows = [
         after(Step::Push(5), 0, 5),
         after(Step::Push(3), 1, 3),
-        // as little, and later
+        // the new key is as little as the least, and came later
         after(Step::Push(3), 2, 3),
         after(Step::Push(9), 2, 3),
         after(Step::Update(2, 4), 1, 3),

@@ -56,7 +56,7 @@ fn admit<S: BuildHasher + Copy + Drop>(
     Ok(txid)
 }
 
-/// An entry that may be replaced, one below it that may not, and one beside them.
+/// Admits an entry that signals replacement, a child of it that doesn't, and an entry beside them.
 fn fill<S: BuildHasher + Copy + Drop>(
     alloc: Global,
     pool: &mut Pool<S>,
@@ -67,7 +67,7 @@ fn fill<S: BuildHasher + Copy + Drop>(
     Ok([parent, child, other])
 }
 
-/// A transaction, and what is to be said of it.
+/// A transaction that spends two outpoints, and what is to be said of it.
 #[derive(Clone, Copy)]
 struct Case {
     first: OutPoint,
@@ -132,7 +132,7 @@ impl Case {
     }
 }
 
-/// The place of the first of these that does not hold.
+/// The place of the first case that does not hold.
 fn first_wrong<S: BuildHasher + Copy + Drop>(
     alloc: Global,
     pool: &Pool<S>,
@@ -146,10 +146,10 @@ fn first_wrong<S: BuildHasher + Copy + Drop>(
     Ok(None)
 }
 
-/// The cases over a pool that is filled.
+/// The cases over the pool that `fill` leaves.
 fn cases_over([parent, child, other]: [Txid; 3]) -> [Case; 10] {
     let free = Case::over(outside(5), output(other), 0, None);
-    // a rate of 10,000 satoshi per 1,000 virtual bytes and fees of 1,500 satoshi go
+    // it replaces a feerate of 10,000 satoshi per 1,000 virtual bytes, and fees of 1,500 satoshi
     let family = Case::over(outside(0), outside(1), 1, Some(parent));
     let adding = Case::over(outside(0), output(other), 1, Some(parent));
     let both = Case::over(outside(1), outside(3), 2, None);

@@ -7,7 +7,7 @@ use std::alloc::Global;
 use std::hash::{BuildHasher, BuildHasherDefault, DefaultHasher};
 use std::test::Fail;
 
-/// An entry that spends outputs of others before it, or of a transaction outside where there are none.
+/// An entry that spends outputs of entries before it, or of a transaction outside if it has no parents.
 #[derive(Clone, Copy)]
 struct Coming {
     /// The places of parents, and which of their outputs.
@@ -17,7 +17,7 @@ struct Coming {
     time: u64,
 }
 
-/// What enters in turn, and the places of what is left.
+/// The entries that enter in turn, and the places of those that are left.
 #[derive(Clone, Copy)]
 struct Case {
     entering: [Option<Coming>; 5],
@@ -27,7 +27,7 @@ struct Case {
     floor: u64,
 }
 
-/// What an entry spends: outputs of those before it, or of a transaction outside.
+/// The inputs of an entry: they spend outputs of entries before it, or of a transaction outside.
 fn inputs_of(alloc: Global, txids: &[Txid], coming: &Coming) -> Result<Vec<TxIn>, Memory> {
     let mut inputs = Vec::new(alloc);
     for (place, index) in coming.parents.iter().flatten() {
@@ -74,7 +74,7 @@ fn enter<S: BuildHasher + Copy + Drop>(
     put(pool, Entry::new(counted, fee, vsize, coming.time))
 }
 
-/// Lets all enter, and gives their ids.
+/// Lets all entries enter, and gives their ids.
 fn enter_all<S: BuildHasher + Copy + Drop>(
     alloc: Global,
     pool: &mut Pool<S>,
@@ -87,7 +87,7 @@ fn enter_all<S: BuildHasher + Copy + Drop>(
     Ok(txids)
 }
 
-/// The ids of what should be left.
+/// The ids of the entries that should be left.
 fn left_of(alloc: Global, txids: &[Txid], case: &Case) -> Result<Vec<Txid>, Memory> {
     let mut left = Vec::new(alloc);
     for place in case.left.iter().flatten() {
@@ -127,7 +127,7 @@ fn is_left<S: BuildHasher + Copy + Drop>(
     same
 }
 
-/// Whether what should be left is, in its order, and the floor is as it should be.
+/// Whether the entries that should be left are left, in their order, and the floor is as it should be.
 fn holds_in<S: BuildHasher + Copy + Drop>(
     alloc: Global,
     pool: &mut Pool<S>,
@@ -142,7 +142,7 @@ fn holds_in<S: BuildHasher + Copy + Drop>(
     Ok(floor.rate() == case.floor && left?)
 }
 
-/// The same from an empty pool.
+/// Whether a case holds, from an empty pool.
 fn holds(alloc: Global, case: &Case) -> Result<bool, Memory> {
     let hasher: BuildHasherDefault<DefaultHasher> = BuildHasherDefault::new();
     let mut pool = Pool::new(alloc, hasher)?;

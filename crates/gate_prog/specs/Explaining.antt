@@ -30,7 +30,7 @@ TheseRulesStopped rules before after lane.Memory = Appends before after []
 abbrev pub RulesPrinted : List Key → Option (List ℕ) → Option (List ℕ) → ℕ → Type 0
 RulesPrinted keys before after status = (rules : List Rule) × (map key_of rules ≡ keys) × TheseRulesPrinted rules before after status
 
--- printing them stopped: nothing was written where memory ran out
+-- printing the lines of these rules stopped: nothing was written if memory ran out
 abbrev pub RulesStopped : List Key → Option (List ℕ) → Option (List ℕ) → LaneFault → Type 0
 RulesStopped keys before after lane.Read = ⊥
 RulesStopped keys before after lane.Write = (rules : List Rule) × (map key_of rules ≡ keys) × PartSent before after (rules_text rules)

@@ -5,10 +5,10 @@ ghost use Rattle.gate_prog.specs.Inputs.{InputRead, ReadsWithin};
 use gate_lines::{LaneFault, Part, Source};
 use std::alloc::Global;
 
-/// The most bytes of an input that is checked: so many digits has the longest text of a transaction.
+/// The most bytes of an input that is checked: the longest text of a transaction has this many digits.
 const MAX_INPUT: usize = 67_108_864;
 
-/// Reads an input to its end; there is none where it is too long.
+/// Reads an input to its end; `None` if it is too long.
 pub(crate) fn read_input<R: Source>(
     alloc: Global,
     reader: &mut R,

@@ -21,7 +21,7 @@ impl<S: BuildHasher + Copy + Drop> Answers<State<S>> for Stepping {
 
     ghost answers = { Steps };
 
-    /// A step that memory ran out in is answered too.
+    /// A step in which memory ran out has a reply line too: `fault memory`.
     fn answer(
         &self,
         state: &mut State<S>,
@@ -37,9 +37,9 @@ impl<S: BuildHasher + Copy + Drop> Answers<State<S>> for Stepping {
 
 /// Runs a lane to the end of its input, or to the first line past a limit, and gives the number of reply lines.
 ///
-/// A reply line is out before the lane waits for more input, and all of them before it returns, where the writer can
-/// send them on. After a fault the state is that of the lines answered. Where the lane and then the writer's last sending
-/// fail, the lane's fault is told.
+/// A reply line is out before the lane waits for more input, and all of them before it returns, if the writer can
+/// send them on. After a fault the state is that of the lines answered. If the lane and then the writer's last sending
+/// fail, the lane's fault is returned.
 pub fn run_lane<S: BuildHasher + Copy + Drop, R: Source, W: Sink>(
     alloc: Global,
     state: &mut State<S>,

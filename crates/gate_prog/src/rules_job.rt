@@ -7,7 +7,7 @@ use gate_lines::{LaneFault, Sink};
 use gate_rules::{Rule, rules, rules_named, rules_text};
 use std::alloc::Global;
 
-/// The status where these rules are what was found.
+/// The status after a search that found these rules: 1 if there are none, and 0 otherwise.
 fn found_status(rules: &[Rule]) -> u8
     ensures { result ≡ found_status rules.now }
 {
@@ -41,7 +41,7 @@ pub fn run_rules<W: Sink>(alloc: Global, writer: &mut W) -> Result<u8, LaneFault
     print_rules(alloc, writer, rules.as_slice())
 }
 
-/// Prints the rules and words whose name or token is this word, a line each; the status is 1 where there are none.
+/// Prints the rules and words whose name or token is this word, a line each; the status is 1 if there are none.
 pub fn run_explain<W: Sink>(alloc: Global, word: &str, writer: &mut W) -> Result<u8, LaneFault>
     ensures done { IfOk result (λ status. RulesPrinted (found_keys word.now) (W.contents writer.old) (W.contents writer.new) status) }
     ensures sent { OnOk result (W.held writer.new ≡ []) }

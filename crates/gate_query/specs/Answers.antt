@@ -30,7 +30,7 @@ above entries txid = filter (λ a. not (has_txid a txid)) (ancestors_of entries 
 abbrev pub below : List Admitted → List ℕ → List Admitted
 below entries txid = filter (λ a. not (has_txid a txid)) (descendants_of entries txid)
 
--- their ids, where an entry has the id
+-- the ids of the entries above an id, and of those below it, without its own, if an entry has the id
 abbrev pub ancestors_listed : List Admitted → List ℕ → Option (List (List ℕ))
 ancestors_listed entries txid = option_map (λ e. listing_of (above entries txid)) (entry_by_txid entries txid)
 
@@ -39,7 +39,7 @@ descendants_listed entries txid = option_map (λ e. listing_of (below entries tx
 
 -- ---- an entry
 
--- it says that it may be replaced (BIP 125)
+-- an entry signals by itself that it may be replaced (BIP 125)
 abbrev pub is_replaceable : Admitted → Bool
 is_replaceable e = signals e.tx
 
@@ -47,7 +47,7 @@ is_replaceable e = signals e.tx
 abbrev pub parents_of : List Admitted → Admitted → List Admitted
 parents_of entries e = filter (λ p. names e (txid_of p.tx)) entries
 
--- what is known of the entry of an id; the ancestors and descendants have itself among them
+-- what is known of the entry of an id; its ancestors and descendants have the entry itself among them
 abbrev pub info_from : List Admitted → List ℕ → Admitted → EntryInfo
 info_from entries txid e =
     record {
@@ -70,19 +70,19 @@ info_from entries txid e =
 abbrev pub info_of : List Admitted → List ℕ → Option EntryInfo
 info_of entries txid = option_map (info_from entries txid) (entry_by_txid entries txid)
 
--- ---- what pays a rate
+-- ---- entries that pay a feerate
 
--- its fee is at least that of its size at the rate
+-- an entry's fee is at least that of its size at the feerate
 abbrev pub pays : ℕ → Admitted → Bool
 pays rate e = nat_le (required_fee rate e.vsize) e.fee
 
--- the txids of the entries that pay a rate, in order of admission
+-- the txids of the entries that pay at least a feerate, in order of admission
 abbrev pub listing_at : ℕ → List Admitted → List (List ℕ)
 listing_at rate entries = listing_of (filter (pays rate) entries)
 
 -- ---- the pool
 
--- what the pool asks for is what every relay does, or its floor where that is greater
+-- the least feerate of the pool is that of every relay, or the pool's floor if that is greater
 abbrev pub pool_info : List Admitted → ℕ → ℕ → RpcResult
 pool_info entries floor budget = Info (size_of entries) budget (max floor min_relay_rate) min_relay_rate (length entries)
 
@@ -92,7 +92,7 @@ abbrev pub tested_as : Tx → Result Grant Denial → RpcResult
 tested_as tx (Ok grant) = Allowed (txid_of tx) (wtxid_of tx) grant.fee grant.vsize
 tested_as tx (Err denial) = Rejected (txid_of tx) (wtxid_of tx) denial
 
--- the decision on it, which changes nothing; what is no transaction is an error
+-- the answer is the decision on the transaction, which changes nothing, or an error if there is no transaction
 abbrev pub tested : Standing → Option Tx → Result RpcResult RpcError
 tested over None = Err (Denied Decode)
 tested over (Some tx) = Ok (tested_as tx (decision_of First over (Some tx)))

@@ -26,7 +26,7 @@ fn spending(alloc: Global, txid: &Txid) -> TxIn
     }
 }
 
-/// The ids of an entry and of all above it: what is above a transaction that spends from it.
+/// The ids of an entry and of all above it, found as what is above a transaction that spends from it.
 pub(crate) fn with_ancestors<S: BuildHasher + Copy + Drop>(
     alloc: Global,
     pool: &Pool<S>,

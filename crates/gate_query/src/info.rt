@@ -14,11 +14,11 @@ use gate_tx::Txid;
 use std::alloc::Global;
 use std::hash::BuildHasher;
 
-/// What a transaction pays at least for its relay, in satoshi per 1,000 virtual bytes (Bitcoin Core's
+/// The least feerate at which a transaction is relayed, in satoshi per 1,000 virtual bytes (Bitcoin Core's
 /// `DEFAULT_MIN_RELAY_TX_FEE`).
 const MIN_RELAY_RATE: u64 = 1_000;
 
-/// Whether the entry of an id says that it may be replaced (BIP 125).
+/// Whether the entry of an id signals by itself that it may be replaced (BIP 125).
 fn is_signalling<S: BuildHasher + Copy + Drop>(pool: &Pool<S>, txid: &Txid) -> bool
     ensures { result ≡ list_any (λ (e : Admitted). has_txid e txid.now && is_replaceable e) pool.now.entries }
 {
@@ -29,14 +29,15 @@ fn is_signalling<S: BuildHasher + Copy + Drop>(pool: &Pool<S>, txid: &Txid) -> b
     }
 }
 
-/// Whether one of the entries with these ids says so.
+/// Whether one of the entries with these ids signals by itself that it may be replaced (BIP 125).
 fn one_signals<S: BuildHasher + Copy + Drop>(pool: &Pool<S>, txids: &[Txid]) -> bool
     ensures { result ≡ list_any (λ (e : Admitted). is_among txids.now e && is_replaceable e) pool.now.entries }
 {
     txids.iter().any(|txid| is_signalling(pool, txid))
 }
 
-/// Whether the entry of an id or one above it says so. What says it of itself needs no walk.
+/// Whether the entry of an id or one above it signals that it may be replaced (BIP 125). An entry that signals by
+/// itself needs no walk.
 fn is_replaceable<S: BuildHasher + Copy + Drop>(
     alloc: Global,
     pool: &Pool<S>,
@@ -85,8 +86,8 @@ fn info<S: BuildHasher + Copy + Drop>(
     })
 }
 
-/// What is known of an entry: itself, and what its ancestors and its descendants come to, as the pool keeps it. None where no
-/// entry has the id.
+/// What is known of an entry: its numbers, its parents and children, and the totals of its ancestors and descendants,
+/// which the pool keeps. Fees are in satoshi, sizes in virtual bytes. None if no entry has the id.
 pub fn entry_info<S: BuildHasher + Copy + Drop>(
     alloc: Global,
     pool: &Pool<S>,
@@ -100,7 +101,8 @@ pub fn entry_info<S: BuildHasher + Copy + Drop>(
     }
 }
 
-/// The size of the pool and its rates; the budget is in virtual bytes.
+/// The number of entries, the size and the budget of the pool in virtual bytes, and the least feerates of the pool and
+/// of every relay, in satoshi per 1,000 virtual bytes.
 pub fn pool_info<S: BuildHasher + Copy + Drop>(
     pool: &Pool<S>,
     floor: &Floor,

@@ -1,8 +1,8 @@
-//! What the pool answers: an entry's own story, its ancestors and descendants, the entries that pay a rate, the pool's size
-//! and its rates, and whether a transaction would enter.
+//! Answers about the pool: what is known of an entry, its ancestors and descendants, the entries that pay a feerate,
+//! the pool's size and its least feerates, and whether a transaction would enter.
 //!
-//! The main clause is that of `entry_info`, which gives what is known of an entry: all sums are those of the families over
-//! the plain list of entries. Nothing here changes anything.
+//! The main clause is that of `entry_info`, which says what is known of an entry: all sums are those of the families
+//! over the plain list of entries. No function of this crate changes the pool or the chain.
 #![tactic(auto)]
 
 mod family;

@@ -42,7 +42,7 @@ fn below<S: BuildHasher + Copy + Drop>(
     Ok(without(txids, txid))
 }
 
-/// The txids of the entries above an entry, in order of admission, without its own. None where no entry has the id.
+/// The txids of the entries above an entry, in order of admission, without its own. None if no entry has the id.
 pub fn ancestors_listed<S: BuildHasher + Copy + Drop>(
     alloc: Global,
     pool: &Pool<S>,
@@ -56,7 +56,7 @@ pub fn ancestors_listed<S: BuildHasher + Copy + Drop>(
     }
 }
 
-/// The txids of the entries below an entry, in order of admission, without its own. None where no entry has the id.
+/// The txids of the entries below an entry, in order of admission, without its own. None if no entry has the id.
 pub fn descendants_listed<S: BuildHasher + Copy + Drop>(
     alloc: Global,
     pool: &Pool<S>,

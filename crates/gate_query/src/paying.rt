@@ -1,4 +1,4 @@
-//! The entries that pay a rate.
+//! The entries that pay at least a feerate, in satoshi per 1,000 virtual bytes.
 ghost use Rattle.std.specs.Prelude.{◌≡◌, ◌&&◌, IfOk, filter};
 ghost use Rattle.std.specs.List.{list_any};
 ghost use Rattle.gate_pool.specs.Pool.{Admitted, has_txid};
@@ -11,14 +11,14 @@ use gate_tx::Txid;
 use std::alloc::Global;
 use std::hash::BuildHasher;
 
-/// Whether an entry's fee is at least that of its size at a rate.
+/// Whether an entry's fee is at least that of its size at a feerate.
 fn pays(entry: &Entry, rate: u64) -> bool
     ensures { result ≡ pays rate entry.now }
 {
     fee_at(rate, entry.vsize()) <= u128::from(entry.fee())
 }
 
-/// Whether the entry of an id does.
+/// Whether an entry has an id, and pays at least a feerate.
 fn is_paying<S: BuildHasher + Copy + Drop>(pool: &Pool<S>, rate: u64, txid: &Txid) -> bool
     ensures { result ≡ list_any (λ (e : Admitted). has_txid e txid.now && pays rate e) pool.now.entries }
 {
@@ -29,7 +29,7 @@ fn is_paying<S: BuildHasher + Copy + Drop>(pool: &Pool<S>, rate: u64, txid: &Txi
     }
 }
 
-/// Those of the ids whose entries do.
+/// Those of these ids whose entries pay at least a feerate.
 fn paying_among<S: BuildHasher + Copy + Drop>(
     mut txids: Vec<Txid>,
     pool: &Pool<S>,
@@ -41,7 +41,8 @@ fn paying_among<S: BuildHasher + Copy + Drop>(
     Kept::from_vec(txids)
 }
 
-/// The txids of the entries that pay a rate, in satoshi per 1,000 virtual bytes, in order of admission. All pay a rate of 0.
+/// The txids of the entries that pay at least a feerate, in satoshi per 1,000 virtual bytes, in order of admission. All
+/// pay a feerate of 0.
 pub fn listing_at<S: BuildHasher + Copy + Drop>(
     alloc: Global,
     pool: &Pool<S>,

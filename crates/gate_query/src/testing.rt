@@ -10,8 +10,8 @@ use gate_standard::Denial;
 use std::alloc::Global;
 use std::hash::BuildHasher;
 
-/// Judges a transaction, and enters nothing: what it pays and takes, or the rule that denies it. Only what is no transaction
-/// is an error.
+/// Judges a transaction without entering it. The answer has its ids, and either its fee in satoshi and its size in
+/// virtual bytes, or the rule that denies it. If what was prepared is no transaction, the answer is an error.
 pub fn test_submission<S: BuildHasher + Copy + Drop>(
     alloc: Global,
     chain: &Chain<S>,

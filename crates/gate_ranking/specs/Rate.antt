@@ -14,7 +14,7 @@ pub record Fraction : Type 0 where
   pub fees : ℕ
   pub size : ℕ
 
--- over 0 counts as over 1
+-- the order of fractions, by cross products; a size of 0 counts as 1
 abbrev pub rate_cmp : Fraction → Fraction → Ordering
 rate_cmp a b = nat_cmp (a.fees * max b.size 1) (b.fees * max a.size 1)
 
@@ -30,14 +30,14 @@ equal_cmp x y h = grind (arith, nat_tests)
 greater_cmp : (x y : ℕ) → y < x → nat_cmp x y ≡ Greater
 greater_cmp x y h = grind (arith, nat_tests)
 
--- both times a positive number compare as they do
+-- two numbers compare as their products with a positive number do
 scaled : (x y k : ℕ) → 0 < k → nat_cmp (x * k) (y * k) ≡ nat_cmp x y
 scaled x y k h = by_ranked (x < y) (x ≡ y) (y < x) (nat_cmp x y) (ranked x y (nat_cmp x y) refl)
     (λ e l. less_cmp (x * k) (y * k) (mul-lt-mul_of_pos_right l h) ∙ sym e)
     (λ e l. equal_cmp (x * k) (y * k) (ap (λ z. z * k) l) ∙ sym e)
     (λ e l. greater_cmp (x * k) (y * k) (mul-lt-mul_of_pos_right l h) ∙ sym e)
 
--- a/p against b/q, both over r too
+-- the cross products of a/p and b/q compare alike if both are multiplied by r
 over : (a p b q r : ℕ) → 0 < r → nat_cmp (a * r * q) (b * r * p) ≡ nat_cmp (a * q) (b * p)
 over a p b q r h = ap (λ z. nat_cmp z (b * r * p)) (mul_right_comm a r q) ∙ ap (λ z. nat_cmp (a * q * r) z) (mul_right_comm b r p) ∙ scaled (a * q) (b * p) r h
 

@@ -12,8 +12,8 @@ use std::marker::Model;
 #[derive(Drop)]
 pub struct Ranking<K: Ord + Copy> {
     keys: Vec<Option<K>>,
-    /// Of each match the place that won it, at 1 the last; the children of a node are at twice its index and next to that, and
-    /// past the end are the leaves, one for each place.
+    /// The place that won each match, the last match at 1. The children of a node are at twice its index and at the
+    /// next; the indexes past the end are the leaves, one for each place.
     tree: Vec<usize>,
     room: usize,
 }
@@ -49,14 +49,14 @@ impl<K: Ord + Copy> Ranking<K> {
         self.keys.len()
     }
 
-    /// What is held at a place.
+    /// The key at a place; none if the place is empty or beyond the end.
     pub fn key(&self, place: usize) -> Option<&K>
         ensures { option_copied result ≡ at self.now.keys place }
     {
         key_at(&self.keys, place)
     }
 
-    /// The least of all keys that are held, of equals that of the last place.
+    /// The least of all keys and its place, of equal ones that of the last place; none if all places are empty.
     pub fn least(&self) -> Option<(usize, &K)>
         ensures some { IfSome result (λ found. IsLeast K.cmp self.now.keys found.0 found.1.now) }
         ensures none { IfNone result (IsBare self.now.keys) }
@@ -97,7 +97,7 @@ impl<K: Ord + Copy> Ranking<K> {
         self.room -= 1;
     }
 
-    /// Puts a key in the place of what is held at a place.
+    /// Writes a key at a place, whether a key is there or not.
     pub fn update(&mut self, place: usize, key: K)
         requires { place < length self.old.keys }
         ensures keys { self.new.keys ≡ slice_set self.old.keys place (Some key) }
@@ -117,7 +117,7 @@ impl<K: Ord + Copy> Ranking<K> {
         replay(&self.keys, &mut self.tree, place);
     }
 
-    /// Drops the empty places, and numbers those after them anew.
+    /// Drops the empty places: the keys after them move to lower places, in the same order.
     pub fn close_up(&mut self)
         ensures keys { self.new.keys ≡ filter is_some self.old.keys }
         ensures room { self.new.room ≡ self.old.room }

@@ -4,7 +4,7 @@ ghost use Rattle.std.specs.Ordering.{nat_cmp};
 use std::cmp::Ordering;
 use std::marker::Model;
 
-/// Compares a product with another, either of which may exceed 128 bits.
+/// Compares the product of `a` and `b` with that of `c` and `d`, either of which may exceed 128 bits.
 fn compare_products(a: u128, b: u128, c: u128, d: u128) -> Ordering
     ensures { result ≡ nat_cmp (a * b) (c * d) }
 {
@@ -38,7 +38,7 @@ impl Model for Rate {
 }
 
 impl Rate {
-    /// Over a size of 0 it is the rate over 1.
+    /// Fees over a size; a size of 0 counts as 1.
     pub fn new(fees: u128, size: u128) -> Rate
         ensures { result ≡ record { fees = fees; size = max size 1 } }
     {

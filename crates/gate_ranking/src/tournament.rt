@@ -6,7 +6,7 @@ ghost use Rattle.gate_ranking.specs.Tournament.{place_of, first_of, IsPlayed, Is
 use gate_bytes::Memory;
 use std::cmp::Ordering;
 
-/// What is held at a place.
+/// The key at a place; none if the place is empty or beyond the end.
 pub(crate) fn key_at<K>(keys: &[Option<K>], place: usize) -> Option<&K>
     ensures { option_copied result ≡ at keys.now place }
 {
@@ -16,7 +16,7 @@ pub(crate) fn key_at<K>(keys: &[Option<K>], place: usize) -> Option<&K>
     }
 }
 
-/// The place of a node, of which those past the tree are the leaves.
+/// The place that a node of the tree holds. The nodes past the end of the tree are the leaves, one for each place.
 pub(crate) fn place_of(tree: &[usize], node: usize) -> usize
     ensures { result ≡ place_of tree.now node }
 {
@@ -28,7 +28,7 @@ pub(crate) fn place_of(tree: &[usize], node: usize) -> usize
     }
 }
 
-/// Of two places the one of the lesser key, of equals the later.
+/// Of two places the one of the lesser key, of equal keys the later. An empty place is behind all keys.
 pub(crate) fn first_of<K: Ord>(keys: &[Option<K>], a: usize, b: usize) -> usize
     ensures { result ≡ first_of K.cmp keys.now a b }
 {
@@ -75,7 +75,7 @@ pub(crate) fn play<K: Ord>(keys: &[Option<K>], tree: &mut [usize])
     }
 }
 
-/// Makes leaves for this many places.
+/// Takes the memory of a tree with leaves for this many places, and plays all matches if the tree grew.
 pub(crate) fn widen<K: Ord>(
     keys: &[Option<K>],
     tree: &mut Vec<usize>,

@@ -8,7 +8,7 @@ pub record Beside : Type 0 where
   pub entries : List Admitted
   pub tx : Tx
 
--- what is found is these entries, in whatever order and each however often
+-- the entries that were found are these, in whatever order, each at least once
 pub record AreThese (found some : List Admitted) : Type 0 where
   pub all : (e : Admitted) → Contains some e → Contains found e
   pub only : (e : Admitted) → Contains found e → Contains some e

@@ -6,7 +6,7 @@ use Rattle.gate_tx.specs.declared.TxIn.{TxIn}
 use Rattle.gate_pool.specs.Family.{all_below, AreIdsOf}
 use Rattle.gate_pool.specs.Pool.{Admitted, has_txid}
 
--- an id has its place among others: it was there, or it was put there
+-- ids after one was put among them, unless it was there before
 pub record IsPut (before : List (List ℕ)) (txid : List ℕ) (after : List (List ℕ)) : Type 0 where
   pub once : AllPairs (λ (a : List ℕ) (b : List ℕ). a ≢ b) before → AllPairs (λ (a : List ℕ) (b : List ℕ). a ≢ b) after
   pub has : Contains after txid
@@ -17,11 +17,11 @@ pub record IsPut (before : List (List ℕ)) (txid : List ℕ) (after : List (Lis
 abbrev pub is_parent : List TxIn → Admitted → Bool
 is_parent inputs e = list_any (λ (i : TxIn). has_txid e i.prevout.txid) inputs
 
--- whichever of the entries have these ids, this is so of them
+-- a fact about the entries with these ids
 abbrev pub ForEntriesOf : List (List ℕ) → List Admitted → (List Admitted → Type 0) → Type 0
 ForEntriesOf txids entries IsSo = (test : Admitted → Bool) → AreIdsOf txids (filter test entries) → IsSo (filter test entries)
 
--- whichever of the entries have these ids, theirs are given and those of all that are below them
+-- a result has the ids of the entries with these ids and of all that are below them
 abbrev pub GivesAllBelow : {E : Type 0} → List Admitted → List (List ℕ) → Result (Vec (List ℕ)) E → Type 0
 GivesAllBelow entries roots result =
     (test : Admitted → Bool) → AreIdsOf roots (filter test entries) → IfOk result (λ ids. AreIdsOf ids.items (all_below test entries))

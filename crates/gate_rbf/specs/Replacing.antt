@@ -11,11 +11,11 @@ use Rattle.gate_standard.specs.declared.Denial.TheVariants.{LowerFeeRate, TooMan
 use Rattle.gate_pool.specs.Pool.{Admitted, entry_by_txid}
 use Rattle.gate_pool.specs.Family.{names, descendants_of, is_conflict, conflicts_of, replaced_of, fees_of}
 
--- a transaction says that it may be replaced: an input has a sequence of at most 0xfffffffd
+-- a transaction signals that it may be replaced: an input has a sequence of at most 0xfffffffd
 abbrev pub signals : Tx → Bool
 signals tx = list_any (λ (i : TxIn). nat_le i.sequence 0xffff_fffd) tx.inputs
 
--- an entry conflicts with a transaction, and doesn't say itself that it may be replaced; what its ancestors say is not asked
+-- an entry conflicts with a transaction, and doesn't itself signal that it may be replaced; its ancestors' signals don't count
 abbrev pub is_firm_conflict : Tx → Admitted → Bool
 is_firm_conflict tx e = is_conflict tx e && not (signals e.tx)
 
@@ -35,7 +35,7 @@ adds_parent entries direct input = is_some (entry_by_txid entries input.prevout.
 abbrev pub adds_unconfirmed : List Admitted → Tx → Bool
 adds_unconfirmed entries tx = list_any (adds_parent entries (conflicts_of entries tx)) tx.inputs
 
--- the rules on a transaction of this fee and size, where it conflicts with these entries, and those that go with them pay this
+-- the rules on a transaction of this fee and size that conflicts with the entries `direct`, if all that it replaces pay `paid`
 unfoldable pub rules_beside : List Admitted → List Admitted → ℕ → Tx → ℕ → ℕ → List (Rule Denial)
 rules_beside entries direct paid tx fee vsize =
     (LowerFeeRate, list_any (λ (c : Admitted). nat_le (feerate fee vsize) (feerate c.fee c.vsize)) direct)
@@ -45,7 +45,7 @@ rules_beside entries direct paid tx fee vsize =
     ∷ (LowerDifference, nat_lt (fee - paid) (required_fee incremental_relay_rate vsize))
     ∷ []
 
--- A38 to A42, which ask something only of a transaction that conflicts with an entry
+-- A38 to A42, which apply only to a transaction that conflicts with an entry
 unfoldable pub replacement_rules : List Admitted → Tx → ℕ → ℕ → List (Rule Denial)
 replacement_rules entries tx fee vsize =
     if list_any (is_conflict tx) entries then rules_beside entries (conflicts_of entries tx) (fees_of (replaced_of entries tx)) tx fee vsize else []

@@ -8,7 +8,8 @@ use gate_standard::{Denial, fee_at};
 /// What a replacement pays for its own relay, in satoshi per 1,000 virtual bytes.
 const INCREMENTAL_RELAY_RATE: u64 = 1000;
 
-/// Checks the fee of a transaction that replaces what pays so much.
+/// Checks A41 and A42 for a transaction of this fee, in satoshi, and this size, in virtual bytes. The entries that it
+/// replaces pay `paid` satoshi.
 pub(crate) fn check_amounts(fee: u64, vsize: u64, paid: u128) -> Result<(), Denial>
     ensures ok { OnOk result (first_failing (amount_rules paid fee vsize) ≡ None) }
     ensures err { IfErr result (λ denial. first_failing (amount_rules paid fee vsize) ≡ Some denial) }

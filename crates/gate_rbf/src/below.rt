@@ -1,4 +1,4 @@
-//! What goes with entries that are replaced.
+//! What leaves with entries that are replaced.
 ghost use Rattle.std.specs.Prelude.{Bool, IfOk, filter};
 ghost use Rattle.gate_pool.specs.Pool.{Admitted};
 ghost use Rattle.gate_pool.specs.Family.{is_among, all_below, AreIdsOf};
@@ -11,7 +11,7 @@ use gate_tx::Txid;
 use std::alloc::Global;
 use std::hash::BuildHasher;
 
-/// Those of the ids that entries have, each once.
+/// Those of these ids that entries have, each once.
 fn admitted<S: BuildHasher + Copy + Drop>(
     alloc: Global,
     pool: &Pool<S>,
@@ -30,7 +30,7 @@ fn admitted<S: BuildHasher + Copy + Drop>(
     Ok(found)
 }
 
-/// The ids of entries, given by theirs, with those of all that are below them.
+/// The ids of the entries with these ids and of all that are below them, each once.
 pub(crate) fn with_descendants<S: BuildHasher + Copy + Drop>(
     alloc: Global,
     pool: &Pool<S>,
@@ -43,7 +43,8 @@ pub(crate) fn with_descendants<S: BuildHasher + Copy + Drop>(
     Ok(found.unwrap())
 }
 
-/// The ids of what goes with the entries of these ids: themselves, and all that are below them.
+/// The ids of the entries that leave if those with these ids are replaced: themselves, and all that are below them,
+/// each once. An id that no entry has counts for nothing.
 pub fn replaced<S: BuildHasher + Copy + Drop>(
     alloc: Global,
     pool: &Pool<S>,

@@ -13,10 +13,10 @@ use gate_tx::Txid;
 use std::alloc::Global;
 use std::hash::BuildHasher;
 
-/// No more descendants go with the entries that a transaction conflicts with.
+/// The most descendants, themselves among them, that the entries may have with which a transaction conflicts.
 const MOST_DESCENDANTS: u64 = 100;
 
-/// How many are below the entry of an id, itself among them, as the pool keeps it.
+/// How many descendants the entry of an id has, itself among them, by the totals that the pool keeps.
 fn count_below<S: BuildHasher + Copy + Drop>(pool: &Pool<S>, id: &Txid) -> u64
     requires { IsEntry pool.now.entries id.now }
     ensures { result ≡ length (descendants_of pool.now.entries id.now) }
@@ -24,8 +24,8 @@ fn count_below<S: BuildHasher + Copy + Drop>(pool: &Pool<S>, id: &Txid) -> u64
     pool.totals(id).unwrap().below.count
 }
 
-/// Whether entries, given by their ids, have few enough descendants together, themselves among them. An entry below two of them
-/// counts twice.
+/// Whether the entries with these ids have few enough descendants together, themselves among them. An entry below two
+/// of them counts twice.
 fn has_few_descendants<S: BuildHasher + Copy + Drop>(pool: &Pool<S>, ids: &[Txid]) -> bool
     requires { (test : Admitted → Bool) × AreIdsOf ids.now (filter test pool.now.entries) }
     ensures { ForEntriesOf ids.now pool.now.entries (λ some. result ≡ not (nat_lt 100 (descendant_count pool.now.entries some))) }
@@ -51,7 +51,7 @@ impl<'a, S: BuildHasher + Copy + Drop> DirectConflicts<'a, S> {
         has_few_descendants(self.pool(), ids)
     }
 
-    /// The ids of the conflicts, each once. None where they have too many descendants.
+    /// The ids of the conflicts, each once. None if they have too many descendants.
     pub(crate) fn few_ids(&self, alloc: Global) -> Result<Option<Vec<Txid>>, Memory>
         ensures ids { IfOk result (λ few. IfSome few (λ ids. AreIdsOf ids.items (conflicts_of self.now.entries self.now.tx))) }
         ensures few { IfOk result (λ few. IfSome few (λ ids. descendant_count self.now.entries (conflicts_of self.now.entries self.now.tx) ≤ 100)) }

@@ -58,7 +58,7 @@ impl<'a> Rival<'a> {
         ids.contains(&self.entry.txid())
     }
 
-    /// Whether it doesn't say itself that it may be replaced.
+    /// Whether the entry's own transaction doesn't signal that it may be replaced.
     fn is_firm(&self) -> bool
         ensures { result ≡ not (signals self.now.tx) }
     {
@@ -91,7 +91,7 @@ fn find_rivals<'a, S: BuildHasher + Copy + Drop>(
     Ok(found)
 }
 
-/// The ids of what was found, each once. None where there are more than `most`.
+/// The ids of the entries that were found, each once. None if there are more than `most`.
 fn ids_of(alloc: Global, found: &[Rival<'_>], most: usize) -> Result<Option<Vec<Txid>>, Memory>
     ensures found { IfOk result (λ ids. IfSome ids (λ ids. AreIdsOf ids.items found.now)) }
     ensures many { IfOk result (λ ids. ids ≡ None → (some : List Admitted) → AreThese found.now some → most < length some) }
@@ -106,8 +106,8 @@ fn ids_of(alloc: Global, found: &[Rival<'_>], most: usize) -> Result<Option<Vec<
     Ok(Some(ids))
 }
 
-/// A transaction beside the entries of a pool, with those of them that it conflicts with: each spends an outpoint that the
-/// transaction spends. They are found once, and asked for all that the rules ask of them.
+/// A transaction beside the entries of a pool, with those of them that it conflicts with: each spends an outpoint that
+/// the transaction spends. They are found once, for all rules that look at them.
 #[derive(Drop)]
 pub struct DirectConflicts<'a, S: BuildHasher + Copy + Drop> {
     pool: &'a Pool<S>,
@@ -157,14 +157,14 @@ impl<'a, S: BuildHasher + Copy + Drop> DirectConflicts<'a, S> {
         !self.found.is_empty()
     }
 
-    /// Whether one of them doesn't say itself that it may be replaced: A23.
+    /// Whether the own transaction of one of the conflicts doesn't signal that it may be replaced: A23.
     pub fn has_firm(&self) -> bool
         ensures { result ≡ list_any (is_firm_conflict self.now.tx) self.now.entries }
     {
         self.found.iter().any(|rival| rival.is_firm())
     }
 
-    /// The id of the only one, where there is exactly one.
+    /// The id of the only conflict, if there is exactly one.
     pub fn only(&self) -> Option<Txid>
         ensures one { IfSome result (λ txid. (c : Admitted) × (conflicts_of self.now.entries self.now.tx ≡ c ∷ []) × (txid_of c.tx ≡ txid)) }
         ensures other { result ≡ None → (c : Admitted) → conflicts_of self.now.entries self.now.tx ≢ c ∷ [] }
@@ -182,7 +182,7 @@ impl<'a, S: BuildHasher + Copy + Drop> DirectConflicts<'a, S> {
         }
     }
 
-    /// Whether one of the entries with these ids is among them.
+    /// Whether one of the entries with these ids is a conflict.
     pub fn has_one_of(&self, ids: &[Txid]) -> bool
         ensures { ForEntriesOf ids.now self.now.entries (λ some. result ≡ list_any (is_conflict self.now.tx) some) }
     {
@@ -190,7 +190,8 @@ impl<'a, S: BuildHasher + Copy + Drop> DirectConflicts<'a, S> {
         self.found.iter().any(|rival| rival.is_among(ids))
     }
 
-    /// Whether one of them pays at least the rate of this fee, in satoshi, for this size, in virtual bytes.
+    /// Whether one of the conflicts pays at least the feerate of this fee, in satoshi, for this size, in virtual bytes:
+    /// A38.
     pub(crate) fn pays_no_more(&self, fee: u64, vsize: u64) -> bool
         requires { 0 < vsize }
         ensures { result ≡ list_any (λ (c : Admitted). nat_le (feerate fee vsize) (feerate c.fee c.vsize)) (conflicts_of self.now.entries self.now.tx) }
@@ -199,7 +200,7 @@ impl<'a, S: BuildHasher + Copy + Drop> DirectConflicts<'a, S> {
         self.found.iter().any(|rival| rival.pays_at_least(rate))
     }
 
-    /// Their ids, each once. None where there are more than `most`.
+    /// The ids of the conflicts, each once. None if there are more than `most`.
     pub(crate) fn ids_within(&self, alloc: Global, most: usize) -> Result<Option<Vec<Txid>>, Memory>
         ensures found { IfOk result (λ found. IfSome found (λ ids. AreIdsOf ids.items (conflicts_of self.now.entries self.now.tx))) }
         ensures many { IfOk result (λ found. found ≡ None → most < length (conflicts_of self.now.entries self.now.tx)) }
@@ -211,7 +212,7 @@ impl<'a, S: BuildHasher + Copy + Drop> DirectConflicts<'a, S> {
     }
 }
 
-/// The ids of the entries that the transaction conflicts with.
+/// The ids of the entries that the transaction conflicts with, each once.
 pub fn conflicts<S: BuildHasher + Copy + Drop>(
     alloc: Global,
     pool: &Pool<S>,

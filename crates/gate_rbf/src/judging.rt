@@ -15,14 +15,16 @@ use std::alloc::Global;
 use std::hash::BuildHasher;
 
 impl<'a, S: BuildHasher + Copy + Drop> DirectConflicts<'a, S> {
-    /// Whether the transaction spends from an entry from which none of the conflicts does, which have these ids.
+    /// Whether the transaction spends from an entry from which none of the conflicts, which have these ids, spends:
+    /// A40.
     fn adds_parents(&self, alloc: Global, ids: &[Txid]) -> Result<bool, Memory>
         ensures { AreIdsOf ids.now (conflicts_of self.now.entries self.now.tx) → IfOk result (λ adds. adds ≡ adds_unconfirmed self.now.entries self.now.tx) }
     {
         adds_parents(alloc, self.pool(), ids, self.transaction())
     }
 
-    /// What the only conflict and all that is below it come to, where there is exactly one: as the pool keeps it.
+    /// The sums of the only conflict and of all that is below it, which the pool keeps; none unless there is exactly
+    /// one.
     fn sums_of_only(&self) -> Option<Sums>
         ensures { IfSome result (λ sums. sums ≡ sums_of (replaced_of self.now.entries self.now.tx)) }
     {
@@ -33,7 +35,7 @@ impl<'a, S: BuildHasher + Copy + Drop> DirectConflicts<'a, S> {
         }
     }
 
-    /// What the conflicts, which have these ids, and all that are below them come to.
+    /// The sums of the conflicts, which have these ids, and of all that are below them.
     fn replaced_sums(&self, alloc: Global, ids: &[Txid]) -> Result<Sums, Memory>
         requires { AreIdsOf ids.now (conflicts_of self.now.entries self.now.tx) }
         ensures { IfOk result (λ sums. sums ≡ sums_of (replaced_of self.now.entries self.now.tx)) }
@@ -46,8 +48,8 @@ impl<'a, S: BuildHasher + Copy + Drop> DirectConflicts<'a, S> {
         Ok(add_up(pool, gone.as_slice()))
     }
 
-    /// How many entries the transaction replaces with this fee, in satoshi, and this size, in virtual bytes, or the first of
-    /// A38 to A42 that fails. One without a conflict replaces none.
+    /// How many entries the transaction replaces with this fee, in satoshi, and this size, in virtual bytes, or the
+    /// first of A38 to A42 that fails. A transaction without a conflict replaces none.
     pub fn judge(&self, alloc: Global, fee: u64, vsize: u64) -> Result<Result<u64, Denial>, Memory>
         requires { 0 < vsize }
         ensures ok { IfOk result (λ found. OnOk found (first_failing (replacement_rules self.now.entries self.now.tx fee vsize) ≡ None)) }
@@ -74,8 +76,8 @@ impl<'a, S: BuildHasher + Copy + Drop> DirectConflicts<'a, S> {
     }
 }
 
-/// How many entries a transaction of this fee, in satoshi, and this size, in virtual bytes, replaces, or the first of A38 to
-/// A42 that fails. One without a conflict replaces none.
+/// How many entries a transaction of this fee, in satoshi, and this size, in virtual bytes, replaces, or the first of
+/// A38 to A42 that fails. A transaction without a conflict replaces none.
 pub fn judge_replacement<S: BuildHasher + Copy + Drop>(
     alloc: Global,
     pool: &Pool<S>,

@@ -1,8 +1,8 @@
-//! Replacement: which entries of a pool a transaction conflicts with, what goes with them, and whether it may take their
-//! place (BIP 125, as Bitcoin Core 22.0 has it).
+//! Replacement: which entries of a pool a transaction conflicts with, what leaves with them, and whether it may take
+//! their place (BIP 125, as Bitcoin Core 22.0 has it).
 //!
-//! The main clause is that of `judge_replacement`: the first of A38 to A42 that fails, or how many entries are replaced. What
-//! a transaction conflicts with is found once, as `DirectConflicts`, which A23 and A36 to A42 read.
+//! The main clause is that of `judge_replacement`: the first of A38 to A42 that fails, or how many entries are
+//! replaced. What a transaction conflicts with is found once, as `DirectConflicts`, which A23 and A36 to A42 read.
 #![tactic(auto)]
 
 mod amounts;

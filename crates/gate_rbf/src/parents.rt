@@ -1,4 +1,4 @@
-//! A40: a replacement spends from no entry from which none of those it conflicts with spends.
+//! A40: from each entry from which a replacement spends, one of its conflicts spends too.
 ghost use Rattle.std.specs.Prelude.{◌≡◌, ◌&&◌, IfOk, filter};
 ghost use Rattle.std.specs.List.{list_any};
 ghost use Rattle.std.specs.Str.{bytes_eq};
@@ -63,8 +63,8 @@ fn parents_of<S: BuildHasher + Copy + Drop>(
     Ok(ids)
 }
 
-/// Whether an input spends from an entry from which none of the entries with these ids does. Each such entry is asked about
-/// once, however many inputs spend from it.
+/// Whether an input spends from an entry from which none of the entries with these ids does. Each entry from which
+/// inputs spend is looked at once, however many inputs spend from it.
 pub(crate) fn adds_parents<S: BuildHasher + Copy + Drop>(
     alloc: Global,
     pool: &Pool<S>,

@@ -1,13 +1,13 @@
-//! What says of itself that it may be replaced.
+//! Whether a transaction signals that it may be replaced.
 ghost use Rattle.std.specs.Prelude.{◌≡◌};
 ghost use Rattle.gate_rbf.specs.Replacing.{signals};
 
 use gate_tx::Transaction;
 
-/// The greatest sequence by which an input says that its transaction may be replaced (BIP 125).
+/// The greatest sequence by which an input signals that its transaction may be replaced (BIP 125).
 const LAST_SIGNALLING: u32 = 0xffff_fffd;
 
-/// Whether a transaction says that it may be replaced (BIP 125).
+/// Whether a transaction signals by one of its own inputs that it may be replaced (BIP 125).
 pub fn signals(tx: &Transaction) -> bool
     ensures { result ≡ signals tx.now }
 {

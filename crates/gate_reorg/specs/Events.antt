@@ -1,4 +1,4 @@
--- One chain event: when it is refused, and what chain, pool and floor are after it.
+-- One chain event: when it is denied, and what chain, pool and floor are after it.
 use Rattle.std.specs.Prelude.{ℕ, is_none, filter, length, List, ◌∷◌, Option}
 use Rattle.std.specs.List.{list_any}
 use Rattle.gate_bytes.specs.Order.{Rule}
@@ -16,7 +16,7 @@ use Rattle.gate_submission.specs.declared.moved.Moved.{Moved}
 use Rattle.gate_reorg.specs.Reorganisation.{Terms, pool_after}
 use Rattle.gate_submission.specs.Blocks.{present, transactions_of}
 
--- what is asked of an event: that each block could be read, and then what is asked of the switch
+-- the rules of an event: each block could be read, and then the rules of the switch
 unfoldable pub event_rules : History → ℕ → List (Option Block) → List (Rule ChainDenial)
 event_rules chain depth blocks = (BlockDecode, list_any is_none blocks) ∷ switch_rules chain depth (present blocks)
 
@@ -24,14 +24,14 @@ event_rules chain depth blocks = (BlockDecode, list_any is_none blocks) ∷ swit
 abbrev pub count_beyond : List Admitted → List Admitted → ℕ
 count_beyond entries others = length (filter (λ e. is_none (entry_by_txid others (txid_of e.tx))) entries)
 
--- what an event comes to
+-- the outcome of an event
 pub record Happened : Type 0 where
   pub chain : History
   pub entries : List Admitted
   pub floor : ℕ
   pub moved : Moved
 
--- what a change from entries to others comes to, under a tip of this height
+-- how many entries left and entered by a change from entries to others, with the height of the tip
 abbrev pub moved_from : ℕ → List Admitted → List Admitted → Moved
 moved_from tip before after =
     record { tip = tip; removed = count_beyond before after; entered = count_beyond after before }
@@ -40,12 +40,12 @@ moved_from tip before after =
 abbrev pub happening : History → List Admitted → ℕ → Moved → Happened
 happening chain entries floor moved = record { chain = chain; entries = entries; floor = floor; moved = moved }
 
--- the same, where those entries stood before it
+-- the outcome of an event before which these entries stood
 abbrev pub happened : List Admitted → History → Trimmed → Happened
 happened before chain after =
     happening chain after.entries after.floor (moved_from (tip_of chain) before after.entries)
 
--- the terms once so many of the last blocks are disconnected and these connected in their place
+-- the terms after the last `depth` blocks are disconnected and these connected in their place
 abbrev pub terms_after : Standing → ℕ → List Block → ℕ → ℕ → Terms
 terms_after over depth blocks now budget = record {
   chain = switched over.chain depth blocks;
@@ -55,7 +55,8 @@ terms_after over depth blocks now budget = record {
   budget = budget;
 }
 
--- the last blocks are disconnected, so many, and these connected in their place, at this second; the budget is in virtual bytes
+-- the outcome if the last `depth` blocks are disconnected and these connected in their place, at the second `now`; the budget
+-- is in virtual bytes
 unfoldable pub event_of : Standing → ℕ → List Block → ℕ → ℕ → Happened
 event_of over depth blocks now budget =
     let under = terms_after over depth blocks now budget in

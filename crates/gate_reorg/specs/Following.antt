@@ -1,4 +1,4 @@
--- What the terms of a change leave of a pool.
+-- What a change of the chain leaves of a pool.
 use Rattle.std.specs.Prelude.{ℕ, List}
 use Rattle.gate_tx.specs.Tx.{Tx}
 use Rattle.gate_pool.specs.Pool.{Admitted}
@@ -19,7 +19,7 @@ terms_of under = record {
   budget = under.budget;
 }
 
--- these entries after some transactions were tried again, those that landed left out
+-- these entries after some transactions were tried again, without those that new blocks have
 abbrev pub returns_of : {S H : Type 0} → Lent S H → List Admitted → List Tx → List Tx → List Admitted
 returns_of under entries landed txs = all_tried_again (terms_of under) entries (unconfirmed landed txs)
 

@@ -33,12 +33,12 @@ pub record IsReadyFor (limits : Limits) (chain : History) (entries : List Admitt
   pub apart : AreApart (met_by chain entries blocks)
   pub good : IsGood limits chain entries
 
--- what is kept: the chain is settled, and the pool is good
+-- what an event keeps: the chain is settled, and the pool is good
 pub record StaysGood (limits : Limits) (chain : History) (entries : List Admitted) : Type 0 where
   pub settled : IsSettled chain
   pub good : IsGood limits chain entries
 
--- an event that no rule refuses keeps the chain settled and the pool good
+-- an event that no rule denies keeps the chain settled and the pool good
 abbrev pub EventsKeepPoolsGood : Type 0
 EventsKeepPoolsGood = (over : Standing) (depth : ℕ) (blocks : List Block) (now budget : ℕ) →
     let limits = limits_for over.policy budget in
@@ -53,13 +53,13 @@ pub record IsRipe (chain : History) (entries : List Admitted) (tx : Tx) : Type 0
   pub unlocked : sequence_locks_met_by tx (input_heights chain entries tx.inputs) chain ≡ true
   pub mature : spends_young_coin chain entries tx.inputs ≡ false
 
--- after an event that disconnects blocks, so each entry is
+-- after an event that disconnects blocks, the next block may have each entry
 abbrev pub ReturnsLeaveTheRipe : Type 0
 ReturnsLeaveTheRipe = (over : Standing) (depth : ℕ) (blocks : List Block) (now budget : ℕ) →
     let after = event_of over depth blocks now budget in
     depth ≢ 0 → All (λ (e : Admitted). IsRipe after.chain after.entries e.tx) after.entries
 
--- after any event, no connected block has the transaction of an entry
+-- after an event that no rule denies, no connected block has the transaction of an entry
 abbrev pub EntriesAreUnconfirmed : Type 0
 EntriesAreUnconfirmed = (over : Standing) (depth : ℕ) (blocks : List Block) (now budget : ℕ) →
     let after = event_of over depth blocks now budget in
@@ -67,11 +67,11 @@ EntriesAreUnconfirmed = (over : Standing) (depth : ℕ) (blocks : List Block) (n
     → IsReadyFor (limits_for over.policy budget) over.chain over.entries blocks
     → All (λ (e : Admitted). list_any (has_transaction (txid_of e.tx)) after.chain.blocks ≡ false) after.entries
 
--- blocks that go and come again leave the chain as it was, all its coins and times
+-- blocks that are disconnected and then connected again leave the chain as it was, all its coins and times
 abbrev pub BlocksComeBack : Type 0
 BlocksComeBack = (chain : History) (depth : ℕ) (blocks : List Block) → switched (switched chain depth blocks) (length blocks) (last_blocks chain depth) ≡ chain
 
--- each transaction of the chain and of an entry after an event was one of them before, or is one of the new blocks
+-- each transaction of the chain and of an entry after an event was one of them before, or is in one of the new blocks
 abbrev pub EventsBringNothingElse : Type 0
 EventsBringNothingElse = (over : Standing) (depth : ℕ) (blocks : List Block) (now budget : ℕ) (tx : Tx) →
     let after = event_of over depth blocks now budget in
@@ -82,19 +82,19 @@ EventsBringNothingElse = (over : Standing) (depth : ℕ) (blocks : List Block) (
 abbrev pub FloorsNeverFall : Type 0
 FloorsNeverFall = (over : Standing) (depth : ℕ) (blocks : List Block) (now budget : ℕ) → over.floor ≤ (event_of over depth blocks now budget).floor
 
--- an event that disconnects no block leaves the floor, and no entry comes by it
+-- an event that disconnects no block leaves the floor as it was, and adds no entry
 pub record BlocksOnlyTake : Type 0 where
   pub floor : (over : Standing) (blocks : List Block) (now budget : ℕ) → (event_of over 0 blocks now budget).floor ≡ over.floor
   pub entries : (over : Standing) (blocks : List Block) (now budget : ℕ) (e : Admitted)
       → Contains (event_of over 0 blocks now budget).entries e → Contains over.entries e
 
--- whatever the blocks are, no outpoint is spent by two entries, or twice by one
+-- whatever the blocks are, no outpoint is spent by two entries, or twice by one, if none was before
 abbrev pub EventsSpendOnce : Type 0
 EventsSpendOnce = (over : Standing) (depth : ℕ) (blocks : List Block) (now budget : ℕ)
     → AllPairs (λ (p : OutPoint) (q : OutPoint). p ≢ q) (spent_by over.entries)
     → AllPairs (λ (p : OutPoint) (q : OutPoint). p ≢ q) (spent_by (event_of over depth blocks now budget).entries)
 
--- and the entries stay within the budget
+-- whatever the blocks are, entries that are within the budget stay within it
 abbrev pub EventsKeepTheBudget : Type 0
 EventsKeepTheBudget = (over : Standing) (depth : ℕ) (blocks : List Block) (now budget : ℕ)
     → size_of over.entries ≤ budget → size_of (event_of over depth blocks now budget).entries ≤ budget

@@ -21,7 +21,7 @@ passes test (Some e) = test e
 abbrev pub is_premature_id : History → List Admitted → List ℕ → Bool
 is_premature_id chain entries txid = passes (λ e. is_premature chain entries e.tx) (entry_by_txid entries txid)
 
--- the same, where the entries are gone through
+-- an id is that of an entry that the next block cannot have, by a search of the entries' ids
 abbrev pub is_listed_premature : History → List Admitted → List ℕ → Bool
 is_listed_premature chain entries txid =
     list_any (λ (x : List ℕ). bytes_eq x txid && is_premature_id chain entries x) (listing_of entries)

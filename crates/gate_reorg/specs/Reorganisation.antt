@@ -26,7 +26,7 @@ use Rattle.gate_admit.specs.Verdicts.{VerdictTable}
 
 -- ---- What a pool follows
 
--- the terms of a change: the chain that it came to, the verdicts on scripts, what the operator asks of families and of
+-- the terms of a change: the chain that it led to, the verdicts on scripts, what the operator asks of families and of
 -- replacements, the second, and the budget in virtual bytes
 pub record Terms : Type 0 where
   pub chain : History
@@ -35,22 +35,22 @@ pub record Terms : Type 0 where
   pub second : ℕ
   pub budget : ℕ
 
--- what a transaction is tried again over; no fee is asked for, so that the pool's floor does not matter
+-- the standing over which a transaction is tried again; no fee is asked for, so that the pool's floor does not matter
 abbrev pub standing_again : Terms → List Admitted → Standing
 standing_again under entries = standing under.chain entries 0 under.verdicts under.policy
 
 -- ---- Transactions of blocks that are connected
 
--- the entries that are left without the one of an id; what spends its outputs stays
+-- the entries, except that of an id; entries that spend its outputs stay
 abbrev pub without_txid : List Admitted → List ℕ → List Admitted
 without_txid entries txid = filter (λ e. not (has_txid e txid)) entries
 
--- the entries that are left when a block has a transaction: its own entry goes alone, and what spends an outpoint that it
--- spends goes with all below
+-- the entries after a block confirmed a transaction: its own entry leaves alone, and entries that spend an outpoint that it
+-- spends leave with all below them
 unfoldable pub confirmed : List Admitted → Tx → List Admitted
 confirmed entries tx = without_below (is_conflict tx) (without_txid entries (txid_of tx))
 
--- transaction by transaction
+-- the entries after transactions were confirmed, one after another
 abbrev pub all_confirmed : List Admitted → List Tx → List Admitted
 all_confirmed entries [] = entries
 all_confirmed entries (tx ∷ txs) = all_confirmed (confirmed entries tx) txs
@@ -65,24 +65,24 @@ has_id txs txid = list_any (λ (tx : Tx). bytes_eq (txid_of tx) txid) txs
 abbrev pub unconfirmed : List Tx → List Tx → List Tx
 unconfirmed new txs = filter (λ (tx : Tx). not (has_id new (txid_of tx))) txs
 
--- what the decision on such a transaction comes to: it enters at this second, in the place of what conflicts with it; or
--- what spends an output of it goes with all below
+-- the entries after the decision on such a transaction: it enters at this second, in place of entries that conflict with
+-- it; or entries that spend its outputs leave with all below them
 abbrev pub tried : List Admitted → Tx → ℕ → Result Grant Denial → List Admitted
 tried entries tx now (Ok grant) = entered entries (admitted tx grant now)
 tried entries tx now (Err denial) = without_below (λ e. names e (txid_of tx)) entries
 
--- it is tried again over the chain
+-- the entries after a transaction was tried again over the chain
 unfoldable pub tried_again : Terms → List Admitted → Tx → List Admitted
 tried_again under entries tx = tried entries tx under.second (decision_of Again (standing_again under entries) (Some tx))
 
--- one after another
+-- the entries after transactions were tried again, one after another
 abbrev pub all_tried_again : Terms → List Admitted → List Tx → List Admitted
 all_tried_again under entries [] = entries
 all_tried_again under entries (tx ∷ txs) = all_tried_again under (tried_again under entries tx) txs
 
 -- ---- Entries that the next block cannot have
 
--- the height of a coin; where there is none, of the first block
+-- the height of a coin, or 0 if there is none
 abbrev pub height_of : Option Coin → ℕ
 height_of None = 0
 height_of (Some coin) = coin.height
@@ -91,7 +91,7 @@ height_of (Some coin) = coin.height
 abbrev pub input_heights : History → List Admitted → List TxIn → List ℕ
 input_heights chain entries inputs = map (λ (i : TxIn). height_of (view_coin chain entries i.prevout)) inputs
 
--- there is a coin, of a coinbase that stands less than 100 blocks below the next
+-- there is a coin, of a coinbase that stands less than 100 blocks below the next block
 abbrev pub is_young_coin : ℕ → Option Coin → Bool
 is_young_coin next_height None = false
 is_young_coin next_height (Some coin) = is_immature next_height coin
@@ -106,7 +106,7 @@ is_premature chain entries tx =
     || (not (sequence_locks_met_by tx (input_heights chain entries tx.inputs) chain)
     || spends_young_coin chain entries tx.inputs)
 
--- such entries go with all below
+-- the entries, except those that the next block cannot have and all below them
 abbrev pub without_premature : History → List Admitted → List Admitted
 without_premature chain entries = without_below (λ e. is_premature chain entries e.tx) entries
 
@@ -116,12 +116,13 @@ without_premature chain entries = without_below (λ e. is_premature chain entrie
 abbrev pub brought_back : Terms → List Admitted → List Tx → List Tx → List Admitted
 brought_back under entries new old = all_tried_again under (all_confirmed entries new) (unconfirmed new old)
 
--- the entries and the floor after that, without what the next block cannot have, what is too old and what pays too little
+-- the entries and the floor after that, without entries that the next block cannot have, are too old or pay too little
 unfoldable pub returned : Terms → List Admitted → ℕ → List Tx → List Tx → Trimmed
 returned under entries floor new old =
     trim_of under.budget (expired under.second (without_premature under.chain (brought_back under entries new old))) floor
 
--- the same where so many blocks were disconnected: where none was, entries are confirmed and nothing else is done
+-- the entries and the floor after `depth` blocks were disconnected; if none was, entries are confirmed and nothing else is
+-- done
 unfoldable pub pool_after : ℕ → Terms → List Admitted → ℕ → List Tx → List Tx → Trimmed
 pool_after depth under entries floor new old =
     if depth == 0 then record { entries = all_confirmed entries new; floor = floor }

@@ -1,4 +1,4 @@
-//! What new blocks confirm and contradict.
+//! The entries that new blocks confirm or contradict.
 ghost use Rattle.std.specs.Prelude.{◌≡◌, ◌++◌, IfOk, OnOk};
 ghost use Rattle.gate_tx.specs.Ids.{txid_of};
 ghost use Rattle.gate_reorg.specs.Picking.{HasIdsOf};
@@ -48,7 +48,7 @@ impl Landing<'_> {
     }
 }
 
-/// Adds the transactions of a block.
+/// Adds the transactions of a block at the end, with their ids.
 fn add_landings<'a>(
     alloc: Global,
     landings: &mut Vec<Landing<'a>>,
@@ -63,7 +63,7 @@ fn add_landings<'a>(
     Ok(())
 }
 
-/// The transactions of blocks, in their order.
+/// The transactions of blocks, in their order, with their ids.
 pub(crate) fn landings<'a>(
     alloc: Global,
     blocks: &'a [Option<Block>],
@@ -79,7 +79,7 @@ pub(crate) fn landings<'a>(
     Ok(landings)
 }
 
-/// Their ids.
+/// The ids of these transactions, as a set.
 pub(crate) fn ids_of<S: BuildHasher + Copy + Drop>(
     alloc: Global,
     hasher: S,
@@ -94,8 +94,8 @@ pub(crate) fn ids_of<S: BuildHasher + Copy + Drop>(
     Ok(ids)
 }
 
-/// Takes out what a transaction in a new block leaves no place for: its own entry alone, and what spends an outpoint that it
-/// spends, with all below. It takes no memory.
+/// Takes out the entries that a transaction of a new block confirms or contradicts: its own entry alone, and the
+/// entries that spend an outpoint that it spends, with all below them. It takes no memory.
 #[tactic(auto, unfolding(crate::specs::Reorganisation::confirmed))]
 fn confirm<S: BuildHasher + Copy + Drop>(pool: &mut Pool<S>, landing: &Landing<'_>)
     ensures { pool.new.entries ≡ confirmed pool.old.entries landing.now }
@@ -104,7 +104,8 @@ fn confirm<S: BuildHasher + Copy + Drop>(pool: &mut Pool<S>, landing: &Landing<'
     pool.take_spenders(landing.transaction().inputs());
 }
 
-/// The same for one transaction after another.
+/// Takes out the entries that these transactions of new blocks confirm or contradict, one transaction after another. It
+/// takes no memory.
 pub(crate) fn confirm_all<S: BuildHasher + Copy + Drop>(
     pool: &mut Pool<S>,
     landings: &[Landing<'_>],

@@ -1,4 +1,4 @@
-//! The whole event: the switch of the chain, and what it does to the pool.
+//! A chain event as a whole: the switch of the chain, and what it does to the pool.
 ghost use Rattle.std.specs.Prelude.{◌≡◌, None, Some, is_none, false, IfOk, IfErr, OnOk, OnErr, if◌then◌else◌};
 ghost use Rattle.std.specs.List.{list_any};
 ghost use Rattle.gate_bytes.specs.Order.{first_failing};
@@ -30,7 +30,7 @@ use gate_trim::{expire, trim};
 use std::alloc::Global;
 use std::hash::BuildHasher;
 
-/// Copies of the blocks, or C1 where one could not be read.
+/// Copies of the blocks, or C1 if one could not be read.
 fn copies(alloc: Global, blocks: &[Option<Block>]) -> Result<Vec<Block>, ChainFault>
     ensures ok { IfOk result (λ copies. copies.items ≡ present blocks.now) }
     ensures passes { OnOk result (list_any is_none blocks.now ≡ false) }
@@ -54,8 +54,9 @@ struct Draft<S: BuildHasher + Copy + Drop> {
 }
 
 impl<S: BuildHasher + Copy + Drop> Draft<S> {
-    /// Follows a chain that was changed: what the new blocks confirm and contradict goes, the others' transactions come back,
-    /// and then goes what the next block cannot have, what is too old and what pays too little.
+    /// Follows a change of the chain: entries that the new blocks confirm or contradict leave, the transactions of the
+    /// disconnected blocks are tried again, and then entries leave that the next block cannot have, that are too old,
+    /// or that pay too little for the budget.
     #[tactic(auto, unfolding(crate::specs::Reorganisation::returned))]
     fn follow(
         &mut self,
@@ -76,7 +77,7 @@ impl<S: BuildHasher + Copy + Drop> Draft<S> {
         Ok(())
     }
 
-    /// Takes its place as pool and floor.
+    /// Writes the draft over the pool and its floor.
     fn land(self, pool: &mut Pool<S>, floor: &mut Floor)
         ensures pool { pool.new ≡ self.pool }
         ensures floor { floor.new ≡ self.floor }
@@ -90,7 +91,7 @@ impl<S: BuildHasher + Copy + Drop> Draft<S> {
     }
 }
 
-/// A pool and its floor over a chain that was changed: a copy of them that followed it.
+/// A draft of a pool and its floor over a chain that was changed: a copy of them that followed the change.
 fn redraft<S: BuildHasher + Copy + Drop>(
     alloc: Global,
     under: &Terms<'_, S>,
@@ -113,7 +114,7 @@ fn redraft<S: BuildHasher + Copy + Drop>(
     }
 }
 
-/// What a change from one pool to another came to, under a tip of this height.
+/// How many entries left and entered from one pool to another, with the height of the tip.
 fn moved<S: BuildHasher + Copy + Drop>(
     alloc: Global,
     tip: u32,
@@ -129,7 +130,7 @@ fn moved<S: BuildHasher + Copy + Drop>(
     })
 }
 
-/// The draft of a pool over a chain that was changed, and what the change came to.
+/// The draft of a pool over a chain that was changed, and how many entries left and entered.
 fn follow_up<S: BuildHasher + Copy + Drop>(
     alloc: Global,
     under: &Terms<'_, S>,
@@ -179,7 +180,8 @@ impl<'a, S: BuildHasher + Copy + Drop> Changing<'a, S> {
         })
     }
 
-    /// Puts blocks in the place of the last ones: the pool follows on a draft that then takes its place.
+    /// Puts blocks in the place of the last `depth` ones. The pool follows on a draft, which then takes its place; if
+    /// memory runs out, the chain is switched back.
     fn reorganise(
         &mut self,
         alloc: Global,
@@ -222,7 +224,7 @@ impl<'a, S: BuildHasher + Copy + Drop> Changing<'a, S> {
         }
     }
 
-    /// The event, exactly.
+    /// Makes the event: extends the chain if no block is disconnected, else reorganises it.
     #[tactic(auto, unfolding(crate::specs::Events::event_of, crate::specs::Events::event_rules, crate::specs::Reorganisation::pool_after))]
     fn make_event(
         &mut self,
@@ -248,13 +250,14 @@ impl<'a, S: BuildHasher + Copy + Drop> Changing<'a, S> {
     }
 }
 
-/// Disconnects the last blocks and connects others in their place, at this second; the pool and its floor follow. What the
-/// new blocks confirm or contradict leaves the pool. Where blocks were disconnected, their transactions are tried again, then
-/// the entries go that the next block cannot have, and then those that are too old or pay too little for the budget, in
-/// virtual bytes. A block that could not be read is None.
+/// Disconnects the last `disconnect` blocks and connects others in their place, at the second `now` since 1970; the
+/// pool and its floor follow. Entries that the new blocks confirm or contradict leave the pool. If blocks were
+/// disconnected, their transactions are tried again, then entries leave that the next block cannot have, and then those
+/// that are too old or pay too little for the budget, in virtual bytes. A block that could not be read is None.
 ///
-/// A denial names the first rule that fails: C1, and then those of `switch`. Where it fails, nothing has changed. Without
-/// blocks to disconnect it costs what the new ones confirm and contradict; with them it works on a copy of the pool.
+/// A denial names the first rule that fails: C1, and then those of `switch`. If the event fails, nothing has changed.
+/// If it disconnects no block, it costs what the new blocks confirm and contradict; else it works on a copy of the
+/// pool.
 pub fn chain_event<S: BuildHasher + Copy + Drop>(
     alloc: Global,
     chain: &mut Chain<S>,
@@ -274,7 +277,7 @@ pub fn chain_event<S: BuildHasher + Copy + Drop>(
     ensures floor_kept { OnErr result (floor.new ≡ floor.old) }
     ensures passes { OnOk result (first_failing (event_rules chain.old disconnect blocks.now) ≡ None) }
     ensures denied { IfErr result (λ fault. Tells fault (first_failing (event_rules chain.old disconnect blocks.now))) }
-    // Where the transactions are told apart by their ids, the pool stays good.
+    // If chain and pool were good and the transactions are told apart by their ids, chain and pool stay good.
     ensures good { IsReadyFor (limits_for policy.now budget) chain.old pool.old.entries (present blocks.now) →
         StaysGood (limits_for policy.now budget) chain.new pool.new.entries }
 {

@@ -1,31 +1,32 @@
-//! Laws of chain events, in words apart from their steps.
+//! Laws of chain events, stated apart from their steps.
 ghost use Rattle.gate_reorg.specs.Goodness.{BlocksComeBack, BlocksOnlyTake, EntriesAreUnconfirmed, EventsBringNothingElse, EventsKeepPoolsGood, EventsKeepTheBudget, EventsSpendOnce, FloorsNeverFall, ReturnsLeaveTheRipe};
 
-/// An event that no rule refuses keeps a settled chain settled and a good pool good, where transactions are told apart by their
-/// ids.
+/// An event that no rule denies keeps a settled chain settled and a good pool good, if transactions are told apart by
+/// their ids.
 pub fn events_keep_pools_good()
     ensures { EventsKeepPoolsGood }
 {}
 
-/// After such an event no connected block has the transaction of an entry.
+/// After an event that no rule denies, no connected block has the transaction of an entry, if chain and pool were good
+/// before and transactions are told apart by their ids.
 pub fn entries_are_unconfirmed()
     ensures { EntriesAreUnconfirmed }
 {}
 
-/// After an event that disconnects blocks the next block may have each entry: it is final there, its relative locks are met,
-/// and it spends no coin of a coinbase that is less than 100 blocks below.
+/// After an event that disconnects blocks, the next block may have each entry: it is final there, its relative locks
+/// are met, and it spends no coin of a coinbase that is less than 100 blocks below.
 pub fn returns_leave_the_ripe()
     ensures { ReturnsLeaveTheRipe }
 {}
 
-/// Blocks that were disconnected for others and then take their place again leave the chain as it was: the same coins, times
-/// and blocks.
+/// If blocks are disconnected for others and then connected again in their place, the chain is as it was: the same
+/// coins, times and blocks.
 pub fn blocks_come_back()
     ensures { BlocksComeBack }
 {}
 
-/// No transaction comes from nowhere: each that the chain or an entry has after an event was there before, or is one of the new
-/// blocks.
+/// No transaction comes from nowhere: each that the chain or an entry has after an event was there before, or is in one
+/// of the new blocks.
 pub fn events_bring_nothing_else()
     ensures { EventsBringNothingElse }
 {}
@@ -35,7 +36,7 @@ pub fn floors_never_fall()
     ensures { FloorsNeverFall }
 {}
 
-/// An event that disconnects no block leaves the floor as it was, and no entry comes by it.
+/// An event that disconnects no block leaves the floor as it was, and adds no entry.
 pub fn blocks_only_take()
     ensures { BlocksOnlyTake }
 {}

@@ -1,7 +1,7 @@
 //! Chain events: blocks take the place of others, and the pool follows.
 //!
-//! The main clause is that of `chain_event`: chain, entries and floor after it exactly, or the first rule that fails and
-//! everything as it was; a good pool stays good.
+//! The main clause is that of `chain_event`: chain, entries and floor after it exactly, or the first rule that fails
+//! and everything as it was; a good pool stays good.
 #![tactic(auto)]
 
 mod confirming;

@@ -7,7 +7,7 @@ use gate_pool::Pool;
 use std::alloc::Global;
 use std::hash::BuildHasher;
 
-/// How many entries of one pool have a txid that no entry of another has.
+/// How many entries of one pool have a txid that no entry of the other has.
 pub(crate) fn count_beyond<S: BuildHasher + Copy + Drop>(
     alloc: Global,
     pool: &Pool<S>,

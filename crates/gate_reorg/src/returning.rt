@@ -1,4 +1,4 @@
-//! Transactions of blocks that were disconnected: each that no new block has is tried again.
+//! Transactions of blocks that were disconnected: each is tried again, unless a new block has it.
 ghost use Rattle.std.specs.Prelude.{◌≡◌, List, OnOk};
 ghost use Rattle.gate_tx.specs.Tx.{Tx};
 ghost use Rattle.gate_reorg.specs.Following.{returns_of, terms_of};
@@ -16,8 +16,8 @@ use indexmap::IndexSet;
 use std::alloc::Global;
 use std::hash::BuildHasher;
 
-/// Tries a transaction again: it enters, or what spends an output of it goes with all below. The blocks that were
-/// disconnected are kept for the way back, so that the entry has a copy of it.
+/// Tries a transaction again: it enters, or the entries that spend its outputs leave with all below them. The
+/// disconnected blocks are kept in case the chain is switched back, so that the entry has a copy of the transaction.
 #[tactic(auto, unfolding(crate::specs::Reorganisation::tried_again))]
 fn try_again<S: BuildHasher + Copy + Drop>(
     alloc: Global,
@@ -45,7 +45,7 @@ fn try_again<S: BuildHasher + Copy + Drop>(
     Ok(())
 }
 
-/// The same for the transactions of a block, one after another, without those of the ids.
+/// Tries the transactions of a block again, one after another, without those whose ids new blocks have.
 fn return_block<S: BuildHasher + Copy + Drop>(
     alloc: Global,
     under: &Terms<'_, S>,
@@ -64,7 +64,7 @@ fn return_block<S: BuildHasher + Copy + Drop>(
     Ok(())
 }
 
-/// The same for blocks, the lowest first.
+/// Tries the transactions of blocks again, the lowest block first, without those whose ids new blocks have.
 pub(crate) fn return_all<S: BuildHasher + Copy + Drop>(
     alloc: Global,
     under: &Terms<'_, S>,

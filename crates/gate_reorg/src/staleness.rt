@@ -1,4 +1,5 @@
-//! Entries that the next block cannot have: locks that are not met any more, and coinbases that are too young again.
+//! Entries that the next block cannot have: a lock is not met any more, or a coinbase that they spend is too young
+//! again.
 ghost use Rattle.std.specs.Prelude.{◌≡◌, ◌≤◌, ◌+◌, ℕ, List, IfOk, OnOk, All, length};
 ghost use Rattle.std.specs.Str.{bytes_eq};
 ghost use Rattle.indexmap.specs.IndexSet.{contains};
@@ -18,7 +19,7 @@ use indexmap::IndexSet;
 use std::alloc::Global;
 use std::hash::BuildHasher;
 
-/// The depth at which a coinbase can be spent.
+/// How many blocks below the next one a coinbase has to be before it can be spent (Bitcoin Core's `COINBASE_MATURITY`).
 const MATURITY: u32 = 100;
 
 /// The median time past of the tip.
@@ -28,7 +29,7 @@ fn tip_median<S: BuildHasher + Copy + Drop>(chain: &Chain<S>) -> u32
     chain.mtp(chain.tip()).unwrap()
 }
 
-/// The height of an outpoint's coin.
+/// The height of an outpoint's coin, or 0 if there is none.
 fn height_of<S: BuildHasher + Copy + Drop>(
     chain: &Chain<S>,
     pool: &Pool<S>,
@@ -89,7 +90,8 @@ fn spends_young_coin<S: BuildHasher + Copy + Drop>(
     false
 }
 
-/// Whether the next block cannot have a transaction.
+/// Whether the next block cannot have a transaction: it is not final there, a relative lock is not met, or it spends a
+/// coinbase too early.
 #[tactic(auto, unfolding(crate::specs::Reorganisation::is_premature))]
 fn is_premature<S: BuildHasher + Copy + Drop>(
     alloc: Global,
@@ -142,7 +144,7 @@ fn premature_ids<S: BuildHasher + Copy + Drop>(
     Ok(ids)
 }
 
-/// Entries by their ids.
+/// The test that chooses the entries with these ids.
 #[derive(Drop)]
 struct Among<S: BuildHasher + Drop> {
     ids: IndexSet<Txid, S>,

@@ -58,7 +58,7 @@ fn runs(alloc: Global, input: &[u8], status: u8, text: &str) -> Result<bool, Lan
     Ok(found == status && written.as_slice() == text.as_bytes())
 }
 
-/// One submission of a coin, and one listing.
+/// One submission that spends a coin, and one listing.
 const FIRST_PATH: &[u8] = b"budget 1000000
 times 101 1000 600
 coin 1111111111111111111111111111111111111111111111111111111111111111 0 100000 1 plain 00142222222222222222222222222222222222222222
@@ -112,7 +112,7 @@ fn faults_of_openings(rt: HostRuntime) -> Result<(), Fail> {
     Ok(())
 }
 
-/// A coin, and a coin again.
+/// An opening that names the same coin twice is refused.
 #[test]
 fn a_coin_stands_once(rt: HostRuntime) -> Result<(), Fail> {
     let coin =
@@ -197,7 +197,7 @@ fn replies_before_a_wait(rt: HostRuntime) -> Result<(), Fail> {
     Ok(())
 }
 
-/// How a run of three events ends where the writer takes so many bytes, one at a time, and how much is left to read.
+/// How a run of three events ends if the writer takes `left` bytes, one at a time, and how much is left to read.
 fn run_into(alloc: Global, left: usize) -> Result<(Result<u8, LaneFault>, usize), Fail> {
     let mut reader: &[u8] = b"times 1 0 0\n---\npeer 1 leave\npeer 1 leave\npeer 1 leave\n";
     let mut writer = BufWriter::with_capacity(alloc, 0, Drops { left })?;
@@ -311,7 +311,7 @@ fn an_audit_that_breaks(rt: HostRuntime) -> Result<(), Fail> {
     Ok(())
 }
 
-/// No lane is run where the reader breaks.
+/// No lane is run if the reader breaks.
 #[test]
 fn lanes_that_break(rt: HostRuntime) -> Result<(), Fail> {
     let input = Interrupted(b"times 1 0 0\n---\npeer 1 leave\n---\npeer 2");
@@ -350,7 +350,7 @@ fn laned<R: AllocGlobal + Threads + Wait + Sync>(
     (end, written)
 }
 
-/// No round is run where one doesn't begin with a line `---`, the last of the input too.
+/// No round is run if one of them, be it the last, doesn't begin with a line `---`.
 #[test]
 fn rounds_without_a_lane(rt: HostRuntime) -> Result<(), Fail> {
     for input in [

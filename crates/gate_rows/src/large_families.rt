@@ -7,7 +7,7 @@ use std::sync::Wait;
 use std::test::Fail;
 use std::thread::Threads;
 
-/// What stands behind the first byte of an input's index: its other bytes, no script, the sequence.
+/// The bytes behind the first byte of an input's index: the index's other bytes, no script, the sequence.
 const BEHIND_INDEX: &str = "00000000fdffffff";
 
 /// The script of each output that is spent, behind its amount.
@@ -98,7 +98,7 @@ fn pass<R: Abort + AllocGlobal + Threads + Wait + Sync>(
     Ok(())
 }
 
-/// Of each link of the chain the hash that it spends, and its amount.
+/// For each link of the chain, the hash that it spends and its amount.
 const LINKS: [(&str, &str); 26] = [
     (
         "1111111111111111111111111111111111111111111111111111111111111111",
@@ -238,7 +238,7 @@ const PARENTS: [&str; 4] = [
     "d3301c46742efad4473c9cca5281e676a1486f1071c68bd64e1c0f33c0c50c20",
 ];
 
-/// What the first parent and 25 of its children are answered.
+/// The replies to the first parent and 25 of its children.
 const FAMILY_REPLIES: &[u8] =
     b"entered none\nadmitted e4bebd24e4b48c12f4ee3725f01cb45a9505cb01b99cbf15aa2ebe2403ad1cdd fee 22000 vsize 885 replaced 0\nadmitted d29a536be1df8300075e959944313e3b07942b1d464bd31678553bce29af1305 fee 110 vsize 110 replaced 0\nadmitted 32f96582e6de5953b9062f9be4062acd4d14396b5c64d9ed26b2f7ccae472555 fee 110 vsize 110 replaced 0\nadmitted 618b89888655e41b779d1411e2c696e79eca576ff91ce5f6ffe86ffe2f194d29 fee 110 vsize 110 replaced 0\nadmitted 1aebcd6e85127ef3dc5f7c79d8786dcecc25411f4761bf6f034d596a48bde7b3 fee 110 vsize 110 replaced 0\nadmitted 258489bce402c5afdb59540c62be7a3d4d67b30978a4bfa46d33bb7b8a7c0dc6 fee 110 vsize 110 replaced 0\nadmitted d0f24a61f121b6f5f9f2c3d2b0d65f9e9ba5da7e14098be2e5356cedeb2ed5ee fee 110 vsize 110 replaced 0\nadmitted af5a4e045dff1973df9973f4c50e3af349eddad7a72645a3e1a61eaebd89ed0c fee 110 vsize 110 replaced 0\nadmitted e5669ae714dbdf1873748d6dd57b8aeb447572c93df00065bcdf8270cec748bd fee 110 vsize 110 replaced 0\nadmitted 34a5e67b6177f7cf0d6770c4fbc8a5e045f0892ffdffec775b1a53e8e7f38ab9 fee 110 vsize 110 replaced 0\nadmitted a751452aaebcd0e884daba1341706d198c815ca27f97d72d7cdf38a8f8564d52 fee 110 vsize 110 replaced 0\nadmitted fe7ed223645780aabbb0a0d95e658d9c88ddf13c96143a7e3b57fe5acf65b4ae fee 110 vsize 110 replaced 0\nadmitted fed75ec994a8111e5742759d08f1ecdff2f4c0ff80878fceeadfba0a3aec2f77 fee 110 vsize 110 replaced 0\nadmitted a04d60ec627f66f891899661d5516132e85533e7b17b68881a31804531479916 fee 110 vsize 110 replaced 0\nadmitted 8db52f5912f2b9fc98b6e7b8840aa305954ca5fb9cb464e81225feaa8c8b1ca6 fee 110 vsize 110 replaced 0\nadmitted f9d30c897a30e905be13336cb521fdbcd6df605a6314962b419232d7b6606ca7 fee 110 vsize 110 replaced 0\nadmitted 7d117009726d0b06902b33ab343400be02faf8096902b3eb35e3f46ec4579c9c fee 110 vsize 110 replaced 0\nadmitted f13f35b00eeb9ba374ae0f1ac64ddf89f89a3bba5ed2305866f628476a7a3b0b fee 110 vsize 110 replaced 0\nadmitted 24b0441e3c819b3602344961c3acd9a0ea385d79f06e5a73b4b43e414680bc6f fee 110 vsize 110 replaced 0\nadmitted f9cfb8ad8cf6d0f4a613be6f30820834859feea4b5f8a268217e3dc2a72b075b fee 110 vsize 110 replaced 0\nadmitted 73119d4bcbf616f8790739a54abbcc703cbe60a7451d21a31d49e115b929faf1 fee 110 vsize 110 replaced 0\nadmitted 882dc81b1e03f3425a1e3c19142b5963ff78d48beffe17950a890ab8caf44eb1 fee 110 vsize 110 replaced 0\nadmitted cea70d9a4cea9681aef8a8e99536465ec6b45a2eaff521b89cfb48743df97176 fee 110 vsize 110 replaced 0\nadmitted f5ff44a490dfa279a2e1750fd579c59c60a2cb010c441cc47cbce594e74c7943 fee 110 vsize 110 replaced 0\nadmitted 4efa0f25c8f019b4753c15ef6d8b81956e60f0365f6af5994f172cfc3b830c73 fee 110 vsize 110 replaced 0\nadmitted 1e373cb9f63677d82cd6ee2d5438257574c5b8c2ed06e5359e965eafea53d6b1 fee 110 vsize 110 replaced 0\n";
 
@@ -322,7 +322,7 @@ pub fn push_spending_of_four(input: &mut String) -> Result<(), AllocError> {
     push_end(input, 4)
 }
 
-/// Tells long replies by their count and the last, which hangs on each submission before it.
+/// Checks long replies by the count of their lines and by the last, which depends on each submission before it.
 pub fn ends<R: Abort + AllocGlobal + Threads + Wait + Sync>(
     rt: &R,
     input: &str,

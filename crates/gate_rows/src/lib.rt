@@ -1,6 +1,6 @@
 //! Worked rows as tests: the words of a command line and what the program reads go through the two functions that do
-//! its whole work, and what is written and the status are compared. The main clause is that of [`outcome`]. The tests of
-//! `gate_prog` stand here too (`jobs`), since a crate with tests is proved twice.
+//! its whole work, and what is written and the status are compared. The main clause is that of [`outcome`]. The tests
+//! of `gate_prog` are here too (`jobs`), since a crate with tests is proved twice.
 #![tactic(auto)]
 
 #[cfg(test)]

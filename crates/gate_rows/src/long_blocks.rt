@@ -5,8 +5,8 @@ use crate::parts::COINS;
 use std::alloc::{AllocError, Global};
 use std::test::Fail;
 
-/// A header up to its time, and what stands behind it: the rest of the header, the count of one transaction, and this one,
-/// a coinbase, up to the number in its script.
+/// A header up to its time, and the bytes behind it: the rest of the header, the count of one transaction, and this
+/// transaction, a coinbase, up to the number in its script.
 const VERSION: &str =
     " 0100000000000000000000000000000000000000000000000000000000000000000000000000000000000000000000000000000000000000000000000000000000000000";
 
@@ -17,7 +17,7 @@ const BEHIND_TIME: &str =
 const BEHIND_NUMBER: &str =
     "0000ffffffff0100f2052a01000000160014222222222222222222222222222222222222222200000000";
 
-/// The event of Bitcoin's first block with a second transaction, up to that one.
+/// The event of Bitcoin's first block with a second transaction, up to the second transaction.
 const FIRST_BLOCK: &str =
     "chain 0 5000 0100000000000000000000000000000000000000000000000000000000000000000000003ba3edfd7a7b12b27ac72c3e67768f617fc81bc3888a51323a9fb8aa4b1e5e4a29ab5f49ffff001d1dac2b7c0201000000010000000000000000000000000000000000000000000000000000000000000000ffffffff4d04ffff001d0104455468652054696d65732030332f4a616e2f32303039204368616e63656c6c6f72206f6e206272696e6b206f66207365636f6e64206261696c6f757420666f722062616e6b73ffffffff0100f2052a01000000434104678afdb0fe5548271967f1a67130b7105cd6a828e03909a67962e0ea1f61deb649f6bc3f4cef38c4f35504e51ec112de5c384df7ba0b8d578a4c702b6bf11d5fac00000000";
 
@@ -40,7 +40,7 @@ fn push_bytes(input: &mut String, bytes: &[u8]) -> Result<(), AllocError> {
     Ok(())
 }
 
-/// A block of a coinbase alone, ten minutes behind the one of the number before.
+/// A block of a coinbase alone, ten minutes after the block of the number before.
 fn push_block(input: &mut String, number: u8) -> Result<(), AllocError> {
     let time = 61_600 + 600 * u32::from(number);
     input.push_str(VERSION)?;

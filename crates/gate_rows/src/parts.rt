@@ -7,16 +7,16 @@ pub const COINS: &str =
 /// The end of the opening, and a peer that enters.
 pub const ENTER: &str = "---\npeer 1 enter 192.0.2.1\n";
 
-/// The event of a transaction, up to that one.
+/// The event of a transaction, up to the transaction.
 pub const EVENT: &str = "peer 1 tx 5000 ";
 
 /// The version, marker and flag of a transaction with witnesses.
 pub const VERSION: &str = "020000000001";
 
-/// A witness of a signature's and a key's length.
+/// A witness of two items, as long as a signature and a key.
 pub const WITNESS: &str =
     "024830303030303030303030303030303030303030303030303030303030303030303030303030303030303030303030303030303030303030303030303030303030303030303030303021020202020202020202020202020202020202020202020202020202020202020202";
 
-/// An output of 600 satoshi to one of one key, which costs 80 signature operations.
+/// An output of 600 satoshi to a multisig of one key, whose signature operations cost 80.
 pub const MULTISIG: &str =
     "580200000000000025512102020202020202020202020202020202020202020202020202020202020202020251ae";

@@ -5,8 +5,8 @@ use std::hash::{BuildHasherDefault, FoldHasher};
 use std::sync::Wait;
 use std::thread::Threads;
 
-/// What the program writes to standard output for these words, parted by spaces, and this input, and its status. Help is
-/// what it writes; a fault of usage writes nothing here and has status 2.
+/// What the program writes to standard output for these words, parted by spaces, and this input, and its status. A call
+/// for help writes the help; a fault of usage writes nothing here and has status 2.
 pub fn outcome<R: AllocGlobal + Threads + Wait + Sync>(
     rt: &R,
     words: &str,

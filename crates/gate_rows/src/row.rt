@@ -9,7 +9,7 @@ use std::thread::Threads;
 /// What a row reads.
 #[derive(Clone, Copy, Debug)]
 pub enum Input {
-    /// As it stands.
+    /// The input itself.
     Plain(&'static [u8]),
     /// With `<72*30>` for `30` 72 times.
     Short(&'static [u8]),
@@ -26,7 +26,7 @@ pub struct Row {
     pub status: u8,
 }
 
-/// Appends what stands behind a `<`: a count, a text that is repeated so often, and what follows that.
+/// Appends a part that follows a `<`: it has a count, a text that is repeated that many times, and what follows.
 fn push_repeated(input: &mut String, part: &str) -> Result<(), Fail> {
     let (repeated, rest) = part.split_once('>').ok_or("no end of a repetition")?;
     let (count, text) = repeated.split_once('*').ok_or("no count of a repetition")?;

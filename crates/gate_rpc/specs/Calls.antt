@@ -64,7 +64,7 @@ id_of (Some d) = value_id d
 
 -- ---- the parameters
 
--- absent or null, there are none
+-- the items of parameters: `null` counts as an empty list, and a value that is no list has none
 abbrev pub value_params : Data → Option Items
 value_params null = Some no_items
 value_params (boolean b) = None
@@ -127,7 +127,7 @@ named_head None method = None
 named_head (Some id) None = None
 named_head (Some id) (Some method) = Some (id, method)
 
--- the id of a call and the name of its method; only an object has one
+-- the id of a call and the name of its method; a value that is no object has none
 abbrev pub head_of : Data → Option (Id × List ℕ)
 head_of call = named_head (id_of (get (codes "id") call)) (option_and_then as_str (get (codes "method") call))
 

@@ -1,4 +1,4 @@
--- What a text that is no request is answered.
+-- The answer to a text that is no request.
 use Rattle.std.specs.Prelude.{ℕ, List, Option, Some, None}
 use Rattle.gate_rpc.specs.declared.id.Id.TheVariants.{Null}
 use Rattle.gate_rpc.specs.declared.fault.CallError.{CallError}
@@ -8,7 +8,7 @@ use Rattle.gate_rpc.specs.declared.reply.RpcReply.{RpcReply}
 use Rattle.gate_rpc.specs.declared.reply.RpcReply.TheVariants.{Failure}
 use Rattle.gate_rpc.specs.Methods.{method_name}
 
--- the name of the method, where one was read
+-- the name of the method, if one was read
 abbrev pub called_name : CallError → Option (List ℕ)
 called_name ParseError = None
 called_name InvalidRequest = None

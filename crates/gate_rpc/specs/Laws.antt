@@ -1,4 +1,4 @@
--- What the lists of methods come to, in words of their own.
+-- Laws of the lists of methods, beside their definition.
 use Rattle.std.specs.Prelude.{◌≡◌, ℕ, Bool, true, false, ◌&&◌, List, [], ◌∷◌, ◌++◌, filter, Option, Some, None}
 use Rattle.std.specs.List.{list_all}
 use Rattle.std.specs.Option.{option_map}
@@ -24,13 +24,13 @@ abbrev pub leaves : List ℕ → Option (List (List ℕ)) → Bool
 leaves method None = true
 leaves method (Some words) = is_among method words
 
--- whether a user with these entries may call a method, where he has any: the first has a colon, and each that has one
--- names the method
+-- whether a user with these entries has a method in the list, if there are any entries: the first has a colon, and each entry
+-- with a colon names the method
 abbrev pub is_left : List ℕ → List RpcEntry → Option Bool
 is_left method [] = None
 is_left method (first ∷ others) = Some (has_methods first.methods && list_all (λ entry. leaves method entry.methods) (first ∷ others))
 
--- a user's list is empty where the first of his entries has no colon, and else the intersection of those that have one;
--- he has no list just where he has no entry
+-- a user's list is empty if the first of the user's entries has no colon, and otherwise the intersection of those that have
+-- one; there is no list exactly if the user has no entry
 abbrev pub ListsAreIntersections : Type 0
 ListsAreIntersections = (entries : List RpcEntry) (user method : List ℕ) → option_map (is_among method) (list_of entries user) ≡ is_left method (entries_of user entries)

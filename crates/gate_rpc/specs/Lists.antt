@@ -8,11 +8,11 @@ use Rattle.gate_rpc.specs.declared.entry.RpcEntry.{RpcEntry}
 abbrev pub is_separator : ℕ → Bool
 is_separator b = (b == 44) || (b == 32)
 
--- the words of a text, parted at commas and spaces
+-- the words of a text, divided at commas and spaces
 abbrev pub words_of : List ℕ → List (List ℕ)
 words_of text = slice_split is_separator text
 
--- `user:words`, parted at the first colon; without a colon all of it is the user
+-- `user:words`, divided at the first colon; without a colon all of it is the user
 abbrev pub entry_of : List ℕ → RpcEntry
 entry_of text =
     if nat_lt (position_or_len (λ b. b == 58) text) (length text)
@@ -24,7 +24,7 @@ pub record Lists : Type 0 where
   pub entries : List RpcEntry
   pub is_default_on : Bool
 
--- the default as it is given, else on where there are entries
+-- the default as it is given; a default that isn't given is on if there are entries
 abbrev pub default_of : Option Bool → List (List ℕ) → Bool
 default_of (Some given) texts = given
 default_of None [] = false
@@ -33,8 +33,8 @@ default_of None (text ∷ texts) = true
 abbrev pub is_among : List ℕ → List (List ℕ) → Bool
 is_among method list = list_any (bytes_eq method) list
 
--- a user's list after one more of its entries: the first makes it, empty without a colon; a later one with a colon
--- is intersected with it, and one without changes nothing
+-- a user's list after one more of the user's entries: the first makes it, empty without a colon; a later entry with a colon
+-- is intersected with it, and a later entry without a colon changes nothing
 abbrev pub list_after : Option (List (List ℕ)) → Option (List (List ℕ)) → Option (List (List ℕ))
 list_after None None = Some []
 list_after None (Some words) = Some words
@@ -44,7 +44,7 @@ list_after (Some list) (Some words) = Some (filter (λ method. is_among method w
 abbrev pub list_with : List ℕ → Option (List (List ℕ)) → RpcEntry → Option (List (List ℕ))
 list_with user list entry = if bytes_eq entry.user user then list_after list entry.methods else list
 
--- a user's list, where it has one
+-- a user's list, if there is one
 abbrev pub list_of : List RpcEntry → List ℕ → Option (List (List ℕ))
 list_of entries user = fold (list_with user) None entries
 

@@ -34,7 +34,7 @@ denial_code Decode = 22
 denial_code MissingOrSpent = 25
 denial_code denial = 26
 
--- all codes are negative
+-- the code of an error without its sign: all codes are negative
 abbrev pub code_below_zero : RpcError → ℕ
 code_below_zero ParseError = 32700
 code_below_zero InvalidRequest = 32600
@@ -59,7 +59,7 @@ message_of (Denied denial) = token_of denial
 abbrev pub integer : ℕ → Data
 integer n = number (unsigned n)
 
--- `A17`
+-- the name of the rule that denies, such as `A17`
 abbrev pub rule_json : Denial → Data
 rule_json denial = string (codes "A" ++ decimal (rule_of denial))
 
@@ -67,7 +67,7 @@ abbrev pub rules_of : RpcError → Members
 rules_of (Denied denial) = member (codes "rule") (rule_json denial) no_members
 rules_of error = no_members
 
--- only a denial names its rule
+-- the error of an answer; only a denial names its rule
 abbrev pub error_json : RpcError → Data
 error_json error =
     object (member (codes "code") (number (of_integer (code_of error)))
@@ -162,7 +162,7 @@ reply_status NotAllowed = 403
 reply_status (Answer id result) = 200
 reply_status (Failure id error) = status_of error
 
--- what stands after the status
+-- the text of an answer after its status
 abbrev pub reply_text : RpcReply → List ℕ
 reply_text NotAllowed = codes "denied U1 rpc-whitelist"
 reply_text (Answer id result) = compact_text (answer_json null (id_json id) (result_json result))

@@ -21,7 +21,7 @@ entry_end entry wtxid =
     codes ",\"weight\":" ++ (decimal entry.weight ++ (
     codes ",\"wtxid\":" ++ (wtxid ++ codes "}")))))))
 
--- its middle, and what follows
+-- the middle of an entry's object, and the text that follows
 abbrev pub entry_middle : EntryInfo → List ℕ → List ℕ → List ℕ
 entry_middle entry spent_by rest =
     codes ",\"descendantcount\":" ++ (decimal entry.descendant_count ++ (
@@ -30,7 +30,7 @@ entry_middle entry spent_by rest =
     codes ",\"fee\":" ++ (decimal entry.fee ++ (
     codes ",\"spentby\":" ++ (spent_by ++ rest)))))))))
 
--- its start, and what follows
+-- the start of an entry's object, and the text that follows
 abbrev pub entry_start : EntryInfo → List ℕ → List ℕ → List ℕ
 entry_start entry depends rest =
     codes "{\"ancestorcount\":" ++ (decimal entry.ancestor_count ++ (

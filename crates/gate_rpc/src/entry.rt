@@ -10,7 +10,7 @@ use std::alloc::{AllocError, Global};
 #[derive(Debug, Drop)]
 pub struct RpcEntry {
     pub user: Text,
-    /// The words after the first colon, parted at commas and spaces; empty ones are kept.
+    /// The words after the first colon, divided at commas and spaces; empty ones are kept.
     pub methods: Option<Kept<Kept<u8>>>,
 }
 
@@ -31,7 +31,7 @@ impl RpcEntry {
         }
     }
 
-    /// Whether a user's list has a method after this entry, given whether it had it before, where there was a list.
+    /// Whether a user's list has a method after this entry, given whether the list had it before, if there was a list.
     pub(crate) fn listed(&self, before: Option<bool>, user: &str, method: &str) -> Option<bool>
         ensures { result ≡ listed_with user.now method.now before self.now }
     {
@@ -61,7 +61,7 @@ fn kept(alloc: Global, text: &str) -> Result<Text, Memory>
     Ok(Text::from_string(String::from_str(alloc, text)?))
 }
 
-/// The words of a text, parted at commas and spaces.
+/// The words of a text, divided at commas and spaces.
 fn words_in(alloc: Global, text: &str) -> Result<Kept<Kept<u8>>, Memory>
     ensures { IfOk result (λ words. words ≡ words_of text.now) }
 {

@@ -5,7 +5,7 @@ ghost use Rattle.gate_rpc.specs.Replies.{status_of, code_of, message_of};
 use gate_bytes::Exact;
 use gate_standard::Denial;
 
-/// Why a call has no result, as its answer tells it: by the codes of JSON-RPC 2.0 and of Bitcoin Core 22.0.
+/// Why a call has no result, as its answer says it: by the codes of JSON-RPC 2.0 and of Bitcoin Core 22.0.
 #[derive(Clone, Copy, Debug, PartialEq, Eq)]
 pub enum RpcError {
     ParseError,
@@ -19,7 +19,7 @@ pub enum RpcError {
 }
 
 impl RpcError {
-    /// The status of HTTP.
+    /// The HTTP status of an answer with this error.
     pub fn status(&self) -> u16
         ensures { result ≡ status_of self.now }
     {

@@ -14,20 +14,21 @@ use thiserror::Error;
 /// The first fault of a text that is no request, in the order of the variants.
 #[derive(Debug, Drop, PartialEq, Eq)]
 pub enum CallError {
-    /// It is no JSON.
+    /// The text is no JSON.
     ParseError,
-    /// It is no object, its method is no text, or its id is neither a text nor a whole number of 64 bits.
+    /// The JSON is no object, its method is no text, or it has an id that is neither `null`, a text nor a whole number
+    /// of 64 bits.
     InvalidRequest,
     /// There is no such method.
     MethodNotFound { id: Id, method: Text },
-    /// The method takes other parameters.
+    /// The method doesn't take these parameters.
     InvalidParams { id: Id, method: Method },
 }
 
 impl CallError {
     ghost use Rattle.gate_rpc.specs.Faults.{called_name, reply_of};
 
-    /// The name of the method that was called, where one was read.
+    /// The name of the method that was called, if one was read.
     pub fn method(&self) -> Option<&str>
         ensures { option_map (λ name. name.now) result ≡ called_name self.now }
     {

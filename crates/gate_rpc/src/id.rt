@@ -5,7 +5,7 @@ use std::alloc::Global;
 /// What a caller names its call by (JSON-RPC 2.0): the answer has it as it came.
 #[derive(Debug, Drop, PartialEq, Eq)]
 pub enum Id {
-    /// None, or `null`.
+    /// No id, or `null`.
     Null,
     Text(Text),
     /// A whole number from 0 on.

@@ -1,4 +1,4 @@
-//! The methods that there are.
+//! The methods that can be called.
 ghost use Rattle.std.specs.Prelude.{◌≡◌};
 ghost use Rattle.gate_rpc.specs.Methods.{method_named, method_name};
 

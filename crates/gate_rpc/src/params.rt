@@ -15,7 +15,7 @@ use hex::FromHexError;
 use serde_json::Value;
 use std::alloc::Global;
 
-/// The command of a method with these parameters, which may be absent; `None` where it takes others.
+/// The command of a method with these parameters, which may be absent; `None` if the method doesn't take them.
 pub(crate) fn read_command(
     alloc: Global,
     method: Method,
@@ -72,7 +72,7 @@ fn takes_none(params: &[Value]) -> bool
     params.is_empty()
 }
 
-/// The submission of a text that is there.
+/// The submission of a text, if there is a text.
 fn submission(alloc: Global, hex: Option<&str>) -> Result<Option<Prepared>, Memory>
     ensures { IfOk result (λ s. s ≡ option_map submission_of (option_map (λ text. text.now) hex.entry)) }
 {
@@ -82,8 +82,8 @@ fn submission(alloc: Global, hex: Option<&str>) -> Result<Option<Prepared>, Memo
     }
 }
 
-/// The submission of hex digits of either case, with the first rule that it fails by itself. What is no hex, and bytes that
-/// are no transaction, spell none.
+/// The submission of hex digits of either case, with the first rule that it fails by itself. A text that is no hex, and
+/// bytes that are no transaction, spell none.
 fn read_submission(alloc: Global, hex: &str) -> Result<Prepared, Memory>
     ensures { IfOk result (λ s. s ≡ submission_of hex.now) }
 {
@@ -94,7 +94,7 @@ fn read_submission(alloc: Global, hex: &str) -> Result<Prepared, Memory>
     }
 }
 
-/// The items of the parameters: none where these are absent or null.
+/// The items of the parameters: an empty list if these are absent or `null`, and `None` if they are no list.
 fn items_of(params: Option<&Value>) -> Option<&[Value]>
     ensures { option_map (λ items. items_view items.now) result ≡ params_of (option_map (λ v. view v.now) params.entry) }
 {
@@ -122,7 +122,7 @@ fn only(items: &[Value]) -> Option<&Value>
     }
 }
 
-/// Whether they are `[false]`.
+/// Whether the parameters are `[false]`.
 fn is_false_alone(params: &[Value]) -> bool
     ensures { result ≡ is_false_alone (option_and_then as_bool (only (items_view params.now))) }
 {

@@ -52,7 +52,7 @@ fn read_call(alloc: Global, call: &Value) -> Result<Request, RpcFault>
     }
 }
 
-/// The id of a call and the name of its method.
+/// The id of a call and the name of its method; `None` if one of them is not valid.
 fn read_head(alloc: Global, call: &Value) -> Result<Option<(Id, Text)>, Memory>
     ensures { IfOk result (λ head. head ≡ head_of (view call.now)) }
 {

@@ -19,7 +19,7 @@ pub enum RpcReply {
 }
 
 impl RpcReply {
-    /// The status of HTTP.
+    /// The HTTP status of the answer.
     pub fn status(&self) -> u16
         ensures { result ≡ reply_status self.now }
     {

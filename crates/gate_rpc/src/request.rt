@@ -14,7 +14,7 @@ use std::alloc::Global;
 pub enum Command {
     /// Lets a transaction enter the pool.
     SendRawTransaction(Prepared),
-    /// Tells whether it would enter.
+    /// Says whether a transaction would enter the pool.
     TestMempoolAccept(Prepared),
     /// The txids in the pool.
     GetRawMempool,
@@ -24,7 +24,7 @@ pub enum Command {
     GetMempoolAncestors(Txid),
     /// The txids of an entry's descendants.
     GetMempoolDescendants(Txid),
-    /// The pool's size and its rates.
+    /// The pool's size and its feerates.
     GetMempoolInfo,
 }
 

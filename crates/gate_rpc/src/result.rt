@@ -1,18 +1,18 @@
-//! What calls result in.
+//! The results of calls.
 use gate_bytes::{Copied, Exact, Kept, Memory};
 use gate_standard::Denial;
 use gate_tx::{Txid, Wtxid};
 use std::alloc::Global;
 
-/// What the pool knows of an entry. Sizes are in virtual bytes, fees in satoshi; the counts and sums of ancestors and of
-/// descendants have the entry itself.
+/// What the pool knows of an entry. Sizes are in virtual bytes, fees in satoshi; the counts and sums of ancestors and
+/// of descendants include the entry itself.
 #[derive(Debug, Drop, PartialEq, Eq)]
 pub struct EntryInfo {
     pub wtxid: Wtxid,
     pub fee: u64,
     pub vsize: u64,
     pub weight: u64,
-    /// When it entered, in seconds.
+    /// When the entry was admitted, in seconds.
     pub time: u64,
     pub ancestor_count: u64,
     pub ancestor_size: u128,
@@ -20,11 +20,11 @@ pub struct EntryInfo {
     pub descendant_count: u64,
     pub descendant_size: u128,
     pub descendant_fees: u128,
-    /// Whether it or an ancestor signals that it may be replaced (BIP 125).
+    /// Whether the entry or an ancestor signals that it may be replaced (BIP 125).
     pub is_replaceable: bool,
-    /// Its parents in the pool, in order of admission.
+    /// The entry's parents in the pool, in order of admission.
     pub depends: Kept<Txid>,
-    /// Its children, in the same order.
+    /// The entry's children in the pool, in order of admission.
     pub spent_by: Kept<Txid>,
 }
 
@@ -51,7 +51,7 @@ impl Copied for EntryInfo {
     }
 }
 
-/// What a call results in.
+/// The result of a call.
 #[derive(Debug, Drop, PartialEq, Eq)]
 pub enum RpcResult {
     /// The transaction is in the pool.
@@ -73,8 +73,8 @@ pub enum RpcResult {
     Txids(Kept<Txid>),
     /// An entry of the pool.
     Entry(EntryInfo),
-    /// The pool's virtual bytes, the most that it may have, the rate in satoshi per 1,000 virtual bytes that it asks for,
-    /// the rate that is asked for to relay, and the number of its entries.
+    /// The pool's total size and the most that it may be, in virtual bytes; the least feerate that the pool takes and
+    /// the one for relay, in satoshi per 1,000 virtual bytes; and the number of entries.
     Info {
         size: u128,
         budget: u64,

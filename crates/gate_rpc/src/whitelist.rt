@@ -23,8 +23,8 @@ impl Model for RpcWhitelist {
 }
 
 impl RpcWhitelist {
-    /// Reads the entries of `-rpcwhitelist`, in their order; each text is one. Without a given default it is on
-    /// where there are entries.
+    /// Reads the entries of `-rpcwhitelist`, in their order; each text is one. A default that isn't given is on if
+    /// there are entries.
     pub fn parse(
         alloc: Global,
         texts: &[Text],

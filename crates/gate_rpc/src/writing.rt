@@ -40,7 +40,7 @@ fn error_value(alloc: Global, error: &RpcError) -> Result<Value, AllocError>
     }
 }
 
-/// `A17`
+/// The name of the rule that denies, such as `A17`.
 fn rule_text(alloc: Global, denial: &Denial) -> Result<String, AllocError>
     ensures { IfOk result (λ text. string_bytes text ≡ codes "A" ++ decimal (rule_of denial.now)) }
 {
@@ -106,14 +106,14 @@ pub(crate) fn result_json(alloc: Global, outcome: &RpcResult) -> Result<String, 
     }
 }
 
-/// A list of one, given the text of its item.
+/// A list of one item, given the item's text.
 fn listed(alloc: Global, item: &str) -> Result<String, AllocError>
     ensures { IfOk result (λ text. string_bytes text ≡ 91 ∷ (item.now ++ 93 ∷ [])) }
 {
     format!(in alloc; "[{item}]")
 }
 
-/// That a list of bytes has bytes: it does nothing.
+/// Recalls that the items of a list of bytes are bytes: it does nothing.
 fn recall_bytes(bytes: &[u8])
     ensures { IsBytes bytes.now }
 {}

@@ -1,4 +1,4 @@
--- The names, the tokens and what follows, of each rule and word that the program prints, in its order.
+-- The name, the token and what follows, of each rule and word that the program prints, in its order.
 use Rattle.std.specs.Prelude.{ℕ, List, [], ◌∷◌, ◌++◌, codes}
 use Rattle.gate_rules.specs.declared.rule.Then.{Then}
 use Rattle.gate_rules.specs.declared.rule.Then.TheVariants.{Keep, Close, CloseAlways, Relay, Nothing, EndsRun, EndsProgram}
@@ -39,7 +39,7 @@ standard_rules =
     ∷ key (codes "A19") (codes "tx-size-small") Keep
     ∷ []
 
--- A20 to A33: the transaction beside chain and pool, without its fee
+-- A20 to A33: the transaction against chain and pool, without its fee
 abbrev pub chain_rules : List Key
 chain_rules =
     key (codes "A20") (codes "non-final") Keep
@@ -58,7 +58,7 @@ chain_rules =
     ∷ key (codes "A33") (codes "bad-txns-too-many-sigops") Keep
     ∷ []
 
--- A34 to A37: its fee, and its family in the pool
+-- A34 to A37: the transaction's fee, its ancestors in the pool, and their descendants
 abbrev pub fee_rules : List Key
 fee_rules =
     key (codes "A34") (codes "mempool min fee not met") Keep
@@ -67,7 +67,7 @@ fee_rules =
     ∷ key (codes "A37") (codes "bad-txns-spends-conflicting-tx") Close
     ∷ []
 
--- A38 to A42: what it would replace
+-- A38 to A42: the entries that the transaction would replace
 abbrev pub replacement_rules : List Key
 replacement_rules =
     key (codes "A38") (codes "insufficient fee") Keep
@@ -77,7 +77,7 @@ replacement_rules =
     ∷ key (codes "A42") (codes "insufficient fee") Keep
     ∷ []
 
--- A43 to A46: its scripts, and the pool's budget
+-- A43 to A46: the transaction's scripts, and the pool's budget
 abbrev pub verdict_rules : List Key
 verdict_rules =
     key (codes "A43") (codes "verdict-missing") Keep

@@ -15,7 +15,7 @@ then_text Nothing = codes "Nothing changes."
 then_text EndsRun = codes "The run ends there."
 then_text EndsProgram = codes "The program ends with status 2."
 
--- a text, and the name in Bitcoin Core where there is one
+-- the line of a rule by its parts, with the name in Bitcoin Core if there is one
 abbrev pub text_of : List ℕ → List ℕ → List ℕ → List ℕ → Option (Bor (List ℕ)) → List ℕ
 text_of name token says then None = name ++ (codes " " ++ (token ++ (codes ": " ++ (says ++ (codes ". " ++ then)))))
 text_of name token says then (Some core) =
@@ -25,6 +25,6 @@ text_of name token says then (Some core) =
 abbrev pub rule_text : Rule → List ℕ
 rule_text rule = text_of rule.name.now rule.token.now rule.says.now (then_text rule.then) rule.core
 
--- a line each
+-- the text of these rules, a line each
 abbrev pub rules_text : List Rule → List ℕ
 rules_text rules = flat_map (λ (rule : Rule). rule_text rule ++ 10 ∷ []) rules

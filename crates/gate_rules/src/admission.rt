@@ -154,7 +154,7 @@ pub(crate) fn standard_rules() -> [Rule; 8]
     ]
 }
 
-/// A20 to A33: the transaction beside chain and pool, without its fee.
+/// A20 to A33: the transaction against chain and pool, without its fee.
 pub(crate) fn chain_rules() -> [Rule; 14]
     ensures { map key_of result ≡ chain_rules }
 {
@@ -260,7 +260,7 @@ pub(crate) fn chain_rules() -> [Rule; 14]
     ]
 }
 
-/// A34 to A37: its fee, and its family in the pool.
+/// A34 to A37: the transaction's fee, its ancestors in the pool, and their descendants.
 pub(crate) fn fee_rules() -> [Rule; 4]
     ensures { map key_of result ≡ fee_rules }
 {
@@ -296,7 +296,7 @@ pub(crate) fn fee_rules() -> [Rule; 4]
     ]
 }
 
-/// A38 to A42: what it would replace.
+/// A38 to A42: the entries that the transaction would replace.
 pub(crate) fn replacement_rules() -> [Rule; 5]
     ensures { map key_of result ≡ replacement_rules }
 {
@@ -339,7 +339,7 @@ pub(crate) fn replacement_rules() -> [Rule; 5]
     ]
 }
 
-/// A43 to A46: its scripts, and the pool's budget.
+/// A43 to A46: the transaction's scripts, and the pool's budget.
 pub(crate) fn verdict_rules() -> [Rule; 4]
     ensures { map key_of result ≡ verdict_rules }
 {

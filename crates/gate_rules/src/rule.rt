@@ -5,7 +5,7 @@ ghost use Rattle.gate_rules.specs.Texts.{then_text};
 
 use std::fmt;
 
-/// What follows where a rule fails.
+/// What follows if a rule fails.
 #[derive(Clone, Copy, Debug, PartialEq, Eq)]
 pub enum Then {
     /// The session is kept.
@@ -25,7 +25,7 @@ pub enum Then {
 }
 
 impl Then {
-    /// It in a sentence.
+    /// What follows, in a sentence.
     pub fn as_str(&self) -> &'static str
         ensures { result.now ≡ then_text self.now }
     {
@@ -46,18 +46,19 @@ impl Then {
 /// A rule, or a word beside the rules.
 #[derive(Clone, Copy, Debug, PartialEq, Eq)]
 pub struct Rule {
-    /// What stands before its token where it is printed: letter and number, or `opening` or `fault`.
+    /// What is printed before the token: a letter and a number, or `opening` or `fault`.
     pub name: &'static str,
     pub token: &'static str,
     pub then: Then,
-    /// Its name in Bitcoin Core 22.0, or that of the function or the option that has it; a rule of the gate's own has none.
+    /// The rule's name in Bitcoin Core 22.0, or that of the function or the option that has it; `None` for a rule of
+    /// the gate's own.
     pub core: Option<&'static str>,
-    /// When it fails, in a sentence without its full stop.
+    /// When the rule fails, in a sentence without its full stop.
     pub says: &'static str,
 }
 
 impl Rule {
-    /// Whether a word is its name or its token.
+    /// Whether a word is the rule's name or its token.
     pub fn is_named(&self, word: &str) -> bool
         ensures { result ≡ is_named word.now (key_of self.now) }
     {

@@ -62,7 +62,7 @@ pub fn rules(alloc: Global) -> Result<Vec<Rule>, Memory>
     Ok(rules)
 }
 
-/// Those of these rules that a word names.
+/// The rules among these that a word names, in their order.
 fn named_among(alloc: Global, rules: &[Rule], word: &str) -> Result<Vec<Rule>, Memory>
     ensures { IfOk result (λ found. found.items ≡ named_among word.now rules.now) }
 {
@@ -84,7 +84,7 @@ pub fn rules_named(alloc: Global, word: &str) -> Result<Vec<Rule>, Memory>
     Ok(found)
 }
 
-/// The lines of these rules, a line each.
+/// The text of these rules, a line each.
 pub fn rules_text(alloc: Global, rules: &[Rule]) -> Result<String, Memory>
     ensures { IfOk result (λ text. string_bytes text ≡ rules_text rules.now) }
 {

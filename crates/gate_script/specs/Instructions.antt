@@ -5,7 +5,7 @@ use Rattle.gate_script.specs.Opcodes.{OP_PUSHDATA1, OP_PUSHDATA2, OP_PUSHDATA4}
 use Rattle.gate_script.specs.declared.op.Op.{Op}
 use Rattle.gate_script.specs.declared.op.Op.TheVariants as op
 
--- an opcode with the bytes that it pushes, an opcode whose push passes the end, or an opcode that stands alone
+-- an opcode with the bytes that it pushes, an opcode whose push goes past the end, or an opcode without bytes of its own
 pub data Instruction : Type 0 where
   Push : ℕ → List ℕ → Instruction
   Truncated : ℕ → Instruction
@@ -24,7 +24,7 @@ is_push opcode = nat_lt 0 opcode && nat_le opcode OP_PUSHDATA4
 abbrev pub length_size : ℕ → ℕ
 length_size opcode = if opcode == OP_PUSHDATA1 then 1 else if opcode == OP_PUSHDATA2 then 2 else if opcode == OP_PUSHDATA4 then 4 else 0
 
--- how many bytes are pushed: the opcode itself up to 0x4b, else the number in those bytes
+-- how many bytes are pushed: the opcode itself up to 0x4b, else the number in the bytes after the opcode
 abbrev pub pushed_count : ℕ → List ℕ → ℕ
 pushed_count opcode rest = if nat_le opcode 0x4b then opcode else little_number (length_size opcode) rest
 

@@ -12,7 +12,7 @@ spelled (Push opcode bytes) = opcode ∷ (little_bytes (length_size opcode) (len
 spelled (Plain opcode) = opcode ∷ []
 spelled (Truncated opcode) = opcode ∷ []
 
--- the opcode pushes so many bytes, or can
+-- the opcode pushes `count` bytes, or can push that many
 abbrev pub PushesThatMany : ℕ → ℕ → Type 0
 PushesThatMany opcode count =
     ((0 < opcode) × (opcode ≤ 0x4b) × (count ≡ opcode))
@@ -27,7 +27,7 @@ IsSpellable (Truncated opcode) = ⊥
 abbrev pub SpellingsAreRead : Type 0
 SpellingsAreRead = (ops : List Instruction) → AllByRecursion IsSpellable ops → instructions (flat_map spelled ops) ≡ ops
 
--- it isn't cut by the end of the script
+-- the instruction isn't cut by the end of the script
 abbrev pub IsUncut : Instruction → Type 0
 IsUncut (Truncated opcode) = ⊥
 IsUncut _ = ⊤
@@ -35,10 +35,10 @@ IsUncut _ = ⊤
 abbrev pub ScriptsAreSpelled : Type 0
 ScriptsAreSpelled = (script : List ℕ) → IsBytes script → AllByRecursion IsUncut (instructions script) → flat_map spelled (instructions script) ≡ script
 
--- the script is `front`, so many bytes and `back`
+-- the script is `front`, `count` bytes and `back`
 abbrev pub IsFramed : List ℕ → ℕ → List ℕ → List ℕ → Type 0
 IsFramed front count back script = (middle : List ℕ) × (length middle ≡ count) × (script ≡ front ++ (middle ++ back))
 
--- the test of a template's bytes is met just by the scripts of that pattern
+-- the test of a template's bytes is met exactly by the scripts of that pattern
 abbrev pub FramesArePatterns : Type 0
 FramesArePatterns = (front : List ℕ) (count : ℕ) (back script : List ℕ) → IsTrue (frames front count back script) ↔ IsFramed front count back script

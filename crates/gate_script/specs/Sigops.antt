@@ -11,7 +11,7 @@ sigops_of_opcode accurate last_opcode opcode =
     else if opcode == OP_CHECKMULTISIG || opcode == OP_CHECKMULTISIGVERIFY then (if accurate && nat_le OP_1 last_opcode && nat_le last_opcode OP_16 then last_opcode - OP_RESERVED else 20)
     else 0
 
--- those of instructions that follow the opcode `last_opcode`, up to a truncated push
+-- the signature operations of instructions that follow the opcode `last_opcode`, up to a truncated push
 unfoldable pub sigops_after : Bool → ℕ → List Instruction → ℕ
 sigops_after accurate last_opcode [] = 0
 sigops_after accurate last_opcode (Push opcode bytes ∷ rest) = sigops_after accurate opcode rest

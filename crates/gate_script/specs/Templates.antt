@@ -9,7 +9,7 @@ use Rattle.gate_script.specs.Witness.{witness_program_of}
 use Rattle.gate_script.specs.declared.templates.Template.{Template}
 use Rattle.gate_script.specs.declared.templates.Template.TheVariants.{ScriptHash, WitnessV0Key, WitnessV0Script, Taproot, WitnessUnknown, NullData, Key, KeyHash, Multisig, Nonstandard}
 
--- the script is `front`, so many bytes and `back`
+-- the script is `front`, `count` bytes and `back`
 abbrev pub frames : List ℕ → ℕ → List ℕ → List ℕ → Bool
 frames front count back script =
     length script == length front + count + length back && starts_with nat_eq script front && ends_with nat_eq script back
@@ -52,11 +52,11 @@ abbrev pub ends_multisig : ℕ → List Instruction → Bool
 ends_multisig keys (Plain count ∷ Plain check ∷ []) = nat_lt 0 keys && nat_le keys 16 && count == OP_RESERVED + keys && check == OP_CHECKMULTISIG
 ends_multisig keys _ = false
 
--- so many signatures of so many keys, where the instructions after the keys close it and the keys are enough
+-- `required` signatures of `keys` keys, if the instructions after the keys close it and the keys are enough
 abbrev pub multisig_with : ℕ → ℕ → List Instruction → Option (ℕ × ℕ)
 multisig_with required keys left = if ends_multisig keys left && nat_le required keys then Some (required, keys) else None
 
--- as many pushes of keys as there are, and their close
+-- the pushes of keys that come next, all of them, and their close
 abbrev pub multisig_after : Option ℕ → List Instruction → Option (ℕ × ℕ)
 multisig_after None rest = None
 multisig_after (Some required) rest = multisig_with required (prefix_len pushes_key rest) (drop (prefix_len pushes_key rest) rest)

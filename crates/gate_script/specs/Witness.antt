@@ -6,7 +6,7 @@ use Rattle.gate_script.specs.Opcodes.{OP_0, OP_1, OP_16, OP_RESERVED}
 abbrev pub is_version : ℕ → Bool
 is_version opcode = opcode == OP_0 || (nat_le OP_1 opcode && nat_le opcode OP_16)
 
--- the number that it stands for
+-- the version that an opcode stands for
 abbrev pub version_of : ℕ → ℕ
 version_of opcode = if opcode == OP_0 then 0 else opcode - OP_RESERVED
 

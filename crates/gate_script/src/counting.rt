@@ -7,14 +7,14 @@ use crate::opcode::{
     OP_RESERVED,
 };
 
-/// How many signatures a check of several counts for where the number before it isn't read (Bitcoin
-/// Core's `MAX_PUBKEYS_PER_MULTISIG`).
+/// How many signature operations a check of several signatures counts if the number before it isn't
+/// read (Bitcoin Core's `MAX_PUBKEYS_PER_MULTISIG`).
 const MOST_KEYS: u64 = 20;
 
-/// How many signature operations the script counts, up to its first truncated push. Where
-/// `accurate`, a check of several signatures directly after OP_1 to OP_16 counts that number, else 20
-/// (Bitcoin Core 22.0, `CScript::GetSigOpCount`). A script of less than 2^59 bytes counts less than
-/// 2^64; more is the greatest u64.
+/// How many signature operations the script counts, up to its first truncated push. If `accurate`, a
+/// check of several signatures directly after OP_1 to OP_16 counts that number, else 20 (Bitcoin
+/// Core 22.0, `CScript::GetSigOpCount`). A script of less than 2^59 bytes counts less than 2^64; a
+/// greater count is given as the greatest u64.
 pub fn sigops(script: &[u8], accurate: bool) -> u64
     ensures exact { result ≡ min (sigops_of accurate script.now) (2 ^ 64 - 1) }
     ensures most { result ≤ 20 * length script.now }
@@ -34,7 +34,7 @@ pub fn sigops(script: &[u8], accurate: bool) -> u64
     count
 }
 
-/// How many signatures an opcode checks after the opcode `last_opcode`.
+/// How many signature operations an opcode counts after the opcode `last_opcode`.
 fn sigops_of_opcode(accurate: bool, last_opcode: u8, opcode: u8) -> u64
     ensures { result ≡ sigops_of_opcode accurate last_opcode opcode }
 {

@@ -8,13 +8,13 @@ pub fn spellings_are_read()
     ensures spelled { ScriptsAreSpelled }
 {}
 
-/// That the test of a template's fixed bytes and length is met just by the scripts that have those
-/// bytes in front and at the end, and so many between.
+/// That the test of a template's fixed bytes and length is met exactly by the scripts that have
+/// those bytes in front and at the end, and the right number of bytes between.
 pub fn frames_are_patterns()
     ensures { FramesArePatterns }
 {}
 
-/// That a script is a witness program, pays a key or is a multisig just where it has the pattern:
+/// That a script is a witness program, pays a key or is a multisig exactly if it has the pattern:
 /// a version and one push, a key and OP_CHECKSIG, or OP_m, keys, OP_n and OP_CHECKMULTISIG.
 pub fn templates_are_patterns()
     ensures programs { ProgramsArePatterns }

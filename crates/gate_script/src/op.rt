@@ -11,9 +11,9 @@ use crate::reading::Ops;
 pub enum Op<'a> {
     /// A push of these bytes, by one of the opcodes 0x01 to 0x4e.
     Push { opcode: u8, bytes: &'a [u8] },
-    /// A push that passes the end of the script, which is its last instruction.
+    /// A push that goes past the end of the script: always the last instruction.
     Truncated { opcode: u8 },
-    /// An opcode that stands alone.
+    /// An opcode without bytes of its own.
     Plain(u8),
 }
 

@@ -31,8 +31,8 @@ fn pushes(op: &Op) -> bool
     }
 }
 
-/// The stack that the script's pushes leave, the last item on top. None where something in it is no
-/// push, a push is truncated, an item has over 520 bytes or there are over 1,000 items.
+/// The stack that the script's pushes leave, the last item on top. None if an instruction is no push,
+/// a push is truncated, an item has over 520 bytes or there are over 1,000 items.
 pub fn push_stack(alloc: Global, script: &[u8]) -> Result<Option<Kept<Kept<u8>>>, Memory>
     ensures { IfOk result (λ stack. stack ≡ push_stack_of script.now) }
 {

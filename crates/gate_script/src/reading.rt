@@ -46,7 +46,7 @@ impl<'a> Iterator for Ops<'a> {
     }
 }
 
-/// The first instruction of the bytes ahead, which is taken off them.
+/// Takes the first instruction off the bytes ahead.
 fn next_op<'a>(ahead: &mut Cursor<'a>) -> Option<Op<'a>>
     ensures { YieldsFirstBy instruction_of instructions ahead.old result ahead.new }
 {
@@ -65,7 +65,7 @@ fn next_op<'a>(ahead: &mut Cursor<'a>) -> Option<Op<'a>>
     }
 }
 
-/// The bytes that a push opcode pushes, read from the bytes after it; short where they pass the end.
+/// The bytes that a push opcode pushes, read from the bytes after it; `Short` if they go past the end.
 fn pushed<'a>(opcode: u8, ahead: &mut Cursor<'a>) -> Result<&'a [u8], ByteFault>
     requires { IsTrue (is_push opcode) }
     ensures whole { IfOk result (λ bytes. PushesWhole opcode ahead.old bytes.now ahead.new) }

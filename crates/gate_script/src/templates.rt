@@ -17,7 +17,7 @@ pub enum Template {
     Key,
     /// Pay to a public key's hash.
     KeyHash,
-    /// So many signatures required of so many public keys.
+    /// `required` signatures of `keys` public keys.
     Multisig { required: u8, keys: u8 },
     /// None of these.
     Nonstandard,

@@ -4,7 +4,7 @@ ghost use Rattle.gate_script.specs.Witness.{witness_program_of};
 
 use crate::opcode::{OP_0, OP_1, OP_16, OP_RESERVED};
 
-/// The version and the program of a witness program (BIP 141), 0 or 1 to 16 and 2 to 40 bytes.
+/// The version, 0 to 16, and the program, 2 to 40 bytes, if the script is a witness program (BIP 141).
 pub fn witness_program(script: &[u8]) -> Option<(u8, &[u8])>
     ensures { option_map (λ p. (p.0, p.1.now)) result ≡ witness_program_of script.now }
 {

@@ -47,6 +47,6 @@ last_call (c ∷ cs) = Some (last_from c cs)
 abbrev pub Stands : List Entry → ℕ → Made → Type 0
 Stands journal pass c = (0 < c.receipt.number) × (slice_get journal (c.receipt.number - 1) ≡ Some (entry pass c.event c.receipt.reply))
 
--- so does the last call of a pass, if it has one
+-- the last call of a pass, if it has one, stands in the journal at the place that its receipt names
 abbrev pub LastStands : List Entry → PassView → Type 0
 LastStands journal p = IfSome (last_call p.calls) (Stands journal p.number)

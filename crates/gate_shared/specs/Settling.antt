@@ -25,7 +25,7 @@ owner_at pass call = record { pass = pass; call = call }
 abbrev pub claim : ℕ → ℕ → ℕ → Made → Claim
 claim place at pass c = record { owner = owner_at place at; pass = pass; call = c }
 
--- the calls of the pass at this place, from the one with this place in it
+-- the calls of the pass at this place in the list, the first of them at this place in the pass
 abbrev pub claim_list : ℕ → ℕ → ℕ → List Made → List Claim
 claim_list place at pass [] = []
 claim_list place at pass (c ∷ cs) = claim place at pass c ∷ claim_list place (at + 1) pass cs
@@ -46,8 +46,8 @@ pub record HavePlaces (journal : List Entry) (claims : List Claim) : Type 0 wher
   pub stand : All (λ (c : Claim). Stands journal c.pass c.call) claims
   pub apart : AllPairs (λ (c d : Claim). number_of c ≢ number_of d) claims
 
--- the receipt is that of the first call without a place of its own: all before it have places, and it doesn't stand in the
--- journal, or one of those has its number
+-- the receipt is that of the first call without a place of its own: all calls before it have places, and it doesn't stand in
+-- the journal, or one of the calls before it has its number
 abbrev pub FirstMissing : List Entry → List PassView → Receipt → Type 0
 FirstMissing journal passes r =
     (before : List Claim) × (c : Claim) × (after : List Claim)
@@ -71,7 +71,7 @@ pub record AreTheCalls (journal : List Entry) (passes : List PassView) (owners :
 abbrev pub IsSettled : List Entry → List PassView → Settled → Type 0
 IsSettled journal passes s = (s.journal.entries ≡ journal) × (s.count ≡ length journal) × AreTheCalls journal passes s.owners
 
--- a receipt that is missing, or, where all calls have places, the two counts, which differ
+-- a receipt that is missing, or, if all calls have places, the two counts, which differ
 abbrev pub WhyUnsettled : List Entry → List PassView → Unsettled → Type 0
 WhyUnsettled journal passes (Missing r) = FirstMissing journal passes r
 WhyUnsettled journal passes (CountDiffers n m) = (n ≡ length journal) × (m ≡ length (claims_of passes)) × (n ≢ m) × HavePlaces journal (claims_of passes)

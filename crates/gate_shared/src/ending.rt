@@ -14,8 +14,8 @@ use gate_core::State;
 use std::alloc::Global;
 use std::hash::BuildHasher;
 
-/// Why a gate was not finished, with what lay under its lock, as it was, and the passes. `Gate::of` makes a gate of it
-/// again, which goes on.
+/// Why a gate was not finished, with the value that lay under its lock, as it was, and the passes. `Gate::of` makes a
+/// gate that goes on with that value.
 #[derive(Drop)]
 pub struct FinishFault<N: Base, S: BuildHasher + Copy + Drop> {
     pub shared: Shared<N, S>,
@@ -23,7 +23,7 @@ pub struct FinishFault<N: Base, S: BuildHasher + Copy + Drop> {
 }
 
 impl<N: Base, S: BuildHasher + Copy + Drop> Shared<N, S> {
-    /// Settles the passes with the journal, and takes the state out. A fault hands everything back.
+    /// Settles the passes with the journal, and takes the state out. A fault hands back this value and the passes.
     pub fn finish(
         self,
         alloc: Global,
@@ -45,7 +45,8 @@ impl<N: Base, S: BuildHasher + Copy + Drop> Shared<N, S> {
     }
 }
 
-/// Settles the passes, and takes the state out of the gate: it is the one that the settled journal leads to.
+/// Settles the passes, and takes the state out of the gate: it is the one that the settled journal leads to. A fault
+/// hands back the value under the lock and the passes.
 pub fn finish<N: Base, S: BuildHasher + Copy + Drop>(
     alloc: Global,
     gate: Gate<N, S>,

@@ -27,15 +27,15 @@ use std::sync::{Mutex, Wait};
 
 /// One state under one lock. Each call is one step of it and one entry of its journal.
 ///
-/// No clause names the value that lies under the lock. What is made of it one call at a time is said by the calls of
-/// `Shared`, exactly; a call here says that there was such a value.
+/// No clause names the value that lies under the lock. The calls of `Shared` say exactly how one call changes it; a
+/// call here says that there was such a value.
 #[derive(Drop)]
 pub struct Gate<N: Base, S: BuildHasher + Copy + Drop> {
     shared: Mutex<Shared<N, S>>,
 }
 
 impl<N: Base, S: BuildHasher + Copy + Drop> Gate<N, S> {
-    /// A gate on the state of its name, as `Shared::new` has it.
+    /// A gate on the state of its name, with an empty journal.
     pub fn open(alloc: Global, state: State<S>) -> Gate<N, S>
         requires { state ≡ N.base }
     {
@@ -49,7 +49,7 @@ impl<N: Base, S: BuildHasher + Copy + Drop> Gate<N, S> {
         }
     }
 
-    /// What lay under the lock.
+    /// The value that lay under the lock.
     pub fn into_shared(self) -> Shared<N, S>
         ensures { IsHeld N.base result }
     {
@@ -68,9 +68,10 @@ impl<N: Base, S: BuildHasher + Copy + Drop> Gate<N, S> {
         self.shared.lock(rt).enroll(alloc, caller)
     }
 
-    /// The coin of each input of a submission in turn, where it has one at that moment. Nothing changes.
+    /// The coin of each input of a submission, in their order; None for an input that has no coin at that moment.
+    /// Nothing changes.
     ///
-    /// What is found may be gone when the submission is made: a report that was made of it then counts for nothing.
+    /// A coin that is found may be gone when the submission is made: a report that was made on it is then not used.
     pub fn look<R: Wait>(
         &self,
         rt: &R,
@@ -103,8 +104,9 @@ impl<N: Base, S: BuildHasher + Copy + Drop> Gate<N, S> {
         self.shared.lock(rt).apply(alloc, pass, event)
     }
 
-    /// The same call. What stands for the event's submission is the same transaction, but may have reports on its inputs,
-    /// which neither the journal nor the pass keeps: the call then takes less time under the lock.
+    /// Makes an event under a pass, as `call` does. `prepared`, which may stand for the event's submission, is the same
+    /// transaction, but may have reports on its inputs, which neither the journal nor the pass keeps: the call then
+    /// takes less time under the lock.
     pub fn call_prepared<R: Wait>(
         &self,
         rt: &R,
@@ -127,8 +129,8 @@ impl<N: Base, S: BuildHasher + Copy + Drop> Gate<N, S> {
             .apply_prepared(alloc, pass, event, prepared)
     }
 
-    /// Settles passes, as `Shared::settle` does with the journal at that moment: its entries are exactly their calls, each
-    /// once and at its receipt's number. A fault hands the passes back.
+    /// Settles passes, as `Shared::settle` does, with the journal at that moment: its entries are exactly their calls,
+    /// each once and at its receipt's number. A fault hands the passes back.
     pub fn settle<R: Wait>(
         &self,
         rt: &R,

@@ -1,4 +1,4 @@
-//! The right to make events, with those that were made under it.
+//! The right to make events, with the events that were made under it.
 ghost use Rattle.std.specs.Prelude.{◌≡◌, ◌≤◌, ◌↔◌, IsTrue, length};
 ghost use Rattle.std.specs.Option.{option_copied};
 
@@ -60,7 +60,7 @@ impl<N: Base> Pass<N> {
         self.calls.last()
     }
 
-    /// Whether it has all the calls that it may have.
+    /// Whether it has 65,536 calls, the most that it may have.
     pub fn is_full(&self) -> bool
         ensures { IsTrue result ↔ (call_limit ≤ length self.now.calls) }
     {

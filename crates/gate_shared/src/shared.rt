@@ -1,4 +1,4 @@
-//! What lies under the lock, and its one change.
+//! The value under the lock, and its one change.
 ghost use Rattle.std.specs.Prelude.{◌≡◌, ◌+◌, ◌<◌, [], ◌∷◌, ◌++◌, length, IfOk, IfErr, OnOk, OnErr, MatchResult};
 ghost use Rattle.std.specs.Vec.{vec_len, vec_capacity};
 ghost use Rattle.std.specs.Option.{option_copied};
@@ -21,16 +21,17 @@ use std::hash::BuildHasher;
 use std::marker::{Model, PhantomData};
 use thiserror::Error;
 
-/// Why a call was not made: the first of these in their order.
+/// Why a call was not made: the first of these that holds, in their order; but memory may run out as the receipt of
+/// `HistoryShort` is copied.
 #[derive(Debug, Drop, Error)]
 pub enum CallFault {
     /// The event is another caller's.
     #[error("the event is another caller's")]
     WrongCaller,
-    /// The pass has 65,536 receipts.
+    /// The pass has 65,536 calls.
     #[error("the pass is full")]
     PassFull,
-    /// The journal does not have this last receipt of the pass at its place.
+    /// The journal does not have the last call of the pass, whose receipt this is, at its place.
     #[error("the journal lacks the pass's last receipt")]
     HistoryShort(Receipt),
     /// The journal has 100,000 entries.
@@ -59,7 +60,7 @@ impl<N: Base, S: BuildHasher + Copy + Drop> Model for Shared<N, S> {
     ghost invariant = { λ s. IsHeld N.base (held s.state s.journal.entries s.passes) };
 }
 
-/// An event for each who keeps it.
+/// Two copies of an event, one for each keeper.
 #[derive(Drop)]
 struct Events {
     /// For the journal.
@@ -137,7 +138,7 @@ impl<N: Base, S: BuildHasher + Copy + Drop> Shared<N, S> {
         }
     }
 
-    /// What it keeps: it does nothing.
+    /// Recalls for a proof what holds of the value whenever the lock is taken: it does nothing.
     pub fn recall_held(&self)
         ensures { IsHeld N.base self.now }
     {
@@ -168,14 +169,14 @@ impl<N: Base, S: BuildHasher + Copy + Drop> Shared<N, S> {
         Ok(())
     }
 
-    /// The coin of each input of a submission in turn, where it has one now. Nothing changes.
+    /// The coin of each input of a submission, in their order; None for an input that has no coin now. Nothing changes.
     pub fn look(&self, alloc: Global, submission: &Prepared) -> Result<Vec<Option<Coin>>, Memory>
         ensures { IfOk result (λ coins. coins.items ≡ coins_of self.now.state submission.now) }
     {
         self.state.coins(alloc, submission)
     }
 
-    /// Makes an event that has no fault. All memory is taken before anything changes.
+    /// Makes an event of a call that has no fault. All memory is taken before anything changes.
     fn enter(
         &mut self,
         alloc: Global,
@@ -223,8 +224,8 @@ impl<N: Base, S: BuildHasher + Copy + Drop> Shared<N, S> {
         self.apply_prepared(alloc, pass, event, None)
     }
 
-    /// The same change. What stands for the event's submission is the same transaction, but may have reports on its inputs,
-    /// which neither the journal nor the pass keeps.
+    /// The one change, as `apply` makes it. `prepared`, which may stand for the event's submission, is the same
+    /// transaction, but may have reports on its inputs, which neither the journal nor the pass keeps.
     pub fn apply_prepared(
         &mut self,
         alloc: Global,
@@ -292,7 +293,7 @@ impl<N: Base, S: BuildHasher + Copy + Drop> Shared<N, S> {
         &self.journal
     }
 
-    /// How many passes were given out; the greatest number of 64 bits stays.
+    /// How many passes were given out; at 2^64 - 1 the number stays.
     pub fn passes(&self) -> u64
         ensures { result ≡ self.now.passes }
     {

@@ -4,7 +4,7 @@ use Rattle.gate_tx.specs.declared.transaction.TxIn.{TxIn}
 use Rattle.gate_tx.specs.declared.transaction.TxOut.{TxOut}
 use Rattle.gate_tx.specs.Tx.{Tx}
 
--- spends output 0 of the id of 32 such bytes, by no script
+-- an input that spends output 0 of the id that is 32 times the byte, with an empty script
 abbrev pub spending : ℕ → TxIn
 spending id = record {
   prevout = record { txid = replicate 32 id; index = 0 };
@@ -13,7 +13,7 @@ spending id = record {
   witness = [];
 }
 
--- the input of a coinbase with such a script
+-- the input of a coinbase with this script
 abbrev pub from_nothing : List ℕ → TxIn
 from_nothing script = record {
   prevout = record { txid = replicate 32 0; index = 0xffff_ffff };
@@ -22,7 +22,7 @@ from_nothing script = record {
   witness = [];
 }
 
--- scripts of output
+-- scripts of outputs
 abbrev pub to_key_hash : List ℕ
 to_key_hash = 0x76 ∷ 0xa9 ∷ 20 ∷ (replicate 20 0x22 ++ (0x88 ∷ 0xac ∷ []))
 
@@ -41,6 +41,6 @@ pays value script = record { value = pos value; script = script }
 abbrev pub makes : List TxIn → List TxOut → Tx
 makes inputs outputs = record { version = pos 2; inputs = inputs; outputs = outputs; locktime = 0 }
 
--- spends one output twice
+-- a transaction that spends one output twice
 abbrev pub spends_twice : Tx
 spends_twice = makes (spending 17 ∷ spending 17 ∷ []) (pays 1000 to_witness_key ∷ [])

@@ -28,7 +28,7 @@ is_null_data template = false
 unfoldable pub carries_data : TxOut → Bool
 carries_data output = is_null_data (template_of output.script)
 
--- the size in bytes of an output and of the input that spends it, which is smaller where the script is a witness program
+-- the size in bytes of an output and of the input that spends it, which is smaller if the script is a witness program
 abbrev pub size_with_spend : TxOut → ℕ
 size_with_spend o = length (output o) + (if is_some (witness_program_of o.script) then 67 else 148)
 

@@ -15,7 +15,7 @@ use Rattle.gate_standard.specs.declared.denial.Denial.{Denial}
 use Rattle.gate_standard.specs.declared.denial.Denial.TheVariants.{VinEmpty, VoutEmpty, Oversize, VoutNegative, VoutTooLarge, TotalTooLarge, InputsDuplicate, CoinbaseLength, PrevoutNull, Coinbase, Version, TxSize, ScriptSigSize, ScriptSigNotPushOnly, ScriptPubKey, Dust, MultiOpReturn, TxSizeSmall}
 use Rattle.gate_standard.specs.Outputs.{is_standard_output, is_dust, carries_data}
 
--- a value after values of this sum
+-- the rules on a value that comes after values of this sum
 abbrev pub rules_of_value : ℕ → ℤ → List (Rule Denial)
 rules_of_value sum value =
     (VoutNegative, is_negative value)
@@ -23,12 +23,12 @@ rules_of_value sum value =
     ∷ (TotalTooLarge, nat_lt max_money (sum + amount_or_zero value))
     ∷ []
 
--- the value of each output in turn, after values of this sum
+-- the rules on the value of each output in turn, after values of this sum
 abbrev pub output_value_rules : ℕ → List TxOut → List (Rule Denial)
 output_value_rules sum [] = []
 output_value_rules sum (output ∷ outputs) = rules_of_value sum output.value ++ output_value_rules (sum + amount_or_zero output.value) outputs
 
--- two inputs spend one outpoint
+-- two inputs spend the same outpoint
 abbrev pub spends_twice : List TxIn → Bool
 spends_twice [] = false
 spends_twice (input ∷ inputs) = spends inputs input.prevout || spends_twice inputs
@@ -63,7 +63,7 @@ transaction_rules tx =
     ∷ (Oversize, nat_lt 4_000_000 (stripped_size_of tx * 4))
     ∷ (output_value_rules 0 tx.outputs ++ ((InputsDuplicate, spends_twice tx.inputs) ∷ coinbase_rules tx.inputs))
 
--- 1,650 is MAX_STANDARD_SCRIPTSIG_SIZE
+-- the rules on an input: 1,650 is MAX_STANDARD_SCRIPTSIG_SIZE
 abbrev pub rules_of_input : TxIn → List (Rule Denial)
 rules_of_input input =
     (ScriptSigSize, nat_lt 1650 (length input.script))
@@ -79,7 +79,7 @@ rules_of_output output =
 abbrev pub is_version : ℤ → Bool
 is_version version = int_eq version (pos 1) || int_eq version (pos 2)
 
--- of the outputs together, and of the size: 82 is MIN_STANDARD_TX_NONWITNESS_SIZE
+-- the rules on the outputs together, and on the size: 82 is MIN_STANDARD_TX_NONWITNESS_SIZE
 abbrev pub rules_of_whole : Tx → List (Rule Denial)
 rules_of_whole tx =
     (MultiOpReturn, nat_lt 1 (count_by carries_data tx.outputs))

@@ -1,8 +1,8 @@
-//! Fees and rates of sizes.
+//! Fees and feerates.
 ghost use Rattle.std.specs.Prelude.{◌≡◌, ◌<◌};
 ghost use Rattle.gate_standard.specs.Amounts.{required_fee, feerate};
 
-/// The fee in satoshi of `size` virtual bytes at a rate in satoshi per 1,000 virtual bytes
+/// The fee in satoshi of `size` virtual bytes at a feerate in satoshi per 1,000 virtual bytes
 /// (Bitcoin Core 22.0's `CFeeRate::GetFee`).
 #[tactic(auto, unfolding(crate::specs::Amounts::required_fee))]
 pub fn fee_at(rate: u64, size: u64) -> u128
@@ -16,7 +16,7 @@ pub fn fee_at(rate: u64, size: u64) -> u128
     }
 }
 
-/// The rate, in satoshi per 1,000 virtual bytes, of a fee in satoshi for `size` virtual bytes.
+/// The feerate, in satoshi per 1,000 virtual bytes, of a fee in satoshi for `size` virtual bytes.
 #[tactic(auto, unfolding(crate::specs::Amounts::feerate))]
 pub fn rate_of(fee: u64, size: u64) -> u128
     requires { 0 < size }

@@ -13,7 +13,7 @@ use std::collections::BTreeSet;
 /// The most weight of a block (BIP 141).
 const MAX_WEIGHT: usize = 4_000_000;
 
-/// The sum with this value, unless a rule fails.
+/// Adds a value to a sum, unless a rule fails.
 fn add_value(sum: u64, value: i64) -> Result<u64, Denial>
     requires { sum ≤ max_money }
     ensures ok { IfOk result (λ next. next ≡ sum + amount_or_zero value) }
@@ -47,8 +47,8 @@ fn check_values(outputs: &[TxOut]) -> Option<Denial>
     None
 }
 
-/// Whether two inputs spend one outpoint. A tree of outpoints and no hash table: whoever sends a
-/// transaction chooses them, and no choice can make a tree slow.
+/// Whether two inputs spend the same outpoint. It uses a tree of outpoints and no hash table: whoever
+/// sends a transaction chooses its outpoints, and no choice can make a tree slow.
 fn spends_twice(alloc: Global, inputs: &[TxIn]) -> Result<bool, Memory>
     ensures { IfOk result (λ found. found ≡ spends_twice inputs.now) }
 {
@@ -70,7 +70,7 @@ fn spends_null(inputs: &[TxIn]) -> bool
     inputs.iter().any(|input| input.prevout.is_null())
 }
 
-/// A coinbase is refused, with its own reason where its script has a length that no block allows.
+/// Denies a coinbase, with its own reason if its script has a length that no block allows.
 fn check_coinbase(inputs: &[TxIn]) -> Option<Denial>
     ensures { result ≡ first_failing (coinbase_rules inputs.now) }
 {
@@ -88,8 +88,8 @@ fn check_coinbase(inputs: &[TxIn]) -> Option<Denial>
     }
 }
 
-/// The first rule that fails of those that every transaction meets: A2 to A11 (Bitcoin Core 22.0's
-/// `CheckTransaction`, and that a coinbase is never relayed).
+/// The first rule that fails, of those that every transaction has to meet: A2 to A11 (Bitcoin Core
+/// 22.0's `CheckTransaction`, and that a coinbase is never relayed).
 #[tactic(auto, using(gate_bytes::proofs::OrderLemmas::first_failing_append), unfolding(crate::specs::Rules::transaction_rules))]
 pub fn check_transaction(alloc: Global, tx: &Transaction) -> Result<Option<Denial>, Memory>
     ensures { IfOk result (λ found. found ≡ first_failing (transaction_rules tx.now)) }

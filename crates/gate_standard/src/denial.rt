@@ -4,8 +4,8 @@ ghost use Rattle.std.specs.Prelude.{◌≡◌};
 use std::error::Error;
 use std::fmt;
 
-/// A rule of admission that fails, by its place in the written order. The tokens are the reject
-/// reasons of Bitcoin Core 22.0, where it has one.
+/// A rule of admission that fails, by its place in the written order. A token is the reject reason
+/// of Bitcoin Core 22.0, if it has one.
 #[derive(Clone, Copy, Debug, PartialEq, Eq)]
 pub enum Denial {
     /// A1: the bytes are no transaction.
@@ -16,17 +16,17 @@ pub enum Denial {
     VoutEmpty,
     /// A4: the stripped size, times 4, is above 4,000,000.
     Oversize,
-    /// A5: an output's value is below 0.
+    /// A5: an output's value is negative.
     VoutNegative,
-    /// A6: an output's value is above all the money there can be.
+    /// A6: an output's value is above 21 million bitcoin.
     VoutTooLarge,
-    /// A7: a running sum of the outputs' values is above that.
+    /// A7: a running sum of the outputs' values is above 21 million bitcoin.
     TotalTooLarge,
-    /// A8: two inputs spend one outpoint.
+    /// A8: two inputs spend the same outpoint.
     InputsDuplicate,
-    /// A9: a coinbase's script has not 2 to 100 bytes.
+    /// A9: the script of a coinbase doesn't have 2 to 100 bytes.
     CoinbaseLength,
-    /// A10: a null prevout, and no coinbase.
+    /// A10: a prevout is null, and the transaction is no coinbase.
     PrevoutNull,
     /// A11: a coinbase.
     Coinbase,
@@ -52,7 +52,7 @@ pub enum Denial {
     AlreadyInMempool,
     /// A22: its txid is in the pool.
     SameNonWitnessData,
-    /// A23: an entry spends one of its outpoints and signals no replacement (BIP 125).
+    /// A23: a pool entry spends one of its outpoints and doesn't signal replacement (BIP 125).
     MempoolConflict,
     /// A24: the chain has it already.
     AlreadyKnown,
@@ -80,18 +80,18 @@ pub enum Denial {
     MinRelayFee,
     /// A36: too many or too large ancestors or descendants.
     TooLongChain,
-    /// A37: it spends what it would replace.
+    /// A37: it spends an output of what it would replace.
     SpendsConflicting,
-    /// A38: it pays no higher rate than what it would replace.
+    /// A38: it pays no higher feerate than what it would replace.
     LowerFeeRate,
-    /// A39: the descendant counts of the direct conflicts, themselves included, come to more than 100
-    /// (an entry below two of them counts twice).
+    /// A39: the sum of the descendant counts of the direct conflicts, themselves included, is above 100
+    /// (a descendant of two of them counts twice).
     TooManyReplacements,
     /// A40: an input's txid is that of a pool transaction, and of no input of a direct conflict.
     AddsUnconfirmed,
-    /// A41: the fee is below those that it replaces.
+    /// A41: the fee is below the fees of what it replaces.
     LowerFee,
-    /// A42: what it pays above those does not pay for its own relay.
+    /// A42: what it pays above the fees of what it replaces does not pay for its own relay.
     LowerDifference,
     /// A43: no verdict on an input is given.
     VerdictMissing,
@@ -99,7 +99,7 @@ pub enum Denial {
     SoftVerdict,
     /// A45: an input fails a rule of consensus.
     HardVerdict,
-    /// A46: granted, but gone again once expiry and trim have run.
+    /// A46: granted, but no longer in the pool once expiry and trim have run.
     MempoolFull,
 }
 

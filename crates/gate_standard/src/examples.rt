@@ -7,7 +7,7 @@ ghost use Rattle.gate_standard.specs.Outputs.{dust_threshold_of};
 ghost use Rattle.gate_standard.specs.Rules.{transaction_rules, standard_rules};
 ghost use Rattle.gate_standard.specs.Examples.{spending, from_nothing, pays, makes, spends_twice, to_key_hash, to_script_hash, to_witness_key, to_witness_script};
 
-/// What fees, rates and dust come to.
+/// Fees, feerates and dust thresholds.
 #[tactic(auto, unfolding(crate::specs::Amounts::required_fee, crate::specs::Amounts::feerate, crate::specs::Outputs::dust_threshold_of))]
 pub(crate) fn amounts()
     ensures fee { required_fee 3000 98 ≡ 294 }
@@ -20,7 +20,7 @@ pub(crate) fn amounts()
     ensures witness_script { dust_threshold_of (pays 0 to_witness_script) ≡ 330 }
 {}
 
-/// What whole transactions are decided to be.
+/// What the rules decide on whole transactions.
 #[tactic(auto, unfolding(crate::specs::Rules::transaction_rules, gate_tx::specs::Sizes::stripped_size_of))]
 pub(crate) fn decisions()
     ensures spent_twice { first_failing (transaction_rules spends_twice) ≡ Some denials.InputsDuplicate }

@@ -7,14 +7,14 @@ use gate_bytes::compact_size;
 use gate_script::{Template, witness_program};
 use gate_tx::{TxOut, is_unspendable};
 
-/// The rate at which an output's own size and that of its spending are paid for, in satoshi per
+/// The feerate at which an output's own size and that of its spending are paid for, in satoshi per
 /// 1,000 bytes (Bitcoin Core's `DUST_RELAY_TX_FEE`).
 const DUST_RATE: u64 = 3000;
 
 /// The longest script in bytes that carries data (Bitcoin Core's `MAX_OP_RETURN_RELAY`).
 const MAX_DATA: usize = 83;
 
-/// The least value in satoshi with which an output is relayed; 0 where nothing can spend it.
+/// The least value in satoshi with which an output is relayed; 0 if nothing can spend it.
 #[tactic(auto, unfolding(crate::specs::Outputs::dust_threshold_of, crate::specs::Amounts::required_fee))]
 pub fn dust_threshold(output: &TxOut) -> u64
     ensures { result ≡ dust_threshold_of output.now }
@@ -50,7 +50,7 @@ pub(crate) fn is_null_data(template: &Template) -> bool
     matches!(template, Template::NullData)
 }
 
-/// Whether the value is below what the output has to have.
+/// Whether the output's value is below its dust threshold.
 pub(crate) fn is_below_dust(output: &TxOut) -> bool
     ensures { result ≡ is_below output.now.value (dust_threshold_of output.now) }
 {

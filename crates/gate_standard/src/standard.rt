@@ -69,7 +69,7 @@ fn check_outputs(outputs: &[TxOut]) -> Result<usize, Denial>
     Ok(carriers)
 }
 
-/// The first rule that fails of those of policy on a transaction alone: A12 to A19 (Bitcoin Core
+/// The first rule that fails, of the rules of policy on a transaction alone: A12 to A19 (Bitcoin Core
 /// 22.0's `IsStandardTx`, and its least size).
 #[tactic(auto, using(gate_bytes::proofs::OrderLemmas::first_failing_append), unfolding(crate::specs::Rules::standard_rules))]
 pub fn is_standard(tx: &Transaction) -> Option<Denial>

@@ -9,6 +9,6 @@ use Rattle.gate_chain.specs.declared.Block.{Block}
 abbrev pub present : List (Option Block) → List Block
 present blocks = flat_map option_to_list blocks
 
--- their transactions, in their order
+-- the transactions of blocks, in their order
 abbrev pub transactions_of : List Block → List Tx
 transactions_of blocks = flat_map (λ (b : Block). b.transactions) blocks

@@ -1,5 +1,5 @@
-//! What is submitted, before it meets a chain and a pool, and what a chain event comes to: what callers and replies say of
-//! admission and reorganisation without standing on them.
+//! What is submitted, before it meets a chain and a pool, and the outcome of a chain event: what callers and replies
+//! say of admission and reorganisation without depending on them.
 //!
 //! The main clause is that of `Prepared::of`: the transaction, with the first of A2 to A19 that fails.
 #![tactic(auto)]

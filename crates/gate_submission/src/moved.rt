@@ -1,12 +1,12 @@
-//! What a chain event came to.
+//! The outcome of a chain event.
 
-/// What a chain event came to.
+/// The outcome of a chain event: the tip, and how many entries of the pool left and came.
 #[derive(Clone, Copy, Debug, PartialEq, Eq)]
 pub struct Moved {
     /// The height of the tip after it.
     pub tip: u32,
-    /// How many txids of entries before it no entry after it has.
+    /// How many entries before the event have a txid that no entry after it has.
     pub removed: usize,
-    /// How many txids of entries after it no entry before it had.
+    /// How many entries after the event have a txid that no entry before it had.
     pub entered: usize,
 }

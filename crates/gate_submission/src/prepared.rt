@@ -35,7 +35,7 @@ impl Model for Prepared {
     ghost invariant = { λ p. p.denial ≡ first_denial p.identified };
 }
 
-/// A transaction that is judged, with the first rule that fails of those on it alone, and reports that were made of its
+/// A transaction that is judged, with the first rule on it alone that fails, and the reports that were made on its
 /// inputs: contracts see the transaction.
 #[derive(Drop)]
 pub struct Candidate<'a> {
@@ -88,7 +88,7 @@ fn check_alone(alloc: Global, tx: &Transaction) -> Result<Option<Denial>, Memory
 }
 
 impl Prepared {
-    /// The submission of these bytes.
+    /// The submission of these bytes; it is denied by A1 if they spell no transaction.
     pub fn new(alloc: Global, bytes: &[u8]) -> Result<Prepared, Memory>
         ensures { IfOk result (λ prepared. prepared ≡ decoded bytes.now) }
     {
@@ -99,7 +99,7 @@ impl Prepared {
         }
     }
 
-    /// The submission of a transaction that is at hand, with its owners.
+    /// The submission of a transaction that was read before, and may have other owners.
     pub fn of(alloc: Global, identified: Counted<Identified>) -> Result<Prepared, Memory>
         ensures { IfOk result (λ prepared. prepared ≡ Some identified) }
     {
@@ -111,7 +111,7 @@ impl Prepared {
         })
     }
 
-    /// The submission of what spells no transaction.
+    /// The submission of bytes that spell no transaction.
     pub fn undecodable() -> Prepared
         ensures { result ≡ None }
     {
@@ -122,8 +122,8 @@ impl Prepared {
         }
     }
 
-    /// The same with reports on its inputs, which were made beforehand: in the order of the inputs, each told by the input
-    /// that its piece names. One that is missing or is that of another input or coin is made where it is needed.
+    /// The submission with reports on its inputs that were made beforehand: in the order of the inputs, each for the
+    /// input that its piece names. A report that is missing, or is on another input or coin, is made when it is needed.
     pub fn with_reports(self, reports: Kept<InputReport>) -> Prepared
         ensures { result ≡ self }
     {
@@ -146,7 +146,7 @@ impl Prepared {
         }
     }
 
-    /// The transaction, as it is judged.
+    /// The transaction, as it is judged; None if the bytes spell none.
     pub fn candidate(&self) -> Option<Candidate<'_>>
         ensures { result ≡ self.now }
     {
@@ -171,7 +171,7 @@ impl Prepared {
         }
     }
 
-    /// That the transaction has a text: it does nothing.
+    /// Recalls for a proof that the transaction has a text: it does nothing.
     pub fn recall_spelled(&self)
         ensures { IfSome self.now IsTx }
     {
@@ -198,7 +198,7 @@ impl Prepared {
         }
     }
 
-    /// The first rule that fails of those on a transaction alone.
+    /// The denial by A1, or the first of A2 to A19 that fails.
     pub fn denial(&self) -> Option<Denial>
         ensures { result ≡ first_denial self.now }
     {
@@ -206,7 +206,7 @@ impl Prepared {
     }
 }
 
-/// One more owner of the same transaction; reports are made anew where they are needed.
+/// One more owner of the transaction, without its reports, which are made anew when they are needed.
 impl Copied for Prepared {
     fn copy(&self, alloc: Global) -> Result<Prepared, Memory> {
         Ok(Prepared {

@@ -1,4 +1,4 @@
-//! That transactions have texts, which their types say.
+//! Transactions have texts: their types say so, and proofs recall it here.
 ghost use Rattle.std.specs.Prelude.{Contains};
 ghost use Rattle.gate_tx.specs.Text.{IsTx};
 ghost use Rattle.gate_tx.specs.Tx.{Tx};
@@ -15,7 +15,7 @@ fn recall_all(transactions: &[Transaction])
     }
 }
 
-/// That the transactions of blocks have texts: it does nothing.
+/// Recalls for a proof that the transactions of blocks have texts: it does nothing.
 pub fn recall_spelled(blocks: &[Option<Block>])
     ensures { (tx : Tx) → Contains (transactions_of (present blocks.now)) tx → IsTx tx }
 {

@@ -7,10 +7,10 @@ use Rattle.gate_pool.specs.Family.{without_below}
 abbrev pub longest_stay : ℕ
 longest_stay = 1_209_600
 
--- at this second, an entry came longer ago
+-- at the second `now`, an entry was admitted longer ago than it may stay
 abbrev pub is_stale : ℕ → Admitted → Bool
 is_stale now e = nat_lt (e.time + longest_stay) now
 
--- the entries that expiry leaves: the stale ones go with all that is below them
+-- the entries that expiry leaves: the stale ones are taken out with all that is below them
 abbrev pub expired : ℕ → List Admitted → List Admitted
 expired now entries = without_below (is_stale now) entries

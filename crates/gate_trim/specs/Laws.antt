@@ -21,36 +21,37 @@ pub record IsLeast (entries : List Admitted) (e : Admitted) : Type 0 where
   pub earlier : (d : Admitted) → Contains before d → is_below entries d e ≡ false
   pub later : (d : Admitted) → Contains after d → is_below entries e d ≡ true
 
--- the floor after an entry went with its descendants: at least a step above their rate
+-- the floor after an entry was taken out with its descendants: at least a step above their feerate
 abbrev pub floor_above : List Admitted → Admitted → ℕ → ℕ
 floor_above entries e floor =
     let family = descendants_of entries (txid_of e.tx) in
     max floor (feerate (fees_of family) (size_of family) + floor_step)
 
--- entries that are within the budget stay as they are; of others the least goes, with its descendants and nothing else, and
--- so on with the rest
+-- entries that are within the budget stay as they are; else the one of least score is taken out, with its descendants and
+-- nothing else, and so on with the rest
 pub data Trims (budget : ℕ) : List Admitted → ℕ → Trimmed → Type 0 where
   within : {entries : List Admitted} {floor : ℕ} → size_of entries ≤ budget → Trims budget entries floor (record { entries = entries; floor = floor })
   goes : {entries : List Admitted} {floor : ℕ} {rest : Trimmed} (e : Admitted) → budget < size_of entries → IsLeast entries e
       → Trims budget (without_family entries (txid_of e.tx)) (floor_above entries e floor) rest → Trims budget entries floor rest
 
--- trimming takes out the least entry each time, where each entry has a size
+-- trimming takes out the entry of least score each time, if each entry has a size of at least 1
 abbrev pub TrimsTheLeast : Type 0
 TrimsTheLeast = (budget : ℕ) (entries : List Admitted) (floor : ℕ) → ((e : Admitted) → Contains entries e → 1 ≤ e.vsize) → Trims budget entries floor (trim_of budget entries floor)
 
--- it leaves no more than the budget
+-- trimming leaves no more than the budget
 abbrev pub KeepsTheBudget : Type 0
 KeepsTheBudget = (budget : ℕ) (entries : List Admitted) (floor : ℕ) → size_of (trim_of budget entries floor).entries ≤ budget
 
--- the floor never falls by it
+-- trimming never lowers the floor
 abbrev pub RaisesTheFloor : Type 0
 RaisesTheFloor = (budget : ℕ) (entries : List Admitted) (floor : ℕ) → floor ≤ (trim_of budget entries floor).floor
 
--- an entry came no longer ago than it may stay
+-- an entry was admitted no longer ago than it may stay
 abbrev pub IsYoung : ℕ → Admitted → Type 0
 IsYoung now e = now ≤ e.time + longest_stay
 
--- after expiry each entry is young, and so are all from which a chain of steps leads to it; each such entry stays
+-- after expiry each entry is young, and so are all from which a chain of steps leads to it; each entry of which this holds
+-- stays
 pub record LeavesTheYoung : Type 0 where
   pub left : (now : ℕ) (entries : List Admitted) (e : Admitted) → Contains (expired now entries) e → IsYoung now e
   pub above : (now : ℕ) (entries : List Admitted) (e : Admitted) → Contains (expired now entries) e

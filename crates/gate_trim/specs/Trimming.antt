@@ -1,4 +1,4 @@
--- Trimming: while a pool is over its budget, the entry of least score goes with all below it.
+-- Trimming: while a pool is over its budget, the entry of least score is taken out with all below it.
 use Rattle.std.specs.Prelude.{ℕ, zero, suc, ◌+◌, max, List, length, nat_le, if◌then◌else◌, Option, Some, None}
 use Rattle.gate_standard.specs.Amounts.{feerate}
 use Rattle.gate_pool.specs.Pool.{Admitted, size_of}
@@ -7,32 +7,33 @@ use Rattle.gate_pool.specs.Scores.{least_of}
 use Rattle.gate_pool.specs.declared.Score.{Score}
 use Rattle.gate_pool.specs.declared.Sums.{Sums}
 
--- what the floor rises by above the rate of what was trimmed, in satoshi per 1,000 virtual bytes (Bitcoin Core 22.0's
+-- how far the floor rises above the feerate of what was trimmed, in satoshi per 1,000 virtual bytes (Bitcoin Core 22.0's
 -- -incrementalrelayfee)
 abbrev pub floor_step : ℕ
 floor_step = 1000
 
--- the floor after a family that comes to this was trimmed
+-- the floor after a family with these sums was trimmed
 abbrev pub raised : ℕ → Sums → ℕ
 raised floor family = max floor (feerate family.fees family.size + floor_step)
 
--- what trimming leaves
+-- what trimming leaves: the entries, and the floor
 pub record Trimmed : Type 0 where
   pub entries : List Admitted
   pub floor : ℕ
 
--- where there is a least score, the one, else the other
+-- what `go` makes of a least score, or `stop` if there is none
 abbrev pub on_least : Option Score → Trimmed → (Score → Trimmed) → Trimmed
 on_least None stop go = stop
 on_least (Some score) stop go = go score
 
--- at most so many times, while the entries are over the budget of virtual bytes, the one of least score goes with all below it
+-- at most n times, while the entries are over the budget of virtual bytes, the one of least score is taken out with all below
+-- it
 unfoldable pub trim_steps : ℕ → ℕ → List Admitted → ℕ → Trimmed
 trim_steps zero budget entries floor = record { entries = entries; floor = floor }
 trim_steps (suc n) budget entries floor =
     if nat_le (size_of entries) budget then record { entries = entries; floor = floor }
     else on_least (least_of entries) (record { entries = entries; floor = floor }) (λ score. trim_steps n budget (without_family entries score.txid) (raised floor score.family))
 
--- as many times as there are entries are enough
+-- trimming to the end: as many steps as there are entries are enough
 unfoldable pub trim_of : ℕ → List Admitted → ℕ → Trimmed
 trim_of budget entries floor = trim_steps (length entries) budget entries floor

@@ -8,15 +8,15 @@ use std::hash::BuildHasher;
 /// How long an entry may stay, in seconds: two weeks (Bitcoin Core 22.0's `-mempoolexpiry`).
 pub const LONGEST_STAY: u64 = 1_209_600;
 
-/// Takes out the entries that were admitted longer ago than an entry may stay, and all that is below them. It takes no
-/// memory, and gives up the room that the pool had taken.
+/// Takes out the entries that were admitted longer ago than an entry may stay, and all that is below them. `now` is in
+/// seconds since 1970. It takes no memory, and gives up the room that the pool had taken if it searches the pool.
 pub fn expire<S: BuildHasher + Copy + Drop>(pool: &mut Pool<S>, now: u64)
     ensures { pool.new.entries ≡ expired now pool.old.entries }
 {
     pool.take_before(now.saturating_sub(LONGEST_STAY));
 }
 
-/// The same for callers whose changes of a pool may run out of memory: this one never does.
+/// `expire` for callers whose changes of a pool may run out of memory: this one never fails.
 pub fn try_expire<S: BuildHasher + Copy + Drop>(pool: &mut Pool<S>, now: u64) -> Result<(), Memory>
     ensures done { IsOk result }
     ensures entries { pool.new.entries ≡ expired now pool.old.entries }

@@ -5,11 +5,12 @@ ghost use Rattle.gate_trim.specs.Trimming.{raised};
 use gate_pool::Sums;
 use std::marker::Model;
 
-/// What the floor rises by above the rate of what was trimmed, in satoshi per 1,000 virtual bytes (Bitcoin Core 22.0's
-/// `-incrementalrelayfee`).
+/// How far the floor rises above the feerate of what was trimmed, in satoshi per 1,000 virtual bytes (Bitcoin Core
+/// 22.0's `-incrementalrelayfee`).
 pub const FLOOR_STEP: u64 = 1000;
 
-/// The rate that the pool asks of what comes in, beside the one for every relay: in satoshi per 1,000 virtual bytes.
+/// The least feerate that the pool asks of a transaction, beside the one for every relay, in satoshi per 1,000 virtual
+/// bytes.
 #[derive(Clone, Copy, Debug, PartialEq, Eq)]
 pub struct Floor {
     rate: u64,
@@ -38,7 +39,8 @@ impl Floor {
         self.rate
     }
 
-    /// Rises above the rate of entries that were trimmed and come to this. It never falls.
+    /// Rises to `FLOOR_STEP` above the feerate of trimmed entries with these sums, unless the floor is there already.
+    /// It never falls.
     #[tactic(auto, unfolding(gate_standard::specs::Amounts::feerate))]
     pub fn raise(&mut self, family: Sums)
         requires { AreBounded family }

@@ -1,7 +1,8 @@
-//! What leaves a pool by itself: what came too long ago, what pays least where the pool is over its budget, and the floor
-//! that rises when something was trimmed.
+//! What leaves a pool by itself: entries that were admitted too long ago, and the entries that pay least if the pool is
+//! over its budget; and the floor, which rises when entries are trimmed.
 //!
-//! The main clauses are those of `expire` and `trim`: the entries that are left, and the floor, exactly, without memory.
+//! The main clauses are those of `expire` and `trim`: the entries that are left, and the floor, exactly, without
+//! memory.
 #![tactic(auto)]
 
 mod expiry;

@@ -6,9 +6,9 @@ use gate_bytes::Memory;
 use gate_pool::Pool;
 use std::hash::BuildHasher;
 
-/// Takes out the entry of least score, with all that is below it, until the rest is within the budget in virtual bytes. Each
-/// time the floor rises above the rate of what went. It takes no memory, and gives up the room that the pool had taken where
-/// something goes.
+/// Takes out the entry of least score, with all that is below it, until the rest is within the budget in virtual bytes.
+/// Each time the floor rises above the feerate of the entries that were taken out. It takes no memory, and gives up the
+/// room that the pool had taken if anything is taken out.
 pub fn trim<S: BuildHasher + Copy + Drop>(pool: &mut Pool<S>, floor: &mut Floor, budget: u64)
     ensures { trim_of budget pool.old.entries floor.old ≡ record { entries = pool.new.entries; floor = floor.new } }
 {
@@ -22,7 +22,7 @@ pub fn trim<S: BuildHasher + Copy + Drop>(pool: &mut Pool<S>, floor: &mut Floor,
     }
 }
 
-/// The same for callers whose changes of a pool may run out of memory: this one never does.
+/// `trim` for callers whose changes of a pool may run out of memory: this one never fails.
 pub fn try_trim<S: BuildHasher + Copy + Drop>(
     pool: &mut Pool<S>,
     floor: &mut Floor,

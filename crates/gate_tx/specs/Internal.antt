@@ -12,11 +12,11 @@ use Rattle.gate_tx.specs.Text.{vector, input, output, witness, is_nonempty}
 abbrev pub capped : ℕ → ℕ
 capped n = min n (2 ^ 64 - 1)
 
--- what the lists take without witnesses, with the version and the locktime
+-- the bytes of the lists without witnesses, with those of the version and the locktime
 abbrev pub stripped_lists : List TxIn → List TxOut → ℕ
 stripped_lists inputs outputs = 8 + (length (vector input inputs) + length (vector output outputs))
 
--- what the witnesses add: marker and flag, and a list for each input, or nothing
+-- the bytes that the witnesses add: marker and flag, and a list for each input, or nothing
 abbrev pub witness_lists : List TxIn → ℕ
 witness_lists inputs = if list_any (λ i. is_nonempty i.witness) inputs then 2 + length (flat_map witness inputs) else 0
 

@@ -10,15 +10,15 @@ abbrev pub read_items : Result (List (List ℕ) × List ℕ) TxFault → List (L
 read_items (Ok x) = x.0
 read_items (Err e) = []
 
--- so many items, read from the left
+-- `number` items, read from the left
 unfoldable pub items_at : ℕ → List ℕ → List (List ℕ)
 items_at number bytes = read_items (many_at var_bytes_at number bytes)
 
--- so many items can be read from the left
+-- `number` items can be read from the left
 abbrev pub HasItems : ℕ → List ℕ → Type 0
 HasItems number bytes = (behind : List ℕ) × (many_at var_bytes_at number bytes ≡ Ok (items_at number bytes, behind))
 
--- the bytes are the texts of these items, of which there are so many, and each has a count that is read
+-- the bytes are the texts of these `number` items, and each has a count that is read
 pub record AreKept (items : List (List ℕ)) (number : ℕ) (bytes : List ℕ) : Type 0 where
   pub count : number ≡ length items
   pub texts : bytes ≡ flat_map var_bytes items

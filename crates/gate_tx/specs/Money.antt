@@ -5,12 +5,12 @@ use Rattle.std.specs.Prelude.{ℕ, nat_le, Bool, false, ℤ, pos, negsuc}
 abbrev pub max_money : ℕ
 max_money = 2_100_000_000_000_000
 
--- an amount that there can be
+-- an amount from 0 to the most that there can be
 abbrev pub is_money : ℤ → Bool
 is_money (pos amount) = nat_le amount max_money
 is_money (negsuc n) = false
 
--- the amount that a value is, and 0 of a negative one
+-- a value as an amount, 0 if it is negative
 abbrev pub amount_or_zero : ℤ → ℕ
 amount_or_zero (pos n) = n
 amount_or_zero (negsuc n) = 0

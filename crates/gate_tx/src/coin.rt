@@ -33,7 +33,7 @@ impl Exact for Coin {
     ghost exact = { coin_decides };
 }
 
-/// Whether nothing can spend an output of this script: OP_RETURN (0x6a) stands first, or it is
+/// Whether nothing can spend an output of this script: it begins with OP_RETURN (0x6a), or it is
 /// longer than 10,000 bytes (Bitcoin Core's `CScript::IsUnspendable`).
 pub fn is_unspendable(script: &[u8]) -> bool
     ensures { result ≡ is_unspendable script.now }

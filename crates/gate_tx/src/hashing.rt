@@ -37,8 +37,8 @@ fn hash_without_witnesses(transaction: &Transaction, bytes: &[u8]) -> [u8; 32]
     double_hash_of_pieces(bytes, lists_end, locktime)
 }
 
-/// The hash of the bytes without the two behind the first four, and without those from the one
-/// place to the other.
+/// The hash of the first four bytes, of those from the seventh up to `lists_end`, and of those from
+/// `locktime` on.
 fn double_hash_of_pieces(bytes: &[u8], lists_end: usize, locktime: usize) -> [u8; 32]
     requires lists { 6 ≤ lists_end }
     requires witnesses { lists_end ≤ locktime }

@@ -8,22 +8,22 @@ pub fn texts_stand_apart()
     ensures apart { TextsStandApart }
 {}
 
-/// That two transactions have the same form without witnesses just where they are the same but for
+/// That two transactions have the same form without witnesses exactly if they are equal but for
 /// their witnesses, and that they then spend the same outpoints in the same order.
 pub fn stripped_forms_stand_apart()
     ensures apart { StrippedFormsStandApart }
     ensures spend { StrippedFormsSpendTheSame }
 {}
 
-/// That the text of a transaction reads back as it, and that bytes read as a transaction just
-/// where they are its text.
+/// That the text of a transaction reads back as it, and that bytes read as a transaction exactly
+/// if they are its text.
 pub fn texts_are_read_back()
     ensures back { TextsAreReadBack }
     ensures spelled { DecodedIsSpelled }
 {}
 
 /// Which fault `read_tx` answers to a text that is cut, to one with bytes behind it, to more bytes
-/// than a text has, and to the form with flag 1 where each witness is empty.
+/// than a text has, and to the form with flag 1 if each witness is empty.
 pub fn faults_are_told()
     ensures cut { CutsAreShort }
     ensures more { MoreIsTrailing }

@@ -11,7 +11,7 @@ pub(crate) fn digits_of(mut hash: [u8; 32]) -> [u8; 64]
     digits
 }
 
-/// The id that hex digits print.
+/// The id that 64 hex digits of either case print, its last byte first.
 #[tactic(auto, unfolding(crate::specs::Ids::read_id))]
 pub(crate) fn hash_of(text: &str) -> Option<[u8; 32]>
     ensures { result ≡ read_id text.now }

@@ -42,7 +42,7 @@ impl Transaction {
     }
 }
 
-/// Whether lists are of no transaction.
+/// Whether these lists make no transaction: outputs without inputs, or a text that is too long.
 fn is_refused(inputs: &[TxIn], outputs: &[TxOut]) -> bool
     ensures refused { IsTrue result ↔ (((inputs.now ≡ []) × (outputs.now ≢ [])) ⊎ (longest < stripped_lists inputs.now outputs.now + witness_lists inputs.now)) }
     ensures inputs { AllByRecursion IsRangedInput inputs.now }

@@ -46,7 +46,7 @@ impl Witness {
         }
     }
 
-    /// Reads a count, and as many items. Takes memory for the bytes of the items that are there, once.
+    /// Reads a count and that many items. Takes memory once, for the bytes of the items that are there.
     #[tactic(auto, unfolding(crate::specs::Reading::vector_at))]
     pub(crate) fn read(alloc: Global, cursor: &mut Cursor<'_>) -> Result<Witness, TxFault>
         ensures { Takes result cursor.new (vector_at var_bytes_at cursor.old) }
@@ -92,21 +92,21 @@ impl Witness {
         WitnessItems::of(self.count, &self.texts)
     }
 
-    /// The item at a place, counted from 0. It is found by going over those before it.
+    /// The item at a place, counted from 0. It is found by going over the items before it.
     pub fn item(&self, place: usize) -> Option<&[u8]>
         ensures { option_map (λ item. item.now) result ≡ slice_get self.now place }
     {
         item_at(self.count, &self.texts, place)
     }
 
-    /// The last item, and those before it. It is found by going over these.
+    /// The last item, and the items before it. It is found by going over them.
     pub fn split_last(&self) -> Option<(&[u8], WitnessItems<'_>)>
         ensures { MatchOption result (self.now ≡ []) (λ p. self.now ≡ p.1 ++ p.0.now ∷ []) }
     {
         split_last_at(self.count, &self.texts)
     }
 
-    /// The last item. It is found by going over those before it.
+    /// The last item. It is found by going over the items before it.
     pub fn last(&self) -> Option<&[u8]>
         ensures { option_map (λ item. item.now) result ≡ slice_get self.now (length self.now - 1) }
     {
@@ -164,7 +164,7 @@ fn put_counted(out: &mut Vec<u8>, item: &[u8]) -> Result<(), Memory>
     Ok(())
 }
 
-/// The texts of so many items at the front of the bytes, and the bytes behind them.
+/// The texts of `count` items at the front of the bytes, and the bytes behind them.
 #[tactic(auto, unfolding(crate::specs::Reading::split_items))]
 fn split_items(bytes: &[u8], count: u64) -> Result<(&[u8], &[u8]), TxFault>
     ensures bytes { IsBytes bytes.now }

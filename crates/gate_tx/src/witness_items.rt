@@ -27,7 +27,7 @@ impl<'a> Model for WitnessItems<'a> {
 }
 
 impl<'a> WitnessItems<'a> {
-    /// So many items, of which the bytes begin with the texts.
+    /// The `left` items whose texts the bytes begin with.
     pub(crate) fn of(left: usize, bytes: &'a [u8]) -> WitnessItems<'a>
         requires { HasItems left bytes.now }
         ensures { result ≡ items_at left bytes.now }
@@ -51,7 +51,7 @@ impl<'a> WitnessItems<'a> {
         self.len() == 0
     }
 
-    /// The last item, and those before it. It is found by going over these.
+    /// The last item, and the items before it. It is found by going over them.
     pub fn split_last(self) -> Option<(&'a [u8], WitnessItems<'a>)>
         ensures { MatchOption result (self.entry ≡ []) (λ p. self.entry ≡ p.1 ++ p.0.now ∷ []) }
     {
@@ -72,7 +72,7 @@ impl<'a> Iterator for WitnessItems<'a> {
     }
 }
 
-/// The item at a place, of so many whose texts the bytes begin with.
+/// The item at a place, of the `count` items whose texts the bytes begin with.
 pub(crate) fn item_at(count: usize, bytes: &[u8], place: usize) -> Option<&[u8]>
     requires { HasItems count bytes.now }
     ensures { option_map (λ item. item.now) result ≡ slice_get (items_at count bytes.now) place }
@@ -80,7 +80,7 @@ pub(crate) fn item_at(count: usize, bytes: &[u8], place: usize) -> Option<&[u8]>
     WitnessItems::of(count, bytes).nth(place)
 }
 
-/// The last item and those before it, of so many whose texts the bytes begin with.
+/// The last item and those before it, of the `count` items whose texts the bytes begin with.
 pub(crate) fn split_last_at(count: usize, bytes: &[u8]) -> Option<(&[u8], WitnessItems<'_>)>
     requires { HasItems count bytes.now }
     ensures { MatchOption result (items_at count bytes.now ≡ []) (λ p. items_at count bytes.now ≡ p.1 ++ p.0.now ∷ []) }
@@ -95,7 +95,7 @@ pub(crate) fn split_last_at(count: usize, bytes: &[u8]) -> Option<(&[u8], Witnes
     Some((last, WitnessItems::of(before, bytes)))
 }
 
-/// A count, and as many bytes where they stand.
+/// Takes a count and that many bytes, which are not copied.
 #[tactic(auto, unfolding(crate::specs::Reading::var_bytes_at))]
 pub(crate) fn take_counted<'a>(cursor: &mut Cursor<'a>) -> Result<&'a [u8], ByteFault>
     ensures { TakesBy (λ bytes. bytes.now) result cursor.new (var_bytes_at cursor.old) }
@@ -104,7 +104,7 @@ pub(crate) fn take_counted<'a>(cursor: &mut Cursor<'a>) -> Result<&'a [u8], Byte
     cursor.take(len as usize)
 }
 
-/// The first of so many items at the front of what is ahead, which is taken off it.
+/// Takes the first of the `left` items at the front of what is ahead.
 fn take_item<'a>(left: &mut usize, ahead: &mut Cursor<'a>) -> Option<&'a [u8]>
     requires { HasItems left.old ahead.old }
     ensures has { HasItems left.new ahead.new }
@@ -120,7 +120,7 @@ fn take_item<'a>(left: &mut usize, ahead: &mut Cursor<'a>) -> Option<&'a [u8]>
     Some(item)
 }
 
-/// All bytes that are left.
+/// Takes all bytes that are left.
 pub(crate) fn take_rest<'a>(cursor: &mut Cursor<'a>) -> &'a [u8]
     ensures { result.now ≡ cursor.old }
 {

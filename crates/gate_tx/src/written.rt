@@ -16,7 +16,7 @@ pub(crate) trait Written {
     /// What the types of its fields say of its numbers.
     ghost IsRangedPart: { Self → Type 0 };
 
-    /// The size of the text, or the greatest number where that is less.
+    /// The size of the text in bytes, or the greatest `usize` if that is less.
     fn size(&self) -> usize
         ensures size { result ≡ capped (length (text_of self.now)) }
         ensures ranged { IsRangedPart self.now };

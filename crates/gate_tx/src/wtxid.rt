@@ -38,7 +38,7 @@ impl Wtxid {
         &self.hash
     }
 
-    /// The id that is printed so: 64 hex digits of either case, the last byte first.
+    /// The id that this text prints: 64 hex digits of either case, the last byte first.
     pub fn read(text: &str) -> Option<Wtxid>
         ensures { result ≡ read_id text.now }
     {

@@ -21,27 +21,27 @@ struct Task {
     back: Sender<Done>,
 }
 
-/// What was reported of the piece at a place.
+/// What was reported on the piece at a place.
 #[derive(Drop)]
 struct Done {
     place: usize,
     report: InputReport,
 }
 
-/// The end of those who hand pieces out.
+/// The end at which pieces are handed out.
 #[derive(Drop)]
 pub struct Crew {
     out: Sender<Task>,
     tasks: Receiver<Task>,
 }
 
-/// The end of the workers.
+/// The end at which workers take pieces.
 #[derive(Drop)]
 pub struct Post {
     tasks: Receiver<Task>,
 }
 
-/// Checks a piece, and sends its report back. Where memory runs out, no report is sent.
+/// Checks a piece, and sends its report back. If memory runs out, no report is sent.
 fn finish<T: Wait, C: InputCheck>(rt: &T, alloc: Global, check: &C, task: Task) {
     let Task { place, piece, back } = task;
     if let Ok(report) = check.check(alloc, &piece) {
@@ -49,7 +49,7 @@ fn finish<T: Wait, C: InputCheck>(rt: &T, alloc: Global, check: &C, task: Task) 
     }
 }
 
-/// Checks the pieces that come, until no more can.
+/// Checks the pieces that come, until no more can come.
 fn work<T: Wait, C: InputCheck>(rt: &T, alloc: Global, check: &C, tasks: Receiver<Task>) {
     for task in tasks.iter(rt) {
         finish(rt, alloc, check, task);
@@ -114,7 +114,7 @@ fn addressed(
 }
 
 impl Crew {
-    /// A crew without workers, and the end at which they stand.
+    /// A crew without workers, and the end at which workers take pieces.
     pub fn new(alloc: Global) -> Result<(Crew, Post), Memory> {
         let (out, tasks) = unbounded(alloc)?;
         let post = Post {
@@ -123,7 +123,7 @@ impl Crew {
         Ok((Crew { out, tasks }, post))
     }
 
-    /// Hands out pieces. One for which memory runs out is left out.
+    /// Hands out pieces. A piece for which memory runs out is left out.
     fn hand_out<T: Wait>(&self, rt: &T, alloc: Global, pieces: &[Piece], back: Sender<Done>) {
         for (place, piece) in pieces.iter().enumerate() {
             if let Ok(task) = addressed(alloc, place, piece, &back) {
@@ -132,7 +132,7 @@ impl Crew {
         }
     }
 
-    /// Checks what no worker has taken, up to so many pieces.
+    /// Checks pieces that no worker has taken, at most `most` of them.
     fn help<T: Wait, C: InputCheck>(&self, rt: &T, alloc: Global, check: &C, most: usize) {
         for _ in 0..most {
             match self.tasks.try_recv(rt) {
@@ -142,8 +142,9 @@ impl Crew {
         }
     }
 
-    /// The reports of the pieces, in their order, whatever the workers do: those of `verify_all`, by workers that stand ready.
-    /// One piece is checked by the caller, who also takes what no worker has taken; so they come where no worker is there.
+    /// The reports of the pieces, in their order, whatever the workers do, as `verify_all` gives them, but by workers
+    /// that wait already. A single piece is checked by the caller, who also takes pieces that no worker has taken, so
+    /// the reports come even without a worker.
     pub fn verify<T: Wait, C: InputCheck>(
         &self,
         rt: &T,

@@ -5,7 +5,7 @@ use gate_bytes::{Copied, Memory, is_same};
 use gate_inputs::{InputReport, Piece, report};
 use std::alloc::Global;
 
-/// The report of a piece: the one that came, where it is that, and else one that is made here.
+/// The report of a piece: the report that came, if it is of this piece, else one that is made here.
 pub(crate) fn report_on(
     alloc: Global,
     piece: &Piece,

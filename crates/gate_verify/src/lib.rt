@@ -1,7 +1,7 @@
 //! Reports on the inputs of a submission, made by worker threads before the submission meets the gate's lock.
 //!
-//! The main clause is that of `verify_all`: the reports of the pieces in their order, whatever the workers did. Where pieces
-//! and reports go between threads, nothing is promised of their coming: a report that does not come, or is that of another
+//! The main clause is that of `verify_all`: the reports of the pieces in their order, whatever the workers did. Nothing
+//! is promised of the pieces and reports that go between threads: a report that does not come, or is that of another
 //! piece, is made by the caller.
 #![tactic(auto)]
 

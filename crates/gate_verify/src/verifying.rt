@@ -12,8 +12,8 @@ use std::sync::Wait;
 use std::thread;
 use std::thread::Threads;
 
-/// The reports of the pieces as this thread makes them, one after another. One on which the check gives none, or another, is
-/// made all the same.
+/// The reports of the pieces as this thread makes them, one after another. If the check gives no report on a piece, or
+/// one on another piece, the report is made without the check.
 pub fn check_each<C: InputCheck>(
     alloc: Global,
     check: &C,
@@ -29,7 +29,7 @@ pub fn check_each<C: InputCheck>(
     Ok(reports)
 }
 
-/// The reports of the pieces beside so many workers, the caller among them, who stand there for these pieces alone.
+/// The reports of the pieces, by workers that are started for these pieces alone; the caller is one of them.
 fn verify_beside<T: Threads + Wait + Sync, C: InputCheck + Sync>(
     rt: &T,
     alloc: Global,
@@ -65,9 +65,9 @@ fn verify_by<T: Wait, C: InputCheck>(
 
 /// The reports of the pieces, in their order, whatever the workers do.
 ///
-/// At most as many threads check pieces as there are workers and pieces, the caller's own among them: one piece is checked
-/// without another thread. Where the check gives no report on a piece or one on another piece, the caller makes it, so a
-/// worker whose memory runs out does not make the call fail.
+/// At most as many threads check pieces as there are workers and pieces, the caller's own among them: a single piece is
+/// checked without another thread. If the check gives no report on a piece or one on another piece, the caller makes
+/// it, so a worker whose memory runs out does not make the call fail.
 pub fn verify_all<T: Threads + Wait + Sync, C: InputCheck + Sync>(
     rt: &T,
     alloc: Global,

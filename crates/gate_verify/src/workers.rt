@@ -27,7 +27,7 @@ impl Model for Workers {
 }
 
 impl Workers {
-    /// So many workers, where there may be so many.
+    /// This many workers, if there are from 1 to 64.
     pub fn new(count: usize) -> Option<Workers>
         ensures { result ≡ workers_of count }
     {
@@ -38,7 +38,7 @@ impl Workers {
         }
     }
 
-    /// Their number.
+    /// The number of workers.
     pub fn count(self) -> usize
         ensures value { result ≡ self }
         ensures within { (1 ≤ result) × (result ≤ 64) }

@@ -10,8 +10,8 @@ use std::sync::atomic::{AtomicU64, Ordering};
 use std::test::Fail;
 use std::thread::Threads;
 
-/// An input by its place, with its coin's script, its own, and what they cost: four for each signature operation, of which
-/// OP_CHECKMULTISIG counts 20 (Bitcoin Core 22.0's `GetTransactionSigOpCost`).
+/// An input by its place, with its coin's script, its own script, and what they cost: four for each signature
+/// operation, of which OP_CHECKMULTISIG counts 20 (Bitcoin Core 22.0's `GetTransactionSigOpCost`).
 struct Spend {
     index: u32,
     coin: &'static [u8],
@@ -112,7 +112,7 @@ fn three_pieces_in_order(rt: HostRuntime) -> Result<(), Fail> {
     Ok(())
 }
 
-/// A check whose memory is out.
+/// A check that is out of memory.
 #[derive(Drop)]
 struct Forgets;
 
@@ -143,7 +143,7 @@ impl InputCheck for Counts {
     }
 }
 
-/// What no worker reports, or what is no report of its piece, is made by the caller.
+/// If no worker reports on a piece, or a report is not of its piece, the caller makes the report.
 #[test]
 fn reports_that_are_missing_or_strange(rt: HostRuntime) -> Result<(), Fail> {
     assert!(rt; gives_all(&rt, rt.alloc(), &Forgets)?);

@@ -143,7 +143,7 @@ fn entries_that_are_refused(rt: HostRuntime) -> Result<(), Fail> {
     Ok(())
 }
 
-/// Whether each of the texts between the spaces is read as the address that is printed so.
+/// Whether each of the texts between the spaces is read as the address that is printed as `printed`.
 fn all_print(alloc: Global, texts: &str, printed: &str) -> Result<bool, Fail> {
     for text in texts.split(' ') {
         let Some(address) = Address::parse(text) else {

@@ -3,7 +3,7 @@ use gate_inputs::{Answers, Coin, Piece, report};
 use gate_tx::{OutPoint, TxIn, Txid, Witness, Wtxid};
 use std::test::Fail;
 
-/// Puts an item of so many of a byte at the end.
+/// Puts an item at the end, of `count` times the byte.
 fn push_filled(rt: &HostRuntime, witness: &mut Witness, byte: u8, count: u16) -> Result<(), Fail> {
     let item = vec![in rt.alloc(); byte; usize::from(count)]?;
     Ok(witness.push(&item)?)
@@ -31,7 +31,7 @@ fn piece_of(rt: &HostRuntime, coin: &[u8], script: &[u8], witness: Witness) -> R
     })
 }
 
-/// Whether that is the report of such an input and coin: standard, witness standard, cost.
+/// Whether an input with this coin, script and witness is reported as `want`: standard, witness standard, cost.
 fn is_reported(
     rt: &HostRuntime,
     coin: &[u8],
@@ -49,7 +49,7 @@ fn is_reported(
     Ok(report.answers() == answers && same.piece() == report.piece())
 }
 
-/// So many items of a size, and a last one of OP_CHECKSIGs.
+/// This many items of a size, and a last item of OP_CHECKSIGs.
 fn items_and_script(rt: &HostRuntime, items: usize, size: u16, last: u16) -> Result<Witness, Fail> {
     let mut witness = Witness::new(rt.alloc());
     for _ in 0..items {

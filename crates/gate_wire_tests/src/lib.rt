@@ -1,5 +1,5 @@
-//! Tests of the rooms that judge what comes over the wire by itself: bytes, lines, addresses, transactions, scripts,
-//! standardness and input reports. Tests stand in crates of their own, since a crate with tests is proved twice.
+//! Tests of the crates that judge what comes over the wire by itself: bytes, lines, addresses, transactions, scripts,
+//! standardness and input reports. Tests are in crates of their own, since a crate with tests is proved twice.
 #![tactic(auto)]
 
 #[cfg(test)]

@@ -2,7 +2,7 @@ use gate_script::{Op, Template, is_push_only, ops, push_stack, sigops, template,
 use std::process::Abort;
 use std::test::Fail;
 
-/// A script put together: the bytes in front, so many times 7, and the bytes behind.
+/// A script put together: the bytes in front, the byte 7 this many times, and the bytes behind.
 type Parts<'a> = (&'a [u8], usize, &'a [u8]);
 
 fn joined(rt: &(impl Abort + AllocGlobal), parts: &Parts<'_>) -> Result<Vec<u8>, Fail> {
@@ -127,7 +127,7 @@ fn pushes_that_are_counted(rt: HostRuntime) -> Result<(), Fail> {
     Ok(())
 }
 
-/// How many items so many pushes of the number 1 leave.
+/// How many items `count` pushes of the number 1 leave.
 fn ones_in(rt: &(impl Abort + AllocGlobal), count: usize) -> Result<Option<usize>, Fail> {
     let mut script = Vec::new(rt.alloc());
     for _ in 0..count {

@@ -66,7 +66,7 @@ fn transaction(
     Ok(Transaction::new(2, inputs, outputs, 0)?)
 }
 
-/// The decision of both layers in turn.
+/// The denial by the rules of every transaction, or else by those of policy.
 fn denial_of(alloc: Global, tx: &Transaction) -> Result<Option<Denial>, Fail> {
     Ok(match check_transaction(alloc, tx)? {
         Some(denial) => Some(denial),

@@ -78,7 +78,7 @@ fn bytes_of(alloc: Global, text: &str) -> Result<Vec<u8>, Fail> {
     Ok(hex::decode(alloc, text)?)
 }
 
-/// Whether the ids that were hashed from the bytes are those of the transaction, and those that others print.
+/// Whether the ids that were hashed from the bytes are those of the transaction, and those that other programs print.
 fn has_ids(alloc: Global, read: &Identified, vector: &Vector) -> Result<bool, Fail> {
     let (txid, wtxid) = (read.txid(), read.wtxid());
     let transaction = read.transaction();
@@ -104,7 +104,7 @@ fn prints_wtxid(alloc: Global, wtxid: Wtxid, wanted: &str) -> Result<bool, Fail>
     Ok(same)
 }
 
-/// Whether the ids are printed as others print them.
+/// Whether the ids are printed as other programs print them.
 fn prints_ids(alloc: Global, read: &Identified, vector: &Vector) -> Result<bool, Fail> {
     Ok(
         prints_txid(alloc, read.txid(), vector.txid)?
@@ -130,7 +130,7 @@ fn strips(alloc: Global, read: &Identified, size: usize) -> Result<bool, Fail> {
     Ok(read.transaction().write_stripped(alloc)?.len() == size)
 }
 
-/// Whether a transaction, read from these bytes, is all that others say of it.
+/// Whether a transaction, read from these bytes, is all that other programs say of it.
 fn is_as_told(
     alloc: Global,
     read: &Identified,
@@ -349,7 +349,7 @@ fn an_input_tells_its_witness(rt: HostRuntime) -> Result<(), Fail> {
     Ok(())
 }
 
-/// Whether both texts spell an id, and the same.
+/// Whether both texts spell an id, and the same one.
 fn spell_one_id(lower: &str, upper: &str) -> bool {
     let read = Txid::read(lower);
     read.is_some() && read == Txid::read(upper)
@@ -386,7 +386,7 @@ fn is_refused_as_coin(alloc: Global, byte: u8, n: usize) -> Result<bool, Fail> {
     Ok(is_unspendable(repeated(alloc, byte, n)?.as_slice()))
 }
 
-/// A byte, how often it stands in a script, and whether nobody can spend that script's coin.
+/// A byte, how often a script repeats it, and whether nobody can spend that script's coin.
 const SCRIPTS: [(u8, usize, bool); 4] = [
     (0x6a, 1, true),
     (0x51, 10_001, true),

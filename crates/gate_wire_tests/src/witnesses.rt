@@ -7,7 +7,7 @@ use std::test::Fail;
 const BEFORE: &str =
     "0200000000010111111111111111111111111111111111111111111111111111111111111111110000000000fdffffff0132860100000000001600142222222222222222222222222222222222222222";
 
-/// A witness of so many equal items, and how BIP 144 spells it: the count of items, and before each item the count of its
+/// A witness of equal items, and how BIP 144 spells it: the count of items, and before each item the count of its
 /// bytes.
 #[derive(Clone, Copy)]
 struct Case {
@@ -56,7 +56,7 @@ const CASES: [Case; 6] = [
     },
 ];
 
-/// An item of so many bytes of 7.
+/// An item of `size` bytes of 7.
 fn item(alloc: Global, size: u16) -> Result<Vec<u8>, Fail> {
     Ok(vec![in alloc; 7u8; usize::from(size)]?)
 }
@@ -85,12 +85,12 @@ fn pushed(alloc: Global, case: &Case) -> Result<Witness, Fail> {
     Ok(witness)
 }
 
-/// Whether each of the items is that one.
+/// Whether each of the items is equal to `item`.
 fn are_all(mut items: WitnessItems<'_>, item: &[u8]) -> bool {
     items.all(|other| other == item)
 }
 
-/// Whether the last item is that one, and so is each before it.
+/// Whether the last item and each item before it are equal to `item`.
 fn ends_in(witness: &Witness, item: &[u8]) -> bool {
     match witness.split_last() {
         Some((last, before)) => {

@@ -1,4 +1,4 @@
-//! The words in which faults are told.
+//! The words in which faults are printed.
 use gate_bytes::{ByteFault, Memory};
 use gate_lines::LaneFault;
 use gate_net::{NetDenial, NetFault};
@@ -7,7 +7,7 @@ use std::alloc::Global;
 use std::fmt;
 use std::test::Fail;
 
-/// Whether a value is printed so.
+/// Whether a value is printed as `wanted`.
 fn prints<T: fmt::Display>(alloc: Global, value: &T, wanted: &str) -> Result<bool, Fail> {
     let printed = format!(in alloc; "{value}")?;
     Ok(printed.as_str() == wanted)
