@@ -9,8 +9,8 @@ use Rattle.gate_message.specs.declared.caller.Caller.{Caller}
 use Rattle.gate_message.specs.declared.caller.Caller.TheVariants.{Chain, Operator, Peer, User}
 use Rattle.gate_message.specs.declared.event.Event.{Event}
 use Rattle.gate_message.specs.declared.event.Event.TheVariants.{Enter, Leave, Tx as Submit, Mempool, GetBlock, Headers, FeeFilter, Rpc, SetFloor, Set as Turn, Chain as Extend}
-use Rattle.gate_message.specs.declared.refusal.Refusal.{Refusal}
-use Rattle.gate_message.specs.declared.refusal.Refusal.TheVariants.{PeerUnknown, PeerClosed, PeerKnown, BlocksOnly, AlreadyInMempool, MempoolNoBloom, MempoolUploadTarget, HeadersDuringDownload, UnknownBlock, HistoricalUploadTarget, Admission}
+use Rattle.gate_message.specs.declared.denial.PeerDenial.{PeerDenial}
+use Rattle.gate_message.specs.declared.denial.PeerDenial.TheVariants.{PeerUnknown, PeerClosed, PeerKnown, BlocksOnly, AlreadyInMempool, MempoolNoBloom, MempoolUploadTarget, HeadersDuringDownload, UnknownBlock, HistoricalUploadTarget, Admission}
 use Rattle.gate_message.specs.declared.reply.Reply.{Reply}
 use Rattle.gate_message.specs.Callers.{caller_of}
 use Rattle.gate_core.specs.Sessions.{Session, session_of, flags_in}
@@ -25,10 +25,10 @@ use Rattle.gate_core.proofs.Separate.{step_leaves}
 entering_known : (sessions : List Session) (peer : ℕ) (s : Session) → session_of sessions peer ≡ Some s → first_failing (entering_rules sessions peer) ≡ Some PeerKnown
 entering_known sessions peer s h = ap (λ (o : Option Session). if is_some o then Some PeerKnown else None) h
 
-abbrev by_session : List (Rule Refusal) → Option Session → Option Refusal
+abbrev by_session : List (Rule PeerDenial) → Option Session → Option PeerDenial
 by_session rest o = if not (is_some o) then Some PeerUnknown else if option_map_or (λ (s : Session). not s.is_open) o false then Some PeerClosed else first_failing rest
 
-closed_first : (sessions : List Session) (peer : ℕ) (s : Session) (rest : List (Rule Refusal)) → session_of sessions peer ≡ Some s → s.is_open ≡ false
+closed_first : (sessions : List Session) (peer : ℕ) (s : Session) (rest : List (Rule PeerDenial)) → session_of sessions peer ≡ Some s → s.is_open ≡ false
     → first_failing (session_rules sessions peer ++ rest) ≡ Some PeerClosed
 closed_first sessions peer s rest h shut = ap (λ (o : Option Session). by_session rest o) h ∙ ap (λ (b : Bool). if not b then Some PeerClosed else first_failing rest) shut
 

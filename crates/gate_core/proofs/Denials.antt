@@ -15,7 +15,7 @@ use Rattle.gate_reorg.specs.Events.{Happened, event_rules, event_of}
 use Rattle.gate_submission.specs.Blocks.{present}
 use Rattle.gate_message.specs.declared.event.Event.{Event}
 use Rattle.gate_message.specs.declared.event.Event.TheVariants.{Enter, Leave, Tx as Submit, Mempool, GetBlock, Headers, FeeFilter, Rpc, SetFloor, Set as Turn, Chain as Extend}
-use Rattle.gate_message.specs.declared.refusal.Refusal.{Refusal}
+use Rattle.gate_message.specs.declared.denial.PeerDenial.{PeerDenial}
 use Rattle.gate_message.specs.declared.reply.Reply.{Reply}
 use Rattle.gate_core.specs.World.{World, standing_of}
 use Rattle.gate_core.specs.Access.{entering_rules, session_rules, submission_rules, listing_rules, block_rules, headers_rules}
@@ -72,9 +72,9 @@ sent_denied : (w : World) (id : Id) (now : ℕ) (transaction : Option Tx) → Is
 unfolding submit_of
 sent_denied w id now transaction h = sent_by_denied w id now transaction (decision_of First (standing_of w) transaction) h
 
-answered_denied : (w : World) (peer : ℕ) (served : Reply × World) (refusal : Option Refusal) → (IsDenied served.0 → IsAsIn w served.1)
-    → IsDenied (answered w peer served refusal).0 → IsAsIn w (answered w peer served refusal).1
-answered_denied w peer served (Some refusal) done h = (refl, refl, refl)
+answered_denied : (w : World) (peer : ℕ) (served : Reply × World) (denial : Option PeerDenial) → (IsDenied served.0 → IsAsIn w served.1)
+    → IsDenied (answered w peer served denial).0 → IsAsIn w (answered w peer served denial).1
+answered_denied w peer served (Some denial) done h = (refl, refl, refl)
 answered_denied w peer served None done h = done h
 
 chained_denied : (w : World) (after : Happened) (denial : Option ChainDenial) → IsDenied (chained_as w after denial).0 → IsAsIn w (chained_as w after denial).1

@@ -24,7 +24,7 @@ use Rattle.gate_reorg.proofs.Spending.{events_keep_the_budget}
 use Rattle.gate_message.specs.declared.caller.Caller.TheVariants.{Operator}
 use Rattle.gate_message.specs.declared.event.Event.{Event}
 use Rattle.gate_message.specs.declared.event.Event.TheVariants.{Enter, Leave, Tx as Submit, Mempool, GetBlock, Headers, FeeFilter, Rpc, SetFloor, Set as Turn, Chain as Extend}
-use Rattle.gate_message.specs.declared.refusal.Refusal.{Refusal}
+use Rattle.gate_message.specs.declared.denial.PeerDenial.{PeerDenial}
 use Rattle.gate_message.specs.declared.reply.Reply.{Reply}
 use Rattle.gate_message.specs.declared.reply.Reply.TheVariants.{Admitted}
 use Rattle.gate_core.specs.Access.{entering_rules, session_rules, submission_rules, listing_rules, block_rules, headers_rules}
@@ -63,8 +63,8 @@ decided_within w peer None decision h = h
 decided_within w peer (Some tx) (Ok grant) h = h
 decided_within w peer (Some tx) (Err denial) h = h
 
-answered_within : (w : World) (peer : ℕ) (served : Reply × World) (refusal : Option Refusal) → IsWithin w → IsWithin served.1 → IsWithin (answered w peer served refusal).1
-answered_within w peer served (Some refusal) h done = h
+answered_within : (w : World) (peer : ℕ) (served : Reply × World) (denial : Option PeerDenial) → IsWithin w → IsWithin served.1 → IsWithin (answered w peer served denial).1
+answered_within w peer served (Some denial) h done = h
 answered_within w peer served None h done = done
 
 chained_within : (w : World) (disconnect now : ℕ) (blocks : List (Option Block)) (denial : Option ChainDenial) → IsWithin w → IsWithin (chained_as w (event_of (standing_of w) disconnect (present blocks) now w.budget) denial).1
@@ -102,8 +102,8 @@ decided_floor w peer None decision = refl
 decided_floor w peer (Some tx) (Ok grant) = refl
 decided_floor w peer (Some tx) (Err denial) = refl
 
-answered_floor : (w : World) (peer : ℕ) (served : Reply × World) (refusal : Option Refusal) → w.floor ≤ served.1.floor → w.floor ≤ (answered w peer served refusal).1.floor
-answered_floor w peer served (Some refusal) h = omega arith
+answered_floor : (w : World) (peer : ℕ) (served : Reply × World) (denial : Option PeerDenial) → w.floor ≤ served.1.floor → w.floor ≤ (answered w peer served denial).1.floor
+answered_floor w peer served (Some denial) h = omega arith
 answered_floor w peer served None h = h
 
 submitted_floor : (w : World) (peer now : ℕ) (transaction : Option Tx) → w.floor ≤ (submitted w peer now transaction).1.floor
@@ -160,6 +160,6 @@ pub admitted_young : (w : World) (peer now : ℕ) (transaction : Option Tx) (txi
 unfolding step_of
 admitted_young w peer now transaction txid fee vsize replaced h = go (first_failing (submission_rules w peer transaction)) h
   where
-    go : (refusal : Option Refusal) → (answered w peer (submitted w peer now transaction) refusal).0 ≡ Admitted txid fee vsize replaced → AreYoung now (answered w peer (submitted w peer now transaction) refusal).1.pool
-    go (Some refusal) k = cc
+    go : (denial : Option PeerDenial) → (answered w peer (submitted w peer now transaction) denial).0 ≡ Admitted txid fee vsize replaced → AreYoung now (answered w peer (submitted w peer now transaction) denial).1.pool
+    go (Some denial) k = cc
     go None k = submitted_young w peer now transaction txid fee vsize replaced k

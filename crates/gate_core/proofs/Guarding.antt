@@ -6,33 +6,33 @@ use Rattle.gate_tx.specs.Tx.{Tx}
 use Rattle.gate_standard.specs.declared.Denial.TheVariants.{Decode, MempoolFull}
 use Rattle.gate_net.specs.Permissions.{Permissions}
 use Rattle.gate_message.specs.declared.event.Event.TheVariants.{Tx as Submit, Mempool, GetBlock, Headers}
-use Rattle.gate_message.specs.declared.refusal.Refusal.{Refusal}
-use Rattle.gate_message.specs.declared.refusal.Refusal.TheVariants.{PeerUnknown, PeerClosed, PeerKnown, BlocksOnly, AlreadyInMempool, MempoolNoBloom, MempoolUploadTarget, HeadersDuringDownload, UnknownBlock, HistoricalUploadTarget, Admission}
-use Rattle.gate_message.specs.declared.refusal.Then.TheVariants.{Keep, Close, Relay}
+use Rattle.gate_message.specs.declared.denial.PeerDenial.{PeerDenial}
+use Rattle.gate_message.specs.declared.denial.PeerDenial.TheVariants.{PeerUnknown, PeerClosed, PeerKnown, BlocksOnly, AlreadyInMempool, MempoolNoBloom, MempoolUploadTarget, HeadersDuringDownload, UnknownBlock, HistoricalUploadTarget, Admission}
+use Rattle.gate_message.specs.declared.denial.Then.TheVariants.{Keep, Close, Relay}
 use Rattle.gate_message.specs.declared.reply.Reply.{Reply}
 use Rattle.gate_core.specs.Access.{is_known, is_closed, is_historical, is_above_tip, is_pooled, lacks_relay, lacks_bloom, lacks_upload, lacks_headers, lacks_history}
 use Rattle.gate_core.specs.AccessLaws.{FlagsGuard, NobanIsKept}
 use Rattle.gate_core.specs.PeerSteps.{answered, submitted, listed, block_given, headers_given}
-use Rattle.gate_message.specs.Refusals.{then_of}
+use Rattle.gate_message.specs.PeerDenials.{then_of}
 use Rattle.gate_core.specs.SessionLaws.{IsDenied}
 use Rattle.gate_core.specs.Sessions.{flags_in}
 use Rattle.gate_core.specs.Steps.{step_of}
 use Rattle.gate_core.specs.World.{World}
 
--- a refusal that is no denial by A46, where one is made
-abbrev IsOther : Option Refusal → Type 0
+-- a denial that is no denial by A46, where one is made
+abbrev IsOther : Option PeerDenial → Type 0
 IsOther None = ⊥
-IsOther (Some refusal) = refusal ≢ Admission MempoolFull
+IsOther (Some denial) = denial ≢ Admission MempoolFull
 
-refuses : (w : World) (peer : ℕ) (served : Reply × World) (refusal : Option Refusal) → IsOther refusal → IsDenied (answered w peer served refusal).0
-refuses w peer served None h = absurd h
-refuses w peer served (Some refusal) h = h
+denies : (w : World) (peer : ℕ) (served : Reply × World) (denial : Option PeerDenial) → IsOther denial → IsDenied (answered w peer served denial).0
+denies w peer served None h = absurd h
+denies w peer served (Some denial) h = h
 
--- the refusal, where the session is open or not, and what follows is asked then
-abbrev by_session : Bool → Bool → Option Refusal → Option Refusal
+-- the denial, where the session is open or not, and what follows is asked then
+abbrev by_session : Bool → Bool → Option PeerDenial → Option PeerDenial
 by_session known closed rest = if not known then Some PeerUnknown else if closed then Some PeerClosed else rest
 
-session_first : (known closed : Bool) (rest : Option Refusal) → IsOther rest → IsOther (by_session known closed rest)
+session_first : (known closed : Bool) (rest : Option PeerDenial) → IsOther rest → IsOther (by_session known closed rest)
 session_first false closed rest h = λ e. unknown e
   where
     unknown : PeerUnknown ≡ Admission MempoolFull → ⊥
@@ -44,11 +44,11 @@ session_first true true rest h = λ e. shut e
 session_first true false rest h = h
 
 -- one rule that fails, and two of which one does
-one_fails : (a : Bool) (r : Refusal) (rest : Option Refusal) → r ≢ Admission MempoolFull → a ≡ true → IsOther (if a then Some r else rest)
+one_fails : (a : Bool) (r : PeerDenial) (rest : Option PeerDenial) → r ≢ Admission MempoolFull → a ≡ true → IsOther (if a then Some r else rest)
 one_fails true r rest h is = h
 one_fails false r rest h is = absurd (true≢false (sym is))
 
-two_fail : (a b : Bool) (r s : Refusal) (rest : Option Refusal) → r ≢ Admission MempoolFull → s ≢ Admission MempoolFull → b ≡ true → IsOther (if a then Some r else if b then Some s else rest)
+two_fail : (a b : Bool) (r s : PeerDenial) (rest : Option PeerDenial) → r ≢ Admission MempoolFull → s ≢ Admission MempoolFull → b ≡ true → IsOther (if a then Some r else if b then Some s else rest)
 two_fail true b r s rest h k is = h
 two_fail false b r s rest h k is = one_fails b s rest k is
 
@@ -95,15 +95,15 @@ flags_guard w peer =
     let closed = is_closed w.sessions peer in
     record {
       relay = λ on lacks now transaction.
-          refuses w peer (submitted w peer now transaction) _ (session_first known closed _ (one_fails (lacks_relay w flags) BlocksOnly _ blocks_only (both w.blocksonly flags.relay on lacks)));
+          denies w peer (submitted w peer now transaction) _ (session_first known closed _ (one_fails (lacks_relay w flags) BlocksOnly _ blocks_only (both w.blocksonly flags.relay on lacks)));
       bloom = λ off lacks more.
-          refuses w peer (listed w peer) _ (session_first known closed _ (one_fails (lacks_bloom w flags) MempoolNoBloom _ no_bloom (none_of flags.mempool flags.bloomfilter w.switches.bloom more lacks off)));
+          denies w peer (listed w peer) _ (session_first known closed _ (one_fails (lacks_bloom w flags) MempoolNoBloom _ no_bloom (none_of flags.mempool flags.bloomfilter w.switches.bloom more lacks off)));
       upload = λ on lacks.
-          refuses w peer (listed w peer) _ (session_first known closed _ (two_fail (lacks_bloom w flags) (lacks_upload w flags) MempoolNoBloom MempoolUploadTarget _ no_bloom upload_target (both w.switches.upload flags.mempool on lacks)));
+          denies w peer (listed w peer) _ (session_first known closed _ (two_fail (lacks_bloom w flags) (lacks_upload w flags) MempoolNoBloom MempoolUploadTarget _ no_bloom upload_target (both w.switches.upload flags.mempool on lacks)));
       headers = λ on lacks height.
-          refuses w peer (headers_given w height) _ (session_first known closed _ (one_fails (lacks_headers w flags) HeadersDuringDownload _ during_download (both w.switches.download flags.download on lacks)));
+          denies w peer (headers_given w height) _ (session_first known closed _ (one_fails (lacks_headers w flags) HeadersDuringDownload _ during_download (both w.switches.download flags.download on lacks)));
       blocks = λ on lacks height old.
-          refuses w peer (block_given w height) _
+          denies w peer (block_given w height) _
           (session_first known closed _ (two_fail (is_above_tip w height) (lacks_history w flags height) UnknownBlock HistoricalUploadTarget _ unknown_block historical_target (all_of w.switches.historic flags.download (is_historical w.chain height) on lacks old)));
     }
 

@@ -35,7 +35,7 @@ use Rattle.gate_reorg.proofs.Origins.{events_bring_nothing_else}
 use Rattle.gate_message.specs.declared.event.Event.{Event}
 use Rattle.gate_message.specs.declared.event.Event.TheVariants.{Enter, Leave, Tx as Submit, Mempool, GetBlock, Headers, FeeFilter, Rpc, SetFloor, Set as Turn, Chain as Extend}
 use Rattle.gate_core.specs.Opening.{Start}
-use Rattle.gate_message.specs.declared.refusal.Refusal.{Refusal}
+use Rattle.gate_message.specs.declared.denial.PeerDenial.{PeerDenial}
 use Rattle.gate_message.specs.declared.reply.Reply.{Reply}
 use Rattle.gate_core.specs.World.{World, opened_world, standing_of}
 use Rattle.gate_core.specs.Access.{entering_rules, session_rules, submission_rules, listing_rules, block_rules, headers_rules}
@@ -117,9 +117,9 @@ submitted_from w peer now transaction tx h =
     let s = submit_of (standing_of w) transaction now w.budget in
     after_from w now transaction tx (decided_from (record w { pool = s.entries; floor = s.floor }) peer transaction s.decision tx h)
 
-answered_from : (w : World) (peer : ℕ) (served : Reply × World) (refusal : Option Refusal) (more : List Tx) (tx : Tx)
-    → (Contains (transactions_in served.1) tx → Contains (transactions_in w ++ more) tx) → Contains (transactions_in (answered w peer served refusal).1) tx → Contains (transactions_in w ++ more) tx
-answered_from w peer served (Some refusal) more tx from h = Contains-append_left _ _ tx h
+answered_from : (w : World) (peer : ℕ) (served : Reply × World) (denial : Option PeerDenial) (more : List Tx) (tx : Tx)
+    → (Contains (transactions_in served.1) tx → Contains (transactions_in w ++ more) tx) → Contains (transactions_in (answered w peer served denial).1) tx → Contains (transactions_in w ++ more) tx
+answered_from w peer served (Some denial) more tx from h = Contains-append_left _ _ tx h
 answered_from w peer served None more tx from h = from h
 
 -- ---- good states
@@ -152,8 +152,8 @@ submitted_good w peer now transaction told new good =
     let s = submit_of (standing_of w) transaction now w.budget in
     decided_good (record w { pool = s.entries; floor = s.floor }) peer transaction s.decision (after_good w now transaction told new good)
 
-answered_good : (w : World) (peer : ℕ) (served : Reply × World) (refusal : Option Refusal) → IsGoodWorld w → IsGoodWorld served.1 → IsGoodWorld (answered w peer served refusal).1
-answered_good w peer served (Some refusal) good done = same_good w _ refl refl refl good
+answered_good : (w : World) (peer : ℕ) (served : Reply × World) (denial : Option PeerDenial) → IsGoodWorld w → IsGoodWorld served.1 → IsGoodWorld (answered w peer served denial).1
+answered_good w peer served (Some denial) good done = same_good w _ refl refl refl good
 answered_good w peer served None good done = done
 
 none : (before after : List Block) (b : Block) → [] ≡ before ++ b ∷ after → ⊥
@@ -250,8 +250,8 @@ decided_limits w peer None decision = refl
 decided_limits w peer (Some tx) (Ok grant) = refl
 decided_limits w peer (Some tx) (Err denial) = refl
 
-answered_limits : (w : World) (peer : ℕ) (served : Reply × World) (refusal : Option Refusal) → limits_of served.1 ≡ limits_of w → limits_of (answered w peer served refusal).1 ≡ limits_of w
-answered_limits w peer served (Some refusal) h = refl
+answered_limits : (w : World) (peer : ℕ) (served : Reply × World) (denial : Option PeerDenial) → limits_of served.1 ≡ limits_of w → limits_of (answered w peer served denial).1 ≡ limits_of w
+answered_limits w peer served (Some denial) h = refl
 answered_limits w peer served None h = h
 
 chained_limits : (w : World) (after : Happened) (denial : Option ChainDenial) → limits_of (chained_as w after denial).1 ≡ limits_of w

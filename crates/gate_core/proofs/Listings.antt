@@ -11,7 +11,7 @@ use Rattle.gate_reorg.specs.Events.{Happened, event_rules, event_of}
 use Rattle.gate_submission.specs.Blocks.{present}
 use Rattle.gate_message.specs.declared.event.Event.{Event}
 use Rattle.gate_message.specs.declared.event.Event.TheVariants.{Enter, Leave, Tx as Submit, Mempool, GetBlock, Headers, FeeFilter, Rpc, SetFloor, Set as Turn, Chain as Extend}
-use Rattle.gate_message.specs.declared.refusal.Refusal.{Refusal}
+use Rattle.gate_message.specs.declared.denial.PeerDenial.{PeerDenial}
 use Rattle.gate_message.specs.declared.reply.Reply.{Reply}
 use Rattle.gate_message.specs.declared.reply.Reply.TheVariants.{Listing, Rpc as Answered}
 use Rattle.gate_message.specs.UserCalls.{UserCall}
@@ -47,9 +47,9 @@ submitted_lists w peer now transaction txids h =
     let s = submit_of (standing_of w) transaction now w.budget in
     decided_lists (record w { pool = s.entries; floor = s.floor }) peer transaction s.decision txids h
 
-answered_lists : {X : Type 0} (w : World) (peer : ℕ) (served : Reply × World) (refusal : Option Refusal) (txids : List (List ℕ))
-    → (served.0 ≡ Listing txids → X) → (answered w peer served refusal).0 ≡ Listing txids → X
-answered_lists w peer served (Some refusal) txids done h = cc
+answered_lists : {X : Type 0} (w : World) (peer : ℕ) (served : Reply × World) (denial : Option PeerDenial) (txids : List (List ℕ))
+    → (served.0 ≡ Listing txids → X) → (answered w peer served denial).0 ≡ Listing txids → X
+answered_lists w peer served (Some denial) txids done h = cc
 answered_lists w peer served None txids done h = done h
 
 chained_lists : {X : Type 0} (w : World) (after : Happened) (denial : Option ChainDenial) (txids : List (List ℕ)) → (chained_as w after denial).0 ≡ Listing txids → X

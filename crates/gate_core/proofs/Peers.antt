@@ -4,8 +4,8 @@ use Rattle.std.specs.Option.{option_map_or}
 use Rattle.std.specs.Map.{lookup, set_value}
 use Rattle.indexmap.specs.IndexMap.{insert_entry}
 use Rattle.gate_bytes.specs.Order.{first_failing}
-use Rattle.gate_message.specs.declared.refusal.Refusal.{Refusal}
-use Rattle.gate_message.specs.declared.refusal.Refusal.TheVariants.{PeerUnknown, PeerClosed}
+use Rattle.gate_message.specs.declared.denial.PeerDenial.{PeerDenial}
+use Rattle.gate_message.specs.declared.denial.PeerDenial.TheVariants.{PeerUnknown, PeerClosed}
 use Rattle.gate_core.specs.declared.session.Session.{Session as Status}
 use Rattle.gate_net.specs.Permissions.{Permissions, no_permissions}
 use Rattle.gate_core.specs.Access.{is_known, session_rules}
@@ -29,17 +29,17 @@ mapped (Some s) = refl
 pub is_known-shown : (es : List (ℕ × Status)) (peer : ℕ) → is_some (lookup (nat_eq peer) es) ≡ is_known (map shown es) peer
 is_known-shown es peer = sym (ap is_some (session_of-shown es peer)) ∙ mapped (session_of (map shown es) peer)
 
--- the refusal where a peer's session is open, closed or none
-abbrev pub refusal_by : Option Status → Option Refusal
-refusal_by None = Some PeerUnknown
-refusal_by (Some status) = if not status.is_open then Some PeerClosed else None
+-- the denial where a peer's session is open, closed or none
+abbrev pub denial_by : Option Status → Option PeerDenial
+denial_by None = Some PeerUnknown
+denial_by (Some status) = if not status.is_open then Some PeerClosed else None
 
-by_session : (o : Option Session) → refusal_by (option_map status_of o) ≡ (if not (is_some o) then Some PeerUnknown else if option_map_or (λ (s : Session). not s.is_open) o false then Some PeerClosed else None)
+by_session : (o : Option Session) → denial_by (option_map status_of o) ≡ (if not (is_some o) then Some PeerUnknown else if option_map_or (λ (s : Session). not s.is_open) o false then Some PeerClosed else None)
 by_session None = refl
 by_session (Some s) = refl
 
-pub rules-shown : (es : List (ℕ × Status)) (peer : ℕ) (found : Option Status) → found ≡ lookup (nat_eq peer) es → refusal_by found ≡ first_failing (session_rules (map shown es) peer)
-rules-shown es peer found is = ap refusal_by (is ∙ sym (session_of-shown es peer)) ∙ by_session (session_of (map shown es) peer)
+pub rules-shown : (es : List (ℕ × Status)) (peer : ℕ) (found : Option Status) → found ≡ lookup (nat_eq peer) es → denial_by found ≡ first_failing (session_rules (map shown es) peer)
+rules-shown es peer found is = ap denial_by (is ∙ sym (session_of-shown es peer)) ∙ by_session (session_of (map shown es) peer)
 
 -- the flags where a peer has a session, or none
 abbrev pub flags_by : Option Status → Permissions

@@ -3,7 +3,7 @@ use Rattle.std.proofs.Common.{◌≡◌, ◌<◌, ◌≤◌, ℕ, Bool, true, fa
 use Rattle.std.proofs.lemmas.Bool.{false_from_ne_true, leb-true}
 use Rattle.std.specs.Option.{option_map_or}
 use Rattle.gate_tx.specs.Money.{max_money}
-use Rattle.gate_message.specs.declared.refusal.Refusal.TheVariants.{PeerUnknown, PeerClosed}
+use Rattle.gate_message.specs.declared.denial.PeerDenial.TheVariants.{PeerUnknown, PeerClosed}
 use Rattle.gate_message.specs.declared.reply.Reply.{Reply}
 use Rattle.gate_core.specs.Sessions.{Session, session_of, rate_in, rate_after, rated}
 use Rattle.gate_core.specs.SessionLaws.{GreatRatesChangeNothing}
@@ -28,7 +28,7 @@ too_great : (sessions : List Session) (peer rate : ℕ) → max_money < rate →
 too_great sessions peer rate great =
     ap (λ (b : Bool). if b then rate else rate_in sessions peer) (false_from_ne_true (nat_le rate max_money) (λ k. let within : rate ≤ max_money = leb-true _ _ k in absurd (omega arith)))
 
--- what a rule on sessions refuses keeps the session
+-- what a rule on sessions denies keeps the session
 refused_stays : (w : World) (peer : ℕ) (served : Reply × World) (known closed : Bool) → served.1 ≡ w
     → (answered w peer served (if not known then Some PeerUnknown else if closed then Some PeerClosed else None)).1 ≡ w
 refused_stays w peer served false closed same = refl

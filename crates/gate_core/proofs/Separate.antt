@@ -14,14 +14,14 @@ use Rattle.gate_submission.specs.Blocks.{present}
 use Rattle.gate_message.specs.declared.caller.Caller.TheVariants.{Peer}
 use Rattle.gate_message.specs.declared.event.Event.{Event}
 use Rattle.gate_message.specs.declared.event.Event.TheVariants.{Enter, Leave, Tx as Submit, Mempool, GetBlock, Headers, FeeFilter, Rpc, SetFloor, Set as Turn, Chain as Extend}
-use Rattle.gate_message.specs.declared.refusal.Refusal.{Refusal}
-use Rattle.gate_message.specs.declared.refusal.Refusal.TheVariants.{Admission}
-use Rattle.gate_message.specs.declared.refusal.Then.{Then}
-use Rattle.gate_message.specs.declared.refusal.Then.TheVariants.{Keep, Close, Relay}
+use Rattle.gate_message.specs.declared.denial.PeerDenial.{PeerDenial}
+use Rattle.gate_message.specs.declared.denial.PeerDenial.TheVariants.{Admission}
+use Rattle.gate_message.specs.declared.denial.Then.{Then}
+use Rattle.gate_message.specs.declared.denial.Then.TheVariants.{Keep, Close, Relay}
 use Rattle.gate_message.specs.declared.reply.Reply.{Reply}
 use Rattle.gate_net.specs.Permissions.{Permissions}
 use Rattle.gate_message.specs.Callers.{caller_of}
-use Rattle.gate_message.specs.Refusals.{then_of}
+use Rattle.gate_message.specs.PeerDenials.{then_of}
 use Rattle.gate_core.specs.Sessions.{Session, session, session_of, flags_in, rate_after, closed, rated}
 use Rattle.gate_core.specs.World.{World, flags_at, standing_of}
 use Rattle.gate_core.specs.Access.{entering_rules, session_rules, submission_rules, listing_rules, block_rules, headers_rules}
@@ -79,9 +79,9 @@ submitted_leaves w peer other now transaction h =
     let s = submit_of (standing_of w) transaction now w.budget in
     decided_leaves (record w { pool = s.entries; floor = s.floor }) peer other transaction s.decision h
 
-answered_leaves : (w : World) (peer other : ℕ) (served : Reply × World) (refusal : Option Refusal) → other ≢ peer
-    → session_of served.1.sessions other ≡ session_of w.sessions other → session_of (answered w peer served refusal).1.sessions other ≡ session_of w.sessions other
-answered_leaves w peer other served (Some refusal) h done = after_leaves (then_of (flags_in w.sessions peer) refusal) w.sessions peer other h
+answered_leaves : (w : World) (peer other : ℕ) (served : Reply × World) (denial : Option PeerDenial) → other ≢ peer
+    → session_of served.1.sessions other ≡ session_of w.sessions other → session_of (answered w peer served denial).1.sessions other ≡ session_of w.sessions other
+answered_leaves w peer other served (Some denial) h done = after_leaves (then_of (flags_in w.sessions peer) denial) w.sessions peer other h
 answered_leaves w peer other served None h done = done
 
 chained_leaves : (w : World) (other : ℕ) (after : Happened) (denial : Option ChainDenial) → session_of (chained_as w after denial).1.sessions other ≡ session_of w.sessions other

@@ -22,7 +22,7 @@ use Rattle.gate_submission.specs.Blocks.{present}
 use Rattle.gate_reorg.proofs.Spending.{SpendOnce, below_once, entered_once, events_spend_once, part_once}
 use Rattle.gate_message.specs.declared.event.Event.{Event}
 use Rattle.gate_message.specs.declared.event.Event.TheVariants.{Enter, Leave, Tx as Submit, Mempool, GetBlock, Headers, FeeFilter, Rpc, SetFloor, Set as Turn, Chain as Extend}
-use Rattle.gate_message.specs.declared.refusal.Refusal.{Refusal}
+use Rattle.gate_message.specs.declared.denial.PeerDenial.{PeerDenial}
 use Rattle.gate_message.specs.declared.reply.Reply.{Reply}
 use Rattle.gate_core.specs.Access.{entering_rules, session_rules, submission_rules, listing_rules, block_rules, headers_rules}
 use Rattle.gate_core.specs.ChainSteps.{chained_as}
@@ -54,8 +54,8 @@ decided_once w peer None decision h = h
 decided_once w peer (Some tx) (Ok grant) h = h
 decided_once w peer (Some tx) (Err denial) h = h
 
-answered_once : (w : World) (peer : ℕ) (served : Reply × World) (refusal : Option Refusal) → SpendOnce w.pool → SpendOnce served.1.pool → SpendOnce (answered w peer served refusal).1.pool
-answered_once w peer served (Some refusal) h done = h
+answered_once : (w : World) (peer : ℕ) (served : Reply × World) (denial : Option PeerDenial) → SpendOnce w.pool → SpendOnce served.1.pool → SpendOnce (answered w peer served denial).1.pool
+answered_once w peer served (Some denial) h done = h
 answered_once w peer served None h done = done
 
 chained_once : (w : World) (disconnect now : ℕ) (blocks : List (Option Block)) (denial : Option ChainDenial) → SpendOnce w.pool

@@ -1,4 +1,4 @@
--- Access: the rules on an event's caller in the written order, of which the first that fails is the refusal.
+-- Access: the rules on an event's caller in the written order, of which the first that fails is the denial.
 use Rattle.std.specs.Prelude.{ℕ, ◌+◌, nat_lt, Bool, false, not, ◌&&◌, ◌||◌, is_some, is_none, List, [], ◌∷◌, ◌++◌, Option, unwrap_or}
 use Rattle.std.specs.Option.{option_map_or}
 use Rattle.gate_bytes.specs.Order.{Rule, first_failing, IsFirstOf}
@@ -11,8 +11,8 @@ use Rattle.gate_pool.specs.Pool.{Admitted, entry_by_wtxid}
 use Rattle.gate_net.specs.Permissions.{Permissions}
 use Rattle.gate_message.specs.declared.event.Event.{Event}
 use Rattle.gate_message.specs.declared.event.Event.TheVariants.{Enter, Leave, Tx as Submit, Mempool, GetBlock, Headers, FeeFilter, Rpc, SetFloor, Set, Chain as Extend}
-use Rattle.gate_message.specs.declared.refusal.Refusal.{Refusal}
-use Rattle.gate_message.specs.declared.refusal.Refusal.TheVariants.{PeerUnknown, PeerClosed, PeerKnown, BlocksOnly, AlreadyInMempool, MempoolNoBloom, MempoolUploadTarget, HeadersDuringDownload, UnknownBlock, HistoricalUploadTarget, Admission}
+use Rattle.gate_message.specs.declared.denial.PeerDenial.{PeerDenial}
+use Rattle.gate_message.specs.declared.denial.PeerDenial.TheVariants.{PeerUnknown, PeerClosed, PeerKnown, BlocksOnly, AlreadyInMempool, MempoolNoBloom, MempoolUploadTarget, HeadersDuringDownload, UnknownBlock, HistoricalUploadTarget, Admission}
 use Rattle.gate_core.specs.Sessions.{Session, session_of, flags_in}
 use Rattle.gate_core.specs.World.{World}
 
@@ -61,15 +61,15 @@ is_pooled pool transaction = option_map_or (λ (tx : Tx). is_some (entry_by_wtxi
 
 -- ---- the rules on each event
 
-abbrev pub entering_rules : List Session → ℕ → List (Rule Refusal)
+abbrev pub entering_rules : List Session → ℕ → List (Rule PeerDenial)
 entering_rules sessions peer = (PeerKnown, is_known sessions peer) ∷ []
 
 -- every event of a peer but its entering needs an open session
-abbrev pub session_rules : List Session → ℕ → List (Rule Refusal)
+abbrev pub session_rules : List Session → ℕ → List (Rule PeerDenial)
 session_rules sessions peer = (PeerUnknown, not (is_known sessions peer)) ∷ (PeerClosed, is_closed sessions peer) ∷ []
 
 -- whether the peer's transactions are taken at all is asked before this one is decoded
-abbrev pub submission_rules : World → ℕ → Option Tx → List (Rule Refusal)
+abbrev pub submission_rules : World → ℕ → Option Tx → List (Rule PeerDenial)
 submission_rules w peer transaction =
     session_rules w.sessions peer
     ++ (BlocksOnly, lacks_relay w (flags_in w.sessions peer))
@@ -77,21 +77,21 @@ submission_rules w peer transaction =
     ∷ (AlreadyInMempool, is_pooled w.pool transaction)
     ∷ []
 
-abbrev pub listing_rules : World → ℕ → List (Rule Refusal)
+abbrev pub listing_rules : World → ℕ → List (Rule PeerDenial)
 listing_rules w peer =
     session_rules w.sessions peer
     ++ (MempoolNoBloom, lacks_bloom w (flags_in w.sessions peer))
     ∷ (MempoolUploadTarget, lacks_upload w (flags_in w.sessions peer))
     ∷ []
 
-abbrev pub headers_rules : World → ℕ → ℕ → List (Rule Refusal)
+abbrev pub headers_rules : World → ℕ → ℕ → List (Rule PeerDenial)
 headers_rules w peer height =
     session_rules w.sessions peer
     ++ (HeadersDuringDownload, lacks_headers w (flags_in w.sessions peer))
     ∷ (UnknownBlock, is_above_tip w height)
     ∷ []
 
-abbrev pub block_rules : World → ℕ → ℕ → List (Rule Refusal)
+abbrev pub block_rules : World → ℕ → ℕ → List (Rule PeerDenial)
 block_rules w peer height =
     session_rules w.sessions peer
     ++ (UnknownBlock, is_above_tip w height)
@@ -99,7 +99,7 @@ block_rules w peer height =
     ∷ []
 
 -- the rule on users (U1) is defined with the answers to their calls; there are none on the operator and the chain
-abbrev pub caller_rules : World → Event → List (Rule Refusal)
+abbrev pub caller_rules : World → Event → List (Rule PeerDenial)
 caller_rules w (Enter peer address) = entering_rules w.sessions peer
 caller_rules w (Leave peer) = session_rules w.sessions peer
 caller_rules w (Submit peer now transaction) = submission_rules w peer transaction
@@ -112,6 +112,6 @@ caller_rules w (SetFloor rate) = []
 caller_rules w (Set switch on) = []
 caller_rules w (Extend disconnect now blocks) = []
 
--- a refusal names a rule that fails, with none failing before it; without one no rule fails
+-- a denial names a rule that fails, with none failing before it; without one no rule fails
 abbrev pub AccessFollowsTheOrder : Type 0
 AccessFollowsTheOrder = (w : World) (event : Event) → IsFirstOf (caller_rules w event) (first_failing (caller_rules w event))

@@ -12,13 +12,13 @@ use Rattle.gate_rpc.specs.declared.reply.RpcReply.TheVariants.{NotAllowed}
 use Rattle.gate_message.specs.declared.caller.Caller.TheVariants.{Peer}
 use Rattle.gate_message.specs.declared.event.Event.{Event}
 use Rattle.gate_message.specs.declared.event.Event.TheVariants.{Tx as Submit, Mempool, GetBlock, Headers, Rpc}
-use Rattle.gate_message.specs.declared.refusal.Refusal.{Refusal}
-use Rattle.gate_message.specs.declared.refusal.Refusal.TheVariants.{BlocksOnly}
-use Rattle.gate_message.specs.declared.refusal.Then.TheVariants.{Close}
+use Rattle.gate_message.specs.declared.denial.PeerDenial.{PeerDenial}
+use Rattle.gate_message.specs.declared.denial.PeerDenial.TheVariants.{BlocksOnly}
+use Rattle.gate_message.specs.declared.denial.Then.TheVariants.{Close}
 use Rattle.gate_message.specs.declared.reply.Reply.TheVariants.{Rpc as Answered}
 use Rattle.gate_core.specs.Access.{is_historical}
 use Rattle.gate_message.specs.Callers.{caller_of}
-use Rattle.gate_message.specs.Refusals.{then_of}
+use Rattle.gate_message.specs.PeerDenials.{then_of}
 use Rattle.gate_core.specs.SessionLaws.{IsDenied}
 use Rattle.gate_core.specs.Sessions.{Session, session_of, flags_in}
 use Rattle.gate_core.specs.Steps.{step_of}
@@ -40,7 +40,7 @@ FlagsGuard = (w : World) (peer : ℕ) → Guards w peer (flags_in w.sessions pee
 
 -- only one denial closes the session of a peer with noban: that of a transaction that comes while the node takes blocks only
 abbrev pub NobanIsKept : Type 0
-NobanIsKept = (flags : Permissions) (refusal : Refusal) → flags.noban ≡ true → refusal ≢ BlocksOnly → then_of flags refusal ≢ Close
+NobanIsKept = (flags : Permissions) (denial : PeerDenial) → flags.noban ≡ true → denial ≢ BlocksOnly → then_of flags denial ≢ Close
 
 -- no event of a peer whose session is closed changes anything
 abbrev pub ClosedSessionsChangeNothing : Type 0

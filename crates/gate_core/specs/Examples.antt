@@ -3,8 +3,8 @@ use Rattle.std.specs.Prelude.{◌≡◌, ℕ, Bool, true, false, List, [], ◌�
 use Rattle.gate_standard.specs.declared.Denial.TheVariants.{Decode, VinEmpty}
 use Rattle.gate_message.specs.declared.event.Event.TheVariants.{Enter, Leave, Tx as Submit, Mempool, GetBlock, Headers as AskHeaders, FeeFilter, SetFloor, Set as Turn}
 use Rattle.gate_message.specs.declared.switch.Switch.TheVariants.{Download}
-use Rattle.gate_message.specs.declared.refusal.Then.TheVariants.{Keep, Close, Relay}
-use Rattle.gate_message.specs.declared.refusal.Refusal.TheVariants.{PeerUnknown, PeerClosed, PeerKnown, BlocksOnly, AlreadyInMempool, MempoolNoBloom, MempoolUploadTarget, HeadersDuringDownload, UnknownBlock, HistoricalUploadTarget, Admission}
+use Rattle.gate_message.specs.declared.denial.Then.TheVariants.{Keep, Close, Relay}
+use Rattle.gate_message.specs.declared.denial.PeerDenial.TheVariants.{PeerUnknown, PeerClosed, PeerKnown, BlocksOnly, AlreadyInMempool, MempoolNoBloom, MempoolUploadTarget, HeadersDuringDownload, UnknownBlock, HistoricalUploadTarget, Admission}
 use Rattle.gate_message.specs.declared.reply.Reply.TheVariants.{Entered, Left, Listing, Block, Headers, Filter, Rpc, Denied, Set}
 use Rattle.gate_admit.specs.Policies.{usual_policy}
 use Rattle.gate_net.specs.Addresses.{V4}
@@ -12,7 +12,7 @@ use Rattle.gate_net.specs.Permissions.{Permissions, no_permissions, permissions_
 use Rattle.gate_core.specs.Switching.{unswitched}
 use Rattle.gate_core.specs.Sessions.{Session, session}
 use Rattle.gate_core.specs.World.{World}
-use Rattle.gate_core.specs.PeerSteps.{refused}
+use Rattle.gate_core.specs.PeerSteps.{denied}
 use Rattle.gate_core.specs.RpcSteps.{rpc_step}
 use Rattle.gate_rpc.specs.declared.id.Id.{Id}
 use Rattle.gate_rpc.specs.declared.id.Id.TheVariants.{Null, Unsigned}
@@ -107,11 +107,11 @@ pub record SmallSteps : Type 0 where
 pub record PermittedSteps : Type 0 where
   pub noban_stays : step_of (one_peer noban true) (Mempool 7) ≡ (Denied MempoolNoBloom Keep, one_peer noban true)
   pub noban_leaves : step_of (one_peer noban true) (Leave 7) ≡ (Left, one_peer noban false)
-  pub noban_empty : refused (one_peer noban true) 7 (Admission VinEmpty) ≡ (Denied (Admission VinEmpty) Keep, one_peer noban true)
-  pub empty : refused (one_peer forcerelay true) 7 (Admission VinEmpty) ≡ (Denied (Admission VinEmpty) Close, one_peer forcerelay false)
-  pub relayed : refused (one_peer forcerelay true) 7 AlreadyInMempool ≡ (Denied AlreadyInMempool Relay, one_peer forcerelay true)
-  pub not_relayed : refused (one_peer noban true) 7 AlreadyInMempool ≡ (Denied AlreadyInMempool Keep, one_peer noban true)
-  pub without_session : refused (one_peer noban true) 9 PeerUnknown ≡ (Denied PeerUnknown Keep, one_peer noban true)
+  pub noban_empty : denied (one_peer noban true) 7 (Admission VinEmpty) ≡ (Denied (Admission VinEmpty) Keep, one_peer noban true)
+  pub empty : denied (one_peer forcerelay true) 7 (Admission VinEmpty) ≡ (Denied (Admission VinEmpty) Close, one_peer forcerelay false)
+  pub relayed : denied (one_peer forcerelay true) 7 AlreadyInMempool ≡ (Denied AlreadyInMempool Relay, one_peer forcerelay true)
+  pub not_relayed : denied (one_peer noban true) 7 AlreadyInMempool ≡ (Denied AlreadyInMempool Keep, one_peer noban true)
+  pub without_session : denied (one_peer noban true) 9 PeerUnknown ≡ (Denied PeerUnknown Keep, one_peer noban true)
   pub noban_text : permissions_text noban ≡ codes "noban,download"
   pub forcerelay_text : permissions_text forcerelay ≡ codes "forcerelay,relay"
   pub no_text : permissions_text no_permissions ≡ codes "none"

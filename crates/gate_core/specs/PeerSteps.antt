@@ -8,38 +8,38 @@ use Rattle.gate_standard.specs.declared.Denial.TheVariants.{Decode}
 use Rattle.gate_admit.specs.declared.Grant.{Grant}
 use Rattle.gate_admit.specs.Submission.{Submitted, submit_of}
 use Rattle.gate_query.specs.Answers.{listing_at}
-use Rattle.gate_message.specs.declared.refusal.Then.{Then}
-use Rattle.gate_message.specs.declared.refusal.Then.TheVariants.{Keep, Close, Relay}
-use Rattle.gate_message.specs.declared.refusal.Refusal.{Refusal}
-use Rattle.gate_message.specs.declared.refusal.Refusal.TheVariants.{Admission}
+use Rattle.gate_message.specs.declared.denial.Then.{Then}
+use Rattle.gate_message.specs.declared.denial.Then.TheVariants.{Keep, Close, Relay}
+use Rattle.gate_message.specs.declared.denial.PeerDenial.{PeerDenial}
+use Rattle.gate_message.specs.declared.denial.PeerDenial.TheVariants.{Admission}
 use Rattle.gate_message.specs.declared.reply.Reply.{Reply}
 use Rattle.gate_message.specs.declared.reply.Reply.TheVariants.{Entered, Left, Admitted, Listing, Block, Headers, Filter, Denied}
 use Rattle.gate_net.specs.Permissions.{Permissions}
-use Rattle.gate_message.specs.Refusals.{then_of}
+use Rattle.gate_message.specs.PeerDenials.{then_of}
 use Rattle.gate_core.specs.Sessions.{Session, session, flags_in, rate_in, rate_after, closed, rated}
 use Rattle.gate_core.specs.World.{World, flags_at, standing_of}
 use Rattle.gate_core.specs.Access.{entering_rules, session_rules, submission_rules, listing_rules, block_rules, headers_rules, seconds_at}
 use Rattle.gate_net.specs.Addresses.{Address}
 use Rattle.gate_chain.specs.Times.{tip_of}
 
--- the sessions after a refusal to a peer, by what follows from it
+-- the sessions after a denial to a peer, by what follows from it
 abbrev pub sessions_after : Then → List Session → ℕ → List Session
 sessions_after Keep sessions peer = sessions
 sessions_after Close sessions peer = closed sessions peer
 sessions_after Relay sessions peer = sessions
 
-abbrev pub denied : World → ℕ → Refusal → Then → Reply × World
-denied w peer refusal then = (Denied refusal then, record w { sessions = sessions_after then w.sessions peer })
+abbrev pub denied_then : World → ℕ → PeerDenial → Then → Reply × World
+denied_then w peer denial then = (Denied denial then, record w { sessions = sessions_after then w.sessions peer })
 
-abbrev pub refused : World → ℕ → Refusal → Reply × World
-refused w peer refusal = denied w peer refusal (then_of (flags_in w.sessions peer) refusal)
+abbrev pub denied : World → ℕ → PeerDenial → Reply × World
+denied w peer denial = denied_then w peer denial (then_of (flags_in w.sessions peer) denial)
 
-abbrev pub answered : World → ℕ → Reply × World → Option Refusal → Reply × World
-answered w peer served (Some refusal) = refused w peer refusal
+abbrev pub answered : World → ℕ → Reply × World → Option PeerDenial → Reply × World
+answered w peer served (Some denial) = denied w peer denial
 answered w peer served None = served
 
 -- an event of a peer: the rules on it, and what it gives if none of them fails
-abbrev pub peer_step : World → ℕ → List (Rule Refusal) → Reply × World → Reply × World
+abbrev pub peer_step : World → ℕ → List (Rule PeerDenial) → Reply × World → Reply × World
 peer_step w peer rules served = answered w peer served (first_failing rules)
 
 abbrev pub seated : World → ℕ → Permissions → Reply × World
@@ -53,9 +53,9 @@ left w peer = (Left, record w { sessions = closed w.sessions peer })
 
 -- the reply to a submission with this decision
 abbrev pub decided : World → ℕ → Option Tx → Result Grant Denial → Reply × World
-decided w peer None decision = refused w peer (Admission Decode)
+decided w peer None decision = denied w peer (Admission Decode)
 decided w peer (Some tx) (Ok grant) = (Admitted (txid_of tx) grant.fee grant.vsize grant.replaced, w)
-decided w peer (Some tx) (Err denial) = refused w peer (Admission denial)
+decided w peer (Some tx) (Err denial) = denied w peer (Admission denial)
 
 -- what a submission with this outcome gives: pool and floor are as it left them, whatever the reply
 abbrev pub concluded : World → ℕ → Option Tx → Submitted → Reply × World

@@ -6,8 +6,8 @@ use Rattle.gate_standard.specs.declared.Denial.TheVariants.{MempoolFull}
 use Rattle.gate_message.specs.declared.caller.Caller.TheVariants.{Peer}
 use Rattle.gate_message.specs.declared.event.Event.{Event}
 use Rattle.gate_message.specs.declared.event.Event.TheVariants.{Enter, Leave, Tx as Submit, Mempool, GetBlock, Headers, FeeFilter, Rpc, SetFloor, Set as Turn, Chain as Extend}
-use Rattle.gate_message.specs.declared.refusal.Refusal.TheVariants.{PeerClosed, PeerKnown, Admission}
-use Rattle.gate_message.specs.declared.refusal.Then.TheVariants.{Keep}
+use Rattle.gate_message.specs.declared.denial.PeerDenial.TheVariants.{PeerClosed, PeerKnown, Admission}
+use Rattle.gate_message.specs.declared.denial.Then.TheVariants.{Keep}
 use Rattle.gate_message.specs.declared.reply.Reply.{Reply}
 use Rattle.gate_message.specs.declared.reply.Reply.TheVariants.{Entered, Left, Admitted, Listing, Block, Headers, Filter, Rpc as Answered, Denied, Set, Moved, Refused}
 use Rattle.gate_rpc.specs.declared.error.RpcError.{RpcError}
@@ -72,7 +72,7 @@ IsDenied (Block height time) = ⊥
 IsDenied (Headers first count) = ⊥
 IsDenied (Filter rate) = ⊥
 IsDenied (Answered answer) = IsFailed answer
-IsDenied (Denied refusal then) = refusal ≢ Admission MempoolFull
+IsDenied (Denied denial then) = denial ≢ Admission MempoolFull
 IsDenied Set = ⊥
 IsDenied (Moved moved) = ⊥
 IsDenied (Refused denial) = Unit {0}

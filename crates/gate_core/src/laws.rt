@@ -4,8 +4,8 @@ ghost use Rattle.gate_core.specs.AccessLaws.{ClosedSessionsChangeNothing, FlagsG
 ghost use Rattle.gate_core.specs.Runs.{AdmissionsLeaveNothingStale, CallsLeaveNothingStale, OnlyOperatorsLowerTheFloor, RunsEndGood, RunsKeepFamilies, RunsKeepTheBudget, RunsKeepThePoolSound, StepsGiveTheRun};
 ghost use Rattle.gate_core.specs.SessionLaws.{ClosedStaysClosed, DenialsLeaveThePool, GreatRatesChangeNothing, PeersAreSeparate};
 
-/// The refusal of an event names a rule on its caller that fails, with none failing before it in the written order, and an
-/// event without a refusal fails none.
+/// The denial of an event names a rule on its caller that fails, with none failing before it in the written order, and an
+/// event without a denial fails none.
 pub fn access_follows_the_order()
     ensures { AccessFollowsTheOrder }
 {}

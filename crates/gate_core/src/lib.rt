@@ -17,7 +17,7 @@ mod state;
 mod submitting;
 mod switches;
 
-pub use gate_message::{Call, Caller, Event, Refusal, Replies, Reply, Switch, Then};
+pub use gate_message::{Call, Caller, Event, PeerDenial, Replies, Reply, Switch, Then};
 pub use laws::{
     access_follows_the_order, admissions_leave_nothing_stale, closed_sessions_change_nothing,
     closed_stays_closed, denials_leave_the_pool, flags_guard, great_rates_change_nothing,

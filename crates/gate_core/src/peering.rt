@@ -4,7 +4,7 @@ ghost use Rattle.gate_chain.specs.Times.{tip_of};
 ghost use Rattle.gate_bytes.specs.Order.{first_failing};
 ghost use Rattle.gate_core.specs.World.{flags_at};
 ghost use Rattle.gate_core.specs.Access.{listing_rules, submission_rules, block_rules, headers_rules, is_historical, seconds_at};
-ghost use Rattle.gate_core.specs.PeerSteps.{entering_step, leaving_step, submission_step, submitted, listing_step, block_step, headers_step, filter_step, refused};
+ghost use Rattle.gate_core.specs.PeerSteps.{entering_step, leaving_step, submission_step, submitted, listing_step, block_step, headers_step, filter_step, denied};
 ghost use Rattle.gate_pool.specs.Pool.{Pooled};
 ghost use Rattle.gate_core.specs.Sessions.{Seated, rate_after};
 ghost use Rattle.gate_core.specs.Planning.{Fits, Plans, world_of};
@@ -13,7 +13,7 @@ use crate::parts::Parts;
 use crate::planning::{Change, Plan};
 use gate_admit::{Conditions, Prepared, plan_submission};
 use gate_bytes::{Boxed, Memory};
-use gate_message::{Refusal, Reply, Then};
+use gate_message::{PeerDenial, Reply, Then};
 use gate_net::{Address, Permissions};
 use gate_query::listing_at;
 use gate_standard::{Denial, MAX_MONEY};
@@ -35,14 +35,14 @@ impl<S: BuildHasher + Copy + Drop> Parts<S> {
         self.whitelist.flags_of(address)
     }
 
-    /// The plan of a refusal to a peer, which closes the peer's session if that follows from the refusal.
+    /// The plan of a denial to a peer, which closes the peer's session if that follows from the denial.
     #[inline(always)]
-    fn refusing(&self, peer: u64, refusal: Refusal) -> Plan
-        ensures reply { Plans (world_of self.now) (refused (world_of self.now) peer refusal) result }
+    fn denying(&self, peer: u64, denial: PeerDenial) -> Plan
+        ensures reply { Plans (world_of self.now) (denied (world_of self.now) peer denial) result }
         ensures fits { (sessions : Seated) (pool : Pooled) → Fits result.change sessions pool }
     {
-        let then = refusal.then(&self.sessions.flags(peer));
-        let reply = Reply::Denied { refusal, then };
+        let then = denial.then(&self.sessions.flags(peer));
+        let reply = Reply::Denied { denial, then };
         match then {
             Then::Close => Plan {
                 reply,
@@ -59,7 +59,7 @@ impl<S: BuildHasher + Copy + Drop> Parts<S> {
         ensures same { world_of self.new ≡ world_of self.old }
     {
         if self.sessions.is_known(peer) {
-            return Ok(self.refusing(peer, Refusal::PeerKnown));
+            return Ok(self.denying(peer, PeerDenial::PeerKnown));
         }
         self.sessions.reserve()?;
         let flags = self.flags_at(address);
@@ -73,8 +73,8 @@ impl<S: BuildHasher + Copy + Drop> Parts<S> {
         ensures plans { Plans (world_of self.now) (leaving_step (world_of self.now) peer) result }
         ensures fits { (sessions : Seated) (pool : Pooled) → Fits result.change sessions pool }
     {
-        match self.sessions.refusal(peer) {
-            Some(refusal) => self.refusing(peer, refusal),
+        match self.sessions.denial(peer) {
+            Some(denial) => self.denying(peer, denial),
             None => Plan {
                 reply: Reply::Left,
                 change: Change::Close { peer },
@@ -86,8 +86,8 @@ impl<S: BuildHasher + Copy + Drop> Parts<S> {
         ensures ok { IfOk result (Plans (world_of self.now) (listing_step (world_of self.now) peer)) }
         ensures fits { IfOk result (λ plan. (sessions : Seated) (pool : Pooled) → Fits plan.change sessions pool) }
     {
-        match self.refusal_of_listing(peer) {
-            Some(refusal) => Ok(self.refusing(peer, refusal)),
+        match self.denial_of_listing(peer) {
+            Some(denial) => Ok(self.denying(peer, denial)),
             None => {
                 let rate = self.sessions.rate(peer);
                 Ok(Plan::telling(Reply::Listing(listing_at(alloc, &self.pool, rate)?)))
@@ -111,8 +111,8 @@ impl<S: BuildHasher + Copy + Drop> Parts<S> {
         ensures fits { (sessions : Seated) (pool : Pooled) → Fits result.change sessions pool }
     {
         let rate = self.rate_after(peer, rate);
-        match self.sessions.refusal(peer) {
-            Some(refusal) => self.refusing(peer, refusal),
+        match self.sessions.denial(peer) {
+            Some(denial) => self.denying(peer, denial),
             None => Plan {
                 reply: Reply::Filter { rate },
                 change: Change::SetFilter { peer, rate },
@@ -131,43 +131,43 @@ impl<S: BuildHasher + Copy + Drop> Parts<S> {
         ensures fits { IfOk result (λ plan. Fits plan.change self.new.sessions self.new.pool) }
         ensures same { world_of self.new ≡ world_of self.old }
     {
-        match self.refusal_of_submission(peer, transaction) {
-            Some(refusal) => Ok(self.refusing(peer, refusal)),
+        match self.denial_of_submission(peer, transaction) {
+            Some(denial) => Ok(self.denying(peer, denial)),
             None => self.submit(alloc, peer, now, transaction),
         }
     }
 
-    fn refusal_of_submission(&self, peer: u64, transaction: &Prepared) -> Option<Refusal>
+    fn denial_of_submission(&self, peer: u64, transaction: &Prepared) -> Option<PeerDenial>
         ensures { result ≡ first_failing (submission_rules (world_of self.now) peer transaction.now) }
     {
-        if let Some(refusal) = self.sessions.refusal(peer) {
-            return Some(refusal);
+        if let Some(denial) = self.sessions.denial(peer) {
+            return Some(denial);
         }
         if self.blocksonly && !self.sessions.flags(peer).relay() {
-            return Some(Refusal::BlocksOnly);
+            return Some(PeerDenial::BlocksOnly);
         }
         let Some(wtxid) = transaction.wtxid() else {
-            return Some(Refusal::Admission(Denial::Decode));
+            return Some(PeerDenial::Admission(Denial::Decode));
         };
         if self.pool.by_wtxid(&wtxid).is_some() {
-            return Some(Refusal::AlreadyInMempool);
+            return Some(PeerDenial::AlreadyInMempool);
         }
         None
     }
 
-    fn refusal_of_listing(&self, peer: u64) -> Option<Refusal>
+    fn denial_of_listing(&self, peer: u64) -> Option<PeerDenial>
         ensures { result ≡ first_failing (listing_rules (world_of self.now) peer) }
     {
-        if let Some(refusal) = self.sessions.refusal(peer) {
-            return Some(refusal);
+        if let Some(denial) = self.sessions.denial(peer) {
+            return Some(denial);
         }
         let flags = self.sessions.flags(peer);
         let is_permitted = flags.mempool() || flags.bloomfilter();
         if !is_permitted && !self.switches.bloom {
-            return Some(Refusal::MempoolNoBloom);
+            return Some(PeerDenial::MempoolNoBloom);
         }
         if self.switches.upload && !flags.mempool() {
-            return Some(Refusal::MempoolUploadTarget);
+            return Some(PeerDenial::MempoolUploadTarget);
         }
         None
     }
@@ -185,7 +185,7 @@ impl<S: BuildHasher + Copy + Drop> Parts<S> {
         ensures same { world_of self.new ≡ world_of self.old }
     {
         let Some(txid) = transaction.txid() else {
-            return Ok(self.refusing(peer, Refusal::Admission(Denial::Decode)));
+            return Ok(self.denying(peer, PeerDenial::Admission(Denial::Decode)));
         };
         let under = Conditions {
             chain: &self.chain,
@@ -208,7 +208,7 @@ impl<S: BuildHasher + Copy + Drop> Parts<S> {
                     coming: Boxed::new(alloc, coming)?,
                 },
             }),
-            Err(denial) => Ok(self.refusing(peer, Refusal::Admission(denial))),
+            Err(denial) => Ok(self.denying(peer, PeerDenial::Admission(denial))),
         }
     }
 }
@@ -231,36 +231,36 @@ impl<S: BuildHasher + Copy + Drop> Parts<S> {
         self.seconds(height) + HISTORICAL_AGE < self.seconds(self.chain.tip())
     }
 
-    fn refusal_of_block(&self, peer: u64, height: u32) -> Option<Refusal>
+    fn denial_of_block(&self, peer: u64, height: u32) -> Option<PeerDenial>
         ensures { result ≡ first_failing (block_rules (world_of self.now) peer height) }
     {
-        if let Some(refusal) = self.sessions.refusal(peer) {
-            return Some(refusal);
+        if let Some(denial) = self.sessions.denial(peer) {
+            return Some(denial);
         }
         if height > self.chain.tip() {
-            return Some(Refusal::UnknownBlock);
+            return Some(PeerDenial::UnknownBlock);
         }
         if self.switches.historic
             && !self.sessions.flags(peer).download()
             && self.is_historical(height)
         {
-            return Some(Refusal::HistoricalUploadTarget);
+            return Some(PeerDenial::HistoricalUploadTarget);
         }
         None
     }
 
-    fn refusal_of_headers(&self, peer: u64, height: u32) -> Option<Refusal>
+    fn denial_of_headers(&self, peer: u64, height: u32) -> Option<PeerDenial>
         ensures first { result ≡ first_failing (headers_rules (world_of self.now) peer height) }
         ensures within { result ≡ None → height ≤ tip_of self.now.chain }
     {
-        if let Some(refusal) = self.sessions.refusal(peer) {
-            return Some(refusal);
+        if let Some(denial) = self.sessions.denial(peer) {
+            return Some(denial);
         }
         if self.switches.download && !self.sessions.flags(peer).download() {
-            return Some(Refusal::HeadersDuringDownload);
+            return Some(PeerDenial::HeadersDuringDownload);
         }
         if height > self.chain.tip() {
-            return Some(Refusal::UnknownBlock);
+            return Some(PeerDenial::UnknownBlock);
         }
         None
     }
@@ -270,8 +270,8 @@ impl<S: BuildHasher + Copy + Drop> Parts<S> {
         ensures plans { Plans (world_of self.now) (block_step (world_of self.now) peer height) result }
         ensures fits { (sessions : Seated) (pool : Pooled) → Fits result.change sessions pool }
     {
-        match self.refusal_of_block(peer, height) {
-            Some(refusal) => self.refusing(peer, refusal),
+        match self.denial_of_block(peer, height) {
+            Some(denial) => self.denying(peer, denial),
             None => Plan::telling(Reply::Block {
                 height,
                 time: self.chain.time(height).unwrap_or(0),
@@ -285,8 +285,8 @@ impl<S: BuildHasher + Copy + Drop> Parts<S> {
         ensures fits { (sessions : Seated) (pool : Pooled) → Fits result.change sessions pool }
     {
         let tip = self.chain.tip();
-        match self.refusal_of_headers(peer, height) {
-            Some(refusal) => self.refusing(peer, refusal),
+        match self.denial_of_headers(peer, height) {
+            Some(denial) => self.denying(peer, denial),
             None => Plan::telling(Reply::Headers {
                 first: height + 1,
                 count: MOST_HEADERS.min(tip - height),

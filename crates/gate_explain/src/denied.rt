@@ -1,6 +1,6 @@
 //! The rule that a reply says fails, and the fault of a call.
 use gate_bytes::Memory;
-use gate_message::{Refusal, Reply};
+use gate_message::{PeerDenial, Reply};
 use gate_rpc::{RpcError, RpcReply, RpcResult};
 use gate_standard::Denial;
 use std::alloc::Global;
@@ -24,7 +24,7 @@ fn denial_of_call(answer: &RpcReply) -> Option<Denial> {
 pub(crate) fn denial_in(reply: &Reply) -> Option<Denial> {
     match reply {
         Reply::Denied {
-            refusal: Refusal::Admission(denial),
+            denial: PeerDenial::Admission(denial),
             ..
         } => Some(*denial),
         Reply::Rpc(answer) => denial_of_call(answer.get()),
@@ -32,27 +32,27 @@ pub(crate) fn denial_in(reply: &Reply) -> Option<Denial> {
     }
 }
 
-/// The rule on a peer that a refusal names.
-fn peer_rule(refusal: &Refusal) -> Option<&'static str> {
-    match refusal {
-        Refusal::PeerUnknown => Some("P1"),
-        Refusal::PeerClosed => Some("P2"),
-        Refusal::PeerKnown => Some("P3"),
-        Refusal::BlocksOnly => Some("P4"),
-        Refusal::AlreadyInMempool => Some("P5"),
-        Refusal::MempoolNoBloom => Some("P6"),
-        Refusal::MempoolUploadTarget => Some("P7"),
-        Refusal::HeadersDuringDownload => Some("P8"),
-        Refusal::UnknownBlock => Some("P9"),
-        Refusal::HistoricalUploadTarget => Some("P10"),
-        Refusal::Admission(_) => None,
+/// The rule on a peer that a denial names.
+fn peer_rule(denial: &PeerDenial) -> Option<&'static str> {
+    match denial {
+        PeerDenial::PeerUnknown => Some("P1"),
+        PeerDenial::PeerClosed => Some("P2"),
+        PeerDenial::PeerKnown => Some("P3"),
+        PeerDenial::BlocksOnly => Some("P4"),
+        PeerDenial::AlreadyInMempool => Some("P5"),
+        PeerDenial::MempoolNoBloom => Some("P6"),
+        PeerDenial::MempoolUploadTarget => Some("P7"),
+        PeerDenial::HeadersDuringDownload => Some("P8"),
+        PeerDenial::UnknownBlock => Some("P9"),
+        PeerDenial::HistoricalUploadTarget => Some("P10"),
+        PeerDenial::Admission(_) => None,
     }
 }
 
 /// The rule on its caller that a reply names.
 fn caller_rule(reply: &Reply) -> Option<&'static str> {
     match reply {
-        Reply::Denied { refusal, .. } => peer_rule(refusal),
+        Reply::Denied { denial, .. } => peer_rule(denial),
         Reply::Rpc(answer) => match answer.get() {
             RpcReply::NotAllowed => Some("U1"),
             _ => None,

@@ -5,8 +5,8 @@ use Rattle.gate_standard.specs.declared.Denial.{Denial}
 use Rattle.gate_submission.specs.declared.moved.Moved.{Moved as Move}
 use Rattle.gate_rpc.specs.declared.error.RpcError.TheVariants as errors
 use Rattle.gate_rpc.specs.declared.reply.RpcReply.TheVariants.{NotAllowed, Answer, Failure}
-use Rattle.gate_message.specs.declared.refusal.Refusal.TheVariants.{Admission}
-use Rattle.gate_message.specs.declared.refusal.Then.TheVariants.{Keep}
+use Rattle.gate_message.specs.declared.denial.PeerDenial.TheVariants.{Admission}
+use Rattle.gate_message.specs.declared.denial.Then.TheVariants.{Keep}
 use Rattle.gate_message.specs.declared.reply.Reply.{Reply}
 use Rattle.gate_message.specs.declared.reply.Reply.TheVariants.{Entered, Left, Admitted, Listing, Block, Headers, Filter, Rpc, Denied, Set, Moved, Refused}
 
@@ -27,7 +27,7 @@ denied_instead (Filter rate) denial = Denied (Admission denial) Keep
 denied_instead (Rpc NotAllowed) denial = Denied (Admission denial) Keep
 denied_instead (Rpc (Answer id result)) denial = Rpc (Failure id (errors.Denied denial))
 denied_instead (Rpc (Failure id error)) denial = Denied (Admission denial) Keep
-denied_instead (Denied refusal then) denial = Denied (Admission denial) Keep
+denied_instead (Denied reason then) denial = Denied (Admission denial) Keep
 denied_instead Set denial = Denied (Admission denial) Keep
 denied_instead (Moved moved) denial = Denied (Admission denial) Keep
 denied_instead (Refused denied) denial = Denied (Admission denial) Keep

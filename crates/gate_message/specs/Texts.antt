@@ -6,13 +6,13 @@ use Rattle.gate_tx.specs.Ids.{id_text}
 use Rattle.gate_chain.specs.declared.ChainDenial.{ChainDenial}
 use Rattle.gate_chain.specs.Denials.{rule_of as chain_rule, token_of}
 use Rattle.gate_submission.specs.declared.Moved.{Moved as Change}
-use Rattle.gate_message.specs.declared.refusal.Refusal.{Refusal}
+use Rattle.gate_message.specs.declared.denial.PeerDenial.{PeerDenial}
 use Rattle.gate_message.specs.declared.reply.Reply.{Reply}
 use Rattle.gate_message.specs.declared.reply.Reply.TheVariants.{Entered, Left, Admitted, Listing, Block, Headers, Filter, Rpc, Denied, Set, Moved, Refused}
 use Rattle.gate_rpc.specs.declared.reply.RpcReply.{RpcReply}
 use Rattle.gate_rpc.specs.Replies.{reply_status, reply_text as answer_text}
 use Rattle.gate_net.specs.Permissions.{Permissions, permissions_text}
-use Rattle.gate_message.specs.Refusals.{rule_text, refusal_token, then_text}
+use Rattle.gate_message.specs.PeerDenials.{rule_text, denial_token, then_text}
 
 abbrev pub entered_text : Permissions → List ℕ
 entered_text flags = codes "entered " ++ permissions_text flags
@@ -40,8 +40,8 @@ filter_text rate = codes "filter " ++ decimal rate
 abbrev pub rpc_text : RpcReply → List ℕ
 rpc_text answer = codes "rpc " ++ (decimal (reply_status answer) ++ codes " ") ++ answer_text answer
 
-abbrev pub denied_text : Refusal → List ℕ → List ℕ
-denied_text refusal then = codes "denied " ++ (rule_text refusal ++ (codes " " ++ (then ++ (codes " " ++ refusal_token refusal))))
+abbrev pub denied_text : PeerDenial → List ℕ → List ℕ
+denied_text denial then = codes "denied " ++ (rule_text denial ++ (codes " " ++ (then ++ (codes " " ++ denial_token denial))))
 
 -- the height of the tip, and how many entries left and came
 abbrev pub moved_text : Change → List ℕ
@@ -60,7 +60,7 @@ reply_text (Block height time) = block_text height time
 reply_text (Headers first count) = headers_text first count
 reply_text (Filter rate) = filter_text rate
 reply_text (Rpc answer) = rpc_text answer
-reply_text (Denied refusal then) = denied_text refusal (then_text then)
+reply_text (Denied denial then) = denied_text denial (then_text then)
 reply_text Set = codes "set"
 reply_text (Moved moved) = moved_text moved
 reply_text (Refused denial) = refused_text denial

@@ -1,4 +1,4 @@
-//! What callers ask of the gate, and what it answers: events, replies and refusals, with their copies, their equality and the
+//! What callers ask of the gate, and what it answers: events, replies and denials, with their copies, their equality and the
 //! lines of replies.
 //!
 //! The main clauses are those of `Reply::text`, the line of each reply, and of `Event::caller`, who makes an event.
@@ -8,7 +8,7 @@ mod call;
 mod caller;
 mod event;
 mod recording;
-mod refusal;
+mod denial;
 mod reply;
 mod same;
 mod switch;
@@ -17,7 +17,7 @@ pub use call::Call;
 pub use caller::Caller;
 pub use event::Event;
 pub use recording::Replies;
-pub use refusal::{Refusal, Then};
+pub use denial::{PeerDenial, Then};
 pub use reply::Reply;
 pub use same::{is_same_event, is_same_reply};
 pub use switch::Switch;

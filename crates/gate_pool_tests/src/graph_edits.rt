@@ -1,6 +1,5 @@
-//! Edits from a fixed list, each of a graph and of a plain list, which find the same after it.
-use crate::draw::Draw;
 //! Edits from a fixed list, each made to a graph and to a plain list, which find the same after it.
+use crate::draw::Draw;
 use crate::graph::{Hashing, empty, goes_out, is_above, is_below, named};
 use crate::plain_graph::{Plain, Row};
 use gate_bytes::Memory;

@@ -1,12 +1,12 @@
 //! Why an event is denied, and what follows for the session.
 ghost use Rattle.std.specs.Prelude.{◌≡◌, ◌++◌, OnOk, codes, string_bytes};
-ghost use Rattle.gate_message.specs.Refusals.{closing, rule_text, refusal_token, then_of, then_text};
+ghost use Rattle.gate_message.specs.PeerDenials.{closing, rule_text, denial_token, then_of, then_text};
 
 use gate_bytes::{Exact, Memory};
 use gate_net::Permissions;
 use gate_standard::Denial;
 
-/// What a refusal does to the peer's session.
+/// What a denial does to the peer's session.
 #[derive(Clone, Copy, Debug, PartialEq, Eq)]
 pub enum Then {
     /// The session goes on.
@@ -18,7 +18,7 @@ pub enum Then {
 }
 
 impl Then {
-    /// What a refusal that closes a session does to that of a peer with these flags.
+    /// What a denial that closes a session does to that of a peer with these flags.
     fn closing(flags: &Permissions) -> Then
         ensures { result ≡ closing flags.now }
     {
@@ -43,7 +43,7 @@ impl Then {
 
 /// A rule that an event fails: one on its peer, or one of admission.
 #[derive(Clone, Copy, Debug, PartialEq, Eq)]
-pub enum Refusal {
+pub enum PeerDenial {
     /// P1: the peer never entered.
     PeerUnknown,
     /// P2: the peer's session is closed.
@@ -69,23 +69,23 @@ pub enum Refusal {
     Admission(Denial),
 }
 
-impl Refusal {
+impl PeerDenial {
     /// The reason as it is printed.
     pub fn token(&self) -> &'static str
-        ensures { result.now ≡ refusal_token self.now }
+        ensures { result.now ≡ denial_token self.now }
     {
         match self {
-            Refusal::PeerUnknown => "peer-unknown",
-            Refusal::PeerClosed => "peer-closed",
-            Refusal::PeerKnown => "peer-known",
-            Refusal::BlocksOnly => "blocks-only",
-            Refusal::AlreadyInMempool => "txn-already-in-mempool",
-            Refusal::MempoolNoBloom => "mempool-no-bloom",
-            Refusal::MempoolUploadTarget => "mempool-upload-target",
-            Refusal::HeadersDuringDownload => "headers-during-download",
-            Refusal::UnknownBlock => "unknown-block",
-            Refusal::HistoricalUploadTarget => "historical-upload-target",
-            Refusal::Admission(denial) => denial.token(),
+            PeerDenial::PeerUnknown => "peer-unknown",
+            PeerDenial::PeerClosed => "peer-closed",
+            PeerDenial::PeerKnown => "peer-known",
+            PeerDenial::BlocksOnly => "blocks-only",
+            PeerDenial::AlreadyInMempool => "txn-already-in-mempool",
+            PeerDenial::MempoolNoBloom => "mempool-no-bloom",
+            PeerDenial::MempoolUploadTarget => "mempool-upload-target",
+            PeerDenial::HeadersDuringDownload => "headers-during-download",
+            PeerDenial::UnknownBlock => "unknown-block",
+            PeerDenial::HistoricalUploadTarget => "historical-upload-target",
+            PeerDenial::Admission(denial) => denial.token(),
         }
     }
 
@@ -95,17 +95,17 @@ impl Refusal {
         ensures { OnOk result (string_bytes text.new ≡ string_bytes text.old ++ (codes "denied " ++ rule_text self.now)) }
     {
         let words = match self {
-            Refusal::PeerUnknown => "denied P1",
-            Refusal::PeerClosed => "denied P2",
-            Refusal::PeerKnown => "denied P3",
-            Refusal::BlocksOnly => "denied P4",
-            Refusal::AlreadyInMempool => "denied P5",
-            Refusal::MempoolNoBloom => "denied P6",
-            Refusal::MempoolUploadTarget => "denied P7",
-            Refusal::HeadersDuringDownload => "denied P8",
-            Refusal::UnknownBlock => "denied P9",
-            Refusal::HistoricalUploadTarget => "denied P10",
-            Refusal::Admission(denial) => return Ok(write!(text, "denied A{}", denial.rule())?),
+            PeerDenial::PeerUnknown => "denied P1",
+            PeerDenial::PeerClosed => "denied P2",
+            PeerDenial::PeerKnown => "denied P3",
+            PeerDenial::BlocksOnly => "denied P4",
+            PeerDenial::AlreadyInMempool => "denied P5",
+            PeerDenial::MempoolNoBloom => "denied P6",
+            PeerDenial::MempoolUploadTarget => "denied P7",
+            PeerDenial::HeadersDuringDownload => "denied P8",
+            PeerDenial::UnknownBlock => "denied P9",
+            PeerDenial::HistoricalUploadTarget => "denied P10",
+            PeerDenial::Admission(denial) => return Ok(write!(text, "denied A{}", denial.rule())?),
         };
         Ok(text.push_str(words)?)
     }
@@ -115,12 +115,12 @@ impl Refusal {
         ensures { result ≡ then_of flags.now self.now }
     {
         match self {
-            Refusal::BlocksOnly => Then::Close,
-            Refusal::AlreadyInMempool if flags.forcerelay() => Then::Relay,
-            Refusal::MempoolNoBloom => Then::closing(flags),
-            Refusal::MempoolUploadTarget => Then::closing(flags),
-            Refusal::HistoricalUploadTarget => Then::closing(flags),
-            Refusal::Admission(denial) => match denial.rule() {
+            PeerDenial::BlocksOnly => Then::Close,
+            PeerDenial::AlreadyInMempool if flags.forcerelay() => Then::Relay,
+            PeerDenial::MempoolNoBloom => Then::closing(flags),
+            PeerDenial::MempoolUploadTarget => Then::closing(flags),
+            PeerDenial::HistoricalUploadTarget => Then::closing(flags),
+            PeerDenial::Admission(denial) => match denial.rule() {
                 2..=11 | 28..=30 | 37 | 45 => Then::closing(flags),
                 _ => Then::Keep,
             },
@@ -129,10 +129,10 @@ impl Refusal {
     }
 }
 
-impl Exact for Refusal {
+impl Exact for PeerDenial {
     ghost use Rattle.gate_standard.specs.contracts.denial.Denial.{enum as denials};
     ghost use Rattle.gate_bytes.specs.Equality.{enum_decides, ◌or◌, none_decides, last_decides, bare_decides};
-    ghost use Rattle.gate_message.specs.contracts.refusal.Refusal.{enum};
+    ghost use Rattle.gate_message.specs.contracts.denial.PeerDenial.{enum};
 
     ghost exact = { enum_decides enum _ (none_decides or none_decides or none_decides or none_decides or none_decides
         or none_decides or none_decides or none_decides or none_decides or none_decides
