@@ -16,10 +16,10 @@ use std::alloc::Global;
 use std::hash::BuildHasher;
 
 /// The most virtual bytes that the ancestors of an entry may have, itself among them.
-const MOST_ANCESTORS_SIZE: u128 = 101_000;
+const MAX_ANCESTORS_SIZE: u128 = 101_000;
 
 /// The most virtual bytes that the descendants of an entry may have, itself among them.
-const MOST_DESCENDANTS_SIZE: u128 = 111_000;
+const MAX_DESCENDANTS_SIZE: u128 = 111_000;
 
 /// Whether the family of an entry is within the limits.
 fn is_limited<V: FamilyView>(
@@ -41,9 +41,9 @@ fn is_limited<V: FamilyView>(
     let (above, below) = (add_up(pool, &above), add_up(pool, &below));
     Ok(
         (above.count <= most_above)
-            & (above.size <= MOST_ANCESTORS_SIZE)
+            & (above.size <= MAX_ANCESTORS_SIZE)
             & (below.count <= most_below)
-            & (below.size <= MOST_DESCENDANTS_SIZE),
+            & (below.size <= MAX_DESCENDANTS_SIZE),
     )
 }
 
@@ -142,9 +142,9 @@ fn limits_above(policy: &Policy, vsize: u128) -> FamilyLimits
 {
     FamilyLimits {
         ancestors: policy.most_ancestors(),
-        ancestors_size: MOST_ANCESTORS_SIZE,
+        ancestors_size: MAX_ANCESTORS_SIZE,
         descendants: policy.most_descendants() - 1,
-        descendants_size: MOST_DESCENDANTS_SIZE - vsize,
+        descendants_size: MAX_DESCENDANTS_SIZE - vsize,
     }
 }
 
@@ -155,9 +155,9 @@ fn limits_below(policy: &Policy, vsize: u128) -> FamilyLimits
 {
     FamilyLimits {
         ancestors: policy.most_ancestors() - 1,
-        ancestors_size: MOST_ANCESTORS_SIZE - vsize,
+        ancestors_size: MAX_ANCESTORS_SIZE - vsize,
         descendants: policy.most_descendants(),
-        descendants_size: MOST_DESCENDANTS_SIZE,
+        descendants_size: MAX_DESCENDANTS_SIZE,
     }
 }
 
@@ -182,7 +182,7 @@ fn fits_as_leaf<S: BuildHasher + Copy + Drop>(
         return Ok(None);
     };
     let vsize = u128::from(newcomer.vsize());
-    if add_up(pool, &above).size + vsize > MOST_ANCESTORS_SIZE {
+    if add_up(pool, &above).size + vsize > MAX_ANCESTORS_SIZE {
         return Ok(None);
     }
     if !all_fit_within(pool, &above, limits_above(policy, vsize)) {
@@ -220,14 +220,14 @@ fn fits_as_root<S: BuildHasher + Copy + Drop>(
 {
     pool.recall_apart();
     let vsize = u128::from(newcomer.vsize());
-    if vsize > MOST_ANCESTORS_SIZE {
+    if vsize > MAX_ANCESTORS_SIZE {
         return Ok(false);
     }
     let most = policy.most_descendants() - 1;
     let Some(below) = descendants(alloc, pool, children, most)? else {
         return Ok(false);
     };
-    if add_up(pool, &below).size + vsize > MOST_DESCENDANTS_SIZE {
+    if add_up(pool, &below).size + vsize > MAX_DESCENDANTS_SIZE {
         return Ok(false);
     }
     Ok(all_fit_within(pool, &below, limits_below(policy, vsize)))

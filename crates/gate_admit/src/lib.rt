@@ -37,7 +37,7 @@ pub use law::{
     decisions_follow_the_order, floors_never_fall, grants_are_sound, grants_stand, pools_stay_good,
     readmissions_ask_of_all, replacements_pay,
 };
-pub use policy::{LARGEST_LIMIT, Policy};
+pub use policy::{MAX_LIMIT, Policy};
 pub use readmission::readmit;
 pub use standing::Conditions;
 pub use submission::{Coming, commit_submission, plan_submission, submit};

@@ -5,7 +5,7 @@ ghost use Rattle.gate_admit.specs.Policies.{IsPolicy, is_count, most_ancestors, 
 use std::marker::Model;
 
 /// The largest limit of ancestors or of descendants that a policy may have.
-pub const LARGEST_LIMIT: u64 = 1_000;
+pub const MAX_LIMIT: u64 = 1_000;
 
 /// How many ancestors and descendants a transaction may have at its first try (Bitcoin Core's `-limitancestorcount` and
 /// `-limitdescendantcount`), itself among each: 1 to 1,000; and whether it may replace an entry that doesn't signal
@@ -33,7 +33,7 @@ impl Model for Policy {
 fn is_count(number: u64) -> bool
     ensures { result ≡ is_count number }
 {
-    1 <= number && number <= LARGEST_LIMIT
+    1 <= number && number <= MAX_LIMIT
 }
 
 impl Policy {

@@ -21,7 +21,7 @@ use std::alloc::Global;
 use std::hash::BuildHasher;
 
 /// The most headers that are given at a time (Bitcoin Core's `MAX_HEADERS_RESULTS`).
-const MOST_HEADERS: u32 = 2_000;
+const MAX_HEADERS: u32 = 2_000;
 
 /// Blocks that are older than the tip by more than this many seconds, a week, are historical (Bitcoin Core's
 /// `HISTORICAL_BLOCK_AGE`).
@@ -289,7 +289,7 @@ impl<S: BuildHasher + Copy + Drop> Parts<S> {
             Some(denial) => self.denying(peer, denial),
             None => Plan::telling(Reply::Headers {
                 first: height + 1,
-                count: MOST_HEADERS.min(tip - height),
+                count: MAX_HEADERS.min(tip - height),
             }),
         }
     }

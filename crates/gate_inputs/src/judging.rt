@@ -13,7 +13,7 @@ use gate_tx::{TxIn, Witness};
 use std::alloc::Global;
 
 /// The most signature operations of a redeem script (Bitcoin Core's `MAX_P2SH_SIGOPS`).
-const MOST_REDEEM_SIGOPS: u64 = 15;
+const MAX_REDEEM_SIGOPS: u64 = 15;
 
 /// What each signature operation outside a witness costs (BIP 141; `WITNESS_SCALE_FACTOR`).
 const WITNESS_SCALE: u64 = 4;
@@ -67,7 +67,7 @@ fn under_script_hash(input: &TxIn, redeem: &[u8]) -> Answers
     let program = witness_program(redeem);
     let operations = sigops(redeem, true);
     Answers {
-        standard: operations <= MOST_REDEEM_SIGOPS,
+        standard: operations <= MAX_REDEEM_SIGOPS,
         witness_standard: allows_witness(Template::ScriptHash, &input.witness, program),
         sigop_cost: cost(input, operations, program),
     }

@@ -7,14 +7,14 @@ use gate_tx::{Witness, WitnessItems};
 
 /// The longest witness script under a version 0 program, in bytes (Bitcoin Core's
 /// `MAX_STANDARD_P2WSH_SCRIPT_SIZE`).
-const LONGEST_SCRIPT: usize = 3600;
+const MAX_SCRIPT_LEN: usize = 3600;
 
 /// The most items before a witness script (`MAX_STANDARD_P2WSH_STACK_ITEMS`).
-const MOST_ITEMS: usize = 100;
+const MAX_ITEMS: usize = 100;
 
 /// The longest item in bytes before a witness script (`MAX_STANDARD_P2WSH_STACK_ITEM_SIZE`), and
 /// before a Taproot leaf script (`MAX_STANDARD_TAPSCRIPT_STACK_ITEM_SIZE`).
-const LONGEST_ITEM: usize = 80;
+const MAX_ITEM_LEN: usize = 80;
 
 /// What an annex begins with (BIP 341).
 const ANNEX: u8 = 0x50;
@@ -66,7 +66,7 @@ fn is_standard_p2wsh(witness: &Witness) -> bool
 fn is_standard_p2wsh_stack(script: &[u8], items: WitnessItems<'_>) -> bool
     ensures { result ≡ is_standard_p2wsh_stack script.now items.entry }
 {
-    script.len() <= LONGEST_SCRIPT && items.len() <= MOST_ITEMS && are_at_most_80_bytes(items)
+    script.len() <= MAX_SCRIPT_LEN && items.len() <= MAX_ITEMS && are_at_most_80_bytes(items)
 }
 
 fn allows_taproot(witness: &Witness) -> bool
@@ -94,5 +94,5 @@ fn is_standard_script_path(control: &[u8], items: WitnessItems<'_>) -> bool
 fn are_at_most_80_bytes(mut items: WitnessItems<'_>) -> bool
     ensures { result ≡ are_at_most_80_bytes items.entry }
 {
-    items.all(|item| item.len() <= LONGEST_ITEM)
+    items.all(|item| item.len() <= MAX_ITEM_LEN)
 }

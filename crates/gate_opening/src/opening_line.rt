@@ -5,7 +5,7 @@ ghost use Rattle.gate_opening.specs.OpeningLines.{opening_line_of, budget_line_o
 
 use crate::limit::Limit;
 use crate::setting::Setting;
-use gate_admit::{LARGEST_LIMIT, Verdict, VerdictRow};
+use gate_admit::{MAX_LIMIT, Verdict, VerdictRow};
 use gate_bytes::{Kept, Memory, Text};
 use gate_chain::OpeningCoin;
 use gate_lines::{next_word, read_number, read_small_number};
@@ -237,7 +237,7 @@ fn limit_line(limit: Limit, rest: &str) -> Option<OpeningLine>
     ensures { result ≡ limit_line_of limit rest.now }
 {
     let count = read_number(rest)?;
-    if 1 <= count && count <= LARGEST_LIMIT {
+    if 1 <= count && count <= MAX_LIMIT {
         Some(OpeningLine::Limit(limit, count))
     } else {
         None

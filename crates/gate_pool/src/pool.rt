@@ -131,7 +131,7 @@ impl<S: BuildHasher + Copy + Drop> Pool<S> {
         self.store.recall_distinct();
     }
 
-    /// Takes the memory for an entry of this many inputs. It fails if memory runs out, or the pool has `MOST_ENTRIES`
+    /// Takes the memory for an entry of this many inputs. It fails if memory runs out, or the pool has `MAX_ENTRIES`
     /// entries.
     pub fn reserve(&mut self, inputs: usize) -> Result<(), Memory>
         ensures entries { self.new.entries ≡ self.old.entries }

@@ -15,7 +15,7 @@ ghost use Rattle.gate_pool.specs.Search.{IsChild};
 
 use crate::choice::Test;
 use crate::closures::Sums;
-use crate::entry::{Entry, MOST_ENTRIES};
+use crate::entry::{Entry, MAX_ENTRIES};
 use crate::naming::{list_parents, node_id, txids_of};
 use crate::places::{drop_each, drop_entry, put_entry};
 use crate::reading::{choose, index_each, oldest_of, sort_by_place, txids_in};
@@ -191,7 +191,7 @@ impl<S: BuildHasher + Copy + Drop> Store<S> {
         let _room = self.room;
     }
 
-    /// Takes the memory for an entry of this many inputs. It fails if memory runs out, or there are `MOST_ENTRIES`
+    /// Takes the memory for an entry of this many inputs. It fails if memory runs out, or there are `MAX_ENTRIES`
     /// entries.
     pub(crate) fn reserve(&mut self, inputs: usize) -> Result<(), Memory>
         ensures entries { self.new.entries ≡ self.old.entries }
@@ -202,7 +202,7 @@ impl<S: BuildHasher + Copy + Drop> Store<S> {
             return Err(Memory);
         };
         let count = self.nodes.count();
-        if count >= MOST_ENTRIES {
+        if count >= MAX_ENTRIES {
             return Err(Memory);
         }
         self.gone.reserve(count + 1)?;

@@ -14,7 +14,7 @@ use std::alloc::Global;
 use std::hash::BuildHasher;
 
 /// The most descendants, themselves among them, that the entries may have with which a transaction conflicts.
-const MOST_DESCENDANTS: u64 = 100;
+const MAX_DESCENDANTS: u64 = 100;
 
 /// How many descendants the entry of an id has, itself among them, by the totals that the pool keeps.
 fn count_below<S: BuildHasher + Copy + Drop>(pool: &Pool<S>, id: &Txid) -> u64
@@ -31,7 +31,7 @@ fn has_few_descendants<S: BuildHasher + Copy + Drop>(pool: &Pool<S>, ids: &[Txid
     ensures { ForEntriesOf ids.now pool.now.entries (λ some. result ≡ not (nat_lt 100 (descendant_count pool.now.entries some))) }
 {
     pool.recall_distinct();
-    let mut left = MOST_DESCENDANTS;
+    let mut left = MAX_DESCENDANTS;
     for id in ids {
         let count = count_below(pool, id);
         if count > left {
@@ -57,7 +57,7 @@ impl<'a, S: BuildHasher + Copy + Drop> DirectConflicts<'a, S> {
         ensures few { IfOk result (λ few. IfSome few (λ ids. descendant_count self.now.entries (conflicts_of self.now.entries self.now.tx) ≤ 100)) }
         ensures many { IfOk result (λ few. few ≡ None → 100 < descendant_count self.now.entries (conflicts_of self.now.entries self.now.tx)) }
     {
-        let Some(ids) = self.ids_within(alloc, MOST_DESCENDANTS as usize)? else {
+        let Some(ids) = self.ids_within(alloc, MAX_DESCENDANTS as usize)? else {
             return Ok(None);
         };
         if !self.has_few_descendants(ids.as_slice()) {

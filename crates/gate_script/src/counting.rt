@@ -9,7 +9,7 @@ use crate::opcode::{
 
 /// How many signature operations a check of several signatures counts if the number before it isn't
 /// read (Bitcoin Core's `MAX_PUBKEYS_PER_MULTISIG`).
-const MOST_KEYS: u64 = 20;
+const MAX_KEYS: u64 = 20;
 
 /// How many signature operations the script counts, up to its first truncated push. If `accurate`, a
 /// check of several signatures directly after OP_1 to OP_16 counts that number, else 20 (Bitcoin
@@ -44,7 +44,7 @@ fn sigops_of_opcode(accurate: bool, last_opcode: u8, opcode: u8) -> u64
             if accurate && OP_1 <= last_opcode && last_opcode <= OP_16 => {
             u64::from(last_opcode - OP_RESERVED)
         }
-        OP_CHECKMULTISIG | OP_CHECKMULTISIGVERIFY => MOST_KEYS,
+        OP_CHECKMULTISIG | OP_CHECKMULTISIGVERIFY => MAX_KEYS,
         _ => 0,
     }
 }

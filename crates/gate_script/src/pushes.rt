@@ -9,10 +9,10 @@ use gate_bytes::{Kept, Memory};
 use std::alloc::Global;
 
 /// The longest item that a push leaves, in bytes (Bitcoin Core's `MAX_SCRIPT_ELEMENT_SIZE`).
-const LONGEST_ITEM: usize = 520;
+const MAX_ITEM_LEN: usize = 520;
 
 /// The most items on the stack (Bitcoin Core's `MAX_STACK_SIZE`).
-const MOST_ITEMS: usize = 1000;
+const MAX_ITEMS: usize = 1000;
 
 /// Whether the script only pushes: no opcode above OP_16, and no truncated push.
 pub fn is_push_only(script: &[u8]) -> bool
@@ -41,7 +41,7 @@ pub fn push_stack(alloc: Global, script: &[u8]) -> Result<Option<Kept<Kept<u8>>>
         let Some(item) = item_of(alloc, &op)? else {
             return Ok(None);
         };
-        if items.len() == MOST_ITEMS {
+        if items.len() == MAX_ITEMS {
             return Ok(None);
         }
         items.push(item)?;
@@ -54,7 +54,7 @@ fn item_of(alloc: Global, op: &Op) -> Result<Option<Kept<u8>>, Memory>
     ensures { IfOk result (λ item. item ≡ item_of (instruction_of op.now)) }
 {
     let item = match op {
-        Op::Push { bytes, .. } if bytes.len() <= LONGEST_ITEM => bytes.to_vec(alloc)?,
+        Op::Push { bytes, .. } if bytes.len() <= MAX_ITEM_LEN => bytes.to_vec(alloc)?,
         Op::Plain(OP_0) => Vec::new(alloc),
         Op::Plain(OP_1NEGATE) => vec![in alloc; 0x81]?,
         Op::Plain(opcode) if OP_1 <= *opcode && *opcode <= OP_16 => vec![in alloc;

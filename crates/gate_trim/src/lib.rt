@@ -10,7 +10,7 @@ mod floor;
 mod law;
 mod trimming;
 
-pub use expiry::{LONGEST_STAY, expire, try_expire};
+pub use expiry::{EXPIRY_SECONDS, expire, try_expire};
 pub use floor::{FLOOR_STEP, Floor};
 pub use law::{
     expiry_leaves_the_young, trimming_keeps_the_budget, trimming_raises_the_floor,

@@ -13,8 +13,8 @@ returns-in_default c =
     let none : item_of (instruction_of c.in-Some.op) ≡ None = sym c.in_ok-item.ensures ∙ c.in_default.is in
     stack-stop c.args.script.now c.loop-op.items.items (instruction_of c.in-Some.op) c.next.new.self moved none
 
-pub returns-then-len-eq-MOST_ITEMS : goal.returns-then-len-eq-MOST_ITEMS
-returns-then-len-eq-MOST_ITEMS c =
+pub returns-then-len-eq-MAX_ITEMS : goal.returns-then-len-eq-MAX_ITEMS
+returns-then-len-eq-MAX_ITEMS c =
     let moved = ap (gathering c.loop-op.items.items) (sym c.in-Some.ensures.steps) ∙ c.loop-op.invariant.3 in
     let is : item_of (instruction_of c.in-Some.op) ≡ Some c.in-Some-2.item = sym c.in_ok-item.ensures ∙ c.in-Some-2.is in
     stack-past c.args.script.now c.loop-op.items.items c.in-Some-2.item (instruction_of c.in-Some.op) c.next.new.self moved is (omega arith)
