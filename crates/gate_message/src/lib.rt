@@ -6,18 +6,18 @@
 
 mod call;
 mod caller;
+mod denial;
 mod event;
 mod recording;
-mod denial;
 mod reply;
 mod same;
 mod switch;
 
 pub use call::Call;
 pub use caller::Caller;
+pub use denial::{PeerDenial, Then};
 pub use event::Event;
 pub use recording::Replies;
-pub use denial::{PeerDenial, Then};
 pub use reply::Reply;
 pub use same::{is_same_event, is_same_reply};
 pub use switch::Switch;

@@ -20,7 +20,7 @@ pub use choice::Test;
 pub use closures::{
     Above, Sums, add_up, ancestors, ancestors_with, descendants, family_above, parents,
 };
-pub use entry::{Entry, MAX_VSIZE, MAX_ENTRIES};
+pub use entry::{Entry, MAX_ENTRIES, MAX_VSIZE};
 pub use pool::Pool;
 pub use scores::Score;
 pub use view::FamilyView;

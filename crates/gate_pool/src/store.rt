@@ -61,7 +61,7 @@ impl<S: BuildHasher + Copy + Drop> Model for Store<S> {
         IsCarried s.nodes.nodes
         × IsIndexed (entries_in s.nodes.nodes) (get bytes_eq s.wtxids) (get point_eq s.spent)
         × HasRoom s.room (length (entries_in s.nodes.nodes)) s.nodes.room (spare s.wtxids) (spare s.spent)
-            (vec_capacity s.parents) (vec_len s.gone) (vec_capacity s.gone) };
+        (vec_capacity s.parents) (vec_len s.gone) (vec_capacity s.gone) };
 }
 
 impl<S: BuildHasher + Copy + Drop> Store<S> {

@@ -44,7 +44,7 @@ impl<S: BuildHasher + Copy + Drop> Model for ChainTop<S> {
 
     ghost invariant = { λ t.
         IsTop (record { whole = t.whole.value; kept = t.kept }) t.places.items t.coins.entries t.ids.keys
-            (spare t.coin_room) (set_spare t.id_room) (vec_capacity t.time_room) (vec_capacity t.block_room)
+        (spare t.coin_room) (set_spare t.id_room) (vec_capacity t.time_room) (vec_capacity t.block_room)
         × (t.coin_room.entries ≡ []) × (t.id_room.keys ≡ []) × (t.time_room.items ≡ []) × (t.block_room.items ≡ []) };
 
     ghost view = { λ t. record { whole = t.whole.value; kept = t.kept } };
