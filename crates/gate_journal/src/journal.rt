@@ -19,7 +19,7 @@ pub struct Journal {
 impl Model for Journal {
     ghost use Rattle.std.specs.Prelude.{◌-◌, ◌≤◌, length};
     ghost use Rattle.std.specs.Vec.{vec_len, vec_capacity};
-    ghost use Rattle.gate_journal.specs.Legal.{Recorded};
+    ghost use Rattle.gate_journal.specs.Legal.{Recorded, entry_limit};
 
     ghost Value = { Recorded };
 
