@@ -1,6 +1,7 @@
 //! `gate run --explain`: the lane of `gate run`, with what it says on standard error.
 ghost use Rattle.std.specs.Prelude.{◌≡◌, ◌≢◌, [], true, IfOk, IfErr, OnOk, OnErr, IsErrOf};
 ghost use Rattle.gate_core.specs.Good.{StepGives};
+ghost use Rattle.gate_core.specs.Steps.{step_of};
 ghost use Rattle.gate_prog.specs.Jobs.{GateRan, GateStopped};
 ghost use Rattle.gate_prog.specs.Lanes.{LaneDone, LaneUnread, StoppedBy};
 
@@ -86,6 +87,7 @@ impl<T: Clock + Eprint> Explaining<'_, T> {
         event: &Event,
     ) -> Result<Reply, Memory>
         ensures ok { IfOk result (λ reply. StepGives run.old event.now reply run.new) }
+        ensures exact { IfOk result (λ reply. (reply, run.new) ≡ step_of run.old event.now) }
         ensures err { OnErr result (run.new ≡ run.old) }
     {
         run.progress

@@ -6,4 +6,4 @@ use Rattle.gate_explain.proofs.lane.ExplainingAnswersRun.answer.Goals as goal
 -- the step was made, whatever became of its text
 pub returns-in-Ok-clause-err : goal.returns-in-Ok-clause-err
 returns-in-Ok-clause-err g c =
-    OnErr-always c.set_answer.result _ (inr (reply_text c.in-Ok.answer, inl (c.in-Ok.answer, refl, c.in-Ok.ensures.ok)))
+    OnErr-always c.set_answer.result _ (inr (reply_text c.in-Ok.answer, inl (c.in-Ok.answer, refl, c.in-Ok.ensures.exact, c.in-Ok.ensures.ok)))
