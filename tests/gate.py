@@ -21,10 +21,13 @@ class NotTried(unittest.SkipTest):
 
 
 class Gate:
-    """The program under test, and beside it the one that makes calls of the crates, where it is there."""
+    """The program under test, and beside it the one that makes calls of the crates, where it is there.
 
-    def __init__(self, program, calls=None):
-        self.program, self.calls = program, calls
+    A host of the library in its place says nothing on standard error.
+    """
+
+    def __init__(self, program, calls=None, says_causes=True):
+        self.program, self.calls, self.says_causes = program, calls, says_causes
 
     def words(self, words):
         return [self.program] + words.split()

@@ -16,10 +16,13 @@ def fails(gate, opening, line, token):
     done = gate.run("run", text + EVENTS.encode())
     about = repr(text[-200:])
     same("standard output for " + about, done.stdout, b"opening %d %s\n" % (line, token.encode()))
+    same("status", done.status, 2)
     said = done.stderr.decode().splitlines()
+    if not gate.says_causes:
+        same("standard error for " + about, said, [])
+        return
     true("one line on standard error: %r" % said, len(said) == 1 and said[0].startswith("gate: "))
     true("no line %d in %r" % (line, said), ("gate: line %d: " % line if line else "gate: the opening: ") in said[0])
-    same("status", done.status, 2)
 
 
 def opens(gate, opening):
