@@ -77,7 +77,7 @@ def test_contracts(gate):
     wanted.update(by_number("gate_chain/specs/Denials.antt", "C"))
     wanted.update(by_number("gate_net/specs/Denials.antt", "N"))
     peers = "gate_message/specs/PeerDenials.antt"
-    tokens = dict(equations(peers, "refusal_token"))
+    tokens = dict(equations(peers, "denial_token"))
     wanted.update({quoted(text): quoted(tokens[variant]) for variant, text in equations(peers, "rule_text") if variant != "Admission"})
     for path in ("gate_rpc/specs/Replies.antt", "gate_lines/specs/Refused.antt"):
         for line in re.findall(r'codes "(?:denied|refused) ([UL]\d .*)"', text_of("crates", *path.split("/"))):
