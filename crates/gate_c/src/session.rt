@@ -1,5 +1,5 @@
 //! What an open handle leads to: a state, and the answer to the last line.
-ghost use Rattle.std.specs.Prelude.{◌≡◌, IfOk, OnOk, OnErr, Ok, Err, ℕ, string_bytes};
+ghost use Rattle.std.specs.Prelude.{◌≡◌, ◌≢◌, IfOk, IfErr, OnOk, OnErr, Ok, Err, ℕ, string_bytes};
 ghost use Rattle.gate_core.specs.Good.{IsGoodWorld, StepGives};
 ghost use Rattle.gate_core.specs.Steps.{step_of};
 ghost use Rattle.gate_lines.specs.Lines.{unlines};
@@ -41,6 +41,7 @@ fn read_state(
     ensures reached { IfOk result IsReached }
     ensures fault { (line : ℕ) (token : OpeningToken) → result ≡ Err (OpeningFault.Line line token) →
         spelled opening.now ≡ Err (OpeningFault.Line line token) }
+    ensures read { IfErr result (λ fault. fault ≢ OpeningFault.Read) }
 {
     let mut reader: &[u8] = opening;
     read_opening(alloc, hasher, &mut reader)
@@ -98,6 +99,7 @@ impl Session {
         ensures opened { IfOk result (λ session. IsOpened opening.now session) }
         ensures fault { (line : ℕ) (token : OpeningToken) → result ≡ Err (OpeningFault.Line line token) →
             spelled opening.now ≡ Err (OpeningFault.Line line token) }
+        ensures read { IfErr result (λ fault. fault ≢ OpeningFault.Read) }
     {
         let Ok(hasher) = RandomState::new(keys) else {
             return Err(OpeningFault::Memory);
