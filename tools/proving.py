@@ -19,9 +19,9 @@ def places():
     return max(1, min(len(os.sched_getaffinity(0)), round(memory / 2**30) // GIGABYTES_EACH))
 
 
-def at_work():
-    """The crates of this tree whose proofs or code the toolchain works at now."""
-    home, found = crates.folder(""), set()
+def at_work(tree):
+    """The crates of a tree whose proofs or code the toolchain works at now."""
+    home, found = os.path.join(tree, "crates", ""), set()
     for process in filter(str.isdigit, os.listdir("/proc")):
         try:
             name = os.readlink("/proc/%s/exe" % process)
@@ -36,14 +36,14 @@ def at_work():
 class Progress(threading.Thread):
     """Says what is at work, each time that it is something else."""
 
-    def __init__(self, count):
+    def __init__(self, tree, count):
         super().__init__(daemon=True)
-        self.count, self.done, self.ended = count, 0, threading.Event()
+        self.tree, self.count, self.done, self.ended = tree, count, 0, threading.Event()
 
     def run(self):
         said = None
         while not self.ended.wait(SECONDS_BETWEEN):
-            names = at_work()
+            names = at_work(self.tree)
             if names and names != said:
                 about = (", ".join(names), self.count - self.done, self.count)
                 print("at work: %s; %d of %d crates left" % about, file=sys.stderr, flush=True)
@@ -51,15 +51,16 @@ class Progress(threading.Thread):
 
 
 class Proving:
-    """Commands of rt in one crate's folder, whose output goes to a log there."""
+    """Commands of rt in one crate's folder, of this tree or of a copy, whose output goes to a log there."""
 
-    def __init__(self, crate):
-        self.crate, self.began = crate, time.monotonic()
-        self.path = os.path.join("crates", crate, "out", "build.log")
+    def __init__(self, crate, tree=crates.ROOT):
+        self.began = time.monotonic()
+        self.folder = os.path.join(tree, "crates", crate)
+        self.path = os.path.join(os.path.relpath(self.folder, crates.ROOT), "out", "build.log")
         os.chdir(crates.ROOT)
         os.makedirs(os.path.dirname(self.path), exist_ok=True)
         self.log = open(self.path, "w", encoding="utf-8")
-        self.progress = Progress(len(crates.below(crate, crates.uses())))
+        self.progress = Progress(tree, len(crates.below(crate, crates.uses())))
 
     def __enter__(self):
         self.progress.start()
@@ -76,7 +77,7 @@ class Proving:
         """Whether a command succeeds."""
         run = subprocess.Popen(
             words,
-            cwd=crates.folder(self.crate),
+            cwd=self.folder,
             stdin=subprocess.DEVNULL,
             stdout=subprocess.PIPE,
             stderr=subprocess.STDOUT,
