@@ -29,7 +29,7 @@ make test      everything from nothing: proofs, must-fail edits, tests, the prog
                rows and the program's own tests on it; make test LONG=1 with those that take
                more than a minute; make test LIB=1 builds the library too, and tries it in C,
                C++, Rust and Python
-make mutants   tries the wrong bodies of mutants/, which takes as long as make test
+make mutants   tries the wrong bodies of mutants/, which takes longer than make test
                make mutants CRATES="gate_net gate_rpc" tries those of these crates
 make try       the rows and the program's own tests alone, on the built program; the tests of
                single calls too, if make test has built their program
