@@ -10,12 +10,12 @@ use Rattle.std.proofs.lemmas.Simd.{map-map}
 use Rattle.gate_graph.specs.Family.{Node, Leads, here, down, steps_of, reaches}
 use Rattle.gate_graph.specs.Families.{among, has, ids_of, with_parent, with_above, without_id, without_parent, is_root, are_apart, IsGraph}
 use Rattle.gate_graph.specs.Faults.{fault_of_above}
-use Rattle.gate_graph.specs.Laws.{is_above, is_below, HaveEachOnce, JoinsFamilies, LeavesFamilies, ComesAndGoes}
+use Rattle.gate_graph.specs.Laws.{is_above, is_below, HaveEachOnce, HasNoFamily, JoinsFamilies, LeavesFamilies, ComesAndGoes}
 use Rattle.gate_bytes.proofs.Members.{Contains-head, Contains-rest, any_is, list_any_of}
 use Rattle.gate_graph.proofs.Reaching.{Leads_from_reaches, reaches-same}
 use Rattle.gate_graph.proofs.Steps.{same_bool, step_node}
 use Rattle.gate_graph.proofs.Apart.{same_id, has-node, are_apart-filter}
-use Rattle.gate_graph.proofs.Filters.{filter_same_on, filter_all, filter-map}
+use Rattle.gate_graph.proofs.Filters.{filter_same_on, filter_all, filter_none, filter-map}
 use Rattle.gate_graph.proofs.Between.{reaches-with_above, IsGraph-with_above, unnamed, unknown_leads}
 use Rattle.gate_graph.proofs.Faultless.{Fits, faultless}
 use Rattle.gate_graph.proofs.Root.{not_same, without_id_none, reaches-without_root, IsGraph-without_root, rootless}
@@ -29,6 +29,31 @@ HaveEachOnce-graph g ok = record {
   below = λ id. are_apart-filter (λ n. reaches (steps_of g) id n.id) g ok.apart;
 }
 
+-- an id that no node has
+module _ (g : List Node) (x : Id) (ok : IsGraph g) (new : has g x ≡ false) where
+  stranger : (m : Node) → Contains g m → m.id ≡ x → ⊥
+  stranger m c e = true≢false (sym (has-node g m c) ∙ ap (has g) e ∙ new)
+
+  -- nothing leads to it, and nothing from it
+  from_stranger : (m : Node) → Contains g m → reaches (steps_of g) x m.id ≡ false
+  from_stranger m c = false_from_ne_true _ (λ r. stranger m c (sym (unknown_leads g ok.closed (Leads_from_reaches (steps_of g) x m.id r) new)))
+
+  to_stranger : (m : Node) → Contains g m → reaches (steps_of g) m.id x ≡ false
+  to_stranger m c = false_from_ne_true _ (λ r. no_way (Leads_from_reaches (steps_of g) m.id x r) refl (stranger m c))
+    where
+      no_way : {a b : Id} → Leads (steps_of g) a b → b ≡ x → (a ≡ x → ⊥) → ⊥
+      no_way here e ne = ne e
+      no_way (down {a = a} {b = b} s l) e ne = no_way l e (λ same. true≢false (sym (child_has a b s) ∙ ap (has g) same ∙ new))
+        where
+          child_has : (a b : Id) → Contains (steps_of g) (a, b) → has g b ≡ true
+          child_has a b s = let w = step_node g a b s in ap (has g) (sym w.2) ∙ has-node g w.0 w.1
+
+  pub HasNoFamily-stranger : HasNoFamily g x
+  HasNoFamily-stranger = record {
+    above = filter_none (λ m. reaches (steps_of g) m.id x) g to_stranger;
+    below = filter_none (λ m. reaches (steps_of g) x m.id) g from_stranger;
+  }
+
 module _ (g : List Node) (n : Node) (children : List Id) (ok : IsGraph g) (fault : fault_of_above g n.id n.parents children ≡ None) where
   fits : Fits g n.id n.parents children
   fits = faultless g n.id n.parents children fault
@@ -37,24 +62,16 @@ module _ (g : List Node) (n : Node) (children : List Id) (ok : IsGraph g) (fault
   chains a b = reaches-with_above g n children ok fits.new fits.parents fits.children a b
 
   other : (m : Node) → Contains g m → m.id ≡ n.id → ⊥
-  other m c e = true≢false (sym (has-node g m c) ∙ ap (has g) e ∙ fits.new)
+  other = stranger g n.id ok fits.new
 
   other_false : (m : Node) → Contains g m → bytes_eq m.id n.id ≡ false
   other_false m c = false_from_ne_true _ (λ t. other m c ((bytes_decides m.id n.id).0 t))
 
-  -- nothing led to the new id, and nothing from it
   from_new : (m : Node) → Contains g m → reaches (steps_of g) n.id m.id ≡ false
-  from_new m c = false_from_ne_true _ (λ r. other m c (sym (unknown_leads g ok.closed (Leads_from_reaches (steps_of g) n.id m.id r) fits.new)))
+  from_new = from_stranger g n.id ok fits.new
 
   to_new : (m : Node) → Contains g m → reaches (steps_of g) m.id n.id ≡ false
-  to_new m c = false_from_ne_true _ (λ r. no_way (Leads_from_reaches (steps_of g) m.id n.id r) refl (other m c))
-    where
-      no_way : {a b : Id} → Leads (steps_of g) a b → b ≡ n.id → (a ≡ n.id → ⊥) → ⊥
-      no_way here e ne = ne e
-      no_way (down {a = a} {b = b} s l) e ne = no_way l e (λ same. true≢false (sym (child_has a b s) ∙ ap (has g) same ∙ fits.new))
-        where
-          child_has : (a b : Id) → Contains (steps_of g) (a, b) → has g b ≡ true
-          child_has a b s = let w = step_node g a b s in ap (has g) (sym w.2) ∙ has-node g w.0 w.1
+  to_new = to_stranger g n.id ok fits.new
 
   family : (p q : Id → Bool) → ((m : Node) → Contains g m → p m.id ≡ q m.id) → p n.id ≡ true → ids_of (filter (λ m. p m.id) (with_above g n children)) ≡ ids_of (filter (λ m. q m.id) g) ++ n.id ∷ []
   family p q same own =

@@ -17,8 +17,10 @@ use Rattle.gate_graph.proofs.Filters.{filter_same_on, filter_none, Contains-from
 use Rattle.gate_graph.specs.declared.held.Held.{Held}
 use Rattle.gate_graph.specs.declared.held.Totals.{Totals}
 use Rattle.gate_graph.specs.Holding.{node_of, nodes_of, loaded, at_id, with_totals}
-use Rattle.gate_graph.proofs.Raising.{nodes_raised, loaded_raised}
-use Rattle.gate_graph.specs.Weighing.{sums_of, totals_of, more, raised, raised_of, Fits, AreSmall, IsWeighed, IsLeafLast}
+use Rattle.gate_graph.specs.declared.weigh.Side.TheVariants.{Below}
+use Rattle.gate_graph.specs.declared.weigh.Sign.TheVariants.{Plus}
+use Rattle.gate_graph.proofs.Changing.{by, nodes_changed, loaded_changed}
+use Rattle.gate_graph.specs.Weighing.{sums_of, totals_of, more, changed, changed_of, Fits, AreSmall, IsWeighed, IsLeafLast}
 use Rattle.gate_graph.proofs.Holdings.{node_in}
 use Rattle.gate_graph.proofs.Weighings.{sum_small}
 use Rattle.gate_graph.proofs.Finding.{shorter}
@@ -34,7 +36,7 @@ filter-append p (x ∷ xs) ys = go (p x) (filter-append p xs ys)
     go true e = ap (λ l. x ∷ l) e
     go false e = e
 
-sums_put : (g : List Node) (n : Node) → sums_of (g ++ n ∷ []) ≡ more n.size n.fee (sums_of g)
+pub sums_put : (g : List Node) (n : Node) → sums_of (g ++ n ∷ []) ≡ more n.size n.fee (sums_of g)
 sums_put g n = λ i. record {
   count = length-append g (n ∷ []) i;
   size = sum_by_push (λ n. n.size) g n i;
@@ -177,7 +179,7 @@ module _ {T : Type 0} (hs : List (Held T)) (x : Id) (size fee : ℕ) (last : IsL
   old_id h c e = other g0 n0 new0 unnamed0 (node_of h) (node_in last.before h c) (e ∙ sym leaf_id)
 
   -- the totals of the others
-  old_totals : (h : Held T) → Contains last.before h → (b : Bool) → among ids h.id ≡ b → (cond b (raised size fee h) h).totals ≡ totals_of (nodes_of hs) h.id
+  old_totals : (h : Held T) → Contains last.before h → (b : Bool) → among ids h.id ≡ b → (cond b (changed (by Below Plus size fee) h) h).totals ≡ totals_of (nodes_of hs) h.id
   old_totals h c b t =
       let above : sums_of (ancestors_of g0 h.id) ≡ sums_of (ancestors_of (g0 ++ n0 ∷ []) h.id) = ap sums_of (sym (ancestors_put g0 n0 new0 unnamed0 h.id (λ e. old_id h c (e ∙ leaf_id)))) in
       let there : has (nodes_of hs) h.id ≡ true = node_there h (subst (λ l. Contains l h) (sym last.is) (Contains-append_left last.before (last.leaf ∷ []) h c)) in
@@ -187,26 +189,26 @@ module _ {T : Type 0} (hs : List (Held T)) (x : Id) (size fee : ℕ) (last : IsL
       ∙ (λ i. record { above = above i; below = (ap (λ s. cond b (more s fee (sums_of (descendants_of g0 h.id))) (sums_of (descendants_of g0 h.id))) (sym last.size_is) ∙ ap (λ s. cond b (more n0.size s (sums_of (descendants_of g0 h.id))) (sums_of (descendants_of g0 h.id))) (sym last.fee_is) ∙ below) i })
       ∙ whole h.id
     where
-      go : (b : Bool) → (cond b (raised size fee h) h).totals ≡ record { above = h.totals.above; below = cond b (more size fee h.totals.below) h.totals.below }
+      go : (b : Bool) → (cond b (changed (by Below Plus size fee) h) h).totals ≡ record { above = h.totals.above; below = cond b (more size fee h.totals.below) h.totals.below }
       go true = refl
       go false = refl
 
-  raised_id : (h : Held T) (b : Bool) → (cond b (raised size fee h) h).id ≡ h.id
+  raised_id : (h : Held T) (b : Bool) → (cond b (changed (by Below Plus size fee) h) h).id ≡ h.id
   raised_id h true = refl
   raised_id h false = refl
 
   -- each has its totals when the last has been given its own
-  pub IsWeighed-settled : (totals : Totals) (hs' : List (Held T)) → hs' ≡ map (at_id x (with_totals totals)) (map (raised_of ids size fee) hs)
+  pub IsWeighed-settled : (totals : Totals) (hs' : List (Held T)) → hs' ≡ map (at_id x (with_totals totals)) (map (changed_of ids (by Below Plus size fee)) hs)
       → totals ≡ record { above = sums_of (filter (λ n. among ids n.id) (nodes_of hs)); below = record { count = 1; size = size; fees = fee } } → IsWeighed hs'
   IsWeighed-settled totals hs' is given = record {
     totals = λ h c.
-        let w = Contains-from_map (at_id x (with_totals totals)) (map (raised_of ids size fee) hs) h (subst (λ l. Contains l h) is c) in
-        let v = Contains-from_map (raised_of ids size fee) hs w.0 w.1 in
-        let from : at_id x (with_totals totals) (raised_of ids size fee v.0) ≡ h = ap (at_id x (with_totals totals)) v.2 ∙ w.2 in
+        let w = Contains-from_map (at_id x (with_totals totals)) (map (changed_of ids (by Below Plus size fee)) hs) h (subst (λ l. Contains l h) is c) in
+        let v = Contains-from_map (changed_of ids (by Below Plus size fee)) hs w.0 w.1 in
+        let from : at_id x (with_totals totals) (changed_of ids (by Below Plus size fee) v.0) ≡ h = ap (at_id x (with_totals totals)) v.2 ∙ w.2 in
         ap (λ (z : Held T). z.totals) (sym from)
         ∙ one v.0 v.1
-        ∙ ap (totals_of (nodes_of hs)) (sym (same_id_of (raised_of ids size fee v.0) (bytes_eq (raised_of ids size fee v.0).id x) ∙ raised_id v.0 (among ids v.0.id)) ∙ ap (λ (z : Held T). z.id) from)
-        ∙ ap (λ l. totals_of l h.id) (sym (ap nodes_of is ∙ nodes_written totals (map (raised_of ids size fee) hs) ∙ nodes_raised ids size fee hs));
+        ∙ ap (totals_of (nodes_of hs)) (sym (same_id_of (changed_of ids (by Below Plus size fee) v.0) (bytes_eq (changed_of ids (by Below Plus size fee) v.0).id x) ∙ raised_id v.0 (among ids v.0.id)) ∙ ap (λ (z : Held T). z.id) from)
+        ∙ ap (λ l. totals_of l h.id) (sym (ap nodes_of is ∙ nodes_written totals (map (changed_of ids (by Below Plus size fee)) hs) ∙ nodes_changed (by Below Plus size fee) ids hs));
   }
     where
       same_id_of : (h : Held T) (b : Bool) → (cond b (with_totals totals h) h).id ≡ h.id
@@ -221,22 +223,22 @@ module _ {T : Type 0} (hs : List (Held T)) (x : Id) (size fee : ℕ) (last : IsL
           go true = refl
           go false = refl
 
-      one : (h : Held T) → Contains hs h → (at_id x (with_totals totals) (raised_of ids size fee h)).totals ≡ totals_of (nodes_of hs) h.id
+      one : (h : Held T) → Contains hs h → (at_id x (with_totals totals) (changed_of ids (by Below Plus size fee) h)).totals ≡ totals_of (nodes_of hs) h.id
       one h c =
           elim (which h c) [
             | inl old ↦
-                ap (λ (z : Held T). z.totals) (cond-false (bytes_eq (raised_of ids size fee h).id x) (with_totals totals (raised_of ids size fee h)) (raised_of ids size fee h)
-                (false_from_ne_true _ (λ t. old_id h old (sym (raised_id h (among ids h.id)) ∙ (bytes_decides (raised_of ids size fee h).id x).0 t))))
+                ap (λ (z : Held T). z.totals) (cond-false (bytes_eq (changed_of ids (by Below Plus size fee) h).id x) (with_totals totals (changed_of ids (by Below Plus size fee) h)) (changed_of ids (by Below Plus size fee) h)
+                (false_from_ne_true _ (λ t. old_id h old (sym (raised_id h (among ids h.id)) ∙ (bytes_decides (changed_of ids (by Below Plus size fee) h).id x).0 t))))
                 ∙ old_totals h old (among ids h.id) refl
             | inr e ↦
                 let is_x : h.id ≡ x = ap (λ (z : Held T). z.id) (sym e) ∙ leaf_id in
-                ap (λ (z : Held T). z.totals) (cond-true (bytes_eq (raised_of ids size fee h).id x) (with_totals totals (raised_of ids size fee h)) (raised_of ids size fee h)
-                ((bytes_decides (raised_of ids size fee h).id x).1 (raised_id h (among ids h.id) ∙ is_x)))
+                ap (λ (z : Held T). z.totals) (cond-true (bytes_eq (changed_of ids (by Below Plus size fee) h).id x) (with_totals totals (changed_of ids (by Below Plus size fee) h)) (changed_of ids (by Below Plus size fee) h)
+                ((bytes_decides (changed_of ids (by Below Plus size fee) h).id x).1 (raised_id h (among ids h.id) ∙ is_x)))
                 ∙ given ∙ sym leaf_totals ∙ ap (totals_of (nodes_of hs)) (sym is_x)
           ]
 
-  pub loaded_settled : (totals : Totals) (hs' : List (Held T)) → hs' ≡ map (at_id x (with_totals totals)) (map (raised_of ids size fee) hs) → loaded hs' ≡ loaded hs
-  loaded_settled totals hs' is = ap loaded is ∙ loaded_written (map (raised_of ids size fee) hs) ∙ loaded_raised ids size fee hs
+  pub loaded_settled : (totals : Totals) (hs' : List (Held T)) → hs' ≡ map (at_id x (with_totals totals)) (map (changed_of ids (by Below Plus size fee)) hs) → loaded hs' ≡ loaded hs
+  loaded_settled totals hs' is = ap loaded is ∙ loaded_written (map (changed_of ids (by Below Plus size fee)) hs) ∙ loaded_changed (by Below Plus size fee) ids hs
     where
       loaded_written : (ks : List (Held T)) → loaded (map (at_id x (with_totals totals)) ks) ≡ loaded ks
       loaded_written [] = refl

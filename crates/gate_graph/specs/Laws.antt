@@ -1,9 +1,9 @@
 -- Laws of families.
-use Rattle.std.specs.Prelude.{◌≡◌, ◌≢◌, ℕ, Bool, true, ◌&&◌, ◌||◌, List, [], ◌∷◌, ◌++◌, filter, None}
+use Rattle.std.specs.Prelude.{◌≡◌, ◌≢◌, ℕ, Bool, true, false, ◌&&◌, ◌||◌, List, [], ◌∷◌, ◌++◌, filter, None}
 use Rattle.std.specs.List.{list_any}
 use Rattle.std.specs.Str.{bytes_eq}
 use Rattle.gate_graph.specs.Family.{Node, steps_of, reaches}
-use Rattle.gate_graph.specs.Families.{ids_of, ancestors_of, descendants_of, with_above, without_root, is_root, are_apart, IsGraph}
+use Rattle.gate_graph.specs.Families.{has, ids_of, ancestors_of, descendants_of, with_above, without_root, is_root, are_apart, IsGraph}
 use Rattle.gate_graph.specs.Faults.{fault_of_above}
 
 -- an id is one of these, or a chain leads down from it to one
@@ -21,6 +21,14 @@ pub record HaveEachOnce (g : List Node) : Type 0 where
 
 abbrev pub FamiliesHaveEachOnce : Type 0
 FamiliesHaveEachOnce = (g : List Node) → IsGraph g → HaveEachOnce g
+
+-- an id that no node of a graph has is above none and below none
+pub record HasNoFamily (g : List Node) (id : List ℕ) : Type 0 where
+  pub above : ancestors_of g id ≡ []
+  pub below : descendants_of g id ≡ []
+
+abbrev pub StrangersHaveNoFamily : Type 0
+StrangersHaveNoFamily = (g : List Node) (id : List ℕ) → IsGraph g → has g id ≡ false → HasNoFamily g id
 
 -- a node put between others joins their families: a chain leads where one led, and from the node, its parents and all
 -- above them to the node, its children and all below them; below the node are its children and all below them, and

@@ -1,7 +1,7 @@
 ghost use Rattle.std.specs.Prelude.{◌≡◌, ◌++◌, ◌∷◌, [], true, not, filter, length, is_some, OnOk, OnErr, IfOk, IfSome};
 ghost use Rattle.std.specs.List.{list_all, list_any};
 ghost use Rattle.gate_graph.specs.Family.{Node, steps_of, reaches};
-ghost use Rattle.gate_graph.specs.Families.{has, ids_of, without_id, ancestors_of, descendants_of, without_family, with_above, without_root, is_root};
+ghost use Rattle.gate_graph.specs.Families.{has, ids_of, without_id, ancestors_of, descendants_of, without_family, with_above, without_root, is_root, IsGraph};
 ghost use Rattle.gate_graph.specs.Faults.{fault_of_leaf, fault_of_above, IsRefusedFor};
 ghost use Rattle.gate_graph.specs.Walking.{is_led};
 ghost use Rattle.gate_graph.specs.Weighing.{totals_of};
@@ -65,6 +65,14 @@ impl<S: BuildHasher + Copy + Drop> Graph<S> {
         Graph {
             nodes: Nodes::new(alloc, hasher),
         }
+    }
+
+    /// States that each id is one node's, that parents are nodes and that no chain leads back to its start, for proofs:
+    /// it does nothing. This is the premise of the laws of families.
+    pub fn recall_graph(&self)
+        ensures { IsGraph self.now }
+    {
+        let _nodes = &self.nodes;
     }
 
     pub fn count(&self) -> usize

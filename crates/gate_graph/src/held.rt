@@ -1,4 +1,8 @@
+ghost use Rattle.std.specs.Prelude.{◌≡◌};
+ghost use Rattle.gate_graph.specs.Ranks.{rate_of};
+
 use crate::id::NodeId;
+use gate_ranking::Rate;
 
 /// The number of some nodes, and the sums of their sizes and fees.
 #[derive(Clone, Copy, Debug, PartialEq, Eq)]
@@ -38,4 +42,17 @@ pub struct Held<T: Drop> {
     pub totals: Totals,
     /// What it carries.
     pub load: T,
+}
+
+impl<T: Drop> Held<T> {
+    /// What the node is ranked by: its own fee over its size, or the fees over the sizes of all that is below it, itself
+    /// among them, whichever is greater.
+    #[tactic(auto, unfolding(crate::specs::Ranks::rate_with))]
+    pub fn rate(&self) -> Rate
+        ensures { result ≡ rate_of self.now }
+    {
+        let own = Rate::new(u128::from(self.fee), u128::from(self.size));
+        let family = Rate::new(self.totals.below.fees, self.totals.below.size);
+        if own < family { family } else { own }
+    }
 }

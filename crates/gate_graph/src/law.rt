@@ -1,6 +1,6 @@
 ghost use Rattle.std.specs.Prelude.{List, ℕ, IsTrue, ◌↔◌};
 ghost use Rattle.gate_graph.specs.Family.{reaches, Leads};
-ghost use Rattle.gate_graph.specs.Laws.{FamiliesHaveEachOnce, NodesJoinFamilies, RootsLeaveFamilies, RootsComeAndGo};
+ghost use Rattle.gate_graph.specs.Laws.{FamiliesHaveEachOnce, StrangersHaveNoFamily, NodesJoinFamilies, RootsLeaveFamilies, RootsComeAndGo};
 
 /// Whatever the steps, `reaches` holds of two ids exactly if a chain of steps leads from the first to the second.
 pub fn reaching_is_leading()
@@ -10,6 +10,11 @@ pub fn reaching_is_leading()
 /// A family has each node once, whatever paths lead to it.
 pub fn families_have_each_once()
     ensures { FamiliesHaveEachOnce }
+{}
+
+/// An id that no node has is above none and below none.
+pub fn strangers_have_no_family()
+    ensures { StrangersHaveNoFamily }
 {}
 
 /// What adding a node between parents and children does to families.

@@ -16,7 +16,7 @@
 //! Contracts see a graph as the list of its nodes in the order of adding, each with the ids of its parents, and
 //! families as tests over this list. By the clause of `reaching_is_leading`, the test `reaches` that defines families
 //! is the relation "a chain of steps leads from one id down to another"; the other laws say what the changes do to
-//! families.
+//! families. They are laws of graphs: `Graph::recall_graph` gives their premise of any `Graph`.
 #![tactic(auto)]
 
 mod copy;
@@ -27,6 +27,7 @@ mod held;
 mod id;
 mod law;
 mod links;
+mod merge;
 mod name;
 mod nodes;
 mod places;
@@ -43,6 +44,6 @@ pub use held::{Held, Sums, Totals};
 pub use id::{Id, NodeId};
 pub use law::{
     families_have_each_once, nodes_join_families, reaching_is_leading, roots_come_and_go,
-    roots_leave_families,
+    roots_leave_families, strangers_have_no_family,
 };
 pub use nodes::Nodes;

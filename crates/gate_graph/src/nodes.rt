@@ -104,8 +104,7 @@ impl<T: Drop, S: BuildHasher + Copy + Drop> Nodes<T, S> {
         }
     }
 
-    /// The id of one of the nodes that name an id, whether a node has that id or not: of the one that is unlisted at
-    /// the least cost when it is taken out.
+    /// The id of one of the nodes that name an id, whether a node has that id or not.
     pub fn child(&self, id: &NodeId) -> Option<&NodeId>
         ensures some { IfSome result (λ child. Contains (children_of (nodes_in self.now.nodes) id.now) child.now) }
         ensures none { IfNone result (children_of (nodes_in self.now.nodes) id.now ≡ []) }
@@ -142,7 +141,7 @@ impl<T: Drop, S: BuildHasher + Copy + Drop> Nodes<T, S> {
     }
 
     /// The node that ranks least, of equal ones the last. A node is ranked by its own fee over its size, or by the fees
-    /// over the sizes of all that is below it, itself among them, whichever is greater.
+    /// over the sizes of all that is below it, itself among them, whichever is greater: by `Held::rate` of what is lent.
     pub fn least(&self) -> Option<&Held<T>>
         ensures node { option_map (λ h. (node_of h, h.load)) (option_copied result) ≡ least_of self.now.nodes }
         ensures totals { IfSome result (λ h. h.now.totals ≡ totals_of (nodes_in self.now.nodes) h.now.id) }
@@ -182,7 +181,8 @@ impl<T: Drop, S: BuildHasher + Copy + Drop> Nodes<T, S> {
 
     /// Puts a node at the end, below those that it names and above those that name it. It takes no memory, and uses up
     /// the room that was taken. If nothing names the node, this takes a walk over its ancestors; else, if it names no
-    /// node, one over its descendants; else the totals of all its ancestors and descendants are found afresh.
+    /// node, one over its descendants; else, if all that is below it was below each of its parents before, a walk over
+    /// both and one below each parent; else the totals of all its ancestors and descendants are found afresh.
     pub fn put(&mut self, id: NodeId, parents: Vec<NodeId>, size: u64, fee: u64, load: T)
         requires room { length parents.items < self.old.room }
         requires new { has (nodes_in self.old.nodes) id ≡ false }

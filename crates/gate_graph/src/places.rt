@@ -5,11 +5,9 @@ ghost use Rattle.std.specs.Str.{bytes_eq};
 ghost use Rattle.indexmap.specs.IndexMap.{get, index_map_len};
 ghost use Rattle.gate_graph.specs.Slots.{at, Covers, Indexes};
 ghost use Rattle.gate_graph.specs.Holding.{has_id, with_parents, with_totals};
-ghost use Rattle.gate_graph.specs.Ranks.{rate_of as the_rate};
 
 use crate::held::{Held, Totals};
 use crate::id::NodeId;
-use gate_ranking::Rate;
 use indexmap::IndexMap;
 use std::hash::BuildHasher;
 
@@ -74,17 +72,6 @@ pub(crate) fn id_at<T: Drop>(slots: &[Option<Held<T>>], place: usize) -> Option<
         Some(held) => Some(held.id),
         None => None,
     }
-}
-
-/// What a node is ranked by: its own fee over its size, or the fees over the sizes of all that is below it, itself
-/// among them, whichever is greater.
-#[tactic(auto, unfolding(crate::specs::Ranks::rate_with))]
-pub(crate) fn rate_of<T: Drop>(held: &Held<T>) -> Rate
-    ensures { result ≡ the_rate held.now }
-{
-    let own = Rate::new(u128::from(held.fee), u128::from(held.size));
-    let family = Rate::new(held.totals.below.fees, held.totals.below.size);
-    if own < family { family } else { own }
 }
 
 /// Closes the holes.

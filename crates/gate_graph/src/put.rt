@@ -1,28 +1,28 @@
 //! Nodes put below those that they name and above those that name them.
 ghost use Rattle.std.specs.Prelude.{◌≡◌, ◌≤◌, ◌<◌, ◌^◌, ◌+◌, ◌++◌, ◌∷◌, [], true, false, is_some, length};
 ghost use Rattle.std.specs.Vec.{vec_capacity};
-ghost use Rattle.gate_graph.specs.Families.{has, are_apart};
+ghost use Rattle.gate_graph.specs.Families.{has};
 ghost use Rattle.gate_graph.specs.Holding.{id_at, nodes_of, loaded};
 ghost use Rattle.gate_graph.specs.Slots.{at};
-ghost use Rattle.gate_graph.specs.Linking.{IsLinked, IsUnlisted, AreWith};
-ghost use Rattle.gate_graph.specs.Walking.{AreClear};
-ghost use Rattle.gate_graph.specs.Weighing.{AreSmall, IsLeafLast, IsNewLast, IsRoot, IsWeighed};
+ghost use Rattle.gate_graph.specs.Keeping.{AreTables};
+ghost use Rattle.gate_graph.specs.Linking.{AreWith};
+ghost use Rattle.gate_graph.specs.Weighing.{IsLeafLast, IsNewLast, IsRoot, IsWeighed};
 
 use crate::held::{Held, Sums, Totals, Weight};
 use crate::id::NodeId;
 use crate::links::Links;
+use crate::merge::{adds_no_chain, settle_between};
 use crate::refresh::refresh_around;
 use crate::slots::Slots;
 use crate::take::is_root;
 use crate::walk::{Heading, Scratch, Way, walk};
-use crate::weigh::{burden_all, raise_all, weigh};
+use crate::weigh::{Difference, Side, Sign, change_all, weigh};
 use std::hash::BuildHasher;
 
-/// Puts an id that is in no list at the end of the list of each of these parents, for which there is room: once in each
-/// list, however often a parent is named.
+/// Puts an id at the end of the list of each of these parents, for which there is room: once in each list, however often
+/// a parent is named.
 pub(crate) fn link<S: BuildHasher + Drop>(links: &mut Links<S>, parents: &[NodeId], child: &NodeId)
-    requires room { length parents.now ≤ links.old.room }
-    requires new { IsUnlisted child.now links.old }
+    requires { length parents.now ≤ links.old.room }
     ensures { AreWith parents.now child.now links.old links.new }
 {
     for parent in parents {
@@ -38,20 +38,12 @@ pub(crate) fn settle<T: Drop, S: BuildHasher + Drop>(
     place: usize,
     weight: Weight,
 )
-    requires room { length slots.old.held ≤ vec_capacity scratch.old.above }
-    requires apart { are_apart (nodes_of slots.old.held) ≡ true }
-    requires linked { IsLinked (nodes_of slots.old.held) links.now }
-    requires small { AreSmall (nodes_of slots.old.held) }
+    requires tables { AreTables slots.old links.now scratch.old }
     requires stands { is_some (at slots.old.spots place) ≡ true }
-    requires clear { AreClear (length slots.old.spots) scratch.old.marks.items }
     requires last { IsLeafLast slots.old.held (id_at slots.old.spots place) weight.size weight.fee }
     ensures loaded { loaded slots.new.held ≡ loaded slots.old.held }
     ensures weighed { IsWeighed slots.new.held }
-    ensures spots { slots.new.spots ≡ slots.old.spots }
-    ensures clear { AreClear (length slots.old.spots) scratch.new.marks.items }
-    ensures marks { vec_capacity scratch.new.marks ≡ vec_capacity scratch.old.marks }
-    ensures capacity { vec_capacity scratch.new.above ≡ vec_capacity scratch.old.above }
-    ensures found { vec_capacity scratch.new.found ≡ vec_capacity scratch.old.found }
+    ensures tables { AreTables slots.new links.now scratch.new }
 {
     let _count = slots.count();
     walk(
@@ -65,7 +57,15 @@ pub(crate) fn settle<T: Drop, S: BuildHasher + Drop>(
         },
     );
     let sums = weigh(slots, scratch.above.as_slice());
-    raise_all(slots, scratch.above.as_slice(), weight.size, weight.fee);
+    change_all(
+        slots,
+        scratch.above.as_slice(),
+        Difference {
+            side: Side::Below,
+            sign: Sign::Plus,
+            weight,
+        },
+    );
     let totals = Totals {
         above: sums,
         below: Sums {
@@ -84,26 +84,20 @@ fn settle_root<T: Drop, S: BuildHasher + Drop>(
     scratch: &mut Scratch,
     place: usize,
 )
-    requires found { length slots.old.held ≤ vec_capacity scratch.old.found }
-    requires apart { are_apart (nodes_of slots.old.held) ≡ true }
-    requires linked { IsLinked (nodes_of slots.old.held) links.now }
-    requires small { AreSmall (nodes_of slots.old.held) }
+    requires tables { AreTables slots.old links.now scratch.old }
     requires stands { is_some (at slots.old.spots place) ≡ true }
-    requires clear { AreClear (length slots.old.spots) scratch.old.marks.items }
     requires last { IsNewLast slots.old.held (id_at slots.old.spots place) }
     requires root { IsRoot (nodes_of slots.old.held) (id_at slots.old.spots place) }
     ensures loaded { loaded slots.new.held ≡ loaded slots.old.held }
     ensures weighed { IsWeighed slots.new.held }
-    ensures spots { slots.new.spots ≡ slots.old.spots }
-    ensures clear { AreClear (length slots.old.spots) scratch.new.marks.items }
-    ensures marks { vec_capacity scratch.new.marks ≡ vec_capacity scratch.old.marks }
-    ensures found { vec_capacity scratch.new.found ≡ vec_capacity scratch.old.found }
-    ensures above { vec_capacity scratch.new.above ≡ vec_capacity scratch.old.above }
+    ensures tables { AreTables slots.new links.now scratch.new }
 {
     let _count = slots.count();
     let held = slots.at(place);
-    let size = held.size;
-    let fee = held.fee;
+    let weight = Weight {
+        size: held.size,
+        fee: held.fee,
+    };
     walk(
         slots,
         links,
@@ -125,43 +119,44 @@ fn settle_root<T: Drop, S: BuildHasher + Drop>(
         below: sums,
     };
     slots.set_totals(place, totals);
-    burden_all(slots, scratch.found.as_slice(), size, fee);
+    change_all(
+        slots,
+        scratch.found.as_slice(),
+        Difference {
+            side: Side::Above,
+            sign: Sign::Plus,
+            weight,
+        },
+    );
 }
 
 /// Gives the last node, which other nodes name, its totals, and changes those of its ancestors and descendants: by
-/// differences if it names no node, else by finding them afresh.
+/// differences if it names no node or adds no chain between others, else by finding them afresh.
 fn settle_named<T: Drop, S: BuildHasher + Drop>(
     slots: &mut Slots<T, S>,
     links: &Links<S>,
     scratch: &mut Scratch,
     place: usize,
 )
-    requires found { length slots.old.held ≤ vec_capacity scratch.old.found }
-    requires above { length slots.old.held ≤ vec_capacity scratch.old.above }
-    requires apart { are_apart (nodes_of slots.old.held) ≡ true }
-    requires linked { IsLinked (nodes_of slots.old.held) links.now }
-    requires small { AreSmall (nodes_of slots.old.held) }
+    requires tables { AreTables slots.old links.now scratch.old }
     requires stands { is_some (at slots.old.spots place) ≡ true }
-    requires clear { AreClear (length slots.old.spots) scratch.old.marks.items }
     requires last { IsNewLast slots.old.held (id_at slots.old.spots place) }
     ensures loaded { loaded slots.new.held ≡ loaded slots.old.held }
     ensures weighed { IsWeighed slots.new.held }
-    ensures spots { slots.new.spots ≡ slots.old.spots }
-    ensures clear { AreClear (length slots.old.spots) scratch.new.marks.items }
-    ensures marks { vec_capacity scratch.new.marks ≡ vec_capacity scratch.old.marks }
-    ensures found { vec_capacity scratch.new.found ≡ vec_capacity scratch.old.found }
-    ensures above { vec_capacity scratch.new.above ≡ vec_capacity scratch.old.above }
+    ensures tables { AreTables slots.new links.now scratch.new }
 {
     if is_root(slots, place) {
         settle_root(slots, links, scratch, place);
+    } else if adds_no_chain(slots, links, scratch, place) {
+        settle_between(slots, links, scratch, place);
     } else {
         refresh_around(slots, links, scratch, place);
     }
 }
 
 /// Puts a node below those that it names and above those that name it, for which there is room. The totals of its
-/// ancestors and descendants change by differences if nothing names it or it names no node, and else are found afresh.
-/// It takes no memory.
+/// ancestors and descendants change by differences if nothing names it, it names no node or it adds no chain between
+/// others, and else are found afresh. It takes no memory.
 pub(crate) fn put_node<T: Drop, S: BuildHasher + Drop>(
     slots: &mut Slots<T, S>,
     links: &mut Links<S>,
@@ -170,26 +165,18 @@ pub(crate) fn put_node<T: Drop, S: BuildHasher + Drop>(
 )
     requires slot { 0 < slots.old.room }
     requires lists { length held.parents.items ≤ links.old.room }
-    requires clear { AreClear (length slots.old.spots) scratch.old.marks.items }
     requires marks { length slots.old.spots < vec_capacity scratch.old.marks }
     requires found { length slots.old.held + 1 ≤ vec_capacity scratch.old.found }
     requires above { length slots.old.held + 1 ≤ vec_capacity scratch.old.above }
-    requires apart { are_apart (nodes_of slots.old.held) ≡ true }
-    requires linked { IsLinked (nodes_of slots.old.held) links.old }
+    requires tables { AreTables slots.old links.old scratch.old }
     requires weighed { IsWeighed slots.old.held }
-    requires small { AreSmall (nodes_of slots.old.held) }
     requires new { has (nodes_of slots.old.held) held.id ≡ false }
     requires sized { held.size < 2 ^ 64 }
     requires paid { held.fee < 2 ^ 64 }
     requires empty { held.totals.below ≡ record { count = 0; size = 0; fees = 0 } }
     ensures loaded { loaded slots.new.held ≡ loaded (slots.old.held ++ held ∷ []) }
-    ensures apart { are_apart (nodes_of slots.new.held) ≡ true }
-    ensures linked { IsLinked (nodes_of slots.new.held) links.new }
     ensures weighed { IsWeighed slots.new.held }
-    ensures small { AreSmall (nodes_of slots.new.held) }
-    ensures clear { AreClear (length slots.new.spots) scratch.new.marks.items }
-    ensures found { vec_capacity scratch.new.found ≡ vec_capacity scratch.old.found }
-    ensures above { vec_capacity scratch.new.above ≡ vec_capacity scratch.old.above }
+    ensures tables { AreTables slots.new links.new scratch.new }
 {
     let _count = slots.count();
     let id = held.id;

@@ -10,7 +10,7 @@ ghost use Rattle.gate_ranking.specs.Lesser.{least_by};
 
 use crate::held::{Held, Totals};
 use crate::id::NodeId;
-use crate::places::{close, empty, id_at, rate_of, renumber, rewrite, standing, write};
+use crate::places::{close, empty, id_at, renumber, rewrite, standing, write};
 use gate_bytes::Memory;
 use gate_ranking::{Ranking, Rate};
 use indexmap::IndexMap;
@@ -146,7 +146,7 @@ impl<T: Drop, S: BuildHasher + Drop> Slots<T, S> {
         ensures room { self.new.room ≡ self.old.room }
     {
         write(&mut self.slots, place, totals);
-        let rate = rate_of(standing(&self.slots, place));
+        let rate = standing(&self.slots, place).rate();
         self.ranking.update(place, rate);
     }
 
@@ -204,7 +204,7 @@ impl<T: Drop, S: BuildHasher + Drop> Slots<T, S> {
         let put: Result<_, _> = self.places.insert(held.id, place);
         let _ = put.unwrap();
         self.size += u128::from(held.size);
-        self.ranking.push(rate_of(&held));
+        self.ranking.push(held.rate());
         self.slots.push_reserved(Some(held));
         place
     }

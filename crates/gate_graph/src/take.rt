@@ -5,17 +5,18 @@ ghost use Rattle.gate_graph.specs.Families.{has, are_apart};
 ghost use Rattle.std.specs.List.{list_all};
 ghost use Rattle.gate_graph.specs.Holding.{has_id, id_at, ids_at, nodes_of, loaded, left_of, load_of, loads_of, without_below, without_one, AreGone};
 ghost use Rattle.gate_graph.specs.Slots.{at};
+ghost use Rattle.gate_graph.specs.Keeping.{AreTables};
 ghost use Rattle.gate_graph.specs.Linking.{IsLinked, AreWithout};
 ghost use Rattle.gate_graph.specs.Walking.{AreClear, AreStanding};
 ghost use Rattle.gate_graph.specs.Weighing.{AreSmall, IsRoot, IsWeighed};
 
-use crate::held::Held;
+use crate::held::{Held, Weight};
 use crate::id::NodeId;
 use crate::links::Links;
 use crate::refresh::refresh_each;
 use crate::slots::Slots;
 use crate::walk::{Heading, Scratch, Way, walk, walk_below};
-use crate::weigh::{ease_all, lower_above_each};
+use crate::weigh::{Difference, Side, Sign, change_all, lower_above_each};
 use std::hash::BuildHasher;
 
 /// Takes an id out of the list of each of these parents.
@@ -114,9 +115,6 @@ pub(crate) fn take_family<T: Drop, S: BuildHasher + Drop>(
     ensures capacity { vec_capacity gone.new ≡ vec_capacity gone.old }
 {
     walk_below(slots, links, &mut scratch.marks, &mut scratch.found, id);
-    // A walk finds the children of a node in the order of its list. From the end, each child stands last in that list
-    // when it is taken out.
-    scratch.found.reverse();
     lower_above_each(
         slots,
         links,
@@ -143,25 +141,13 @@ fn take_alone<T: Drop, S: BuildHasher + Drop>(
     scratch: &mut Scratch,
     place: usize,
 ) -> T
-    requires stands { is_some (at slots.old.spots place) ≡ true }
-    requires clear { AreClear (length slots.old.spots) scratch.old.marks.items }
-    requires found { length slots.old.held ≤ vec_capacity scratch.old.found }
-    requires above { length slots.old.held ≤ vec_capacity scratch.old.above }
-    requires apart { are_apart (nodes_of slots.old.held) ≡ true }
-    requires linked { IsLinked (nodes_of slots.old.held) links.old }
+    requires tables { AreTables slots.old links.old scratch.old }
     requires weighed { IsWeighed slots.old.held }
-    requires small { AreSmall (nodes_of slots.old.held) }
+    requires stands { is_some (at slots.old.spots place) ≡ true }
     ensures left { loaded slots.new.held ≡ without_one (loaded slots.old.held) (id_at slots.old.spots place) }
     ensures load { load_of slots.old.held (id_at slots.old.spots place) ≡ Some result }
-    ensures apart { are_apart (nodes_of slots.new.held) ≡ true }
-    ensures linked { IsLinked (nodes_of slots.new.held) links.new }
     ensures weighed { IsWeighed slots.new.held }
-    ensures small { AreSmall (nodes_of slots.new.held) }
-    ensures clear { AreClear (length slots.new.spots) scratch.new.marks.items }
-    ensures marks { vec_capacity scratch.new.marks ≡ vec_capacity scratch.old.marks }
-    ensures spots { length slots.new.spots ≡ length slots.old.spots }
-    ensures found { vec_capacity scratch.new.found ≡ vec_capacity scratch.old.found }
-    ensures above { vec_capacity scratch.new.above ≡ vec_capacity scratch.old.above }
+    ensures tables { AreTables slots.new links.new scratch.new }
 {
     let id = slots.at(place).id;
     walk(
@@ -202,29 +188,20 @@ fn take_root<T: Drop, S: BuildHasher + Drop>(
     scratch: &mut Scratch,
     place: usize,
 ) -> T
-    requires stands { is_some (at slots.old.spots place) ≡ true }
-    requires clear { AreClear (length slots.old.spots) scratch.old.marks.items }
-    requires found { length slots.old.held ≤ vec_capacity scratch.old.found }
-    requires apart { are_apart (nodes_of slots.old.held) ≡ true }
-    requires linked { IsLinked (nodes_of slots.old.held) links.old }
+    requires tables { AreTables slots.old links.old scratch.old }
     requires weighed { IsWeighed slots.old.held }
-    requires small { AreSmall (nodes_of slots.old.held) }
+    requires stands { is_some (at slots.old.spots place) ≡ true }
     requires root { IsRoot (nodes_of slots.old.held) (id_at slots.old.spots place) }
     ensures left { loaded slots.new.held ≡ without_one (loaded slots.old.held) (id_at slots.old.spots place) }
     ensures load { load_of slots.old.held (id_at slots.old.spots place) ≡ Some result }
-    ensures apart { are_apart (nodes_of slots.new.held) ≡ true }
-    ensures linked { IsLinked (nodes_of slots.new.held) links.new }
     ensures weighed { IsWeighed slots.new.held }
-    ensures small { AreSmall (nodes_of slots.new.held) }
-    ensures clear { AreClear (length slots.new.spots) scratch.new.marks.items }
-    ensures marks { vec_capacity scratch.new.marks ≡ vec_capacity scratch.old.marks }
-    ensures spots { length slots.new.spots ≡ length slots.old.spots }
-    ensures found { vec_capacity scratch.new.found ≡ vec_capacity scratch.old.found }
-    ensures above { vec_capacity scratch.new.above ≡ vec_capacity scratch.old.above }
+    ensures tables { AreTables slots.new links.new scratch.new }
 {
     let held = slots.at(place);
-    let size = held.size;
-    let fee = held.fee;
+    let weight = Weight {
+        size: held.size,
+        fee: held.fee,
+    };
     walk(
         slots,
         links,
@@ -235,7 +212,15 @@ fn take_root<T: Drop, S: BuildHasher + Drop>(
             way: Way::Down,
         },
     );
-    ease_all(slots, scratch.found.as_slice(), size, fee);
+    change_all(
+        slots,
+        scratch.found.as_slice(),
+        Difference {
+            side: Side::Above,
+            sign: Sign::Minus,
+            weight,
+        },
+    );
     pull_one(slots, links, place)
 }
 
@@ -262,24 +247,12 @@ pub(crate) fn take_one<T: Drop, S: BuildHasher + Drop>(
     scratch: &mut Scratch,
     id: &NodeId,
 ) -> Option<T>
-    requires clear { AreClear (length slots.old.spots) scratch.old.marks.items }
-    requires found { length slots.old.held ≤ vec_capacity scratch.old.found }
-    requires above { length slots.old.held ≤ vec_capacity scratch.old.above }
-    requires apart { are_apart (nodes_of slots.old.held) ≡ true }
-    requires linked { IsLinked (nodes_of slots.old.held) links.old }
+    requires tables { AreTables slots.old links.old scratch.old }
     requires weighed { IsWeighed slots.old.held }
-    requires small { AreSmall (nodes_of slots.old.held) }
     ensures left { loaded slots.new.held ≡ without_one (loaded slots.old.held) id.now }
     ensures load { result ≡ load_of slots.old.held id.now }
-    ensures apart { are_apart (nodes_of slots.new.held) ≡ true }
-    ensures linked { IsLinked (nodes_of slots.new.held) links.new }
     ensures weighed { IsWeighed slots.new.held }
-    ensures small { AreSmall (nodes_of slots.new.held) }
-    ensures clear { AreClear (length slots.new.spots) scratch.new.marks.items }
-    ensures marks { vec_capacity scratch.new.marks ≡ vec_capacity scratch.old.marks }
-    ensures spots { length slots.new.spots ≡ length slots.old.spots }
-    ensures found { vec_capacity scratch.new.found ≡ vec_capacity scratch.old.found }
-    ensures above { vec_capacity scratch.new.above ≡ vec_capacity scratch.old.above }
+    ensures tables { AreTables slots.new links.new scratch.new }
 {
     match slots.place(id) {
         Some(place) => {

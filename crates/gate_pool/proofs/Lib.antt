@@ -21,3 +21,4 @@ pub mod Walking
 pub mod Weighed
 pub mod Children
 pub mod Readiness
+pub mod Earliest

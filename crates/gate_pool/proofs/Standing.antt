@@ -80,6 +80,18 @@ take_le (s ∷ slots) zero = omega arith
 take_le (None ∷ slots) (suc n) = take_le slots n
 take_le (Some h ∷ slots) (suc n) = omega (arith, take_le slots n)
 
+-- there is one entry at least beyond the first slots
+pub standing_more : (slots : List Slot) (i : ℕ) (s : Slot) (h : Held Admitted) → i < length slots → s ≡ get_or slots i s → s ≡ Some h → length (standing (take i slots)) < length (standing slots)
+standing_more slots i s h lt is some =
+    omega (
+      arith,
+      ap length (one_more slots i s h lt is some),
+      length-append (standing (take i slots)) (h.load ∷ []),
+      take_le slots (i + 1),
+      length-map (entries_of (take (i + 1) slots)) (λ (k : Held Admitted). k.load),
+      length-map (entries_of slots) (λ (k : Held Admitted). k.load),
+    )
+
 -- the ids of the entries that pass a test, with one entry more
 pub listed_more : (test : Admitted → Bool) (xs : List Admitted) (e : Admitted) → listing_of (filter test (xs ++ e ∷ [])) ≡ listing_of (filter test xs) ++ cond (test e) (txid_of e.tx ∷ []) []
 listed_more test [] e = by (test e)

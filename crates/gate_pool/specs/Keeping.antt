@@ -5,9 +5,10 @@ use Rattle.gate_tx.specs.declared.TxIn.{TxIn}
 use Rattle.gate_tx.specs.declared.OutPoint.{OutPoint}
 use Rattle.gate_tx.specs.Ids.{txid_of, wtxid_of}
 use Rattle.gate_graph.specs.Family.{Node}
-use Rattle.gate_pool.specs.Pool.{Admitted, IsBounded, most_entries, entry_by_txid, entry_by_wtxid, spender_of}
+use Rattle.gate_pool.specs.Pool.{Admitted, IsBounded, entry_by_txid, entry_by_wtxid, spender_of}
 use Rattle.gate_pool.specs.Family.{node_of}
 use Rattle.gate_pool.specs.Distinct.{AreDistinct}
+use Rattle.gate_pool.specs.Arrivals.{Arrived, HaveArrived}
 use Rattle.gate_pool.specs.Scores.{AreBounded, least_of}
 use Rattle.gate_pool.specs.declared.scores.Score.{Score}
 
@@ -35,19 +36,19 @@ pub record IsIndexed (entries : List Admitted) (by_wtxid : List ℕ → Option (
 pub record HasRoom (room count nodes wtxid_spare point_spare parents leaving gone : ℕ) : Type 0 where
   pub none : leaving ≡ 0
   pub gone_room : count ≤ gone
-  pub few : count ≤ most_entries
   pub next : 0 < room → count + 1 ≤ gone
-  pub next_few : 0 < room → count + 1 ≤ most_entries
   pub nodes_room : room ≤ nodes
   pub wtxids : 0 < room → 0 < wtxid_spare
   pub points : room ≤ point_spare + 1
   pub parents_room : room ≤ parents + 1
 
--- there is room to list all entries, and one more; none was admitted before the second `oldest`; the least score is kept
-pub record IsReady (entries : List Admitted) (room chosen : ℕ) (oldest : ℕ) (least : Option Score) : Type 0 where
+-- there is room to list all entries, and one more, whose arrival has a place too; the arrivals of all are there, and the least
+-- score is kept
+pub record IsReady (entries : List Admitted) (room chosen : ℕ) (arrivals : Arrived) (least : Option Score) : Type 0 where
   pub chosen_room : length entries ≤ chosen
   pub next : 0 < room → length entries + 1 ≤ chosen
-  pub times : (e : Admitted) → Contains entries e → oldest ≤ e.time
+  pub arrived : HaveArrived entries arrivals.list
+  pub arrivals_room : 0 < room → 0 < arrivals.room
   pub score : least ≡ least_of entries
   pub bounded : IfSome least (λ score. AreBounded score.family)
 

@@ -6,3 +6,4 @@ pub mod Distinct
 pub mod Search
 pub mod Keeping
 pub mod Places
+pub mod Arrivals

@@ -26,16 +26,12 @@ pub record IsBounded (entry : Admitted) : Type 0 where
   pub least : 1 ≤ entry.vsize
   pub most : entry.vsize ≤ largest_vsize
 
--- the largest number of entries in a pool
-abbrev pub most_entries : ℕ
-most_entries = 50_000_000
-
 -- an entry was admitted before this second
 abbrev pub is_before : ℕ → Admitted → Bool
 is_before time e = nat_lt e.time time
 
 -- a pool: its entries in order of admission, and the room that was taken beforehand: an entry of fewer inputs than `room`
--- enters without memory
+-- enters without memory. Room is no part of what a pool holds: only a call that says so keeps it, and one that fails may lose it
 pub record Pooled : Type 0 where
   pub entries : List Admitted
   pub room : ℕ

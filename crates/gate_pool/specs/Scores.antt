@@ -1,45 +1,44 @@
 -- What an entry is worth: its feerate or that of its descendants, whichever is greater, as an exact fraction.
-use Rattle.std.specs.Prelude.{ℕ, ◌*◌, ◌≤◌, nat_lt, Bool, List, [], ◌∷◌, Option, Some, None, if◌then◌else◌}
+use Rattle.std.specs.Prelude.{ℕ, ◌*◌, ◌^◌, ◌<◌, ◌≤◌, List, Option}
+use Rattle.std.specs.Option.{option_map}
 use Rattle.gate_tx.specs.Ids.{txid_of}
 use Rattle.gate_tx.specs.Money.{max_money}
-use Rattle.gate_pool.specs.Pool.{Admitted, most_entries, largest_vsize}
-use Rattle.gate_pool.specs.Family.{descendants_of, sums_of}
+use Rattle.gate_ranking.specs.Lesser.{least_by}
+use Rattle.gate_ranking.specs.Rate.{Fraction, rate_cmp}
+use Rattle.gate_graph.specs.Ranks.{rate_with}
+use Rattle.gate_graph.specs.declared.held.Sums.{Sums as NodeSums}
+use Rattle.gate_pool.specs.Pool.{Admitted}
+use Rattle.gate_pool.specs.Family.{descendants_of, summed}
 use Rattle.gate_pool.specs.declared.closures.Sums.{Sums}
 use Rattle.gate_pool.specs.declared.scores.Score.{Score}
 
--- a satoshi for b virtual bytes is less than c for d
-abbrev pub is_cheaper : ℕ → ℕ → ℕ → ℕ → Bool
-is_cheaper a b c d = nat_lt (a * d) (c * b)
+-- what an entry is ranked by: its own fee over its size, or the fees over the sizes of its descendants, itself among them, if
+-- that is more; rates compare by cross products
+abbrev pub rate_of : List Admitted → Admitted → Fraction
+rate_of entries e = rate_with e.fee e.vsize (summed (descendants_of entries (txid_of e.tx)))
 
--- an entry's score, if its descendants, itself among them, have these sums: its own fee over its size unless that is less
--- than their fees over their sizes
-abbrev pub score_from : Admitted → Sums → Score
+-- the entry that ranks least, of equal ones the last
+abbrev pub least_entry : List Admitted → Option Admitted
+least_entry entries = least_by rate_cmp (rate_of entries) entries
+
+-- an entry's score, if its descendants, itself among them, have these sums: what it is ranked by, and the sums
+abbrev pub score_from : Admitted → NodeSums → Score
 score_from e family = record {
   txid = txid_of e.tx;
-  fees = (if is_cheaper e.fee e.vsize family.fees family.size then family.fees else e.fee);
-  size = (if is_cheaper e.fee e.vsize family.fees family.size then family.size else e.vsize);
-  family = family;
+  fees = (rate_with e.fee e.vsize family).fees;
+  size = (rate_with e.fee e.vsize family).size;
+  family = record { count = family.count; size = family.size; fees = family.fees };
 }
 
 unfoldable pub score_of : List Admitted → Admitted → Score
-score_of entries e = score_from e (sums_of (descendants_of entries (txid_of e.tx)))
+score_of entries e = score_from e (summed (descendants_of entries (txid_of e.tx)))
 
--- the lesser of two scores, of equal ones the later
-abbrev pub lesser : Score → Option Score → Score
-lesser first None = first
-lesser first (Some later) = if is_cheaper first.fees first.size later.fees later.size then first else later
-
--- the least score of some of the entries, of equal ones the last
-abbrev pub least_among : List Admitted → List Admitted → Option Score
-least_among entries [] = None
-least_among entries (e ∷ some) = Some (lesser (score_of entries e) (least_among entries some))
-
+-- the score of the entry that ranks least
 abbrev pub least_of : List Admitted → Option Score
-least_of entries = least_among entries entries
+least_of entries = option_map (score_of entries) (least_entry entries)
 
--- the bounds of the sums of at least one entry and at most `most_entries`: fees in satoshi, sizes in virtual bytes
+-- the bounds of the sums of some entries: fees in satoshi, sizes in virtual bytes
 pub record AreBounded (sums : Sums) : Type 0 where
   pub least : 1 ≤ sums.size
-  pub size : sums.size ≤ most_entries * largest_vsize
-  pub fees : sums.fees ≤ most_entries * max_money
+  pub fees : sums.fees < 2 ^ 115
   pub rate : sums.fees ≤ max_money * sums.size

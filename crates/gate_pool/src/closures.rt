@@ -256,8 +256,9 @@ pub fn parents<V: FamilyView>(alloc: Global, pool: &V, inputs: &[TxIn]) -> Resul
     ensures { IfOk result (λ ids. AreIdsOf ids.items (parents_above (V.entries pool.now) inputs.now)) }
 {
     let mut found = Vec::new(alloc);
-    let mut lent = Vec::new(alloc);
-    let _few = add_parents(pool, &mut found, &mut lent, inputs, usize::MAX)?;
+    for input in inputs {
+        let _few = add(pool, &mut found, &input.prevout.txid, usize::MAX)?;
+    }
     Ok(found)
 }
 

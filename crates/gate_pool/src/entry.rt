@@ -12,9 +12,6 @@ use std::marker::Model;
 /// The largest size of an entry, in virtual bytes.
 pub const MAX_VSIZE: u64 = 10_000_000;
 
-/// The largest number of entries in a pool.
-pub const MAX_ENTRIES: usize = 50_000_000;
-
 /// A transaction in the pool.
 #[derive(Debug, Drop)]
 pub struct Entry {

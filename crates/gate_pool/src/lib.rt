@@ -4,6 +4,7 @@
 //! takes the place of all entries that conflict with it, and of all that are below these, without memory.
 #![tactic(auto)]
 
+mod arrivals;
 mod changes;
 mod choice;
 mod closures;
@@ -20,7 +21,7 @@ pub use choice::Test;
 pub use closures::{
     Above, Sums, add_up, ancestors, ancestors_with, descendants, family_above, parents,
 };
-pub use entry::{Entry, MAX_ENTRIES, MAX_VSIZE};
+pub use entry::{Entry, MAX_VSIZE};
 pub use pool::Pool;
 pub use scores::Score;
 pub use view::FamilyView;

@@ -7,7 +7,8 @@ ghost use Rattle.gate_pool.specs.Family.{names, spends_one_of, totals_of, withou
 ghost use Rattle.gate_pool.specs.Scores.{AreBounded, least_of};
 ghost use Rattle.gate_pool.specs.Distinct.{AreDistinct};
 
-use crate::choice::{Before, Test};
+use crate::arrivals::Arrivals;
+use crate::choice::Test;
 use crate::entry::Entry;
 use crate::naming::node_id;
 use crate::scores::Score;
@@ -28,8 +29,8 @@ pub struct Pool<S: BuildHasher + Copy + Drop> {
     chosen: Vec<NodeId>,
     /// The least score of all entries, of equal ones that of the last.
     least: Option<Score>,
-    /// No entry was admitted before this second.
-    oldest: u64,
+    /// When the entries were admitted.
+    arrivals: Arrivals,
 }
 
 impl<S: BuildHasher + Copy + Drop> Model for Pool<S> {
@@ -41,7 +42,7 @@ impl<S: BuildHasher + Copy + Drop> Model for Pool<S> {
 
     ghost view = { λ p. p.store };
 
-    ghost invariant = { λ p. IsReady p.store.entries p.store.room (vec_capacity p.chosen) p.oldest p.least };
+    ghost invariant = { λ p. IsReady p.store.entries p.store.room (vec_capacity p.chosen) p.arrivals p.least };
 }
 
 impl<S: BuildHasher + Copy + Drop> Pool<S> {
@@ -53,7 +54,7 @@ impl<S: BuildHasher + Copy + Drop> Pool<S> {
             store: Store::new(alloc, hasher),
             chosen: Vec::new(alloc),
             least: None,
-            oldest: u64::MAX,
+            arrivals: Arrivals::new(alloc),
         })
     }
 
@@ -131,8 +132,8 @@ impl<S: BuildHasher + Copy + Drop> Pool<S> {
         self.store.recall_distinct();
     }
 
-    /// Takes the memory for an entry of this many inputs. It fails if memory runs out, or the pool has `MAX_ENTRIES`
-    /// entries.
+    /// Takes the memory for an entry of this many inputs. If memory runs out, the room that was taken before may be
+    /// lost.
     pub fn reserve(&mut self, inputs: usize) -> Result<(), Memory>
         ensures entries { self.new.entries ≡ self.old.entries }
         ensures room { OnOk result (inputs < self.new.room) }
@@ -142,6 +143,7 @@ impl<S: BuildHasher + Copy + Drop> Pool<S> {
         };
         self.chosen.clear();
         self.chosen.reserve(places)?;
+        self.store.reserve_arrival(&mut self.arrivals)?;
         self.store.reserve(inputs)
     }
 
@@ -153,7 +155,7 @@ impl<S: BuildHasher + Copy + Drop> Pool<S> {
         requires wtxid { entry_by_wtxid self.old.entries (wtxid_of entry.tx) ≡ None }
         ensures { self.new.entries ≡ entered self.old.entries entry }
     {
-        self.oldest = self.oldest.min(entry.time());
+        self.arrivals.push(&entry);
         self.store.take_conflicts(entry.transaction().inputs());
         self.store.put(entry);
         self.least = self.store.settle();
@@ -206,16 +208,13 @@ impl<S: BuildHasher + Copy + Drop> Pool<S> {
         self.least = self.store.settle();
     }
 
-    /// Takes out the entries that were admitted before a second and all that is below them. It takes no memory. It
-    /// searches the pool only if an entry that old was left after the last such search or has entered since, and then
-    /// gives up the room that was taken.
+    /// Takes out the entries that were admitted before a second and all that is below them. It takes no memory, and
+    /// gives up the room that was taken. The oldest entry is known at once, so that this costs what is taken out.
     pub fn take_before(&mut self, time: u64)
         ensures { self.new.entries ≡ without_below (is_before time) self.old.entries }
     {
-        if self.oldest < time {
-            self.take_below(&Before { time });
-            self.oldest = self.store.oldest();
-        }
+        self.store.take_before(&mut self.arrivals, time);
+        self.least = self.store.settle();
     }
 
     /// The least score of all entries, of equal ones that of the entry that was admitted last; none for an empty pool.
@@ -232,12 +231,13 @@ impl<S: BuildHasher + Copy + Drop> Pool<S> {
         ensures { IfOk result (λ pool. pool.entries ≡ self.now.entries) }
     {
         let chosen = Vec::with_capacity(alloc, self.store.count())?;
+        let arrivals = self.store.arrivals(alloc)?;
         let store = self.store.copy(alloc)?;
         Ok(Pool {
             store,
             chosen,
             least: self.least,
-            oldest: self.oldest,
+            arrivals,
         })
     }
 }

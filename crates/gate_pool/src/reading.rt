@@ -1,5 +1,5 @@
 //! What is read from the slots in which entries stand.
-ghost use Rattle.std.specs.Prelude.{◌≡◌, ◌<◌, ◌≤◌, ◌++◌, ◌∷◌, [], cond, List, ℕ, None, Some, filter, length, IfOk, OnOk, Contains};
+ghost use Rattle.std.specs.Prelude.{◌≡◌, ◌<◌, ◌≤◌, ◌++◌, ◌∷◌, [], cond, List, ℕ, None, Some, filter, length, IfOk, OnOk};
 ghost use Rattle.std.specs.List.Sorted.{IsPermutation, IsNonDecreasingBy};
 ghost use Rattle.std.specs.Option.{unwrap_or};
 ghost use Rattle.std.specs.Str.{bytes_eq};
@@ -8,7 +8,7 @@ ghost use Rattle.gate_tx.specs.Coins.{point_eq};
 ghost use Rattle.gate_tx.specs.Ids.{txid_of};
 ghost use Rattle.gate_tx.specs.declared.OutPoint.{OutPoint as Point};
 ghost use Rattle.indexmap.specs.IndexMap.{get};
-ghost use Rattle.gate_pool.specs.Pool.{Admitted, has_point, has_wtxid, listing_of};
+ghost use Rattle.gate_pool.specs.Pool.{has_point, has_wtxid, listing_of};
 ghost use Rattle.gate_pool.specs.Distinct.{AreDistinct};
 ghost use Rattle.gate_pool.specs.Keeping.{IsIndexed};
 ghost use Rattle.gate_pool.specs.Places.{place_in, standing, written};
@@ -66,20 +66,6 @@ pub(crate) fn choose<T: Test>(slots: &[Option<Held<Entry>>], test: &T, chosen: &
             None => {}
         }
     }
-}
-
-/// The second at which the oldest entry was admitted, or `u64::MAX` if there is none.
-pub(crate) fn oldest_of(slots: &[Option<Held<Entry>>]) -> u64
-    ensures { (e : Admitted) → Contains (standing slots.now) e → result ≤ e.time }
-{
-    let mut oldest = u64::MAX;
-    for slot in slots {
-        match slot {
-            Some(held) => oldest = oldest.min(held.load.time()),
-            None => {}
-        }
-    }
-    oldest
 }
 
 /// Writes an entry's id at its witness id and at each outpoint that it spends, in memory that it takes.

@@ -5,7 +5,9 @@ ghost use Rattle.std.specs.Vec.{vec_capacity};
 ghost use Rattle.gate_tx.specs.declared.TxIn.{TxIn as Input};
 ghost use Rattle.gate_tx.specs.declared.OutPoint.{OutPoint as Point};
 ghost use Rattle.gate_tx.specs.Coins.{spends};
-ghost use Rattle.gate_pool.specs.Pool.{Admitted, entry_by_txid, entry_by_wtxid, spender_of, has_txid, listing_of, size_of};
+ghost use Rattle.gate_tx.specs.Ids.{txid_of};
+ghost use Rattle.gate_pool.specs.Pool.{Admitted, entry_by_txid, entry_by_wtxid, spender_of, has_txid, is_before, listing_of, size_of};
+ghost use Rattle.gate_pool.specs.Arrivals.{HaveArrived};
 ghost use Rattle.gate_pool.specs.Keeping.{IsNew};
 ghost use Rattle.gate_pool.specs.Family.{names, children_of, spends_one_of, totals_of, without_family, without_below, AreIdsOf, OfThese};
 ghost use Rattle.gate_pool.specs.Scores.{AreBounded, least_of};
@@ -13,12 +15,12 @@ ghost use Rattle.gate_pool.specs.Distinct.{AreDistinct};
 ghost use Rattle.gate_pool.specs.Removal.{PassesSpenders};
 ghost use Rattle.gate_pool.specs.Search.{IsChild};
 
+use crate::arrivals::Arrivals;
 use crate::choice::Test;
-use crate::closures::Sums;
-use crate::entry::{Entry, MAX_ENTRIES};
+use crate::entry::Entry;
 use crate::naming::{list_parents, node_id, txids_of};
 use crate::places::{drop_each, drop_entry, put_entry};
-use crate::reading::{choose, index_each, oldest_of, sort_by_place, txids_in};
+use crate::reading::{choose, index_each, sort_by_place, txids_in};
 use crate::scores::Score;
 use gate_bytes::{Kept, Memory};
 use gate_graph::{NodeId, Nodes, Totals};
@@ -148,11 +150,36 @@ impl<S: BuildHasher + Copy + Drop> Store<S> {
         txids_of(alloc, found.as_slice())
     }
 
-    /// The second at which the oldest entry was admitted, or `u64::MAX` if there is none.
-    pub(crate) fn oldest(&self) -> u64
-        ensures { (e : Admitted) → Contains self.now.entries e → result ≤ e.time }
+    /// The arrivals of all entries.
+    pub(crate) fn arrivals(&self, alloc: Global) -> Result<Arrivals, Memory>
+        ensures { IfOk result (λ arrivals. HaveArrived self.now.entries arrivals.list) }
     {
-        oldest_of(self.nodes.as_slice())
+        let mut arrivals = Arrivals::with_capacity(alloc, self.count())?;
+        arrivals.list_anew(self.nodes.as_slice());
+        Ok(arrivals)
+    }
+
+    /// Takes the memory for one arrival more. If more than half of the arrivals are of entries that have left, all are
+    /// listed anew, which takes none.
+    pub(crate) fn reserve_arrival(&self, arrivals: &mut Arrivals) -> Result<(), Memory>
+        requires { HaveArrived self.now.entries arrivals.old.list }
+        ensures arrived { HaveArrived self.now.entries arrivals.new.list }
+        ensures kept { 0 < arrivals.old.room → 0 < arrivals.new.room }
+        ensures room { OnOk result (0 < arrivals.new.room) }
+    {
+        self.drop_gone(arrivals);
+        arrivals.reserve()
+    }
+
+    /// Lists the arrivals anew if more than half of them are of entries that have left.
+    fn drop_gone(&self, arrivals: &mut Arrivals)
+        requires { HaveArrived self.now.entries arrivals.old.list }
+        ensures arrived { HaveArrived self.now.entries arrivals.new.list }
+        ensures kept { 0 < arrivals.old.room → 0 < arrivals.new.room }
+    {
+        if arrivals.len() / 2 > self.count() {
+            arrivals.list_anew(self.nodes.as_slice());
+        }
     }
 
     /// The least score of all entries, of equal ones that of the entry that was admitted last.
@@ -161,7 +188,7 @@ impl<S: BuildHasher + Copy + Drop> Store<S> {
         ensures bounded { IfSome result (λ score. AreBounded score.family) }
     {
         match self.nodes.least() {
-            Some(held) => Some(Score::of(&held.load, Sums::from(held.totals.below))),
+            Some(held) => Some(Score::of(&held.load, &held.totals.below)),
             None => None,
         }
     }
@@ -191,8 +218,7 @@ impl<S: BuildHasher + Copy + Drop> Store<S> {
         let _room = self.room;
     }
 
-    /// Takes the memory for an entry of this many inputs. It fails if memory runs out, or there are `MAX_ENTRIES`
-    /// entries.
+    /// Takes the memory for an entry of this many inputs.
     pub(crate) fn reserve(&mut self, inputs: usize) -> Result<(), Memory>
         ensures entries { self.new.entries ≡ self.old.entries }
         ensures room { OnOk result (inputs < self.new.room) }
@@ -202,9 +228,6 @@ impl<S: BuildHasher + Copy + Drop> Store<S> {
             return Err(Memory);
         };
         let count = self.nodes.count();
-        if count >= MAX_ENTRIES {
-            return Err(Memory);
-        }
         self.gone.reserve(count + 1)?;
         self.parents.clear();
         self.parents.reserve(inputs)?;
@@ -295,6 +318,35 @@ impl<S: BuildHasher + Copy + Drop> Store<S> {
     {
         for id in chosen {
             self.take_out(id);
+        }
+    }
+
+    /// Takes out the entry of an id and all below it, if it was admitted before a second.
+    fn take_early(&mut self, txid: &Txid, time: u64)
+        ensures rest { without_below (is_before time) self.new.entries ≡ without_below (is_before time) self.old.entries }
+        ensures fewer { (e : Admitted) → Contains self.new.entries e → Contains self.old.entries e }
+        ensures late { (e : Admitted) → Contains self.new.entries e → txid_of e.tx ≡ txid.now → time ≤ e.time }
+    {
+        self.recall_distinct();
+        match self.entry(txid) {
+            Some(entry) => {
+                if entry.time() < time {
+                    self.take_out(&node_id(txid));
+                }
+            }
+            None => {}
+        }
+    }
+
+    /// Takes out the entries that were admitted before a second, and all below them. Their arrivals go, and those of
+    /// other entries stay.
+    pub(crate) fn take_before(&mut self, arrivals: &mut Arrivals, time: u64)
+        requires { HaveArrived self.old.entries arrivals.old.list }
+        ensures rest { self.new.entries ≡ without_below (is_before time) self.old.entries }
+        ensures arrived { HaveArrived self.new.entries arrivals.new.list }
+    {
+        while let Some(txid) = arrivals.take_before(time) {
+            self.take_early(&txid, time);
         }
     }
 

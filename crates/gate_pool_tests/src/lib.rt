@@ -8,6 +8,8 @@ mod graph;
 #[cfg(test)]
 mod graph_edits;
 #[cfg(test)]
+mod graph_laws;
+#[cfg(test)]
 mod nodes;
 #[cfg(test)]
 mod paying;

@@ -1,7 +1,9 @@
+ghost use Rattle.gate_trim.specs.Laws.{Trims};
+
 use crate::paying::{input, paying};
 use gate_bytes::{Counted, Memory};
 use gate_pool::{Entry, Pool};
-use gate_trim::{Floor, try_expire, try_trim};
+use gate_trim::{Floor, trim, trimming_takes_the_least, try_expire, try_trim};
 use gate_tx::{OutPoint, TxIn, Txid};
 use std::alloc::Global;
 use std::hash::{BuildHasher, BuildHasherDefault, DefaultHasher};
@@ -106,12 +108,22 @@ fn lists<S: BuildHasher + Copy + Drop>(
     Ok(pool.listing(alloc)?.as_slice() == txids)
 }
 
+/// Trims. By the law on trimming, the entry of least score went each time, with its descendants and nothing else.
+fn trim_the_least<S: BuildHasher + Copy + Drop>(pool: &mut Pool<S>, floor: &mut Floor, budget: u64)
+    ensures { Trims budget pool.old.entries floor.old (record { entries = pool.new.entries; floor = floor.new }) }
+{
+    trimming_takes_the_least();
+    trim(pool, floor, budget);
+}
+
+/// What is trimmed once is within the budget, so that a second trim changes nothing.
 fn expire_and_trim<S: BuildHasher + Copy + Drop>(
     pool: &mut Pool<S>,
     floor: &mut Floor,
     case: &Case,
 ) -> Result<(), Memory> {
     try_expire(pool, case.now)?;
+    trim_the_least(pool, floor, case.budget);
     try_trim(pool, floor, case.budget)
 }
 

@@ -117,25 +117,16 @@ impl<K: Ord + Copy> Ranking<K> {
         replay(&self.keys, &mut self.tree, place);
     }
 
-    /// Drops the empty places: the keys after them move to lower places, in the same order.
+    /// Drops the empty places: the keys after them move to lower places, in the same order. It costs the places that
+    /// there are, and not as many as there once were.
     pub fn close_up(&mut self)
         ensures keys { self.new.keys ≡ filter is_some self.old.keys }
         ensures room { self.new.room ≡ self.old.room }
     {
         self.keys.retain(|key| key.is_some());
+        // Twice the leaves that are needed: as many keys can be added before the tree grows again.
+        let leaves = self.keys.len() + self.room;
+        self.tree.truncate(leaves.saturating_mul(2));
         play(&self.keys, &mut self.tree);
-    }
-
-    pub fn copy(&self, alloc: Global) -> Result<Ranking<K>, Memory>
-        ensures keys { IfOk result (λ copy. copy.keys ≡ self.now.keys) }
-        ensures room { IfOk result (λ copy. copy.room ≡ 0) }
-    {
-        let keys = Vec::from_slice(alloc, &self.keys)?;
-        let tree = Vec::from_slice(alloc, &self.tree)?;
-        Ok(Ranking {
-            keys,
-            tree,
-            room: 0,
-        })
     }
 }

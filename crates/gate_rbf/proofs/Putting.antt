@@ -16,7 +16,7 @@ use Rattle.gate_pool.proofs.Entries.{find_some, find_none}
 use Rattle.gate_pool.proofs.Adding.{passed, same_kept}
 use Rattle.gate_pool.proofs.Walking.{Contains-filter, Contains-from_filter}
 use Rattle.gate_pool.proofs.Ids.{no_more, same_entry}
-use Rattle.gate_rbf.specs.Gathering.{IsPut, is_parent}
+use Rattle.gate_rbf.specs.Gathering.{IsPut}
 use Rattle.gate_rbf.proofs.Spenders.{same_spender}
 
 -- no ids are those of no entries
@@ -104,20 +104,6 @@ module _ (entries : List Admitted) (distinct : AreDistinct entries) where
       let w = find_some (λ (y : Admitted). spends y.tx.inputs x.prevout) entries e found in
       AreIdsOf-found (λ (i : TxIn) (y : Admitted). spends y.tx.inputs i.prevout) items entries k x within here e w.0 w.1
       (λ y m h. same_spender entries distinct x.prevout e y w.0 m w.1 h)
-
-  -- the next input spends from an entry
-  pub AreIdsOf-parent : (items : List TxIn) (k : ℕ) (x : TxIn) → k < length items → get_or items k x ≡ x → (e : Admitted) → entry_by_txid entries x.prevout.txid ≡ Some e → {ids more : List (List ℕ)} → IsPut ids (txid_of e.tx) more
-      → AreIdsOf ids (filter (is_parent (take k items)) entries) → AreIdsOf more (filter (is_parent (take (k + 1) items)) entries)
-  AreIdsOf-parent items k x within here e found =
-      let w = find_some (λ (y : Admitted). has_txid y x.prevout.txid) entries e found in
-      AreIdsOf-found (λ (i : TxIn) (y : Admitted). has_txid y i.prevout.txid) items entries k x within here e w.0 w.1
-      (λ y m h. same_entry entries distinct e y w.0 m ((bytes_decides (txid_of e.tx) x.prevout.txid).0 w.1 ∙ sym ((bytes_decides (txid_of y.tx) x.prevout.txid).0 h)))
-
--- the next input spends from no entry
-pub AreIdsOf-no_parent : (entries : List Admitted) (items : List TxIn) (k : ℕ) (x : TxIn) → k < length items → get_or items k x ≡ x → entry_by_txid entries x.prevout.txid ≡ None → (ids : List (List ℕ))
-    → AreIdsOf ids (filter (is_parent (take k items)) entries) → AreIdsOf ids (filter (is_parent (take (k + 1) items)) entries)
-AreIdsOf-no_parent entries items k x within here none =
-    AreIdsOf-passed (λ (i : TxIn) (y : Admitted). has_txid y i.prevout.txid) items entries k x within here (find_none (λ (y : Admitted). has_txid y x.prevout.txid) entries none)
 
 -- the next id is that of no entry
 pub AreIdsOf-no_entry : (entries : List Admitted) (items : List (List ℕ)) (k : ℕ) (x : List ℕ) → k < length items → get_or items k x ≡ x → entry_by_txid entries x ≡ None → (ids : List (List ℕ))

@@ -1,10 +1,10 @@
 -- Ids that are gathered, each once.
-use Rattle.std.specs.Prelude.{◌≡◌, ◌≢◌, ◌⊎◌, ℕ, Bool, List, filter, Contains, Result, IfOk}
+use Rattle.std.specs.Prelude.{◌≡◌, ◌≢◌, ◌⊎◌, ℕ, Bool, not, ◌&&◌, List, filter, Contains, Result, IfOk}
 use Rattle.std.specs.Global.{Vec}
 use Rattle.std.specs.List.{list_any, AllPairs}
-use Rattle.gate_tx.specs.declared.TxIn.{TxIn}
-use Rattle.gate_pool.specs.Family.{all_below, AreIdsOf}
-use Rattle.gate_pool.specs.Pool.{Admitted, has_txid}
+use Rattle.gate_tx.specs.Ids.{txid_of}
+use Rattle.gate_pool.specs.Family.{names, all_below, AreIdsOf}
+use Rattle.gate_pool.specs.Pool.{Admitted}
 
 -- ids after one was put among them, unless it was there before
 pub record IsPut (before : List (List ℕ)) (txid : List ℕ) (after : List (List ℕ)) : Type 0 where
@@ -13,9 +13,9 @@ pub record IsPut (before : List (List ℕ)) (txid : List ℕ) (after : List (Lis
   pub keeps : (a : List ℕ) → Contains before a → Contains after a
   pub only : (a : List ℕ) → Contains after a → Contains before a ⊎ (a ≡ txid)
 
--- an input spends an output of the entry
-abbrev pub is_parent : List TxIn → Admitted → Bool
-is_parent inputs e = list_any (λ (i : TxIn). has_txid e i.prevout.txid) inputs
+-- no entry that a look-up by its id finds spends outputs of the transaction with this id
+abbrev pub is_new : List Admitted → (List ℕ → Bool) → List ℕ → Bool
+is_new entries has txid = not (list_any (λ (e : Admitted). names e txid && has (txid_of e.tx)) entries)
 
 -- a fact about the entries with these ids
 abbrev pub ForEntriesOf : List (List ℕ) → List Admitted → (List Admitted → Type 0) → Type 0

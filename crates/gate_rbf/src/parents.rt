@@ -1,70 +1,69 @@
 //! A40: from each entry from which a replacement spends, one of its conflicts spends too.
-ghost use Rattle.std.specs.Prelude.{◌≡◌, ◌&&◌, IfOk, filter};
+ghost use Rattle.std.specs.Prelude.{◌≡◌, ◌&&◌, IfOk, List, ℕ};
 ghost use Rattle.std.specs.List.{list_any};
 ghost use Rattle.std.specs.Str.{bytes_eq};
-ghost use Rattle.gate_tx.specs.declared.TxIn.{TxIn as Input};
-ghost use Rattle.gate_pool.specs.Pool.{Admitted, has_txid};
-ghost use Rattle.gate_pool.specs.Family.{names, is_among, AreIdsOf};
+ghost use Rattle.indexmap.specs.IndexSet.{contains};
+ghost use Rattle.gate_tx.specs.Ids.{txid_of};
+ghost use Rattle.gate_pool.specs.Pool.{Admitted};
+ghost use Rattle.gate_pool.specs.Family.{names};
 ghost use Rattle.gate_rbf.specs.Replacing.{adds_parent};
-ghost use Rattle.gate_rbf.specs.Gathering.{ForEntriesOf, is_parent};
+ghost use Rattle.gate_rbf.specs.Gathering.{ForEntriesOf, is_new};
 
-use crate::gathered::put;
 use gate_bytes::Memory;
-use gate_pool::Pool;
-use gate_tx::{Transaction, TxIn, Txid};
+use gate_pool::{FamilyView, Pool, parents};
+use gate_tx::{Transaction, Txid};
+use indexmap::IndexSet;
 use std::alloc::Global;
 use std::hash::BuildHasher;
 
-/// Whether an input spends an output of the transaction with this id.
-fn spends_from(inputs: &[TxIn], parent: &Txid) -> bool
-    ensures { result ≡ list_any (λ (i : Input). bytes_eq i.prevout.txid parent.now) inputs.now }
-{
-    inputs.iter().any(|input| input.prevout.txid == *parent)
-}
-
-/// Whether the entry with the first id spends an output of the transaction with the second.
-fn is_child<S: BuildHasher + Copy + Drop>(pool: &Pool<S>, id: &Txid, parent: &Txid) -> bool
-    ensures { result ≡ list_any (λ (e : Admitted). has_txid e id.now && names e parent.now) pool.now.entries }
-{
-    pool.recall_distinct();
-    match pool.entry(id) {
-        Some(entry) => spends_from(entry.transaction().inputs(), parent),
-        None => false,
-    }
-}
-
-/// Whether one of the entries with these ids spends an output of the transaction.
-fn has_child_among<S: BuildHasher + Copy + Drop>(
-    pool: &Pool<S>,
+/// These ids as a set.
+fn set_of<S: BuildHasher + Copy + Drop>(
+    alloc: Global,
+    hasher: S,
     ids: &[Txid],
-    parent: &Txid,
-) -> bool
-    ensures { result ≡ list_any (λ (e : Admitted). is_among ids.now e && names e parent.now) pool.now.entries }
+) -> Result<IndexSet<Txid, S>, Memory>
+    ensures { IfOk result (λ set. (id : List ℕ) → contains bytes_eq set id ≡ list_any (λ x. bytes_eq x id) ids.now) }
 {
-    ids.iter().any(|id| is_child(pool, id, parent))
+    let mut set = IndexSet::with_capacity_and_hasher(alloc, ids.len(), hasher)?;
+    for id in ids {
+        set.insert(*id)?;
+    }
+    Ok(set)
 }
 
-/// The ids of the entries from which the transaction spends.
-fn parents_of<S: BuildHasher + Copy + Drop>(
+/// Whether one of the entries that spend outputs of a transaction has one of these ids.
+fn has_child_among<S: BuildHasher + Copy + Drop>(
     alloc: Global,
     pool: &Pool<S>,
-    tx: &Transaction,
-) -> Result<Vec<Txid>, Memory>
-    ensures { IfOk result (λ ids. AreIdsOf ids.items (filter (is_parent tx.now.inputs) pool.now.entries)) }
+    ids: &IndexSet<Txid, S>,
+    parent: &Txid,
+) -> Result<bool, Memory>
+    ensures { IfOk result (λ has. has ≡ list_any (λ (e : Admitted). names e parent.now && contains bytes_eq ids.now (txid_of e.tx)) pool.now.entries) }
 {
-    pool.recall_distinct();
-    let mut ids = Vec::new(alloc);
-    for input in tx.inputs() {
-        match pool.entry(&input.prevout.txid) {
-            Some(entry) => put(&mut ids, entry.txid())?,
-            None => {}
-        }
-    }
-    Ok(ids)
+    let children = pool.children(alloc, parent)?;
+    Ok(children.iter().any(|child| ids.contains(child)))
 }
 
-/// Whether an input spends from an entry from which none of the entries with these ids does. Each entry from which
-/// inputs spend is looked at once, however many inputs spend from it.
+/// Whether one of these transactions has no child in the pool with one of these ids.
+fn has_new<S: BuildHasher + Copy + Drop>(
+    alloc: Global,
+    pool: &Pool<S>,
+    ids: &IndexSet<Txid, S>,
+    parents: &[Txid],
+) -> Result<bool, Memory>
+    ensures { IfOk result (λ found. found ≡ list_any (is_new pool.now.entries (contains bytes_eq ids.now)) parents.now) }
+{
+    for parent in parents {
+        if !has_child_among(alloc, pool, ids, parent)? {
+            return Ok(true);
+        }
+    }
+    Ok(false)
+}
+
+/// Whether an input spends from an entry from which none of the entries with these ids does. What this costs is the
+/// children in the pool of the entries from which inputs spend, each looked up once in a set, and not the inputs of the
+/// entries with these ids.
 pub(crate) fn adds_parents<S: BuildHasher + Copy + Drop>(
     alloc: Global,
     pool: &Pool<S>,
@@ -74,10 +73,7 @@ pub(crate) fn adds_parents<S: BuildHasher + Copy + Drop>(
     ensures { ForEntriesOf direct.now pool.now.entries (λ some. IfOk result (λ adds. adds ≡ list_any (adds_parent pool.now.entries some) tx.now.inputs)) }
 {
     pool.recall_distinct();
-    let parents = parents_of(alloc, pool, tx)?;
-    Ok(
-        parents
-            .iter()
-            .any(|parent| !has_child_among(pool, direct, parent)),
-    )
+    let conflicts = set_of(alloc, pool.hasher(), direct)?;
+    let above = parents(alloc, pool, tx.inputs())?;
+    has_new(alloc, pool, &conflicts, above.as_slice())
 }

@@ -1,38 +1,33 @@
 -- Trimming, one entry after another.
 use Rattle.std.proofs.Common.{◌≡◌, ℕ, zero, suc, ◌<◌, ◌≤◌, Bool, true, false, cond, List, [], ◌∷◌, length, refl, sym, ap, ◌∙◌, subst, arith, Option, Some, None}
-use Rattle.std.specs.Prelude.{Contains, nat_le}
+use Rattle.std.specs.Prelude.{nat_le}
+use Rattle.std.specs.Option.{option_map}
 use Rattle.std.proofs.lemmas.Bool.{cond-true, cond-false}
 use Rattle.std.proofs.lemmas.Bool.Decides.{nat_tests}
 use Rattle.std.proofs.lemmas.Option.{none-some, same_Some}
 use Rattle.gate_tx.specs.Ids.{txid_of}
-use Rattle.gate_bytes.proofs.Members.{Contains-head, Contains-rest}
+use Rattle.gate_ranking.specs.Lesser.{lesser, least_by}
+use Rattle.gate_ranking.specs.Rate.{rate_cmp}
+use Rattle.gate_graph.proofs.Least.{least_in}
 use Rattle.gate_pool.specs.Pool.{Admitted, size_of}
 use Rattle.gate_pool.specs.Family.{without_family}
-use Rattle.gate_pool.specs.Scores.{is_cheaper, score_of, lesser, least_among, least_of}
+use Rattle.gate_pool.specs.Scores.{rate_of, score_of, least_entry, least_of}
 use Rattle.gate_pool.specs.declared.Score.{Score}
 use Rattle.gate_pool.proofs.Removals.{family_falls}
 use Rattle.gate_trim.specs.Trimming.{Trimmed, raised, on_least, trim_steps, trim_of}
 
 -- the least score is an entry's
-pub record IsScored (entries some : List Admitted) (s : Score) : Type 0 where
+pub record IsScored (entries : List Admitted) (s : Score) : Type 0 where
   pub entry : Admitted
-  pub member : Contains some entry
+  pub least : least_entry entries ≡ Some entry
   pub is : s ≡ score_of entries entry
 
-pub least_is : (entries some : List Admitted) (s : Score) → least_among entries some ≡ Some s → IsScored entries some s
-least_is entries [] s h = absurd (none-some s h)
-least_is entries (e ∷ some) s h = go (least_among entries some) (least_is entries some) (same_Some _ _ h)
+pub least_is : (entries : List Admitted) (s : Score) → least_of entries ≡ Some s → IsScored entries s
+least_is entries s h = by (least_entry entries) refl h
   where
-    here : (score_of entries e ≡ s) → IsScored entries (e ∷ some) s
-    here k = record { entry = e; member = Contains-head e some; is = sym k }
-
-    pick : (t : Score) (b : Bool) → IsScored entries some t → cond b (score_of entries e) t ≡ s → IsScored entries (e ∷ some) s
-    pick t true w k = here k
-    pick t false w k = record { entry = w.entry; member = Contains-rest e some w.entry w.member; is = sym k ∙ w.is }
-
-    go : (o : Option Score) → ((t : Score) → o ≡ Some t → IsScored entries some t) → lesser (score_of entries e) o ≡ s → IsScored entries (e ∷ some) s
-    go None ih k = here k
-    go (Some t) ih k = pick t (is_cheaper (score_of entries e).fees (score_of entries e).size t.fees t.size) (ih t refl) k
+    by : (o : Option Admitted) → least_entry entries ≡ o → option_map (score_of entries) o ≡ Some s → IsScored entries s
+    by None e k = absurd (none-some s k)
+    by (Some d) e k = record { entry = d; least = e; is = sym (same_Some (score_of entries d) s k) }
 
 -- by its id
 pub score_txid : (entries : List Admitted) (e : Admitted) → (score_of entries e).txid ≡ txid_of e.tx
@@ -41,8 +36,9 @@ score_txid entries e = refl
 
 pub least_falls : (entries : List Admitted) (s : Score) → least_of entries ≡ Some s → length (without_family entries s.txid) < length entries
 least_falls entries s h =
-    let w = least_is entries entries s h in
-    subst (λ x. length (without_family entries x) < length entries) (sym (ap (λ (t : Score). t.txid) w.is ∙ score_txid entries w.entry)) (family_falls entries w.entry w.member)
+    let w = least_is entries s h in
+    subst (λ x. length (without_family entries x) < length entries) (sym (ap (λ (t : Score). t.txid) w.is ∙ score_txid entries w.entry))
+    (family_falls entries w.entry (least_in rate_cmp (rate_of entries) entries w.entry w.least))
 
 abbrev stop : List Admitted → ℕ → Trimmed
 stop entries floor = record { entries = entries; floor = floor }
@@ -105,11 +101,15 @@ trim_goes budget entries floor s h e =
     ∙ one_step (length entries) budget entries floor s h e
     ∙ enough (length entries) (length (without_family entries s.txid)) budget (without_family entries s.txid) (raised floor s.family) (omega (arith, l)) (omega arith)
 
+-- some entry ranks least
+abbrev first : Admitted → List Admitted → Admitted
+first e entries = lesser rate_cmp (rate_of (e ∷ entries)) e (least_by rate_cmp (rate_of (e ∷ entries)) entries)
+
 -- and where there is none, nothing does
 pub trim_stops : (budget : ℕ) (entries : List Admitted) (floor : ℕ) → least_of entries ≡ None → trim_of budget entries floor ≡ record { entries = entries; floor = floor }
 unfolding trim_of
 trim_stops budget [] floor h = empty_steps 0 budget floor
-trim_stops budget (e ∷ entries) floor h = absurd (none-some (lesser (score_of (e ∷ entries) e) (least_among (e ∷ entries) entries)) (sym h))
+trim_stops budget (e ∷ entries) floor h = absurd (none-some (score_of (e ∷ entries) (first e entries)) (sym h))
 
 pub above : (n b : ℕ) → b < n → nat_le n b ≡ false
 above n b h = grind (arith, nat_tests)
@@ -125,7 +125,7 @@ past_budget n b h = grind (arith, nat_tests)
 
 pub empty_fits : (entries : List Admitted) → least_of entries ≡ None → size_of entries ≤ 0
 empty_fits [] h = omega arith
-empty_fits (e ∷ entries) h = absurd (none-some (lesser (score_of (e ∷ entries) e) (least_among (e ∷ entries) entries)) (sym h))
+empty_fits (e ∷ entries) h = absurd (none-some (score_of (e ∷ entries) (first e entries)) (sym h))
 
 -- what holds of entries and the floor where trimming stops, and before a step where it holds after it, holds of what it makes of them
 module _ (budget : ℕ) (P : List Admitted → ℕ → Trimmed → Type 0)

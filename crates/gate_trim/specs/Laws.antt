@@ -1,17 +1,19 @@
 -- Laws of expiry and trimming.
 use Rattle.std.specs.Prelude.{◌≡◌, ℕ, ◌+◌, ◌<◌, ◌≤◌, max, Bool, true, false, List, ◌∷◌, ◌++◌, Contains}
+use Rattle.std.specs.Ordering.{is_lt}
 use Rattle.gate_tx.specs.Ids.{txid_of}
+use Rattle.gate_ranking.specs.Rate.{rate_cmp}
 use Rattle.gate_graph.specs.Family.{Leads}
 use Rattle.gate_standard.specs.Amounts.{feerate}
 use Rattle.gate_pool.specs.Pool.{Admitted, size_of}
 use Rattle.gate_pool.specs.Family.{steps, descendants_of, without_family, fees_of}
-use Rattle.gate_pool.specs.Scores.{is_cheaper, score_of}
+use Rattle.gate_pool.specs.Scores.{rate_of}
 use Rattle.gate_trim.specs.Expiry.{longest_stay, expired}
 use Rattle.gate_trim.specs.Trimming.{floor_step, Trimmed, trim_of}
 
--- an entry has a lesser score than another
+-- an entry has a lesser score than another: what it is ranked by is less, by cross products
 abbrev pub is_below : List Admitted → Admitted → Admitted → Bool
-is_below entries a b = is_cheaper (score_of entries a).fees (score_of entries a).size (score_of entries b).fees (score_of entries b).size
+is_below entries a b = is_lt (rate_cmp (rate_of entries a) (rate_of entries b))
 
 -- no entry has a lesser score than this one, and none that was admitted later has the same
 pub record IsLeast (entries : List Admitted) (e : Admitted) : Type 0 where
@@ -34,9 +36,9 @@ pub data Trims (budget : ℕ) : List Admitted → ℕ → Trimmed → Type 0 whe
   goes : {entries : List Admitted} {floor : ℕ} {rest : Trimmed} (e : Admitted) → budget < size_of entries → IsLeast entries e
       → Trims budget (without_family entries (txid_of e.tx)) (floor_above entries e floor) rest → Trims budget entries floor rest
 
--- trimming takes out the entry of least score each time, if each entry has a size of at least 1
+-- trimming takes out the entry of least score each time
 abbrev pub TrimsTheLeast : Type 0
-TrimsTheLeast = (budget : ℕ) (entries : List Admitted) (floor : ℕ) → ((e : Admitted) → Contains entries e → 1 ≤ e.vsize) → Trims budget entries floor (trim_of budget entries floor)
+TrimsTheLeast = (budget : ℕ) (entries : List Admitted) (floor : ℕ) → Trims budget entries floor (trim_of budget entries floor)
 
 -- trimming leaves no more than the budget
 abbrev pub KeepsTheBudget : Type 0

@@ -9,7 +9,7 @@ use std::hash::BuildHasher;
 pub const EXPIRY_SECONDS: u64 = 1_209_600;
 
 /// Takes out the entries that were admitted longer ago than an entry may stay, and all that is below them. `now` is in
-/// seconds since 1970. It takes no memory, and gives up the room that the pool had taken if it searches the pool.
+/// seconds since 1970. It takes no memory, and gives up the room that the pool had taken.
 pub fn expire<S: BuildHasher + Copy + Drop>(pool: &mut Pool<S>, now: u64)
     ensures { pool.new.entries ≡ expired now pool.old.entries }
 {

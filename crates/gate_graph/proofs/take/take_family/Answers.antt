@@ -2,13 +2,11 @@ use Rattle.std.proofs.Common.{length, ◌++◌, ◌∙◌, sym, ap, subst}
 use Rattle.gate_graph.specs.Families.{are_apart}
 use Rattle.gate_graph.specs.Holding.{ids_at, nodes_of, loaded, left_of}
 use Rattle.gate_graph.specs.Walking.{AreClear, AreStanding}
-use Rattle.gate_graph.specs.declared.walk.Way.TheVariants.{Down as DownWay}
 use Rattle.gate_graph.proofs.Marking.{ids_same}
 use Rattle.gate_graph.specs.Weighing.{IsCounted, IsWeighed}
 use Rattle.gate_graph.proofs.Loading.{small_left}
 use Rattle.gate_graph.specs.Holding.{loads_of}
 use Rattle.gate_graph.proofs.Going.{gone_with}
-use Rattle.gate_graph.proofs.Reversing.{led_reverse, standing_reverse}
 use Rattle.gate_graph.proofs.Leaving.{IsCounted-start, IsWeighed-left, apart_left, loaded_left}
 use Rattle.gate_graph.proofs.take.take_family.Goals as goal
 
@@ -18,38 +16,38 @@ lower_above_each-requires-clause-counted g c = IsCounted-start c.args.slots.now.
 pub returns-clause-left : goal.returns-clause-left
 returns-clause-left g c =
     let spots = c.args.slots.now.spots in
-    let ids = ids_at spots c.reverse.new.self.items in
+    let ids = ids_at spots c.walk_below.new.found.items in
     let hs = c.args.slots.now.held in
     let hs' = c.lower_above_each.new.slots.held in
     let counted : IsCounted (nodes_of hs) ids hs' = subst (λ l. IsCounted (nodes_of hs) (ids_at spots l) hs') c.as_slice.ensures.value c.lower_above_each.ensures.counted in
-    ap loaded (c.pull_each.ensures.left ∙ ap (λ l. left_of l hs') (ids_same c.args.slots.now.spots c.lower_above_each.new.slots.spots c.as_slice-2.result.now c.reverse.new.self.items c.lower_above_each.ensures.spots c.as_slice-2.ensures.value))
-    ∙ loaded_left hs hs' c.args.id.now ids (led_reverse c.args.slots.now.spots DownWay (nodes_of c.args.slots.now.held) c.args.id.now c.walk_below.new.found.items c.reverse.new.self.items c.reverse.ensures.items c.walk_below.ensures.led) counted c.lower_above_each.ensures.loaded
+    ap loaded (c.pull_each.ensures.left ∙ ap (λ l. left_of l hs') (ids_same c.args.slots.now.spots c.lower_above_each.new.slots.spots c.as_slice-2.result.now c.walk_below.new.found.items c.lower_above_each.ensures.spots c.as_slice-2.ensures.value))
+    ∙ loaded_left hs hs' c.args.id.now ids c.walk_below.ensures.led counted c.lower_above_each.ensures.loaded
 
 pub returns-clause-apart : goal.returns-clause-apart
 returns-clause-apart g c =
     let spots = c.args.slots.now.spots in
-    let ids = ids_at spots c.reverse.new.self.items in
+    let ids = ids_at spots c.walk_below.new.found.items in
     let hs = c.args.slots.now.held in
     let hs' = c.lower_above_each.new.slots.held in
     let counted : IsCounted (nodes_of hs) ids hs' = subst (λ l. IsCounted (nodes_of hs) (ids_at spots l) hs') c.as_slice.ensures.value c.lower_above_each.ensures.counted in
-    ap (λ l. are_apart (nodes_of l)) (c.pull_each.ensures.left ∙ ap (λ l. left_of l hs') (ids_same c.args.slots.now.spots c.lower_above_each.new.slots.spots c.as_slice-2.result.now c.reverse.new.self.items c.lower_above_each.ensures.spots c.as_slice-2.ensures.value))
-    ∙ apart_left hs hs' c.args.id.now ids (led_reverse c.args.slots.now.spots DownWay (nodes_of c.args.slots.now.held) c.args.id.now c.walk_below.new.found.items c.reverse.new.self.items c.reverse.ensures.items c.walk_below.ensures.led) counted c.requires.apart
+    ap (λ l. are_apart (nodes_of l)) (c.pull_each.ensures.left ∙ ap (λ l. left_of l hs') (ids_same c.args.slots.now.spots c.lower_above_each.new.slots.spots c.as_slice-2.result.now c.walk_below.new.found.items c.lower_above_each.ensures.spots c.as_slice-2.ensures.value))
+    ∙ apart_left hs hs' c.args.id.now ids c.walk_below.ensures.led counted c.requires.apart
 
 pub returns-clause-weighed : goal.returns-clause-weighed
 returns-clause-weighed g c =
     let spots = c.args.slots.now.spots in
-    let ids = ids_at spots c.reverse.new.self.items in
+    let ids = ids_at spots c.walk_below.new.found.items in
     let hs = c.args.slots.now.held in
     let hs' = c.lower_above_each.new.slots.held in
     let counted : IsCounted (nodes_of hs) ids hs' = subst (λ l. IsCounted (nodes_of hs) (ids_at spots l) hs') c.as_slice.ensures.value c.lower_above_each.ensures.counted in
-    subst IsWeighed (sym (c.pull_each.ensures.left ∙ ap (λ l. left_of l hs') (ids_same c.args.slots.now.spots c.lower_above_each.new.slots.spots c.as_slice-2.result.now c.reverse.new.self.items c.lower_above_each.ensures.spots c.as_slice-2.ensures.value)))
-    (IsWeighed-left hs hs' c.args.id.now ids (led_reverse c.args.slots.now.spots DownWay (nodes_of c.args.slots.now.held) c.args.id.now c.walk_below.new.found.items c.reverse.new.self.items c.reverse.ensures.items c.walk_below.ensures.led) counted)
+    subst IsWeighed (sym (c.pull_each.ensures.left ∙ ap (λ l. left_of l hs') (ids_same c.args.slots.now.spots c.lower_above_each.new.slots.spots c.as_slice-2.result.now c.walk_below.new.found.items c.lower_above_each.ensures.spots c.as_slice-2.ensures.value)))
+    (IsWeighed-left hs hs' c.args.id.now ids c.walk_below.ensures.led counted)
 
 pub returns-clause-small : goal.returns-clause-small
 returns-clause-small g c =
     small_left c.args.slots.now.held c.pull_each.new.slots.held c.args.id.now
-    (ap loaded (c.pull_each.ensures.left ∙ ap (λ l. left_of l c.lower_above_each.new.slots.held) (ids_same c.args.slots.now.spots c.lower_above_each.new.slots.spots c.as_slice-2.result.now c.reverse.new.self.items c.lower_above_each.ensures.spots c.as_slice-2.ensures.value))
-    ∙ loaded_left c.args.slots.now.held c.lower_above_each.new.slots.held c.args.id.now (ids_at c.args.slots.now.spots c.reverse.new.self.items) (led_reverse c.args.slots.now.spots DownWay (nodes_of c.args.slots.now.held) c.args.id.now c.walk_below.new.found.items c.reverse.new.self.items c.reverse.ensures.items c.walk_below.ensures.led)
+    (ap loaded (c.pull_each.ensures.left ∙ ap (λ l. left_of l c.lower_above_each.new.slots.held) (ids_same c.args.slots.now.spots c.lower_above_each.new.slots.spots c.as_slice-2.result.now c.walk_below.new.found.items c.lower_above_each.ensures.spots c.as_slice-2.ensures.value))
+    ∙ loaded_left c.args.slots.now.held c.lower_above_each.new.slots.held c.args.id.now (ids_at c.args.slots.now.spots c.walk_below.new.found.items) c.walk_below.ensures.led
     (subst (λ l. IsCounted (nodes_of c.args.slots.now.held) (ids_at c.args.slots.now.spots l) c.lower_above_each.new.slots.held) c.as_slice.ensures.value c.lower_above_each.ensures.counted) c.lower_above_each.ensures.loaded)
     c.requires.small
 
@@ -58,17 +56,17 @@ returns-clause-gone g c =
     let hs = c.args.slots.now.held in
     let hs' = c.lower_above_each.new.slots.held in
     let spots = c.args.slots.now.spots in
-    let ids = ids_at spots c.reverse.new.self.items in
+    let ids = ids_at spots c.walk_below.new.found.items in
     gone_with hs hs' c.args.id.now ids c.args.gone.now.items c.pull_each.new.gone.items
-    (ap are_apart c.lower_above_each.ensures.counted.nodes ∙ c.requires.apart) c.lower_above_each.ensures.loaded (led_reverse c.args.slots.now.spots DownWay (nodes_of c.args.slots.now.held) c.args.id.now c.walk_below.new.found.items c.reverse.new.self.items c.reverse.ensures.items c.walk_below.ensures.led)
-    (c.pull_each.ensures.gone ∙ ap (λ l. c.args.gone.now.items ++ loads_of l hs') (ids_same spots c.lower_above_each.new.slots.spots c.as_slice-2.result.now c.reverse.new.self.items c.lower_above_each.ensures.spots c.as_slice-2.ensures.value))
+    (ap are_apart c.lower_above_each.ensures.counted.nodes ∙ c.requires.apart) c.lower_above_each.ensures.loaded c.walk_below.ensures.led
+    (c.pull_each.ensures.gone ∙ ap (λ l. c.args.gone.now.items ++ loads_of l hs') (ids_same spots c.lower_above_each.new.slots.spots c.as_slice-2.result.now c.walk_below.new.found.items c.lower_above_each.ensures.spots c.as_slice-2.ensures.value))
 
 pub lower_above_each-requires-clause-standing : goal.lower_above_each-requires-clause-standing
-lower_above_each-requires-clause-standing g c = subst (AreStanding c.args.slots.now.spots) (sym c.as_slice.ensures.value) (standing_reverse c.args.slots.now.spots c.walk_below.new.found.items c.reverse.new.self.items c.reverse.ensures.items c.walk_below.ensures.standing)
+lower_above_each-requires-clause-standing g c = subst (AreStanding c.args.slots.now.spots) (sym c.as_slice.ensures.value) c.walk_below.ensures.standing
 
 pub pull_each-requires-clause-standing : goal.pull_each-requires-clause-standing
 pull_each-requires-clause-standing g c =
-    subst (λ s. AreStanding s c.as_slice-2.result.now) (sym c.lower_above_each.ensures.spots) (subst (AreStanding c.args.slots.now.spots) (sym c.as_slice-2.ensures.value) (standing_reverse c.args.slots.now.spots c.walk_below.new.found.items c.reverse.new.self.items c.reverse.ensures.items c.walk_below.ensures.standing))
+    subst (λ s. AreStanding s c.as_slice-2.result.now) (sym c.lower_above_each.ensures.spots) (subst (AreStanding c.args.slots.now.spots) (sym c.as_slice-2.ensures.value) c.walk_below.ensures.standing)
 
 pub returns-clause-clear : goal.returns-clause-clear
 returns-clause-clear g c =

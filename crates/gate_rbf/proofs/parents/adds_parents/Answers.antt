@@ -1,16 +1,22 @@
-use Rattle.std.proofs.Common.{ℕ, List, not, ◌&&◌, ◌∙◌, rules, tests}
+use Rattle.std.proofs.Common.{◌≡◌, Bool, ap, ◌∙◌}
 use Rattle.std.specs.List.{list_any}
-use Rattle.std.proofs.lemmas.Iterator.{YieldsList-from_slice}
-use Rattle.std.proofs.lemmas.Iterator.Search.{any_from_yields_List}
+use Rattle.std.specs.Str.{bytes_eq}
+use Rattle.std.proofs.lemmas.Result.{IfOk-weaker}
+use Rattle.indexmap.specs.IndexSet.{contains}
 use Rattle.gate_pool.specs.Pool.{Admitted}
-use Rattle.gate_pool.specs.Family.{names, is_among}
+use Rattle.std.specs.Prelude.{filter}
+use Rattle.gate_rbf.specs.Replacing.{adds_parent}
+use Rattle.gate_rbf.specs.Gathering.{is_new}
 use Rattle.gate_rbf.proofs.Adopting.{any_new_parent}
 use Rattle.gate_rbf.proofs.parents.adds_parents.Goals as goal
 
 pub returns : goal.returns
 returns g c = λ test are.
     let entries = c.args.pool.now.entries in
-    let given = c.args.direct.now in
-    let ids = c.in_ok-parents.parents.items in
-    any_from_yields_List (λ (id : List ℕ). not (list_any (λ (e : Admitted). is_among given e && names e id) entries)) _ _ c.any.result c.any.ensures.ran (YieldsList-from_slice ids cc) (λ x b q k. search (rules, tests))
-    ∙ any_new_parent entries c.recall_distinct.ensures test given are c.args.tx.now.inputs ids c.in_ok-parents.ensures
+    let has = contains bytes_eq c.in_ok-conflicts.conflicts in
+    IfOk-weaker c.has_new.result (λ found. found ≡ list_any (is_new entries has) c.as_slice.result.now) (λ adds. adds ≡ list_any (adds_parent entries (filter test entries)) c.args.tx.now.inputs)
+    (λ adds is.
+    is ∙ ap (list_any (is_new entries has)) c.as_slice.ensures.value
+    ∙ any_new_parent entries c.recall_distinct.ensures test c.args.direct.now are has c.in_ok-conflicts.ensures c.inputs.result.now c.in_ok-above.above.items c.in_ok-above.ensures
+    ∙ ap (list_any (adds_parent entries (filter test entries))) c.inputs.ensures)
+    c.has_new.ensures

@@ -39,7 +39,7 @@ invariant_of-self g c =
         slot = λ l. absurd (omega (arith, l));
       },
       record {
-        keys = pushed_keys c.self.inside.slots.items c.push_reserved.new.self.items h c.rate_of.result c.self.inside.ranking.keys c.push.new.self.keys c.self.invariant.2.keys c.push_reserved.ensures.items c.rate_of.ensures c.push.ensures.keys;
+        keys = pushed_keys c.self.inside.slots.items c.push_reserved.new.self.items h c.rate.result c.self.inside.ranking.keys c.push.new.self.keys c.self.invariant.2.keys c.push_reserved.ensures.items c.rate.ensures c.push.ensures.keys;
         ranks_room = omega arith;
         sum = omega (arith, total-push c.self.inside.slots.items h, c.self.invariant.2.sum, ap total c.push_reserved.ensures.items, c.from.ensures);
       },

@@ -28,9 +28,9 @@ invariant_of-self g c =
         slot = λ l. omega (arith, c.self.invariant.1.slot l, c.write.ensures.len, c.write.ensures.capacity);
       },
       record {
-        keys = written_keys (with_totals c.args.totals) slots c.write.new.slots.items p c.standing.result.now c.rate_of-rate.result c.self.inside.ranking.keys c.update.new.self.keys c.self.invariant.2.keys c.write.ensures.written
+        keys = written_keys (with_totals c.args.totals) slots c.write.new.slots.items p c.standing.result.now c.rate-rate.result c.self.inside.ranking.keys c.update.new.self.keys c.self.invariant.2.keys c.write.ensures.written
             (sym (written_here (with_totals c.args.totals) slots c.write.new.slots.items p c.write.ensures.written) ∙ rw c.deref.ensures.value at c.standing.ensures)
-            c.rate_of-rate.ensures c.update.ensures.keys;
+            c.rate-rate.ensures c.update.ensures.keys;
         ranks_room = omega (arith, c.self.invariant.2.ranks_room, c.update.ensures.room);
         sum = c.self.invariant.2.sum ∙ sym (ap total c.write.ensures.written ∙ total-write (with_totals c.args.totals) (λ h. refl) slots p);
       },

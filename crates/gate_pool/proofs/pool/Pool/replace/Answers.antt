@@ -1,14 +1,16 @@
-use Rattle.std.proofs.Common.{sym, ◌≡◌, ◌++◌, ◌∷◌, [], ap, subst, ◌∙◌, inl, inr, not, arith, length, length-append}
-use Rattle.std.specs.Prelude.{Contains}
-use Rattle.std.proofs.lemmas.List.Elements.{Contains-append_cases}
+use Rattle.std.proofs.Common.{sym, ◌≡◌, ◌++◌, ◌∷◌, [], ap, ◌∙◌, not, arith, length, length-append}
 use Rattle.gate_tx.specs.Ids.{txid_of, wtxid_of}
 use Rattle.gate_pool.specs.Pool.{Admitted, Pooled, entry_by_txid, entry_by_wtxid}
 use Rattle.gate_pool.specs.Family.{spends_one_of, without_below, is_below_some, entered}
 use Rattle.gate_pool.proofs.Conflicts.{IsNew-left}
-use Rattle.gate_pool.proofs.Walking.{Contains-from_filter, shorter}
-use Rattle.gate_bytes.proofs.Members.{Contains-cons_cases, not_in_none}
+use Rattle.gate_pool.proofs.Walking.{shorter}
+use Rattle.gate_pool.proofs.Earliest.{HaveArrived-more}
+use Rattle.gate_pool.proofs.Readiness.{HaveArrived-filter}
 use Rattle.gate_pool.specs.Scores.{least_of}
 use Rattle.gate_pool.proofs.pool.Pool.replace.Goals as goal
+
+pub push-requires : goal.push-requires
+push-requires g c = c.self.invariant.arrivals_room (omega (arith, c.requires.room, ap (λ (p : Pooled). p.room) c.self.view_is))
 
 pub put-requires-clause-new : goal.put-requires-clause-new
 put-requires-clause-new g c =
@@ -29,11 +31,8 @@ invariant_of-self g c =
     record {
       chosen_room = omega (arith, c.self.invariant.next, c.self.ranges, shorter (λ (d : Admitted). not (is_below_some (spends_one_of e.tx.inputs) old d)) old, ap length rest, ap length left, length-append c.take_conflicts.new.self.entries (e ∷ []), c.requires.room, ap (λ (p : Pooled). p.room) c.self.view_is);
       next = λ l. absurd (omega (arith, l, c.settle-self-inside.ensures.room));
-      times = λ d m.
-          elim (Contains-append_cases c.take_conflicts.new.self.entries (e ∷ []) d (subst (λ l. Contains l d) left m)) [
-            | inl stays ↦ omega (arith, c.self.invariant.times d (Contains-from_filter (λ (d : Admitted). not (is_below_some (spends_one_of e.tx.inputs) old d)) old d (subst (λ l. Contains l d) rest stays)), c.min-self-inside.ensures)
-            | inr new ↦ elim (Contains-cons_cases e [] d new) [ inl same ↦ omega (arith, c.min-self-inside.ensures, c.time.ensures, ap (λ (x : Admitted). x.time) same) | inr none ↦ not_in_none d none ]
-          ];
+      arrived = HaveArrived-more e (HaveArrived-filter (λ (d : Admitted). not (is_below_some (spends_one_of e.tx.inputs) old d)) c.self.invariant.arrived rest) left c.push.ensures.pushed;
+      arrivals_room = λ l. absurd (omega (arith, l, c.settle-self-inside.ensures.room));
       score = c.settle-self-inside.ensures.value ∙ ap least_of (sym c.settle-self-inside.ensures.entries);
       bounded = c.settle-self-inside.ensures.bounded;
     }

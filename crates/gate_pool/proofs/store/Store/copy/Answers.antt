@@ -27,7 +27,7 @@ invariant_of-result g c =
     let room = c.self.invariant.2 in (
       subst IsCarried (sym same) c.self.invariant.0,
       IsIndexed-same c.in_ok-index_each.ensures (ap entries_in same ∙ sym (standing_in c.as_slice.result.now nodes c.as_slice.ensures.nodes)) (λ id. refl) (λ point. refl),
-      HasRoom-none (c.in_ok-gone.ensures.len) (omega (arith, room.gone_room, ap (λ l. length (entries_in l)) same, c.in_ok-gone.ensures.capacity, c.count.ensures, ap (λ (p : Pooled). length p.entries) c.self.view_is)) (omega (arith, room.few, ap (λ l. length (entries_in l)) same)),
+      HasRoom-none (c.in_ok-gone.ensures.len) (omega (arith, room.gone_room, ap (λ l. length (entries_in l)) same, c.in_ok-gone.ensures.capacity, c.count.ensures, ap (λ (p : Pooled). length p.entries) c.self.view_is)),
     )
 
 pub returns-clause-entries : goal.returns-clause-entries

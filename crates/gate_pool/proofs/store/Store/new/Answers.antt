@@ -16,7 +16,7 @@ invariant_of-result g c = (
   IsIndexed-same
       (IsIndexed-none (get bytes_eq c.with_hasher.result) (get point_eq c.with_hasher-2.result) (λ k. ap (lookup (bytes_eq k)) c.with_hasher.ensures.empty) (λ k. ap (lookup (point_eq k)) c.with_hasher-2.ensures.empty))
       (ap entries_in c.new.ensures) (λ k. refl) (λ k. refl),
-  HasRoom-none c.new-3.ensures.len (omega (arith, ap (λ l. length (entries_in l)) c.new.ensures)) (omega (arith, ap (λ l. length (entries_in l)) c.new.ensures)),
+  HasRoom-none c.new-3.ensures.len (omega (arith, ap (λ l. length (entries_in l)) c.new.ensures)),
 )
 
 pub returns-clause-entries : goal.returns-clause-entries

@@ -56,7 +56,7 @@ invariant_of-self g c =
     let longer = length-append es (e ∷ []) in (
       IsCarried-of c.put.new.self.nodes (es ++ e ∷ []) more (bounded_more nodes e k c.recall_bounds.ensures),
       IsIndexed-same (IsIndexed-push e c.self.invariant.1 new c.put_entry.ensures.wtxids c.put_entry.ensures.points) are (λ id. refl) (λ point. refl),
-      HasRoom-none (c.self.invariant.2.none) (omega (arith, c.self.invariant.2.next room, ap length are, longer)) (omega (arith, c.self.invariant.2.next_few room, ap length are, longer)),
+      HasRoom-none (c.self.invariant.2.none) (omega (arith, c.self.invariant.2.next room, ap length are, longer)),
     )
 
 pub returns : goal.returns

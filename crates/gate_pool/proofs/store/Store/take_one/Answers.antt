@@ -30,7 +30,7 @@ invariant_of-self g c =
       IsIndexed-same (IsIndexed-left keep (e ∷ []) c.self.invariant.1 (leaving_one es x e c.self.invariant.1.distinct found)
           (λ id. c.drop_entry.ensures.wtxids id ∙ ap (λ b. cond b None (get bytes_eq c.self.inside.wtxids id)) (sym (any_one (λ d. has_wtxid d id) e)))
           (λ point. c.drop_entry.ensures.points point ∙ ap (λ b. cond b None (get point_eq c.self.inside.spent point)) (sym (any_one (λ d. has_point d point) e)))) are (λ id. refl) (λ point. refl),
-      HasRoom-none (room.none) (omega (arith, room.gone_room, fewer, ap length are)) (omega (arith, room.few, fewer, ap length are)),
+      HasRoom-none (room.none) (omega (arith, room.gone_room, fewer, ap length are)),
     )
 
 pub invariant_of-self-in-None : goal.invariant_of-self-in-None
@@ -47,7 +47,7 @@ invariant_of-self-in-None g c =
     let fewer = shorter keep es in (
       IsCarried-of c.take_one.new.self.nodes (filter keep es) left (bounded_left nodes keep k),
       IsIndexed-same (IsIndexed-left keep [] c.self.invariant.1 (leaving_none es x none) (λ id. refl) (λ point. refl)) are (λ id. refl) (λ point. refl),
-      HasRoom-none (room.none) (omega (arith, room.gone_room, fewer, ap length are)) (omega (arith, room.few, fewer, ap length are)),
+      HasRoom-none (room.none) (omega (arith, room.gone_room, fewer, ap length are)),
     )
 
 pub returns-in-Some : goal.returns-in-Some

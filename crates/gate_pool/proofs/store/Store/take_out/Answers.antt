@@ -36,9 +36,7 @@ invariant_of-self g c =
       record {
         none = c.clear.ensures.len;
         gone_room = omega (arith, room.gone_room, fewer, ap length are, c.clear.ensures.capacity);
-        few = omega (arith, room.few, fewer, ap length are);
         next = λ l. omega (arith, room.next l, fewer, ap length are, c.clear.ensures.capacity);
-        next_few = λ l. omega (arith, room.next_few l, fewer, ap length are);
         nodes_room = omega (arith, room.nodes_room, c.take_family.ensures.room);
         wtxids = λ l. omega (arith, room.wtxids l, c.drop_each.ensures.wtxid_room);
         points = omega (arith, room.points, c.drop_each.ensures.point_room);

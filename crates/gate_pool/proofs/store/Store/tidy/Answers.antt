@@ -11,7 +11,7 @@ invariant_of-self g c =
     let room = c.self.invariant.2 in (
       subst IsCarried (sym same) c.self.invariant.0,
       IsIndexed-same c.self.invariant.1 (ap entries_in same) (λ id. refl) (λ point. refl),
-      HasRoom-none (room.none) (omega (arith, room.gone_room, ap (λ l. length (entries_in l)) same)) (omega (arith, room.few, ap (λ l. length (entries_in l)) same)),
+      HasRoom-none (room.none) (omega (arith, room.gone_room, ap (λ l. length (entries_in l)) same)),
     )
 
 pub returns-clause-entries : goal.returns-clause-entries

@@ -1,4 +1,4 @@
-use Rattle.std.proofs.Common.{is_some, ap, ◌∙◌}
+use Rattle.std.proofs.Common.{is_some, ap, ◌∙◌, arith}
 use Rattle.gate_graph.specs.Families.{has}
 use Rattle.gate_graph.specs.Holding.{nodes_in}
 use Rattle.gate_graph.specs.Weighing.{totals_of as node_totals}
@@ -26,4 +26,4 @@ returns-clause-small g c =
     small_totals c.totals.result (entries_in nodes) c.args.txid.now
     (same_totals c.totals.result (node_totals (nodes_in nodes) c.node_id.result) (totals_of (entries_in nodes) c.args.txid.now)
     ((λ i. node_totals (nodes_are nodes c.self.invariant.0 i) (c.node_id.ensures i)) ∙ totals_are (entries_in nodes) c.args.txid.now) c.totals.ensures.totals)
-    c.self.invariant.0.bounded c.self.invariant.2.few
+    c.self.invariant.0.bounded (omega (arith, c.self.invariant.2.gone_room, c.self.inside.gone.small))
