@@ -13,7 +13,7 @@ use Rattle.gate_tx.specs.Coins.{point_eq}
 use Rattle.gate_tx.specs.Ids.{txid_of}
 use Rattle.gate_tx.specs.Tx.{Tx}
 use Rattle.gate_chain.specs.declared.OpeningCoin.{OpeningCoin}
-use Rattle.gate_chain.specs.declared.Block.{Block}
+use Rattle.gate_chain.specs.Blocks.{Block}
 use Rattle.gate_chain.specs.Coins.{has_txid as opened_by, has_transaction, is_spent_in, opening_coin_of, coin_made, coin_of_transaction, coin_of_transactions, coin_of_blocks, coin_of, is_known_txid}
 use Rattle.gate_chain.specs.History.{History}
 use Rattle.gate_chain.specs.Times.{tip_of}
@@ -21,6 +21,7 @@ use Rattle.gate_pool.specs.Pool.{Admitted, has_txid, entry_by_txid}
 use Rattle.gate_pool.proofs.Entries.{Id, find_some}
 use Rattle.gate_pool.proofs.Removals.{kept}
 use Rattle.gate_admit.specs.Coins.{view_coin}
+use Rattle.gate_admit.specs.Good.{coin_made_at}
 use Rattle.gate_admit.proofs.Filtering.{find-filter_same}
 
 -- ---- the chain knows the transaction of each of its coins
@@ -56,7 +57,7 @@ known_transactions height coinbase (tx ∷ txs) p h =
     (λ k. or_right (bytes_eq (txid_of tx) p.txid) rest (known_transactions height false txs p k))
     (some_either (coin_of_transaction height coinbase tx p) (coin_of_transactions height false txs p) h)
 
-known_blocks : (height : ℕ) (blocks : List Block) (p : OutPoint) → is_some (coin_of_blocks height blocks p) ≡ true → list_any (has_transaction p.txid) blocks ≡ true
+pub known_blocks : (height : ℕ) (blocks : List Block) (p : OutPoint) → is_some (coin_of_blocks height blocks p) ≡ true → list_any (has_transaction p.txid) blocks ≡ true
 known_blocks height [] p h = h
 known_blocks height (b ∷ blocks) p h =
     ⊎_elim (λ k. or_left (has_transaction p.txid b) (list_any (has_transaction p.txid) blocks) (known_transactions height true b.transactions p k))
@@ -67,13 +68,22 @@ unspent : {X : Type 0} (b : Bool) (o : Option X) → is_some (if b then None els
 unspent true o h = absurd (true≢false (sym h))
 unspent false o h = h
 
--- where the chain has a coin it knows its transaction
-pub known_if_coin : (chain : History) (p : OutPoint) → IsSome (coin_of chain p) → is_known_txid chain p.txid ≡ true
-unfolding coin_of is_known_txid
-known_if_coin chain p h =
+-- where the chain made a coin it knows its transaction
+pub known_if_made : (chain : History) (p : OutPoint) → IsSome (coin_made_at chain p) → is_known_txid chain p.txid ≡ true
+unfolding is_known_txid
+known_if_made chain p h =
     ⊎_elim (λ k. or_left (opened_by p.txid chain.coins) (list_any (has_transaction p.txid) chain.blocks) (known_opening chain.coins p k))
     (λ k. or_right (opened_by p.txid chain.coins) (list_any (has_transaction p.txid) chain.blocks) (known_blocks _ chain.blocks p k))
-    (some_either (opening_coin_of chain.coins p) _ (unspent (list_any (is_spent_in p) chain.blocks) _ h))
+    (some_either (opening_coin_of chain.coins p) _ h)
+
+-- a coin that the chain has was made
+pub made_if_coin : (chain : History) (p : OutPoint) → IsSome (coin_of chain p) → IsSome (coin_made_at chain p)
+unfolding coin_of
+made_if_coin chain p h = unspent (list_any (is_spent_in p) chain.blocks) _ h
+
+-- and where it has a coin it knows its transaction
+pub known_if_coin : (chain : History) (p : OutPoint) → IsSome (coin_of chain p) → is_known_txid chain p.txid ≡ true
+known_if_coin chain p h = known_if_made chain p (made_if_coin chain p h)
 
 -- ---- a coin is of an entry, or of the chain
 

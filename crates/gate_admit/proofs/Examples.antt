@@ -11,7 +11,7 @@ use Rattle.gate_standard.specs.Amounts.{required_fee}
 use Rattle.gate_bytes.specs.Order.{first_failing}
 use Rattle.gate_chain.specs.History.{History}
 use Rattle.gate_chain.specs.Coins.{coin_of}
-use Rattle.gate_admit.specs.declared.verdicts.Verdict.TheVariants.{Good, Hard}
+use Rattle.gate_submission.specs.declared.verdict.Verdict.TheVariants.{Good, Hard}
 use Rattle.gate_pool.specs.Pool.{Admitted}
 use Rattle.gate_admit.specs.Verdicts.{VerdictTable, verdict_of}
 use Rattle.gate_admit.specs.Coins.{coins_of}
@@ -25,6 +25,7 @@ to_key = 0 ∷ 20 ∷ replicate 20 0x22
 
 abbrev chain : History
 chain = record {
+  first = 0;
   coins = record { outpoint = record { txid = replicate 32 0x11; index = 0 }; coin = record { value = pos 100000; script = to_key; height = 1; coinbase = false } } ∷ [];
   times = replicate 101 1000;
   blocks = [];

@@ -1,5 +1,6 @@
 pub mod Lists
 pub mod Rows
+pub mod Needed
 pub mod Valuing
 mod Examples
 pub mod Families

@@ -1,7 +1,8 @@
 -- The limits of a newcomer behind the entries, decided by their families without it.
-use Rattle.std.proofs.Common.{◌≡◌, ◌<◌, ◌≤◌, ◌+◌, ℕ, Bool, true, false, not, ◌&&◌, List, [], ◌∷◌, ◌++◌, length, length-append, refl, sym, ap, ◌∙◌, subst, arith}
+use Rattle.std.proofs.Common.{◌≡◌, ◌<◌, ◌≤◌, ◌+◌, ℕ, Bool, true, false, not, ◌&&◌, List, [], ◌∷◌, ◌++◌, length, length-append, append-nil, refl, sym, ap, ◌∙◌, subst, arith}
 use Rattle.std.specs.Prelude.{◌≢◌, Contains, nat_le}
 use Rattle.std.specs.List.{AllPairs, list_all}
+use Rattle.std.proofs.lemmas.Bool.{and_parts}
 use Rattle.std.proofs.lemmas.Bool.Decides.{nat_tests}
 use Rattle.std.proofs.lemmas.List.Elements.{Contains-append_left}
 use Rattle.std.proofs.lemmas.List.Sums.{sum_by_push}
@@ -14,10 +15,11 @@ use Rattle.gate_pool.proofs.Adding.{DifferById, passed}
 use Rattle.gate_pool.proofs.Families.{is_above}
 use Rattle.gate_pool.proofs.Walking.{Contains-from_filter}
 use Rattle.gate_admit.specs.declared.limits.FamilyLimits.{FamilyLimits}
+use Rattle.gate_admit.specs.Chains.{AddsNoChain}
 use Rattle.gate_admit.specs.Limits.{is_below_itself, is_limited, fits_within, has_parent, LeavesRoomBelow, LeavesRoomAbove}
 use Rattle.gate_admit.specs.Policies.{Policy, most_ancestors, most_descendants}
-use Rattle.gate_admit.proofs.Newcomer.{own_ancestors, leaf_beside, leaf_below, leaf_ancestors, leaf_descendants, root_beside, root_above, root_below, root_descendants, root_ancestors, own_below}
-use Rattle.gate_admit.proofs.OwnLimits.{fit_of}
+use Rattle.gate_admit.proofs.Newcomer.{own_ancestors, leaf_beside, leaf_below, leaf_ancestors, leaf_descendants, root_beside, root_above, root_below, root_descendants, root_ancestors, own_below, amid_below, amid_ancestors, amid_descendants, not_from, not_back}
+use Rattle.gate_admit.proofs.OwnLimits.{fit_of, too_many_below, stands_behind}
 
 -- ---- tests
 
@@ -219,3 +221,61 @@ module _ (policy : Policy) (entries : List Admitted) (n : Admitted) (new : (a : 
               (ap (λ k. nat_le k 101000) (larger up n) ∙ shifted (size_of up) n.vsize limits.ancestors_size 101000 room.ancestors_size)
               (ap (nat_le (length down)) (sym room.descendants))
               (ap (nat_le (size_of down)) (sym room.descendants_size))
+
+    -- ---- where it adds no chain between entries, and isn't below itself
+    module _ (adds : AddsNoChain entries n.tx) (beside : is_below_itself all n.tx ≡ false) where
+      amid_up : ancestors_of all (txid_of n.tx) ≡ above ++ n ∷ []
+      amid_up = own_ancestors entries n new apart beside
+
+      amid_down : descendants_of all (txid_of n.tx) ≡ below ++ n ∷ []
+      amid_down = amid_below entries n new own adds
+
+      -- its size is within the limit if its family is
+      pub amid_light : is_limited policy all (txid_of n.tx) ≡ true → n.vsize ≤ 101000
+      amid_light h =
+          let parts = and_parts _ _ (sym (limits_by policy all (txid_of n.tx) (above ++ n ∷ []) (below ++ n ∷ []) amid_up amid_down) ∙ h) in
+          omega (arith, within (size_of (above ++ n ∷ [])) 101000 (and_parts _ _ parts.1).0, larger above n)
+        where
+          within : (k m : ℕ) → nat_le k m ≡ true → k ≤ m
+          within k m h = grind (arith, nat_tests)
+
+      -- so are few below it
+      pub amid_many : most_descendants policy < length below → fit_of policy all n ≡ false
+      amid_many h = too_many_below policy all apart n (stands_behind entries all n refl) (omega (arith, h, ap length amid_down, longer below n))
+
+      above_one : (limits : FamilyLimits) → LeavesRoomBelow policy n.vsize limits → (a : Admitted) → Contains above a → is_limited policy all (txid_of a.tx) ≡ fits_within limits entries (txid_of a.tx)
+      above_one limits room a m =
+          let old : Contains entries a = Contains-from_filter (λ (e : Admitted). is_above entries n.tx.inputs (txid_of e.tx)) entries a m in
+          let stands : is_above entries n.tx.inputs (txid_of a.tx) ≡ true = passed (λ (e : Admitted). is_above entries n.tx.inputs (txid_of e.tx)) entries a m in
+          let to : reaches (steps all) (txid_of a.tx) (txid_of n.tx) ≡ true =
+          passed (λ (e : Admitted). reaches (steps all) (txid_of e.tx) (txid_of n.tx)) all a (subst (λ (l : List Admitted). Contains l a) (sym amid_up) (Contains-append_left above (n ∷ []) a m)) in
+          let up = ancestors_of entries (txid_of a.tx) in
+          let down = descendants_of entries (txid_of a.tx) in
+          limits_by policy all (txid_of a.tx) up (down ++ n ∷ []) (amid_ancestors entries n new own adds a old false (not_from entries n new own adds apart beside (txid_of a.tx) stands) ∙ append-nil up) (amid_descendants entries n new own adds a old true to)
+          ∙ each _ _ _ _ _ _ _ _
+          (ap (nat_le (length up)) (sym room.ancestors))
+          (ap (nat_le (size_of up)) (sym room.ancestors_size))
+          (ap (λ k. nat_le k (most_descendants policy)) (longer down n) ∙ shifted (length down) 1 limits.descendants (most_descendants policy) room.descendants)
+          (ap (λ k. nat_le k 111000) (larger down n) ∙ shifted (size_of down) n.vsize limits.descendants_size 111000 room.descendants_size)
+
+      below_one : (limits : FamilyLimits) → LeavesRoomAbove policy n.vsize limits → (d : Admitted) → Contains below d → is_limited policy all (txid_of d.tx) ≡ fits_within limits entries (txid_of d.tx)
+      below_one limits room d m =
+          let old : Contains entries d = Contains-from_filter (is_below_some (λ (e : Admitted). names e (txid_of n.tx)) entries) entries d m in
+          let from : reaches (steps all) (txid_of n.tx) (txid_of d.tx) ≡ true =
+          passed (λ (e : Admitted). reaches (steps all) (txid_of n.tx) (txid_of e.tx)) all d (subst (λ (l : List Admitted). Contains l d) (sym amid_down) (Contains-append_left below (n ∷ []) d m)) in
+          let up = ancestors_of entries (txid_of d.tx) in
+          let down = descendants_of entries (txid_of d.tx) in
+          limits_by policy all (txid_of d.tx) (up ++ n ∷ []) down (amid_ancestors entries n new own adds d old true from) (amid_descendants entries n new own adds d old false (not_back entries n new own adds apart beside d old from) ∙ append-nil down)
+          ∙ each _ _ _ _ _ _ _ _
+          (ap (λ k. nat_le k (most_ancestors policy)) (longer up n) ∙ shifted (length up) 1 limits.ancestors (most_ancestors policy) room.ancestors)
+          (ap (λ k. nat_le k 101000) (larger up n) ∙ shifted (size_of up) n.vsize limits.ancestors_size 101000 room.ancestors_size)
+          (ap (nat_le (length down)) (sym room.descendants))
+          (ap (nat_le (size_of down)) (sym room.descendants_size))
+
+      -- those above and below it decide
+      pub amid_decides : (over under : FamilyLimits) → LeavesRoomBelow policy n.vsize over → LeavesRoomAbove policy n.vsize under → is_limited policy all (txid_of n.tx) ≡ true
+          → (list_all (λ (e : Admitted). fits_within over entries (txid_of e.tx)) above && list_all (λ (e : Admitted). fits_within under entries (txid_of e.tx)) below) ≡ fit_of policy all n
+      amid_decides over under room_over room_under own_fits = sym (
+          fit_by policy all n above below beside amid_up amid_down
+          ∙ own_passes (list_all passes above) (list_all passes below) (is_limited policy all (txid_of n.tx)) own_fits
+          ∙ (λ i. list_all-same passes (λ (e : Admitted). fits_within over entries (txid_of e.tx)) above (above_one over room_over) i && list_all-same passes (λ (e : Admitted). fits_within under entries (txid_of e.tx)) below (below_one under room_under) i))

@@ -23,6 +23,7 @@ use Rattle.gate_pool.proofs.Families.{is_above}
 use Rattle.gate_pool.proofs.OwnAncestors.{own_or_above, above_is}
 use Rattle.gate_pool.proofs.Walking.{Contains-filter}
 use Rattle.gate_rbf.proofs.Counted.{entry_found}
+use Rattle.gate_admit.specs.Chains.{AddsNoChain}
 use Rattle.gate_admit.specs.Limits.{is_below_itself, has_parent}
 use Rattle.gate_admit.proofs.Removing.{steps_within}
 
@@ -255,6 +256,94 @@ module _ (entries : List Admitted) (n : Admitted) (new : (a : Admitted) → Cont
     root_ancestors b r =
         filter-append (λ (d : Admitted). reaches (steps with_it) (txid_of d.tx) b) entries (n ∷ [])
         ∙ (λ i. filter_same_on (λ (d : Admitted). reaches (steps with_it) (txid_of d.tx) b) (λ (d : Admitted). reaches (steps entries) (txid_of d.tx) b) entries (λ d k. alike_from (txid_of d.tx) b (not_to d k)) i ++ cond (r i) (n ∷ []) [])
+
+  -- ---- where it adds no chain between entries, and doesn't name itself
+
+  module _ (own : names n its_id ≡ false) (adds : AddsNoChain entries n.tx) where
+    -- where a chain leads from, if it leads to an entry
+    record Led (a b : Id) : Type 0 where
+      entry : IsEntry entries a → reaches (steps entries) a b ≡ true
+      newcomer : a ≡ its_id → (d : Admitted) × Contains entries d × (names d its_id ≡ true) × (reaches (steps entries) (txid_of d.tx) b ≡ true)
+
+    led : {a b : Id} → Leads (steps with_it) a b → IsEntry entries b → Led a b
+    led (here {a = a}) e = record { entry = λ _. reaches-same (steps entries) a; newcomer = λ is. absurd (new e.0 e.1 (e.2 ∙ is)) }
+    led (down {a = a} {b = c} {c = b} s l) e =
+        let w = step_entry with_it a c s in
+        let rest = led l e in
+        let named : (d : Admitted) → w.entry ≡ d → a ≡ its_id → names d its_id ≡ true =
+        λ d same is. list_any_of (λ (i : TxIn). bytes_eq i.prevout.txid its_id) d.tx.inputs w.point (subst (λ (z : Admitted). Contains z.tx.inputs w.point) same w.spent) ((bytes_decides w.point.prevout.txid its_id).1 (w.parent ∙ is)) in
+        elim (which w.entry w.member) [
+          | inl m ↦
+              let step : Contains (steps entries) (a, c) = subst (λ (z : Id). Contains (steps entries) (z, c)) w.parent (subst (λ (z : Id). Contains (steps entries) (w.point.prevout.txid, z)) w.child (entry_step entries w.entry w.point m w.spent)) in
+              let on : reaches (steps entries) c b ≡ true = rest.entry (w.entry, m, w.child) in
+              record {
+                entry = λ _. reaches_trans (steps entries) a c b (reaches_step (steps entries) a c step) on;
+                newcomer = λ is. (w.entry, m, named w.entry refl is, subst (λ (z : Id). reaches (steps entries) z b ≡ true) (sym w.child) on);
+              }
+          | inr is ↦
+              record {
+                entry = λ from.
+                    let v = rest.newcomer (sym w.child ∙ ap (λ (z : Admitted). txid_of z.tx) (sym is)) in
+                    let first : reaches (steps entries) w.point.prevout.txid (txid_of v.0.tx) ≡ true = adds w.point (subst (λ (z : Admitted). Contains z.tx.inputs w.point) (sym is) w.spent) (subst (IsEntry entries) (sym w.parent) from) v.0 v.1 v.2 in
+                    reaches_trans (steps entries) a (txid_of v.0.tx) b (subst (λ (z : Id). reaches (steps entries) z (txid_of v.0.tx) ≡ true) w.parent first) v.3;
+                newcomer = λ same. absurd (true≢false (sym (named n (sym is) same) ∙ own));
+              }
+        ]
+
+    led_more : (a b : Id) → reaches (steps entries) a b ≡ true → reaches (steps with_it) a b ≡ true
+    led_more a b r = reaches_from_Leads (Leads_more fewer (Leads_from_reaches (steps entries) a b r))
+
+    -- from an entry the same entries are reached
+    alike : (a d : Admitted) → Contains entries a → Contains entries d → reaches (steps with_it) (txid_of a.tx) (txid_of d.tx) ≡ reaches (steps entries) (txid_of a.tx) (txid_of d.tx)
+    alike a d m k = same_bool _ _ (λ r. (led (Leads_from_reaches (steps with_it) (txid_of a.tx) (txid_of d.tx) r) (d, k, refl)).entry (a, m, refl)) (led_more (txid_of a.tx) (txid_of d.tx))
+
+    -- what is below it is what was below what names it
+    pub amid_below : descendants_of with_it its_id ≡ all_below (λ (e : Admitted). names e its_id) entries ++ n ∷ []
+    amid_below =
+        filter-append (λ (e : Admitted). reaches (steps with_it) its_id (txid_of e.tx)) entries (n ∷ [])
+        ∙ (λ i. filter_same_on (λ (e : Admitted). reaches (steps with_it) its_id (txid_of e.tx)) (is_below_some (λ (e : Admitted). names e its_id) entries) entries same i ++ cond (reaches-same (steps with_it) its_id i) (n ∷ []) [])
+      where
+        same : (e : Admitted) → Contains entries e → reaches (steps with_it) its_id (txid_of e.tx) ≡ is_below_some (λ (d : Admitted). names d its_id) entries e
+        same e m = same_bool _ _
+            (λ r.
+            let v = (led (Leads_from_reaches (steps with_it) its_id (txid_of e.tx) r) (e, m, refl)).newcomer refl in
+            list_any_of (λ (d : Admitted). names d its_id && reaches (steps entries) (txid_of d.tx) (txid_of e.tx)) entries v.0 v.1 (and_from _ _ v.2 v.3))
+            (λ t.
+            let w = any_is (λ (d : Admitted). names d its_id && reaches (steps entries) (txid_of d.tx) (txid_of e.tx)) entries t in
+            let parts = and_parts _ _ w.2 in
+            let i = any_is (λ (j : TxIn). bytes_eq j.prevout.txid its_id) w.0.tx.inputs parts.0 in
+            let first : Contains (steps with_it) (its_id, txid_of w.0.tx) = subst (λ (z : Id). Contains (steps with_it) (z, txid_of w.0.tx)) ((bytes_decides i.0.prevout.txid its_id).0 i.2) (entry_step with_it w.0 i.0 (Contains-append_left entries (n ∷ []) w.0 w.1) i.1) in
+            reaches_trans (steps with_it) its_id (txid_of w.0.tx) (txid_of e.tx) (reaches_step (steps with_it) its_id (txid_of w.0.tx) first) (led_more (txid_of w.0.tx) (txid_of e.tx) parts.1))
+
+    -- an entry's families have it last where chains lead to it, or from it
+    pub amid_ancestors : (b : Admitted) → Contains entries b → (r : Bool) → reaches (steps with_it) its_id (txid_of b.tx) ≡ r → ancestors_of with_it (txid_of b.tx) ≡ ancestors_of entries (txid_of b.tx) ++ cond r (n ∷ []) []
+    amid_ancestors b m r is =
+        filter-append (λ (d : Admitted). reaches (steps with_it) (txid_of d.tx) (txid_of b.tx)) entries (n ∷ [])
+        ∙ (λ i. filter_same_on (λ (d : Admitted). reaches (steps with_it) (txid_of d.tx) (txid_of b.tx)) (λ (d : Admitted). reaches (steps entries) (txid_of d.tx) (txid_of b.tx)) entries (λ d k. alike d b k m) i ++ cond (is i) (n ∷ []) [])
+
+    pub amid_descendants : (a : Admitted) → Contains entries a → (r : Bool) → reaches (steps with_it) (txid_of a.tx) its_id ≡ r → descendants_of with_it (txid_of a.tx) ≡ descendants_of entries (txid_of a.tx) ++ cond r (n ∷ []) []
+    amid_descendants a m r is =
+        filter-append (λ (d : Admitted). reaches (steps with_it) (txid_of a.tx) (txid_of d.tx)) entries (n ∷ [])
+        ∙ (λ i. filter_same_on (λ (d : Admitted). reaches (steps with_it) (txid_of a.tx) (txid_of d.tx)) (λ (d : Admitted). reaches (steps entries) (txid_of a.tx) (txid_of d.tx)) entries (λ d k. alike a d m k) i ++ cond (is i) (n ∷ []) [])
+
+    -- ---- and isn't below itself
+
+    module _ (apart : AllPairs DifferById with_it) (beside : is_below_itself with_it n.tx ≡ false) where
+      -- it doesn't lead to what leads to one of its inputs
+      no_round : (a : Id) → is_above with_it n.tx.inputs a ≡ true → reaches (steps with_it) its_id a ≡ false
+      no_round a up = false_from_ne_true _ (λ t.
+          let i = any_is (λ (j : TxIn). reaches (steps with_it) a j.prevout.txid) n.tx.inputs up in
+          true≢false (sym (list_any_of (λ (j : TxIn). reaches (steps with_it) its_id j.prevout.txid) n.tx.inputs i.0 i.1 (reaches_trans (steps with_it) its_id a i.0.prevout.txid t i.2)) ∙ beside))
+
+      pub not_from : (a : Id) → is_above entries n.tx.inputs a ≡ true → reaches (steps with_it) its_id a ≡ false
+      not_from a up = no_round a (above_alike apart beside a ∙ up)
+
+      pub not_back : (d : Admitted) → Contains entries d → reaches (steps with_it) its_id (txid_of d.tx) ≡ true → reaches (steps with_it) (txid_of d.tx) its_id ≡ false
+      not_back d m r = false_from_ne_true _ (λ t.
+          elim (own_or_above with_it apart n last its_id refl (txid_of d.tx) t) [
+            | inl same ↦ new d m same
+            | inr up ↦ true≢false (sym r ∙ no_round (txid_of d.tx) up)
+          ])
 
   -- one that names itself is below itself
   pub own_below : names n its_id ≡ true → is_below_itself with_it n.tx ≡ true

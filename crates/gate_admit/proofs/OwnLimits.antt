@@ -95,7 +95,7 @@ module _ (policy : Policy) (es : List Admitted) (apart : AllPairs DifferById es)
   own_below : Contains (descendants_of es (txid_of n.tx)) n
   own_below = Contains-filter (λ (e : Admitted). reaches (steps es) (txid_of n.tx) (txid_of e.tx)) es n m (reaches-same (steps es) (txid_of n.tx))
 
-  not_own : is_limited policy es (txid_of n.tx) ≡ false → fit_of policy es n ≡ false
+  pub not_own : is_limited policy es (txid_of n.tx) ≡ false → fit_of policy es n ≡ false
   not_own h = last_fails _ _ (last_fails _ _ (list_all_not passes (descendants_of es (txid_of n.tx)) n own_below h))
 
   pub too_many_above : most_ancestors policy < length (ancestors_above es n.tx.inputs) → fit_of policy es n ≡ false

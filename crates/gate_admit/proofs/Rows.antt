@@ -5,8 +5,8 @@ use Rattle.std.specs.Map.{lookup}
 use Rattle.std.specs.Option.{option_map, option_or}
 use Rattle.indexmap.specs.IndexMap.{insert_entry}
 use Rattle.gate_admit.specs.declared.verdicts.Subject.{Subject}
-use Rattle.gate_admit.specs.declared.verdicts.Verdict.{Verdict}
-use Rattle.gate_admit.specs.declared.verdicts.VerdictRow.{VerdictRow}
+use Rattle.gate_submission.specs.declared.verdict.Verdict.{Verdict}
+use Rattle.gate_submission.specs.declared.verdict.VerdictRow.{VerdictRow}
 use Rattle.gate_admit.specs.Verdicts.{is_row_on, row_on, has_row_on, VerdictTable, verdict_of}
 use Rattle.gate_admit.specs.VerdictMap.{row_of, rows_of, subject, subject_eq}
 

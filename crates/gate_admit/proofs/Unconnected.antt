@@ -20,7 +20,7 @@ use Rattle.gate_tx.specs.Text.{IsTx, stripped}
 use Rattle.gate_tx.specs.Tx.{Tx}
 use Rattle.gate_tx.proofs.Stripped.{stripped_forms_spend_the_same}
 use Rattle.gate_standard.specs.Rules.{transaction_rules, standard_rules, output_value_rules, is_coinbase}
-use Rattle.gate_chain.specs.declared.Block.{Block}
+use Rattle.gate_chain.specs.Blocks.{Block}
 use Rattle.gate_chain.specs.Coins.{has_txid as opened_by, coin_made, coin_of, has_transaction, is_known_txid, is_spent_in}
 use Rattle.gate_chain.specs.History.{History}
 use Rattle.gate_admit.specs.declared.attempt.Attempt.{Attempt}

@@ -1,15 +1,17 @@
 -- What holds of a pool over its chain at every moment, and of transactions whose ids tell them apart.
 use Rattle.std.specs.Prelude.{◌≡◌, ◌≢◌, ◌≤◌, ℕ, length, drop, Bool, true, false, List, [], ◌∷◌, ◌++◌, Option, Some, None, IsSome}
 use Rattle.std.specs.List.{All, AllPairs, Contains, list_any, flat_map}
+use Rattle.std.specs.Option.{option_or}
+use Rattle.gate_tx.specs.declared.Coin.{Coin}
 use Rattle.gate_tx.specs.declared.OutPoint.{OutPoint}
 use Rattle.gate_tx.specs.declared.TxIn.{TxIn}
 use Rattle.gate_tx.specs.Tx.{Tx}
 use Rattle.gate_tx.specs.Text.{IsTx, stripped}
 use Rattle.gate_tx.specs.Ids.{txid_of, wtxid_of}
 use Rattle.gate_standard.specs.Rules.{is_coinbase}
-use Rattle.gate_chain.specs.declared.Block.{Block}
-use Rattle.gate_chain.specs.History.{History}
-use Rattle.gate_chain.specs.Coins.{has_transaction, is_known_txid}
+use Rattle.gate_chain.specs.Blocks.{Block}
+use Rattle.gate_chain.specs.History.{History, first_connected}
+use Rattle.gate_chain.specs.Coins.{coin_of_blocks, has_transaction, is_known_txid, is_spent_in, opening_coin_of}
 use Rattle.gate_pool.specs.Pool.{Admitted, spent_by, size_of}
 use Rattle.gate_pool.specs.Family.{ancestors_of, descendants_of}
 use Rattle.gate_admit.specs.Coins.{view_coin}
@@ -65,7 +67,7 @@ begins_with_coinbase (tx ∷ txs) = is_coinbase tx.inputs
 
 -- a chain when it had these blocks and then one more
 abbrev pub chain_up_to : History → List Block → Block → History
-chain_up_to chain before b = record { coins = chain.coins; times = chain.times; blocks = before ++ b ∷ [] }
+chain_up_to chain before b = record { first = chain.first; coins = chain.coins; times = chain.times; blocks = before ++ b ∷ [] }
 
 -- each connected block begins with a coinbase, its transactions have a text, and those behind the first spend outputs of
 -- transactions that the chain knew once it had that block
@@ -74,6 +76,17 @@ pub record IsSettled (chain : History) : Type 0 where
   pub spelled : (tx : Tx) → Contains (connected_transactions chain) tx → IsTx tx
   pub founded : (before after : List Block) (b : Block) → chain.blocks ≡ before ++ b ∷ after → (tx : Tx) → Contains (drop 1 b.transactions) tx → (i : TxIn) → Contains tx.inputs i
       → is_known_txid (chain_up_to chain before b) i.prevout.txid ≡ true
+
+-- the coin that a chain's opening or one of its blocks made at an outpoint, spent or not
+abbrev pub coin_made_at : History → OutPoint → Option Coin
+coin_made_at chain p = option_or (opening_coin_of chain.coins p) (coin_of_blocks (first_connected chain) chain.blocks p)
+
+-- each outpoint that a connected block spends has a coin that was made by then, and no block below spends it
+pub record SpendsCoins (chain : History) : Type 0 where
+  pub made : (before after : List Block) (b : Block) → chain.blocks ≡ before ++ b ∷ after → (p : OutPoint) → is_spent_in p b ≡ true
+      → IsSome (coin_made_at (chain_up_to chain before b) p)
+  pub once : (before after : List Block) (b : Block) → chain.blocks ≡ before ++ b ∷ after → (p : OutPoint) → is_spent_in p b ≡ true
+      → list_any (is_spent_in p) before ≡ false
 
 -- no connected block has a transaction of the submission's txid
 abbrev pub IsUnconnected : History → Option Tx → Type 0

@@ -125,7 +125,8 @@ fits_again policy entries tx vsize =
     && (are_limited policy all (ancestors_of all (txid_of tx)) && are_limited policy all (descendants_of all (txid_of tx)))
 
 -- as a node's operator would say it: beside the entries the transaction doesn't descend from itself, and with it no entry passes
--- the limits
+-- the limits. The entries aren't asked whether they descend from themselves: with the transaction one does that didn't before
+-- only if the transaction does too.
 abbrev pub fits_among : Policy → List Admitted → Tx → ℕ → Bool
 fits_among policy entries tx vsize =
     let all = joined entries tx vsize in

@@ -13,8 +13,8 @@ use Rattle.gate_standard.specs.declared.Denial.TheVariants.{NonstandardInputs, W
 use Rattle.gate_bytes.specs.Order.{Rule}
 use Rattle.gate_inputs.specs.declared.Answers.{Answers}
 use Rattle.gate_inputs.specs.Answers.{answers_of}
-use Rattle.gate_admit.specs.declared.verdicts.Verdict.{Verdict}
-use Rattle.gate_admit.specs.declared.verdicts.Verdict.TheVariants.{Soft, Hard}
+use Rattle.gate_submission.specs.declared.verdict.Verdict.{Verdict}
+use Rattle.gate_submission.specs.declared.verdict.Verdict.TheVariants.{Soft, Hard}
 use Rattle.gate_admit.specs.Verdicts.{VerdictTable, verdict_of}
 
 -- ---- A31 to A33

@@ -1,9 +1,12 @@
 //! Families of a transaction that is tried again, which has limits of its own in place of A36's.
-ghost use Rattle.std.specs.Prelude.{◌≡◌, ◌≤◌, Bool, true, false, None, [], IfOk, IfSome, is_some, filter, Contains};
+ghost use Rattle.std.specs.Prelude.{◌≡◌, ◌≤◌, Bool, IsTrue, true, false, None, [], IfOk, IfSome, is_some, filter, Contains};
+ghost use Rattle.std.specs.List.{list_all, list_any};
+ghost use Rattle.std.specs.Str.{bytes_eq};
 ghost use Rattle.gate_tx.specs.Ids.{txid_of};
 ghost use Rattle.gate_pool.specs.Pool.{Admitted, entry_by_txid, largest_vsize};
 ghost use Rattle.gate_pool.specs.Search.{IsEntry, AreEntries};
 ghost use Rattle.gate_pool.specs.Family.{names, children_of, ancestors_above, AreIdsOf, OfThese};
+ghost use Rattle.gate_admit.specs.Chains.{AddsNoChain, LeadsToAll, ParentsLeadToAll};
 ghost use Rattle.gate_admit.specs.Limits.{descendants_size_limit, family_size_limit, is_limited, are_limited, fits_within, all_fit_within, fits_again, has_parent, LeavesRoomBelow, LeavesRoomAbove};
 
 use crate::joining::{Joined, names};
@@ -11,7 +14,7 @@ use crate::limits::FamilyLimits;
 use crate::policy::Policy;
 use gate_bytes::{Copied, Counted, Memory};
 use gate_pool::{Entry, FamilyView, Pool, add_up, ancestors, ancestors_with, descendants};
-use gate_tx::{Identified, Txid};
+use gate_tx::{Identified, TxIn, Txid};
 use std::alloc::Global;
 use std::hash::BuildHasher;
 
@@ -233,8 +236,101 @@ fn fits_as_root<S: BuildHasher + Copy + Drop>(
     Ok(all_fit_within(pool, &below, limits_below(policy, vsize)))
 }
 
-/// What `fits_among_others` finds. If the newcomer has no ancestor or no descendant in the pool, the totals that the
-/// pool keeps decide.
+/// Whether all these ids were found.
+fn has_each(found: &[Txid], txids: &[Txid]) -> bool
+    ensures { result ≡ list_all (λ txid. list_any (λ y. bytes_eq y txid) found.now) txids.now }
+{
+    txids.iter().all(|txid| found.contains(txid))
+}
+
+/// Whether all these ids are below an entry, if an id is one's. It may say no if more are below it than the limits
+/// allow.
+fn is_above_all<S: BuildHasher + Copy + Drop>(
+    alloc: Global,
+    policy: &Policy,
+    pool: &Pool<S>,
+    parent: &Txid,
+    txids: &[Txid],
+) -> Result<bool, Memory>
+    ensures { IfOk result (λ all. IsTrue all → IsEntry pool.now.entries parent.now → LeadsToAll pool.now.entries txids.now parent.now) }
+{
+    match pool.entry(parent) {
+        Some(_entry) => {
+            let most = policy.most_descendants();
+            let Some(below) = descendants(alloc, pool, &[*parent], most)? else {
+                return Ok(false);
+            };
+            Ok(has_each(&below, txids))
+        }
+        None => Ok(true),
+    }
+}
+
+/// Whether the newcomer, of which these entries spend outputs, adds no chain between entries. It may say no if an entry
+/// has more descendants than the limits allow.
+fn adds_no_chain<S: BuildHasher + Copy + Drop>(
+    alloc: Global,
+    policy: &Policy,
+    pool: &Pool<S>,
+    inputs: &[TxIn],
+    children: &[Txid],
+) -> Result<bool, Memory>
+    ensures { IfOk result (λ none. IsTrue none → ParentsLeadToAll pool.now.entries children.now inputs.now) }
+{
+    for input in inputs {
+        if !is_above_all(alloc, policy, pool, &input.prevout.txid, children)? {
+            return Ok(false);
+        }
+    }
+    Ok(true)
+}
+
+/// What `fits_among_others` finds for a newcomer that adds no chain between entries and has these children in the pool:
+/// each of its ancestors gains it alone as a descendant, and each of its descendants gains it alone as an ancestor, so
+/// that the totals that the pool keeps decide.
+fn fits_between<S: BuildHasher + Copy + Drop>(
+    alloc: Global,
+    policy: &Policy,
+    pool: &Pool<S>,
+    newcomer: &Entry,
+    children: &[Txid],
+) -> Result<Option<Vec<Txid>>, Memory>
+    requires new { entry_by_txid pool.now.entries (txid_of newcomer.now.tx) ≡ None }
+    requires plain { newcomer.now ≡ record { tx = newcomer.now.tx; fee = 0; vsize = newcomer.now.vsize; time = 0 } }
+    requires own { names newcomer.now (txid_of newcomer.now.tx) ≡ false }
+    requires children { AreIdsOf children.now (children_of pool.now.entries (txid_of newcomer.now.tx)) }
+    requires adds { AddsNoChain pool.now.entries newcomer.now.tx }
+    ensures fits { IfOk result (λ found. is_some found ≡ fits_again policy.now pool.now.entries newcomer.now.tx newcomer.now.vsize) }
+    ensures above { IfOk result (λ found. IfSome found (λ ids. AreIdsOf ids.items (ancestors_above pool.now.entries newcomer.now.tx.inputs))) }
+{
+    let joined = Joined::new(pool, newcomer);
+    joined.recall_apart();
+    let txid = newcomer.txid();
+    let inputs = newcomer.transaction().inputs();
+    let Some(above) = ancestors(alloc, &joined, inputs, policy.most_ancestors())? else {
+        return Ok(None);
+    };
+    if above.contains(&txid) {
+        return Ok(None);
+    }
+    if !is_limited(alloc, policy, &joined, &txid)? {
+        return Ok(None);
+    }
+    let Some(below) = descendants(alloc, pool, children, policy.most_descendants())? else {
+        return Ok(None);
+    };
+    let vsize = u128::from(newcomer.vsize());
+    let above_fit = all_fit_within(pool, &above, limits_above(policy, vsize));
+    let below_fit = all_fit_within(pool, &below, limits_below(policy, vsize));
+    let fits = above_fit & below_fit;
+    if !fits {
+        return Ok(None);
+    }
+    Ok(Some(above))
+}
+
+/// What `fits_among_others` finds. If the newcomer has no ancestor or no descendant in the pool, or adds no chain between
+/// entries, the totals that the pool keeps decide.
 fn fits_with<S: BuildHasher + Copy + Drop>(
     alloc: Global,
     policy: &Policy,
@@ -255,6 +351,10 @@ fn fits_with<S: BuildHasher + Copy + Drop>(
         return fits_as_leaf(alloc, policy, pool, newcomer);
     }
     if has_parent(pool, newcomer) {
+        let inputs = newcomer.transaction().inputs();
+        if adds_no_chain(alloc, policy, pool, inputs, &children)? {
+            return fits_between(alloc, policy, pool, newcomer, &children);
+        }
         return fits_among_others(alloc, policy, pool, newcomer);
     }
     if !fits_as_root(alloc, policy, pool, newcomer, &children)? {

@@ -8,6 +8,7 @@
 mod again;
 mod attempt;
 mod coins;
+mod confirmed;
 mod conflicts;
 mod grant;
 mod joining;
@@ -26,10 +27,11 @@ mod verifying;
 
 pub use attempt::Attempt;
 pub use coins::{LentCoin, view_coin};
+pub use confirmed::Confirmed;
 pub use gate_chain::{Chain, OpenFault, OpeningCoin};
 pub use gate_inputs::{InputReport, Piece, report};
 pub use gate_pool::{Entry, Pool};
-pub use gate_submission::Prepared;
+pub use gate_submission::{Prepared, Verdict, VerdictRow};
 pub use gate_trim::Floor;
 pub use grant::Grant;
 pub use judging::judge;
@@ -41,4 +43,4 @@ pub use policy::{MAX_LIMIT, Policy};
 pub use readmission::readmit;
 pub use standing::Conditions;
 pub use submission::{Coming, commit_submission, plan_submission, submit};
-pub use verdicts::{Verdict, VerdictRow, Verdicts};
+pub use verdicts::Verdicts;

@@ -1,31 +1,19 @@
 //! Verdicts on scripts, handed in by whoever runs them.
-ghost use Rattle.std.specs.Prelude.{◌≡◌, ◌++◌, ◌∷◌, [], None, Some, not, IfOk, OnErr, if◌then◌else◌};
+ghost use Rattle.std.specs.Prelude.{◌≡◌, ◌++◌, ◌∷◌, [], None, IfOk, OnOk};
+ghost use Rattle.gate_admit.specs.Verdicts.{is_among, is_needed};
+ghost use Rattle.gate_admit.specs.VerdictMap.{subject_eq, entries_for, CopiesRow};
+ghost use Rattle.indexmap.specs.IndexMap.{get};
 
+use crate::confirmed::Confirmed;
 use gate_bytes::Memory;
+use gate_chain::{Chain, ChainDenial, ChainFault};
+use gate_pool::Pool;
+use gate_submission::{Verdict, VerdictRow};
 use gate_tx::Wtxid;
 use indexmap::IndexMap;
 use std::alloc::Global;
 use std::hash::BuildHasher;
 use std::marker::Model;
-
-/// What a script interpreter found on an input.
-#[derive(Clone, Copy, Debug, PartialEq, Eq)]
-pub enum Verdict {
-    /// The script succeeds under every rule.
-    Good,
-    /// It fails under a rule of policy alone.
-    Soft,
-    /// It fails under a rule of consensus.
-    Hard,
-}
-
-/// The verdict on one input of one transaction.
-#[derive(Clone, Copy, Debug, PartialEq, Eq)]
-pub struct VerdictRow {
-    pub wtxid: Wtxid,
-    pub input: u32,
-    pub verdict: Verdict,
-}
 
 /// An input of a transaction.
 #[derive(Clone, Copy, Debug, PartialEq, Eq, Hash)]
@@ -52,8 +40,10 @@ impl<S: BuildHasher + Copy> Model for Verdicts<S> {
 }
 
 impl<S: BuildHasher + Copy> Verdicts<S> {
-    ghost use Rattle.std.specs.Prelude.{◌≡◌, ◌++◌, ◌∷◌, [], None, Some, not, IfOk, OnErr, if◌then◌else◌};
-    ghost use Rattle.gate_admit.specs.Verdicts.{has_row_on, verdict_of};
+    ghost use Rattle.std.specs.Prelude.{◌≡◌, ◌++◌, ◌∷◌, [], None, Some, not, IfOk, IfErr, OnOk, OnErr, if◌then◌else◌};
+    ghost use Rattle.gate_bytes.specs.Order.{first_failing};
+    ghost use Rattle.gate_chain.specs.Connecting.{Tells};
+    ghost use Rattle.gate_admit.specs.Verdicts.{has_row_on, verdict_of, row_rules, with_row};
 
     /// No rows, and no verdict for the rest.
     pub fn new(alloc: Global, hasher: S) -> Verdicts<S>
@@ -80,6 +70,22 @@ impl<S: BuildHasher + Copy> Verdicts<S> {
         }
         self.verdicts.insert(subject, row.verdict)?;
         Ok(true)
+    }
+
+    /// Adds a row that is learnt. It is denied by C12 if there is one on its input, and after any fault the rows are what
+    /// they were.
+    #[tactic(auto, unfolding(crate::specs::Verdicts::row_rules))]
+    pub fn learn(&mut self, row: VerdictRow) -> Result<(), ChainFault>
+        ensures ok { OnOk result (self.new ≡ with_row self.old row) }
+        ensures err { OnErr result (self.new ≡ self.old) }
+        ensures passes { OnOk result (first_failing (row_rules self.old row) ≡ None) }
+        ensures denied { IfErr result (λ fault. Tells fault (first_failing (row_rules self.old row))) }
+    {
+        if self.add(row)? {
+            Ok(())
+        } else {
+            Err(ChainFault::Denied(ChainDenial::VerdictKnown))
+        }
     }
 
     /// Sets the verdict for every pair of transaction and input without a row.
@@ -109,4 +115,103 @@ impl<S: BuildHasher + Copy> Verdicts<S> {
             None => self.other,
         }
     }
+}
+
+/// Takes the entries out of a table that are neither on an entry of the pool nor on one of these transactions.
+fn take_out<S: BuildHasher + Copy + Drop>(
+    verdicts: &mut IndexMap<Subject, Verdict, S>,
+    pool: &Pool<S>,
+    confirmed: &Confirmed<S>,
+)
+    ensures { verdicts.new.entries ≡ entries_for pool.now.entries (is_among confirmed.now) verdicts.old.entries }
+{
+    verdicts.retain(
+        |subject: &Subject, verdict: &mut Verdict| -> bool
+            ensures { (result ≡ is_needed pool.entry.now.entries (is_among confirmed.entry.now) subject.now.wtxid) × (verdict.new ≡ verdict.old) }
+        { pool.by_wtxid(&subject.wtxid).is_some() || confirmed.has(&subject.wtxid) },
+    );
+}
+
+impl<S: BuildHasher + Copy + Drop> Verdicts<S> {
+    ghost use Rattle.std.specs.Prelude.{◌≡◌, ◌+◌, List, drop, length, IfOk};
+    ghost use Rattle.gate_pool.specs.Pool.{Admitted};
+    ghost use Rattle.gate_admit.specs.Verdicts.{is_among, rows_for, rows_over};
+
+    /// The wtxids that rows are kept for beside those of entries: those of the transactions of a chain's blocks above the
+    /// lowest `from` ones.
+    pub fn confirmed(
+        &self,
+        alloc: Global,
+        chain: &Chain<S>,
+        from: usize,
+    ) -> Result<Confirmed<S>, Memory>
+        ensures { IfOk result (λ confirmed. (pool : List Admitted) → rows_for pool (is_among confirmed) self.now.rows ≡ rows_over pool (drop from chain.now.blocks) self.now.rows) }
+    {
+        let hasher = *self.verdicts.hasher();
+        if self.verdicts.is_empty() {
+            return Ok(Confirmed::none(alloc, hasher));
+        }
+        Confirmed::above(alloc, hasher, chain, from)
+    }
+
+    /// Takes out the rows that nothing asks for any more: those whose wtxid is neither an entry's nor among those of
+    /// confirmed transactions. It returns how many went, and takes no memory.
+    pub fn forget(&mut self, pool: &Pool<S>, confirmed: &Confirmed<S>) -> usize
+        ensures rows { self.new ≡ record self.old { rows = rows_for pool.now.entries (is_among confirmed.now) self.old.rows } }
+        ensures count { length self.new.rows + result ≡ length self.old.rows }
+    {
+        let before = self.verdicts.len();
+        take_out(&mut self.verdicts, pool, confirmed);
+        before - self.verdicts.len()
+    }
+
+    /// A copy of the rows, whose table hashes alike.
+    pub fn copy(&self, alloc: Global) -> Result<Verdicts<S>, Memory>
+        ensures { IfOk result (λ copy. copy ≡ self.now) }
+    {
+        Ok(Verdicts {
+            verdicts: copy_rows(alloc, &self.verdicts)?,
+            other: self.other,
+        })
+    }
+}
+
+/// Puts a row at the end of a table.
+fn put_row<S: BuildHasher>(
+    rows: &mut IndexMap<Subject, Verdict, S>,
+    subject: Subject,
+    verdict: Verdict,
+) -> Result<(), Memory>
+    ensures { OnOk result (get subject_eq rows.old subject ≡ None → rows.new.entries ≡ rows.old.entries ++ (subject, verdict) ∷ []) }
+{
+    rows.insert(subject, verdict)?;
+    Ok(())
+}
+
+/// Puts the row at the next place at the end of the copies.
+fn copy_row<S: BuildHasher>(
+    rows: &IndexMap<Subject, Verdict, S>,
+    place: usize,
+    copies: &mut IndexMap<Subject, Verdict, S>,
+) -> Result<(), Memory>
+    ensures { OnOk result (CopiesRow place rows.now.entries copies.old.entries copies.new.entries) }
+{
+    match rows.get_index(place) {
+        Some((subject, verdict)) => put_row(copies, *subject, *verdict),
+        None => Ok(()),
+    }
+}
+
+fn copy_rows<S: BuildHasher + Copy + Drop>(
+    alloc: Global,
+    rows: &IndexMap<Subject, Verdict, S>,
+) -> Result<IndexMap<Subject, Verdict, S>, Memory>
+    ensures { IfOk result (λ copies. copies.entries ≡ rows.now.entries) }
+{
+    let count = rows.len();
+    let mut copies = IndexMap::with_capacity_and_hasher(alloc, count, *rows.hasher())?;
+    for place in 0..count {
+        copy_row(rows, place, &mut copies)?;
+    }
+    Ok(copies)
 }

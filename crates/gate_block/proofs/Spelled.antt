@@ -13,7 +13,7 @@ use Rattle.gate_tx.specs.declared.TxFault.TheVariants as tx
 use Rattle.gate_tx.proofs.Steps.{IsRead, list_takes, list_again}
 use Rattle.gate_tx.proofs.Whole.{tx_takes}
 use Rattle.gate_tx.proofs.Again.{tx_again}
-use Rattle.gate_chain.specs.declared.Block.{Block}
+use Rattle.gate_chain.specs.Blocks.{Block}
 use Rattle.gate_chain.specs.declared.ChainFault.{ChainFault}
 use Rattle.gate_chain.specs.declared.ChainFault.TheVariants.{Memory, Denied}
 use Rattle.gate_block.specs.Text.{SpellsBlock}

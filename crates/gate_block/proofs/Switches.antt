@@ -4,7 +4,7 @@ use Rattle.std.proofs.Math.Seq.{take-append_seam}
 use Rattle.std.proofs.lemmas.List.{take_all, drop_all, take-append-drop, drop_at, length-take, length-drop, reverse-append}
 use Rattle.gate_bytes.specs.Order.{first_failing}
 use Rattle.gate_bytes.proofs.OrderLemmas.{found_in_first, found_in_second}
-use Rattle.gate_chain.specs.declared.Block.{Block}
+use Rattle.gate_chain.specs.Blocks.{Block}
 use Rattle.gate_chain.specs.declared.ChainDenial.{ChainDenial}
 use Rattle.gate_chain.specs.declared.ChainFault.{ChainFault}
 use Rattle.gate_chain.specs.declared.ChainFault.TheVariants.{Memory, Denied}
@@ -40,9 +40,10 @@ module _ (h now new : History) (b : Block) (i : ℕ) (is : now ≡ without_last 
   pub one_gone : new ≡ without_last h (i + 1)
   one_gone =
       let front : take (left_of h (i + 1)) h.blocks ≡ new.blocks = ap (λ k. take k h.blocks) (sym count) ∙ ap (take (length new.blocks)) whole ∙ take-append_seam new.blocks (b ∷ last_blocks h i) in
+      let first : new.first ≡ h.first = sym (ap (λ (x : History). x.first) one) ∙ ap (λ (x : History). x.first) is in
       let coins : new.coins ≡ h.coins = sym (ap (λ (x : History). x.coins) one) ∙ ap (λ (x : History). x.coins) is in
       let times : new.times ≡ h.times = sym (ap (λ (x : History). x.times) one) ∙ ap (λ (x : History). x.times) is in
-      λ j. record { coins = coins j; times = times j; blocks = sym front j }
+      λ j. record { first = first j; coins = coins j; times = times j; blocks = sym front j }
 
   pub one_last : last_blocks h (i + 1) ≡ b ∷ last_blocks h i
   one_last = ap (drop (left_of h (i + 1))) whole ∙ drop_at new.blocks (b ∷ last_blocks h i) (left_of h (i + 1)) count

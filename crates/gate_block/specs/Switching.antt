@@ -1,7 +1,7 @@
 -- Several blocks in the place of the last ones.
 use Rattle.std.specs.Prelude.{◌≡◌, ℕ, ◌-◌, ◌||◌, nat_lt, List, [], ◌∷◌, ◌++◌, length, take, drop, Option, Some, None}
 use Rattle.gate_bytes.specs.Order.{Rule}
-use Rattle.gate_chain.specs.declared.Block.{Block}
+use Rattle.gate_chain.specs.Blocks.{Block}
 use Rattle.gate_chain.specs.declared.ChainDenial.{ChainDenial}
 use Rattle.gate_chain.specs.declared.ChainDenial.TheVariants.{NoUndo}
 use Rattle.gate_chain.specs.Connecting.{grown, block_rules}
@@ -10,7 +10,7 @@ use Rattle.gate_chain.specs.Lowering.{Top, above}
 
 -- a history with these blocks in place of its own
 abbrev pub with_blocks : History → List Block → History
-with_blocks h blocks = record { coins = h.coins; times = h.times; blocks = blocks }
+with_blocks h blocks = record { first = h.first; coins = h.coins; times = h.times; blocks = blocks }
 
 -- a history with more blocks
 abbrev pub grown_by : History → List Block → History

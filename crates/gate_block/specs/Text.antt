@@ -3,7 +3,7 @@ use Rattle.std.specs.Prelude.{◌≡◌, ◌≤◌, ℕ, List, ◌++◌, length}
 use Rattle.std.specs.List.{AllByRecursion}
 use Rattle.gate_bytes.specs.Compact.{IsCount}
 use Rattle.gate_tx.specs.Text.{text, vector, longest, IsTx}
-use Rattle.gate_chain.specs.declared.Block.{Block}
+use Rattle.gate_chain.specs.Blocks.{Block}
 
 abbrev pub block_text : Block → List ℕ
 block_text b = b.header ++ vector text b.transactions

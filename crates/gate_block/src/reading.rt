@@ -2,13 +2,13 @@
 ghost use Rattle.std.specs.Prelude.{◌≡◌, ◌≤◌, length, Some, IfOk};
 ghost use Rattle.gate_tx.specs.Reading.{GivesBy, many_at, vector_at, tx_at};
 ghost use Rattle.gate_tx.specs.Text.{longest};
-ghost use Rattle.gate_chain.specs.declared.Block.{Block as TheBlock};
+ghost use Rattle.gate_chain.specs.Blocks.{Block as TheBlock};
 ghost use Rattle.gate_block.specs.Text.{SpellsBlock};
 ghost use Rattle.gate_block.specs.Reading.{block_fault, all_transactions, decoded_block, GivesAll, GivesBlock};
 
-use gate_bytes::{Cursor, Kept};
+use gate_bytes::{Counted, Cursor};
 use gate_chain::{Block, ChainDenial, ChainFault, Header};
-use gate_tx::{MAX_SIZE, Transaction, TxFault, read_front};
+use gate_tx::{Identified, MAX_SIZE, TxFault};
 use std::alloc::Global;
 
 /// The bytes of a block's header.
@@ -16,15 +16,19 @@ const HEADER_SIZE: usize = 80;
 
 const UNREADABLE: ChainFault = ChainFault::Denied(ChainDenial::BlockDecode);
 
-/// Reads `count` transactions, one behind the other, and gives them with the bytes behind them.
-fn read_some(alloc: Global, bytes: &[u8], count: u64) -> Result<(Vec<Transaction>, &[u8]), TxFault>
+/// Transactions with their ids, and the bytes behind them.
+type Front<'a> = (Vec<Counted<Identified>>, &'a [u8]);
+
+/// Reads `count` transactions, one behind the other, and gives them with the bytes behind them. Their ids are hashed here,
+/// and by nothing that comes later.
+fn read_some(alloc: Global, bytes: &[u8], count: u64) -> Result<Front<'_>, TxFault>
     ensures { length bytes.now ≤ longest → GivesBy (λ x. (x.0.items, x.1.now)) result (many_at tx_at count bytes.now) }
 {
     let mut rest = bytes;
     let mut transactions = Vec::new(alloc);
     for _ in 0..count {
-        let (transaction, behind) = read_front(alloc, rest)?;
-        transactions.push(transaction)?;
+        let (transaction, behind) = Identified::read_front(alloc, rest)?;
+        transactions.push(Counted::new(alloc, transaction)?)?;
         rest = behind;
     }
     Ok((transactions, rest))
@@ -32,7 +36,7 @@ fn read_some(alloc: Global, bytes: &[u8], count: u64) -> Result<(Vec<Transaction
 
 /// Reads a count and that many transactions, and gives them with the bytes behind them.
 #[tactic(auto, unfolding(gate_tx::specs::Reading::vector_at))]
-fn read_vector(alloc: Global, bytes: &[u8]) -> Result<(Vec<Transaction>, &[u8]), TxFault>
+fn read_vector(alloc: Global, bytes: &[u8]) -> Result<Front<'_>, TxFault>
     ensures { length bytes.now ≤ longest → GivesBy (λ x. (x.0.items, x.1.now)) result (vector_at tx_at bytes.now) }
 {
     let mut cursor = Cursor::new(bytes);
@@ -52,7 +56,7 @@ fn decode_fault(fault: TxFault) -> ChainFault
 }
 
 /// Reads a count and that many transactions, with nothing behind them.
-fn read_transactions(alloc: Global, bytes: &[u8]) -> Result<Vec<Transaction>, ChainFault>
+fn read_transactions(alloc: Global, bytes: &[u8]) -> Result<Vec<Counted<Identified>>, ChainFault>
     ensures { length bytes.now ≤ longest → GivesAll result (all_transactions bytes.now) }
 {
     match read_vector(alloc, bytes) {
@@ -90,10 +94,7 @@ pub fn read_block(alloc: Global, bytes: &[u8]) -> Result<Block, ChainFault>
     let mut header = [0; 80];
     header.copy_from_slice(front);
     match read_transactions(alloc, rest) {
-        Ok(transactions) => Ok(Block {
-            header: Header::new(header),
-            transactions: Kept::from_vec(transactions),
-        }),
+        Ok(transactions) => Ok(Block::new(alloc, Header::new(header), transactions)?),
         Err(fault) => Err(fault),
     }
 }

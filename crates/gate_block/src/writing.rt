@@ -10,10 +10,10 @@ use std::alloc::Global;
 pub fn write_block(alloc: Global, block: &Block) -> Result<Vec<u8>, Memory>
     ensures { IfOk result (λ bytes. bytes.items ≡ block_text block.now) }
 {
-    let mut bytes = Vec::from_slice(alloc, block.header.as_bytes())?;
-    put_compact(&mut bytes, block.transactions.len() as u64)?;
-    for transaction in block.transactions.as_slice() {
-        let text = transaction.write_tx(alloc)?;
+    let mut bytes = Vec::from_slice(alloc, block.header().as_bytes())?;
+    put_compact(&mut bytes, block.transactions().len() as u64)?;
+    for transaction in block.transactions() {
+        let text = transaction.get().transaction().write_tx(alloc)?;
         bytes.extend_from_slice(text.as_slice())?;
     }
     Ok(bytes)

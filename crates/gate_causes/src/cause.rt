@@ -4,7 +4,8 @@ use gate_bytes::Memory;
 use std::alloc::Global;
 use std::fmt;
 
-/// Why a line has no form: the first cause from the left.
+/// Why a line has no form: the first cause from the left. That a line is not UTF-8 comes before what is wrong with its
+/// words.
 #[derive(Clone, Copy)]
 pub(crate) enum Cause<'a> {
     NotText,
@@ -16,7 +17,19 @@ pub(crate) enum Cause<'a> {
     TwoSpaces,
     EventInOpening,
     LineOfOpening,
+    /// A coin or a verdict as an opening has it, behind the opening.
+    LacksChain,
     LineOfJournal,
+    /// A line of a journal that has none of its marks.
+    NoMark,
+    /// The line of an event where the reply to the one before it is due.
+    NoReply,
+    /// The line of a reply that no event's stands before.
+    NoEvent,
+    /// A base between an event and its reply.
+    BaseInEntry,
+    /// A base with this text where this many entries stand before it.
+    WrongBase(&'a str, u64),
     /// A word that is none of the known words at its place.
     Unknown(&'a str, &'static [&'static str]),
     /// What is missing at the end of the line.
@@ -65,28 +78,32 @@ impl Cause<'_> {
             Cause::TooMuch(word) => {
                 Ok(format!(in alloc; "{} is one word too many", Shown(word))?)
             }
+            Cause::WrongBase(text, count) => Ok(format!(in alloc;
+                "{} is not the number of entries before the line, which is {count}",
+                Shown(text)
+            )?),
             Cause::NoNumber(text, what) => {
-                Ok(format!(in alloc; "{} is no number; {what} stands here", Shown(text))?)
+                Ok(format!(in alloc; "{} is not a number; expected {what}", Shown(text))?)
             }
             Cause::NotWhole(text, what) => {
-                Ok(format!(in alloc; "{} is no whole number; {what} stands here", Shown(text))?)
+                Ok(format!(in alloc; "{} is not a whole number; expected {what}", Shown(text))?)
             }
             Cause::LeadingZero(text) => {
-                Ok(format!(in alloc; "{} begins with a zero", Shown(text))?)
+                Ok(format!(in alloc; "{} has a leading zero", Shown(text))?)
             }
             Cause::TooGreat(text, most) => {
                 Ok(format!(in alloc; "{} is above {most}", Shown(text))?)
             }
             Cause::NoId(text) => Ok(format!(in alloc;
-                "{} is no id of 64 hexadecimal digits",
+                "{} is not an id of 64 hexadecimal digits",
                 Shown(text)
             )?),
             Cause::NoHex(text) => Ok(format!(in alloc;
-                "{} is no even number of hexadecimal digits",
+                "{} is not an even number of hexadecimal digits",
                 Shown(text)
             )?),
             Cause::NoAddress(text) => Ok(format!(in alloc;
-                "{} is no address; ports, brackets and names are none",
+                "{} is not an IP address; it has no port, no brackets and no host name",
                 Shown(text)
             )?),
             other => Ok(String::from_str(alloc, other.as_str())?),
@@ -99,16 +116,23 @@ impl Cause<'_> {
             Cause::NotText => "is not UTF-8",
             Cause::ByteOrderMark => "begins with a byte order mark",
             Cause::CarriageReturn => "ends with a carriage return",
-            Cause::Tab => "has a tab; words are parted by single spaces",
+            Cause::Tab => "has a tab; words are separated by single spaces",
             Cause::SpaceBefore => "begins with a space",
             Cause::SpaceBehind => "ends with a space",
             Cause::TwoSpaces => "has two spaces in a row",
             Cause::EventInOpening => "an event in the opening; is the line --- missing?",
             Cause::LineOfOpening => "a line of an opening behind the line ---",
+            Cause::LacksChain => {
+                "a line of an opening behind the line ---; the event begins with the word chain"
+            }
             Cause::LineOfJournal => "a line of a journal, which gate audit reads",
+            Cause::NoMark => "begins with none of \"> \", \"< \" and \"base \"",
+            Cause::NoReply => "the reply to the event before it is missing",
+            Cause::NoEvent => "a reply with no event before it",
+            Cause::BaseInEntry => "stands between an event and its reply",
             Cause::Zero => "0 is below 1",
-            Cause::Again => "says again what was said",
-            _ => "has none of the forms",
+            Cause::Again => "repeats a setting or a verdict of an earlier line",
+            _ => "matches none of the forms",
         }
     }
 }

@@ -8,6 +8,8 @@
 mod cause;
 mod event_places;
 mod heard;
+mod journal;
+mod known_places;
 mod opening_places;
 mod place;
 mod places;

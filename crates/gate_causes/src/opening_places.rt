@@ -1,18 +1,17 @@
 //! The places of a line of an opening.
 use crate::cause::Cause;
+use crate::known_places::{coin, known_verdict, row};
 use crate::places::Places;
-use crate::words::{CALLERS, SETTINGS, is_among};
+use crate::words::{CALLERS, PARTINGS, SETTINGS, is_among};
 use gate_lines::MAX_NUMBER;
 
 const NUMBERS: u64 = 4_294_967_295;
 
 const BUDGETS: u64 = 1_000_000_000;
 
+const HEIGHTS: u64 = 10_000_000;
+
 const LIMITS: u64 = 1_000;
-
-const KINDS: [&str; 2] = ["plain", "cb"];
-
-const VERDICTS: [&str; 3] = ["ok", "soft", "hard"];
 
 const BITS: [&str; 2] = ["0", "1"];
 
@@ -24,28 +23,14 @@ fn times<'a>(places: &mut Places<'a>) -> Result<(), Cause<'a>> {
     places.end()
 }
 
-/// `TXID INDEX VALUE HEIGHT plain|cb SCRIPT`
-fn coin<'a>(places: &mut Places<'a>) -> Result<(), Cause<'a>> {
-    places.id("the txid of a coin")?;
-    places.number("the index of an output", NUMBERS)?;
-    places.number("a value in satoshi", MAX_NUMBER)?;
-    places.number("the height of a coin", NUMBERS)?;
-    places.one_of("plain or cb", &KINDS)?;
-    places.hex("a script in hexadecimal digits, or -")?;
-    places.end()
-}
-
 /// `WTXID INPUT ok|soft|hard` or `* ok|soft|hard`
 fn verdict<'a>(places: &mut Places<'a>) -> Result<(), Cause<'a>> {
     let mut ahead = *places;
-    if ahead.next() == Some("*") {
+    if ahead.next()? == Some("*") {
         *places = ahead;
-    } else {
-        places.id("a wtxid, or *")?;
-        places.number("the index of an input", NUMBERS)?;
+        return known_verdict(places);
     }
-    places.one_of("ok, soft or hard", &VERDICTS)?;
-    places.end()
+    row(places, "a wtxid, or *")
 }
 
 /// The first fault of an opening's line, from the left.
@@ -54,6 +39,10 @@ pub(crate) fn opening_fault<'a>(line: &'a str) -> Result<(), Cause<'a>> {
     let word = places.word("a setting")?;
     if word == "budget" {
         places.number("the budget in virtual bytes", BUDGETS)?;
+        return places.end();
+    }
+    if word == "from" {
+        places.number("the height of the first block time", HEIGHTS)?;
         return places.end();
     }
     if word == "times" {
@@ -66,8 +55,7 @@ pub(crate) fn opening_fault<'a>(line: &'a str) -> Result<(), Cause<'a>> {
         return verdict(&mut places);
     }
     if word == "whitelist" || word == "rpcwhitelist" {
-        places.word("an entry")?;
-        return Ok(());
+        return places.rest("an entry");
     }
     if word == "limitancestorcount" {
         places.count("the most ancestors", LIMITS)?;
@@ -77,13 +65,15 @@ pub(crate) fn opening_fault<'a>(line: &'a str) -> Result<(), Cause<'a>> {
         places.count("the most descendants", LIMITS)?;
         return places.end();
     }
-    if is_among(word, &SETTINGS) || word == "rpcwhitelistdefault" {
+    if is_among(word, &SETTINGS) {
         places.one_of("0 or 1", &BITS)?;
         return places.end();
     }
-    Err(if is_among(word, &CALLERS) {
-        Cause::EventInOpening
-    } else {
-        Cause::Unknown(word, &SETTINGS)
-    })
+    if is_among(word, &CALLERS) {
+        return Err(Cause::EventInOpening);
+    }
+    if is_among(word, &PARTINGS) {
+        places.end()?;
+    }
+    Err(places.fault(word, Cause::Unknown(word, &SETTINGS)))
 }

@@ -6,15 +6,19 @@ use gate_lines::{MAX_NUMBER, next_word, read_number};
 #[derive(Clone, Copy)]
 pub(crate) struct Places<'a> {
     rest: Option<&'a str>,
+    has_begun: bool,
 }
 
 impl<'a> Places<'a> {
     pub(crate) fn new(line: &'a str) -> Places<'a> {
-        Places { rest: Some(line) }
+        Places {
+            rest: Some(line),
+            has_begun: false,
+        }
     }
 
-    /// The next word, if there is one.
-    pub(crate) fn next(&mut self) -> Option<&'a str> {
+    /// Takes the next word, if there is one. Where a space too many stands, the word is empty.
+    fn take(&mut self) -> Option<&'a str> {
         let text = self.rest?;
         match next_word(text) {
             Some((word, rest)) => {
@@ -28,26 +32,74 @@ impl<'a> Places<'a> {
         }
     }
 
+    /// The next word, if there is one.
+    pub(crate) fn next(&mut self) -> Result<Option<&'a str>, Cause<'a>> {
+        let is_first = !self.has_begun;
+        self.has_begun = true;
+        let Some(word) = self.take() else {
+            return Ok(None);
+        };
+        if !word.is_empty() {
+            return Ok(Some(word));
+        }
+        if is_first {
+            Err(Cause::SpaceBefore)
+        } else if self.rest.is_none() {
+            Err(Cause::SpaceBehind)
+        } else {
+            Err(Cause::TwoSpaces)
+        }
+    }
+
     /// The next word, which has to be there.
     pub(crate) fn word(&mut self, what: &'static str) -> Result<&'a str, Cause<'a>> {
-        match self.next() {
+        match self.next()? {
             Some(word) => Ok(word),
             None => Err(Cause::Missing(what)),
         }
     }
 
+    /// Takes all that is left of the line, which has to be there. It may have spaces and tabs of its own.
+    pub(crate) fn rest(&mut self, what: &'static str) -> Result<(), Cause<'a>> {
+        match self.rest {
+            Some(text) => if text.is_empty() {
+                Err(Cause::SpaceBehind)
+            } else {
+                self.rest = None;
+                Ok(())
+            },
+            None => Err(Cause::Missing(what)),
+        }
+    }
+
+    /// What is wrong with the word that was taken last: if it has a tab, or ends the line with a carriage return, that, and
+    /// else this cause.
+    pub(crate) fn fault(&self, word: &'a str, cause: Cause<'a>) -> Cause<'a> {
+        if has(word, b'\t') {
+            return Cause::Tab;
+        }
+        match word.as_bytes() {
+            [.., b'\r'] if self.rest.is_none() => Cause::CarriageReturn,
+            _ => cause,
+        }
+    }
+
     /// Takes a number of at most `most`.
     pub(crate) fn number(&mut self, what: &'static str, most: u64) -> Result<(), Cause<'a>> {
-        number(self.word(what)?, what, most)
+        let word = self.word(what)?;
+        match number(word, what, most) {
+            Ok(()) => Ok(()),
+            Err(cause) => Err(self.fault(word, cause)),
+        }
     }
 
     /// Takes a number from 1 to `most`.
     pub(crate) fn count(&mut self, what: &'static str, most: u64) -> Result<(), Cause<'a>> {
-        let word = self.word(what)?;
-        if word == "0" {
+        let mut ahead = *self;
+        if ahead.next()? == Some("0") {
             return Err(Cause::Zero);
         }
-        number(word, what, most)
+        self.number(what, most)
     }
 
     /// Takes a word that is one of the known ones.
@@ -60,7 +112,7 @@ impl<'a> Places<'a> {
         if crate::words::is_among(word, known) {
             Ok(())
         } else {
-            Err(Cause::Unknown(word, known))
+            Err(self.fault(word, Cause::Unknown(word, known)))
         }
     }
 
@@ -70,7 +122,7 @@ impl<'a> Places<'a> {
         if word.len() == 64 && is_hex(word) {
             Ok(())
         } else {
-            Err(Cause::NoId(word))
+            Err(self.fault(word, Cause::NoId(word)))
         }
     }
 
@@ -80,14 +132,14 @@ impl<'a> Places<'a> {
         if word == "-" || is_hex(word) && word.len() % 2 == 0 {
             Ok(())
         } else {
-            Err(Cause::NoHex(word))
+            Err(self.fault(word, Cause::NoHex(word)))
         }
     }
 
     /// Fails if a word is left.
     pub(crate) fn end(&mut self) -> Result<(), Cause<'a>> {
-        match self.next() {
-            Some(word) => Err(Cause::TooMuch(word)),
+        match self.next()? {
+            Some(word) => Err(self.fault(word, Cause::TooMuch(word))),
             None => Ok(()),
         }
     }

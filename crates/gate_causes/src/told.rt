@@ -12,45 +12,18 @@ use gate_events::event_on;
 use hex::FromHexError;
 use std::alloc::Global;
 
-/// Whether a line has two spaces in a row before the JSON of a call.
-fn has_two_spaces(line: &[u8]) -> bool {
-    let mut before = b'x';
-    for byte in line {
-        if *byte == b'{' {
-            return false;
-        }
-        if *byte == b' ' && before == b' ' {
-            return true;
-        }
-        before = *byte;
-    }
-    false
-}
-
-/// What is wrong with the bytes of a line, whatever its words are.
-fn bytes_fault(line: &[u8]) -> Result<(), Cause<'static>> {
+/// What is wrong with the front of a line, whatever its words are.
+fn front_fault(line: &[u8]) -> Result<(), Cause<'static>> {
     match line {
-        [0xef, 0xbb, 0xbf, ..] => return Err(Cause::ByteOrderMark),
-        [b'>' | b'<', b' ', ..] => return Err(Cause::LineOfJournal),
-        [b' ', ..] => return Err(Cause::SpaceBefore),
-        _ => {}
+        [0xef, 0xbb, 0xbf, ..] => Err(Cause::ByteOrderMark),
+        [b'>' | b'<', b' ', ..] => Err(Cause::LineOfJournal),
+        [b' ', ..] => Err(Cause::SpaceBefore),
+        _ => Ok(()),
     }
-    match line {
-        [.., b'\r'] => return Err(Cause::CarriageReturn),
-        [.., b' '] => return Err(Cause::SpaceBehind),
-        _ => {}
-    }
-    if line.iter().any(|byte| *byte == b'\t') {
-        return Err(Cause::Tab);
-    }
-    if has_two_spaces(line) {
-        return Err(Cause::TwoSpaces);
-    }
-    Ok(())
 }
 
 fn event_cause(line: &[u8]) -> Result<(), Cause<'_>> {
-    bytes_fault(line)?;
+    front_fault(line)?;
     match std::str::from_utf8(line) {
         Ok(text) => event_fault(text),
         Err(_) => Err(Cause::NotText),
@@ -58,7 +31,7 @@ fn event_cause(line: &[u8]) -> Result<(), Cause<'_>> {
 }
 
 fn opening_cause(line: &[u8]) -> Result<(), Cause<'_>> {
-    bytes_fault(line)?;
+    front_fault(line)?;
     match std::str::from_utf8(line) {
         Ok(text) => opening_fault(text),
         Err(_) => Err(Cause::NotText),

@@ -1,6 +1,8 @@
 //! A reader that reports on the lines that pass.
 ghost use Rattle.std.specs.Prelude.{◌≡◌};
 
+use crate::cause::Cause;
+use crate::journal::Entries;
 use crate::place::{Limit, Place};
 use crate::told::event_told;
 use gate_bytes::Memory;
@@ -35,14 +37,6 @@ fn has_mark(line: &[u8]) -> bool {
     }
 }
 
-/// Whether a line of a journal is that of a base.
-fn is_base(line: &[u8]) -> bool {
-    match line {
-        [b'b', b'a', b's', b'e', b' ', ..] => true,
-        _ => false,
-    }
-}
-
 /// A reader of an opening and what stands behind it, in front of another reader. It keeps the last line of the opening
 /// and the place where it stands. If it is asked to, it reports on standard error each line behind the opening that has
 /// no form.
@@ -60,6 +54,7 @@ pub struct Watched<'a, R, T> {
     /// Whether a round ended, and no lane of the next one has begun.
     awaits_lane: bool,
     caller: Option<Caller>,
+    entries: Entries,
     last: Vec<u8>,
     is_kept: bool,
 }
@@ -87,6 +82,7 @@ impl<'a, R, T: Eprint> Watched<'a, R, T> {
             lanes: 1,
             awaits_lane: false,
             caller: None,
+            entries: Entries::new(),
             last: Vec::new(alloc),
             is_kept: true,
         }
@@ -133,9 +129,14 @@ impl<'a, R, T: Eprint> Watched<'a, R, T> {
         }
     }
 
-    /// Whether the line stands in a journal and is not skipped, but is no event, no reply and no base.
-    fn lacks_mark(&self, line: &[u8]) -> bool {
-        self.behind == Behind::Journal && !asks_nothing(line) && !has_mark(line) && !is_base(line)
+    /// What is wrong with a line where it stands, if that is in a journal.
+    fn journal_fault<'b>(&mut self, line: &'b [u8]) -> Result<(), Cause<'b>>
+        ensures { self.new.reader ≡ self.old.reader }
+    {
+        if self.behind != Behind::Journal || asks_nothing(line) {
+            return Ok(());
+        }
+        self.entries.advance(line)
     }
 
     /// Whether a line of a lane is an event of another caller than that of the lane's first event.
@@ -171,20 +172,25 @@ impl<'a, R, T: Eprint> Watched<'a, R, T> {
         }
     }
 
-    /// Reports a line behind the opening if it has no form.
-    fn tell(&self, number: u64, line: &[u8]) {
-        // What standard error doesn't take is lost.
-        if self.lacks_mark(line) {
-            self.place.refuse();
-            let _written = eprintln!(self.rt;
-                "gate: line {number}: begins neither with \"> \" nor with \"< \""
-            );
-            return;
+    /// Why a line behind the opening has no form, or can't stand where it does.
+    fn cause(&mut self, line: &[u8]) -> Result<Option<String>, Memory>
+        ensures { self.new.reader ≡ self.old.reader }
+    {
+        if let Err(cause) = self.journal_fault(line) {
+            return Ok(Some(cause.text(self.alloc)?));
         }
-        let Some(event) = self.event_in(line) else {
-            return;
-        };
-        if let Ok(Some(text)) = event_told(self.alloc, event) {
+        match self.event_in(line) {
+            Some(event) => event_told(self.alloc, event),
+            None => Ok(None),
+        }
+    }
+
+    /// Reports a line behind the opening if it has no form, or can't stand where it does.
+    fn tell(&mut self, number: u64, line: &[u8])
+        ensures { self.new.reader ≡ self.old.reader }
+    {
+        // What standard error doesn't take is lost.
+        if let Ok(Some(text)) = self.cause(line) {
             self.place.refuse();
             let _written = eprintln!(self.rt; "gate: line {number}: {text}");
         }
@@ -329,7 +335,7 @@ impl<R: Source, T: Eprint> Source for Watched<'_, R, T> {
         match part {
             Part::Newline => self.watch(line.as_slice()),
             Part::End => {
-                if room > 0 && !line.is_empty() {
+                if !line.is_empty() {
                     self.watch(line.as_slice());
                 }
                 self.end();
@@ -338,9 +344,5 @@ impl<R: Source, T: Eprint> Source for Watched<'_, R, T> {
             Part::More => {}
         }
         Ok(part)
-    }
-
-    fn take_rest(&mut self, text: &mut Vec<u8>) -> Result<(), LaneFault> {
-        self.reader.take_rest(text)
     }
 }

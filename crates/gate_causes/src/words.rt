@@ -6,9 +6,13 @@ use strsim::levenshtein;
 /// The words that begin an event's line.
 pub(crate) const CALLERS: [&str; 4] = ["peer", "user", "chain", "operator"];
 
+/// The lines that end an opening or a lane, and a round.
+pub(crate) const PARTINGS: [&str; 2] = ["---", "==="];
+
 /// The words that begin a line of an opening.
-pub(crate) const SETTINGS: [&str; 13] = [
+pub(crate) const SETTINGS: [&str; 15] = [
     "budget",
+    "from",
     "times",
     "coin",
     "verdict",
@@ -17,6 +21,7 @@ pub(crate) const SETTINGS: [&str; 13] = [
     "whitelistrelay",
     "whitelistforcerelay",
     "rpcwhitelist",
+    "rpcwhitelistdefault",
     "blocksonly",
     "limitancestorcount",
     "limitdescendantcount",

@@ -15,7 +15,7 @@ use Rattle.gate_tx.specs.Coins.{point_eq, spends}
 use Rattle.gate_tx.specs.Ids.{txid_of}
 use Rattle.gate_tx.specs.Text.{is_nonempty}
 use Rattle.gate_tx.specs.Tx.{Tx}
-use Rattle.gate_chain.specs.declared.block.Block.{Block}
+use Rattle.gate_chain.specs.Blocks.{Block}
 use Rattle.gate_chain.specs.declared.denial.ChainDenial.{ChainDenial}
 use Rattle.gate_chain.specs.declared.fault.ChainFault.{ChainFault}
 use Rattle.gate_chain.specs.declared.fault.ChainFault.TheVariants.{Memory, Denied}
@@ -30,7 +30,7 @@ use Rattle.gate_chain.proofs.Marks.{same_point, marked_made, marked_first, marke
 use Rattle.gate_chain.proofs.Histories.{or_cases, coin_is, coins_form, coins_more, ids_form, ids_more, ids_known, spent_form, spent_none, spent_more, unknown_new}
 
 -- every coin that is spent was there
-missing_some : (has : OutPoint → Bool) (inputs : List TxIn) (p : OutPoint) → missing has inputs ≡ false → spends inputs p ≡ true → has p ≡ true
+pub missing_some : (has : OutPoint → Bool) (inputs : List TxIn) (p : OutPoint) → missing has inputs ≡ false → spends inputs p ≡ true → has p ≡ true
 missing_some has [] p m s = absurd (true≢false (sym s))
 missing_some has (i ∷ inputs) p m s = by (has i.prevout) refl m (missing_some (λ q. not (point_eq i.prevout q) && has q) inputs p)
   where
@@ -45,7 +45,7 @@ missing_some has (i ∷ inputs) p m s = by (has i.prevout) refl m (missing_some 
         (λ at. ap has (sym (same_point i.prevout p at)) ∙ e)
         (λ later. both (point_eq i.prevout p) (has p) (rest h later))
 
-or_false : (b : Bool) → (b || false) ≡ b
+pub or_false : (b : Bool) → (b || false) ≡ b
 or_false true = refl
 or_false false = refl
 
@@ -192,7 +192,7 @@ module _ (h : History) (header : List ℕ) where
   neither None b e = (refl, e)
   neither (Some x) b e = absurd (cc)
 
-  none_missing : (done : List Tx) (t : Tx) → transaction_denial h header done t ≡ None → (is_nonempty done && missing (λ p. is_some (coin_of (with_part h header done) p)) t.inputs) ≡ false
+  pub none_missing : (done : List Tx) (t : Tx) → transaction_denial h header done t ≡ None → (is_nonempty done && missing (λ p. is_some (coin_of (with_part h header done) p)) t.inputs) ≡ false
   unfolding transaction_rules
   none_missing done t e = (passed _ BlockInputs None (passed _ TxidRepeated _ e).1).0
 
@@ -210,7 +210,7 @@ module _ (h : History) (header : List ℕ) where
       still [] = refl
       still (x ∷ d) = refl
 
-  once : (txs : List Tx) → transactions_denial h header [] txs ≡ None → (p : OutPoint) → any_spends (drop 1 txs) p ≡ true → is_spent h p ≡ false
+  pub once : (txs : List Tx) → transactions_denial h header [] txs ≡ None → (p : OutPoint) → any_spends (drop 1 txs) p ≡ true → is_spent h p ≡ false
   once [] e p s = absurd (true≢false (sym s))
   once (t ∷ txs) e p s = rest_once (t ∷ []) txs refl (neither (transaction_denial h header [] t) (transactions_denial h header (t ∷ []) txs) (sym (denial_more h header [] t txs) ∙ e)).1 p s
 
@@ -296,7 +296,7 @@ module _ (h : History) (header : List ℕ) (txs : List Tx) (i : ℕ) (t : Tx) (l
   )
 
 -- all its transactions stand
-pub ends : (h : History) (block : Block) (n k i : ℕ) (es es0 : List (OutPoint × Marked)) (txids txids0 : List (List ℕ)) → AreMaps h es0 txids0 → n ≡ length es0 → k ≡ length txids0 → length block.transactions ≤ i
+pub ends : (h : History) (block : Block) (n k i : ℕ) (es es0 : List (OutPoint × Marked)) (txids txids0 : List (List ℕ)) → AreMaps h es0 txids0 → n + length h.coins ≡ length es0 → k ≡ length txids0 → length block.transactions ≤ i
     → AreMaps (with_part h block.header (take i block.transactions)) es txids → transactions_denial h block.header [] (take i block.transactions) ≡ None
     → IsConnected h (record { block = block; coins = n; ids = k }) × AreMaps (grown h block) es txids × (transactions_denial h block.header [] block.transactions ≡ None)
 ends h block n k i es es0 txids txids0 a0 nis kis le a none =

@@ -10,23 +10,22 @@ use Rattle.gate_tx.specs.declared.Coin.{Coin}
 use Rattle.gate_tx.specs.Coins.{is_unspendable}
 use Rattle.gate_tx.specs.Ids.{txid_of}
 use Rattle.gate_tx.specs.Tx.{Tx}
-use Rattle.gate_chain.specs.declared.block.Block.{Block}
+use Rattle.gate_chain.specs.Blocks.{Block}
 use Rattle.gate_chain.specs.Coins.{coin_of, coin_made, coin_of_transaction, coin_of_transactions, coin_of_blocks, opening_coin_of}
 use Rattle.gate_chain.specs.Headers.{header_time}
-use Rattle.gate_chain.specs.History.{History}
-use Rattle.gate_chain.specs.Keeping.{IsFaultless}
+use Rattle.gate_chain.specs.History.{History, first_connected}
+use Rattle.gate_chain.specs.Keeping.{IsOpening}
 use Rattle.gate_chain.specs.Linked.{is_spent}
 use Rattle.gate_chain.specs.Times.{times_of, tip_of}
-use Rattle.gate_chain.proofs.Opened.{coins_fit, heights_fit}
 
 abbrev pub IsWithin : ℕ → Option Coin → Type 0
 IsWithin most found = IfSome found (λ c. c.height ≤ most)
 
-either : (most : ℕ) (a b : Option Coin) → IsWithin most a → IsWithin most b → IsWithin most (option_or a b)
+pub either : (most : ℕ) (a b : Option Coin) → IsWithin most a → IsWithin most b → IsWithin most (option_or a b)
 either most None b here later = later
 either most (Some c) b here later = here
 
-more : (least most : ℕ) (a : Option Coin) → least ≤ most → IsWithin least a → IsWithin most a
+pub more : (least most : ℕ) (a : Option Coin) → least ≤ most → IsWithin least a → IsWithin most a
 more least most None le h = tt
 more least most (Some c) le h = omega (arith, le, h)
 
@@ -45,12 +44,12 @@ transaction_within height coinbase tx p = by (bytes_eq (txid_of tx) p.txid)
     by true = output_within height coinbase (slice_get tx.outputs p.index)
     by false = tt
 
-transactions_within : (height : ℕ) (coinbase : Bool) (txs : List Tx) (p : OutPoint) → IsWithin height (coin_of_transactions height coinbase txs p)
+pub transactions_within : (height : ℕ) (coinbase : Bool) (txs : List Tx) (p : OutPoint) → IsWithin height (coin_of_transactions height coinbase txs p)
 transactions_within height coinbase [] p = tt
 transactions_within height coinbase (tx ∷ txs) p =
     either height (coin_of_transaction height coinbase tx p) (coin_of_transactions height false txs p) (transaction_within height coinbase tx p) (transactions_within height false txs p)
 
-blocks_within : (height most : ℕ) (blocks : List Block) (p : OutPoint) → height + length blocks ≤ most + 1 → IsWithin most (coin_of_blocks height blocks p)
+pub blocks_within : (height most : ℕ) (blocks : List Block) (p : OutPoint) → height + length blocks ≤ most + 1 → IsWithin most (coin_of_blocks height blocks p)
 blocks_within height most [] p le = tt
 blocks_within height most (b ∷ blocks) p le =
     either most (coin_of_transactions height true b.transactions p) (coin_of_blocks (height + 1) blocks p)
@@ -60,17 +59,17 @@ blocks_within height most (b ∷ blocks) p le =
 count : (h : History) → length (times_of h) ≡ length h.times + length h.blocks
 count h = length-append h.times (map (λ b. header_time b.header) h.blocks) ∙ ap (λ n. length h.times + n) (length-map h.blocks (λ b. header_time b.header))
 
-pub coin_within : (h : History) (p : OutPoint) → IsFaultless h.coins h.times → IsWithin (tip_of h) (coin_of h p)
+pub coin_within : (h : History) (p : OutPoint) → IsOpening h.first h.coins h.times → IsWithin (tip_of h) (coin_of h p)
 unfolding coin_of
 coin_within h p is = by (is_spent h p)
   where
-    found : IsWithin (tip_of h) (option_or (opening_coin_of h.coins p) (coin_of_blocks (length h.times) h.blocks p))
+    found : IsWithin (tip_of h) (option_or (opening_coin_of h.coins p) (coin_of_blocks (first_connected h) h.blocks p))
     found =
         let n = count h in
-        either (tip_of h) (opening_coin_of h.coins p) (coin_of_blocks (length h.times) h.blocks p)
-        (more (length h.times - 1) (tip_of h) _ (omega (arith, n)) (heights_fit (length h.times - 1) [] h.coins p (coins_fit h.coins h.times is.faultless)))
-        (blocks_within (length h.times) (tip_of h) h.blocks p (omega (arith, n, is.some)))
+        either (tip_of h) (opening_coin_of h.coins p) (coin_of_blocks (first_connected h) h.blocks p)
+        (more (first_connected h - 1) (tip_of h) _ (omega (arith, n)) (is.heights p))
+        (blocks_within (first_connected h) (tip_of h) h.blocks p (omega (arith, n, is.some)))
 
-    by : (b : Bool) → IsWithin (tip_of h) (if b then None else option_or (opening_coin_of h.coins p) (coin_of_blocks (length h.times) h.blocks p))
+    by : (b : Bool) → IsWithin (tip_of h) (if b then None else option_or (opening_coin_of h.coins p) (coin_of_blocks (first_connected h) h.blocks p))
     by true = tt
     by false = found

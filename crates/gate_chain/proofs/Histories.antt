@@ -17,12 +17,12 @@ use Rattle.gate_tx.specs.Coins.{point_eq, spends, is_unspendable}
 use Rattle.gate_tx.specs.Ids.{txid_of}
 use Rattle.gate_tx.specs.Text.{is_nonempty}
 use Rattle.gate_tx.specs.Tx.{Tx}
-use Rattle.gate_chain.specs.declared.block.Block.{Block}
+use Rattle.gate_chain.specs.Blocks.{Block}
 use Rattle.gate_chain.specs.declared.marked.Marked.{Marked}
 use Rattle.gate_chain.specs.declared.opening.OpeningCoin.{OpeningCoin}
 use Rattle.gate_chain.specs.Coins.{coin_of, coin_made, coin_of_transaction, coin_of_transactions, coin_of_blocks, opening_coin_of, any_spends, is_spent_in, has_txid, has_transaction, is_known_txid}
 use Rattle.gate_chain.specs.Connecting.{with_part}
-use Rattle.gate_chain.specs.History.{History}
+use Rattle.gate_chain.specs.History.{History, first_connected}
 use Rattle.gate_chain.specs.Marking.{IsNew, coins_in, coins_made, opening_entry, made_by, made_by_all, made_by_blocks, ids_of}
 use Rattle.gate_chain.specs.Linked.{is_spent}
 use Rattle.gate_chain.proofs.Marks.{lookup-append, coin_of_entry, lookup-coins_in}
@@ -46,7 +46,7 @@ pub or_cases : (a b : Bool) (P : Type 0) → (a || b) ≡ true → (a ≡ true �
 or_cases true b P h f g = f refl
 or_cases false b P h f g = g h
 
-bytes_same : (a b : List ℕ) → bytes_eq a b ≡ true → a ≡ b
+pub bytes_same : (a b : List ℕ) → bytes_eq a b ≡ true → a ≡ b
 bytes_same a b h = let d : Decides (bytes_eq a b) (a ≡ b) = bytes_eq-Decides a b in d.0 h
 
 pub bytes_swap : (a b : List ℕ) → bytes_eq a b ≡ true → bytes_eq b a ≡ true
@@ -89,20 +89,20 @@ ids_push : (blocks : List Block) (b : Block) → ids_of (blocks ++ b ∷ []) ≡
 ids_push [] b = append-nil (map txid_of b.transactions)
 ids_push (x ∷ blocks) b = ap (λ l. map txid_of x.transactions ++ l) (ids_push blocks b) ∙ sym (append_assoc (map txid_of x.transactions) (ids_of blocks) (map txid_of b.transactions))
 
-pub coins_form : (h : History) (header : List ℕ) (d : List Tx) → coins_made (with_part h header d) ≡ coins_made h ++ made_by_all (length h.times + length h.blocks) true d
+pub coins_form : (h : History) (header : List ℕ) (d : List Tx) → coins_made (with_part h header d) ≡ coins_made h ++ made_by_all (first_connected h + length h.blocks) true d
 coins_form h header d =
-    ap (λ l. map opening_entry h.coins ++ l) (blocks_push (length h.times) h.blocks (record { header = header; transactions = d }))
-    ∙ sym (append_assoc (map opening_entry h.coins) (made_by_blocks (length h.times) h.blocks) (made_by_all (length h.times + length h.blocks) true d))
+    ap (λ l. map opening_entry h.coins ++ l) (blocks_push (first_connected h) h.blocks (record { header = header; transactions = d }))
+    ∙ sym (append_assoc (map opening_entry h.coins) (made_by_blocks (first_connected h) h.blocks) (made_by_all (first_connected h + length h.blocks) true d))
 
 pub ids_form : (h : History) (header : List ℕ) (d : List Tx) → ids_of (with_part h header d).blocks ≡ ids_of h.blocks ++ map txid_of d
 ids_form h header d = ids_push h.blocks (record { header = header; transactions = d })
 
 pub coins_more : (h : History) (header : List ℕ) (done : List Tx) (t : Tx)
-    → coins_made (with_part h header (done ++ t ∷ [])) ≡ coins_made (with_part h header done) ++ made_by (txid_of t) (length h.times + length h.blocks) (not (is_nonempty done)) 0 t.outputs
+    → coins_made (with_part h header (done ++ t ∷ [])) ≡ coins_made (with_part h header done) ++ made_by (txid_of t) (first_connected h + length h.blocks) (not (is_nonempty done)) 0 t.outputs
 coins_more h header done t =
-    coins_form h header (done ++ t ∷ []) ∙ ap (λ l. coins_made h ++ l) (all_push (length h.times + length h.blocks) done t)
-    ∙ sym (append_assoc (coins_made h) (made_by_all (length h.times + length h.blocks) true done) (made_by (txid_of t) (length h.times + length h.blocks) (not (is_nonempty done)) 0 t.outputs))
-    ∙ ap (λ l. l ++ made_by (txid_of t) (length h.times + length h.blocks) (not (is_nonempty done)) 0 t.outputs) (sym (coins_form h header done))
+    coins_form h header (done ++ t ∷ []) ∙ ap (λ l. coins_made h ++ l) (all_push (first_connected h + length h.blocks) done t)
+    ∙ sym (append_assoc (coins_made h) (made_by_all (first_connected h + length h.blocks) true done) (made_by (txid_of t) (first_connected h + length h.blocks) (not (is_nonempty done)) 0 t.outputs))
+    ∙ ap (λ l. l ++ made_by (txid_of t) (first_connected h + length h.blocks) (not (is_nonempty done)) 0 t.outputs) (sym (coins_form h header done))
 
 pub ids_more : (h : History) (header : List ℕ) (done : List Tx) (t : Tx) → ids_of (with_part h header (done ++ t ∷ [])).blocks ≡ ids_of (with_part h header done).blocks ++ txid_of t ∷ []
 ids_more h header done t =
@@ -180,19 +180,19 @@ module _ (id : List ℕ) (height : ℕ) (coinbase : Bool) (p : OutPoint) where
 transaction_made : (height : ℕ) (coinbase : Bool) (t : Tx) (p : OutPoint) → lookup (point_eq p) (made_by (txid_of t) height coinbase 0 t.outputs) ≡ coin_of_transaction height coinbase t p
 transaction_made height coinbase t p = made_at (txid_of t) height coinbase p t.outputs 0 p.index (omega arith)
 
-all_made : (height : ℕ) (coinbase : Bool) (txs : List Tx) (p : OutPoint) → lookup (point_eq p) (made_by_all height coinbase txs) ≡ coin_of_transactions height coinbase txs p
+pub all_made : (height : ℕ) (coinbase : Bool) (txs : List Tx) (p : OutPoint) → lookup (point_eq p) (made_by_all height coinbase txs) ≡ coin_of_transactions height coinbase txs p
 all_made height coinbase [] p = refl
 all_made height coinbase (t ∷ txs) p =
     lookup-append (point_eq p) (made_by (txid_of t) height coinbase 0 t.outputs) (made_by_all height false txs)
     ∙ (λ j. option_or (transaction_made height coinbase t p j) (all_made height false txs p j))
 
-blocks_made : (height : ℕ) (blocks : List Block) (p : OutPoint) → lookup (point_eq p) (made_by_blocks height blocks) ≡ coin_of_blocks height blocks p
+pub blocks_made : (height : ℕ) (blocks : List Block) (p : OutPoint) → lookup (point_eq p) (made_by_blocks height blocks) ≡ coin_of_blocks height blocks p
 blocks_made height [] p = refl
 blocks_made height (b ∷ blocks) p =
     lookup-append (point_eq p) (made_by_all height true b.transactions) (made_by_blocks (height + 1) blocks)
     ∙ (λ j. option_or (all_made height true b.transactions p j) (blocks_made (height + 1) blocks p j))
 
-opening_made : (coins : List OpeningCoin) (p : OutPoint) → lookup (point_eq p) (map opening_entry coins) ≡ opening_coin_of coins p
+pub opening_made : (coins : List OpeningCoin) (p : OutPoint) → lookup (point_eq p) (map opening_entry coins) ≡ opening_coin_of coins p
 opening_made [] p = refl
 opening_made (c ∷ coins) p = by (point_eq p c.outpoint) (opening_made coins p)
   where
@@ -201,10 +201,10 @@ opening_made (c ∷ coins) p = by (point_eq p c.outpoint) (opening_made coins p)
     by true h = refl
     by false h = h
 
-pub made_is : (h : History) (p : OutPoint) → lookup (point_eq p) (coins_made h) ≡ option_or (opening_coin_of h.coins p) (coin_of_blocks (length h.times) h.blocks p)
+pub made_is : (h : History) (p : OutPoint) → lookup (point_eq p) (coins_made h) ≡ option_or (opening_coin_of h.coins p) (coin_of_blocks (first_connected h) h.blocks p)
 made_is h p =
-    lookup-append (point_eq p) (map opening_entry h.coins) (made_by_blocks (length h.times) h.blocks)
-    ∙ (λ j. option_or (opening_made h.coins p j) (blocks_made (length h.times) h.blocks p j))
+    lookup-append (point_eq p) (map opening_entry h.coins) (made_by_blocks (first_connected h) h.blocks)
+    ∙ (λ j. option_or (opening_made h.coins p j) (blocks_made (first_connected h) h.blocks p j))
 
 pub coin_is : (h : History) (p : OutPoint) → coin_of h p ≡ (if is_spent h p then None else lookup (point_eq p) (coins_made h))
 unfolding coin_of
@@ -224,11 +224,11 @@ module _ (h : History) (header : List ℕ) (done : List Tx) (t : Tx) where
       ∙ ap (λ b. b || (is_nonempty done && spends t.inputs p)) (sym (spent_form done p))
 
 -- what is a coin came from a known transaction
-some_or : {X : Type 0} (a b : Option X) → is_some (option_or a b) ≡ (is_some a || is_some b)
+pub some_or : {X : Type 0} (a b : Option X) → is_some (option_or a b) ≡ (is_some a || is_some b)
 some_or None b = refl
 some_or (Some x) b = refl
 
-opening_known : (coins : List OpeningCoin) (p : OutPoint) → is_some (opening_coin_of coins p) ≡ true → has_txid p.txid coins ≡ true
+pub opening_known : (coins : List OpeningCoin) (p : OutPoint) → is_some (opening_coin_of coins p) ≡ true → has_txid p.txid coins ≡ true
 opening_known [] p h = h
 opening_known (c ∷ coins) p h = by (point_eq p c.outpoint) refl h (opening_known coins p)
   where
@@ -249,14 +249,14 @@ made_known height coinbase t p h = by (bytes_eq (txid_of t) p.txid) _ h
     by true o h = refl
     by false o h = h
 
-all_made_known : (height : ℕ) (coinbase : Bool) (txs : List Tx) (p : OutPoint) → is_some (coin_of_transactions height coinbase txs p) ≡ true → list_any (λ t. bytes_eq (txid_of t) p.txid) txs ≡ true
+pub all_made_known : (height : ℕ) (coinbase : Bool) (txs : List Tx) (p : OutPoint) → is_some (coin_of_transactions height coinbase txs p) ≡ true → list_any (λ t. bytes_eq (txid_of t) p.txid) txs ≡ true
 all_made_known height coinbase [] p h = h
 all_made_known height coinbase (t ∷ txs) p h =
     or_cases _ _ _ (sym (some_or (coin_of_transaction height coinbase t p) (coin_of_transactions height false txs p)) ∙ h)
     (λ e. or_left _ _ (made_known height coinbase t p e))
     (λ e. or_right (bytes_eq (txid_of t) p.txid) _ (all_made_known height false txs p e))
 
-blocks_known : (height : ℕ) (blocks : List Block) (p : OutPoint) → is_some (coin_of_blocks height blocks p) ≡ true → list_any (has_transaction p.txid) blocks ≡ true
+pub blocks_known : (height : ℕ) (blocks : List Block) (p : OutPoint) → is_some (coin_of_blocks height blocks p) ≡ true → list_any (has_transaction p.txid) blocks ≡ true
 blocks_known height [] p h = h
 blocks_known height (b ∷ blocks) p h =
     or_cases _ _ _ (sym (some_or (coin_of_transactions height true b.transactions p) (coin_of_blocks (height + 1) blocks p)) ∙ h)
@@ -266,9 +266,9 @@ blocks_known height (b ∷ blocks) p h =
 pub made_known_all : (h : History) (p : OutPoint) → is_some (lookup (point_eq p) (coins_made h)) ≡ true → is_known_txid h p.txid ≡ true
 unfolding is_known_txid
 made_known_all h p e =
-    or_cases _ _ _ (sym (some_or (opening_coin_of h.coins p) (coin_of_blocks (length h.times) h.blocks p)) ∙ ap is_some (sym (made_is h p)) ∙ e)
+    or_cases _ _ _ (sym (some_or (opening_coin_of h.coins p) (coin_of_blocks (first_connected h) h.blocks p)) ∙ ap is_some (sym (made_is h p)) ∙ e)
     (λ e. or_left _ _ (opening_known h.coins p e))
-    (λ e. or_right (has_txid p.txid h.coins) _ (blocks_known (length h.times) h.blocks p e))
+    (λ e. or_right (has_txid p.txid h.coins) _ (blocks_known (first_connected h) h.blocks p e))
 
 pub unknown_new : (h : History) (id : List ℕ) (es : List (OutPoint × Marked)) → is_known_txid h id ≡ false → coins_in es ≡ coins_made h → IsNew id es
 unknown_new h id es nope are p at = by (lookup (point_eq p) es) refl

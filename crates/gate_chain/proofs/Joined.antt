@@ -20,13 +20,13 @@ at P [] x b all = all.0
 at P (e ∷ l) x b all = at P l x b all.1
 
 -- of distinct outpoints, the next is not among those before it
-absent : (a : List (OutPoint × Marked)) (x : OutPoint × Marked) (b : List (OutPoint × Marked)) → IsDistinct point_eq (keys_of (a ++ x ∷ b)) → lookup (point_eq x.0) a ≡ None
+pub absent : (a : List (OutPoint × Marked)) (x : OutPoint × Marked) (b : List (OutPoint × Marked)) → IsDistinct point_eq (keys_of (a ++ x ∷ b)) → lookup (point_eq x.0) a ≡ None
 absent [] x b d = refl
 absent (e ∷ a) x b d =
     let other : point_eq e.0 x.0 ≡ false = at (λ k. point_eq e.0 k ≡ false) a x b (IsDistinct-head point_eq e.0 (keys_of (a ++ x ∷ b)) d) in
     ap (λ t. cond t (Some e.1) (lookup (point_eq x.0) a)) (point_swap x.0 e.0 ∙ other) ∙ absent a x b (IsDistinct-tail point_eq e.0 (keys_of (a ++ x ∷ b)) d)
 
-insert_end : (es : List (OutPoint × Marked)) (k : OutPoint) (v : Marked) → lookup (point_eq k) es ≡ None → insert_entry point_eq es k v ≡ es ++ (k, v) ∷ []
+pub insert_end : (es : List (OutPoint × Marked)) (k : OutPoint) (v : Marked) → lookup (point_eq k) es ≡ None → insert_entry point_eq es k v ≡ es ++ (k, v) ∷ []
 insert_end [] k v none = refl
 insert_end (e ∷ es) k v none = by (point_eq k e.0) none (insert_end es k v)
   where

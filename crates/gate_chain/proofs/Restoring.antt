@@ -10,21 +10,21 @@ use Rattle.gate_tx.specs.declared.OutPoint.{OutPoint}
 use Rattle.gate_tx.specs.declared.Coin.{Coin}
 use Rattle.gate_tx.specs.Coins.{point_eq}
 use Rattle.gate_tx.specs.Ids.{txid_of}
-use Rattle.gate_chain.specs.declared.block.Block.{Block}
+use Rattle.gate_chain.specs.Blocks.{Block}
 use Rattle.gate_chain.specs.declared.connected.Connected.{Connected}
 use Rattle.gate_chain.specs.declared.connected.Place.{Place}
 use Rattle.gate_chain.specs.declared.marked.Marked.{Marked}
 use Rattle.gate_chain.specs.declared.opening.OpeningCoin.{OpeningCoin}
 use Rattle.gate_chain.specs.Coins.{is_spent_in}
 use Rattle.gate_chain.specs.Headers.{header_time}
-use Rattle.gate_chain.specs.History.{History}
-use Rattle.gate_chain.specs.Keeping.{IsFaultless}
+use Rattle.gate_chain.specs.History.{History, first_connected}
+use Rattle.gate_chain.specs.Keeping.{IsOpening}
 use Rattle.gate_chain.specs.Linked.{is_spent, AreMaps, IsConnected, IsLinked, history, opening_in}
 use Rattle.gate_chain.specs.Lowering.{lowered}
 use Rattle.gate_chain.specs.Marking.{coins_in, coin_in, coins_made, ids_of, is_marked, mark_of, made_by_all, made_by_blocks, opening_entry}
 use Rattle.gate_chain.specs.Times.{times_of}
 use Rattle.gate_chain.specs.Tops.{placed, place_of, IsTop}
-use Rattle.gate_chain.proofs.Chains.{times_is, maps_join, header_times, relinked, opening_stays}
+use Rattle.gate_chain.proofs.Chains.{times_is, maps_join, header_times, relinked, recounted, opening_stays}
 use Rattle.gate_chain.proofs.Growing.{spent_made, count_coins, count_ids}
 use Rattle.gate_chain.proofs.Marks.{lookup-append, lookup-coins_in, coin_of_entry, marked_made}
 
@@ -35,26 +35,26 @@ abbrev time_of_block : Block → ℕ
 time_of_block b = header_time b.header
 
 -- what blocks make, and what others on top of them make
-blocks_append : (height : ℕ) (a b : List Block) → made_by_blocks height (a ++ b) ≡ made_by_blocks height a ++ made_by_blocks (height + length a) b
+pub blocks_append : (height : ℕ) (a b : List Block) → made_by_blocks height (a ++ b) ≡ made_by_blocks height a ++ made_by_blocks (height + length a) b
 blocks_append height [] b = ap (λ n. made_by_blocks n b) (let e : height ≡ height + 0 = omega arith in e)
 blocks_append height (x ∷ a) b =
     ap (λ l. made_by_all height true x.transactions ++ l) (blocks_append (height + 1) a b)
     ∙ sym (append_assoc (made_by_all height true x.transactions) (made_by_blocks (height + 1) a) (made_by_blocks (height + 1 + length a) b))
     ∙ ap (λ n. (made_by_all height true x.transactions ++ made_by_blocks (height + 1) a) ++ made_by_blocks n b) (let e : height + 1 + length a ≡ height + length (x ∷ a) = omega arith in e)
 
-ids_append : (a b : List Block) → ids_of (a ++ b) ≡ ids_of a ++ ids_of b
+pub ids_append : (a b : List Block) → ids_of (a ++ b) ≡ ids_of a ++ ids_of b
 ids_append [] b = refl
 ids_append (x ∷ a) b = ap (λ l. map txid_of x.transactions ++ l) (ids_append a b) ∙ sym (append_assoc (map txid_of x.transactions) (ids_of a) (ids_of b))
 
 -- what the blocks above the first ones made
 abbrev made_above : History → ℕ → List (OutPoint × Coin)
-made_above h k = made_by_blocks (length h.times + length (take k h.blocks)) (drop k h.blocks)
+made_above h k = made_by_blocks (first_connected h + length (take k h.blocks)) (drop k h.blocks)
 
 coins_split : (h : History) (k : ℕ) → coins_made h ≡ coins_made (lowered h k) ++ made_above h k
 coins_split h k =
-    ap (λ b. map opening_entry h.coins ++ made_by_blocks (length h.times) b) (sym (take-append-drop k h.blocks))
-    ∙ ap (λ l. map opening_entry h.coins ++ l) (blocks_append (length h.times) (take k h.blocks) (drop k h.blocks))
-    ∙ sym (append_assoc (map opening_entry h.coins) (made_by_blocks (length h.times) (take k h.blocks)) (made_above h k))
+    ap (λ b. map opening_entry h.coins ++ made_by_blocks (first_connected h) b) (sym (take-append-drop k h.blocks))
+    ∙ ap (λ l. map opening_entry h.coins ++ l) (blocks_append (first_connected h) (take k h.blocks) (drop k h.blocks))
+    ∙ sym (append_assoc (map opening_entry h.coins) (made_by_blocks (first_connected h) (take k h.blocks)) (made_above h k))
 
 ids_split : (h : History) (k : ℕ) → ids_of h.blocks ≡ ids_of (take k h.blocks) ++ ids_of (drop k h.blocks)
 ids_split h k = ap ids_of (sym (take-append-drop k h.blocks)) ∙ ids_append (take k h.blocks) (drop k h.blocks)
@@ -106,33 +106,42 @@ first_at xs k c lt e = go xs k lt e ∙ ap (λ n. c ∷ drop n xs) (let n : suc 
 pub rest_of : (xs : List Connected) (k : ℕ) → take (length xs - k) (drop k xs) ≡ drop k xs
 rest_of xs k = take_all (length xs - k) (drop k xs) (let n = length-drop k xs in omega arith)
 
-pub so_many_blocks : (coins : List OpeningCoin) (times : List ℕ) (blocks : List Connected) (whole : History) (k : ℕ) → history coins times blocks ≡ whole → k < length whole.blocks → k < length blocks
-so_many_blocks coins times blocks whole k view lt =
+pub so_many_blocks : (start : ℕ) (coins : List OpeningCoin) (times : List ℕ) (blocks : List Connected) (whole : History) (k : ℕ) → history start coins times blocks ≡ whole → k < length whole.blocks → k < length blocks
+so_many_blocks start coins times blocks whole k view lt =
     let a = ap (λ (h : History). length h.blocks) view in
     let b = length-map blocks block_of in
     omega arith
 
+drop_front : {X : Type 0} (n : ℕ) (a b : List X) → n ≤ length a → drop n (a ++ b) ≡ drop n a ++ b
+drop_front zero a b le = refl
+drop_front (suc n) [] b le = absurd (omega arith)
+drop_front (suc n) (x ∷ a) b le = drop_front n a b (omega arith)
+
+-- what blocks made stands behind the opening's coins
+made_behind : (h : History) → drop (length h.coins) (coins_made h) ≡ made_by_blocks (first_connected h) h.blocks
+made_behind h = drop_at (map opening_entry h.coins) (made_by_blocks (first_connected h) h.blocks) (length h.coins) (length-map h.coins opening_entry)
+
 -- what is kept aside
-module _ (coins : List OpeningCoin) (opened first : ℕ) (opened_ids : List (List ℕ)) (times : List ℕ) (blocks : List Connected) (es : List (OutPoint × Marked)) (txids : List (List ℕ)) (l : IsLinked coins opened first opened_ids times blocks es txids)
+module _ (start : ℕ) (coins : List OpeningCoin) (opened first : ℕ) (opened_ids : List (List ℕ)) (times : List ℕ) (blocks : List Connected) (es : List (OutPoint × Marked)) (txids : List (List ℕ)) (l : IsLinked start coins opened first opened_ids times blocks es txids)
     (k : ℕ) (c : Connected) (rest : List Connected) (opens : drop k blocks ≡ c ∷ rest) where
   abbrev pub now : History
-  now = history coins (take first times) blocks
+  now = history start coins (take first times) blocks
 
-  low_is : history coins (take first times) (take k blocks) ≡ lowered now k
-  low_is = λ j. record { coins = coins; times = take first times; blocks = sym (take-map block_of k blocks) j }
+  low_is : history start coins (take first times) (take k blocks) ≡ lowered now k
+  low_is = λ j. record { first = start; coins = coins; times = take first times; blocks = sym (take-map block_of k blocks) j }
 
   stands : IsConnected (lowered now k) c
   stands = subst (λ (h : History). IsConnected h c) low_is (l.each (take k blocks) rest c (sym (take-append-drop k blocks) ∙ ap (λ r. take k blocks ++ r) opens))
 
-  first_coins : coins_in (take c.coins es) ≡ coins_made (lowered now k)
+  first_coins : coins_in (take (c.coins + length coins) es) ≡ coins_made (lowered now k)
   first_coins =
-      sym (take-map coin_in c.coins es) ∙ ap (take c.coins) (l.maps.coins_are ∙ coins_split now k)
-      ∙ take_at (coins_made (lowered now k)) (made_above now k) c.coins (sym stands.coins_are)
+      sym (take-map coin_in (c.coins + length coins) es) ∙ ap (take (c.coins + length coins)) (l.maps.coins_are ∙ coins_split now k)
+      ∙ take_at (coins_made (lowered now k)) (made_above now k) (c.coins + length coins) (sym stands.coins_are)
 
-  last_coins : coins_in (drop c.coins es) ≡ made_above now k
+  last_coins : coins_in (drop (c.coins + length coins) es) ≡ made_above now k
   last_coins =
-      sym (drop-map coin_in c.coins es) ∙ ap (drop c.coins) (l.maps.coins_are ∙ coins_split now k)
-      ∙ drop_at (coins_made (lowered now k)) (made_above now k) c.coins (sym stands.coins_are)
+      sym (drop-map coin_in (c.coins + length coins) es) ∙ ap (drop (c.coins + length coins)) (l.maps.coins_are ∙ coins_split now k)
+      ∙ drop_at (coins_made (lowered now k)) (made_above now k) (c.coins + length coins) (sym stands.coins_are)
 
   last_ids : drop c.ids txids ≡ ids_of (drop k now.blocks)
   last_ids = ap (drop c.ids) (l.maps.txids_are ∙ ids_split now k) ∙ drop_at (ids_of (take k now.blocks)) (ids_of (drop k now.blocks)) c.ids (sym stands.ids_are)
@@ -143,19 +152,19 @@ module _ (coins : List OpeningCoin) (opened first : ℕ) (opened_ids : List (Lis
   placed_is : placed (map place_of (drop k blocks)) (drop k now.blocks) ≡ drop k blocks
   placed_is = ap (placed (map place_of (drop k blocks))) same_blocks ∙ placed_again (drop k blocks)
 
-  marks : (p : OutPoint) → lookup (point_eq p) (coins_made (lowered now k)) ≡ None → is_marked (drop c.coins es) p ≡ is_spent now p
+  marks : (p : OutPoint) → lookup (point_eq p) (coins_made (lowered now k)) ≡ None → is_marked (drop (c.coins + length coins) es) p ≡ is_spent now p
   marks p none =
-      sym (marked_behind (take c.coins es) (drop c.coins es) p (ap (lookup (point_eq p)) first_coins ∙ none))
-      ∙ ap (λ r. is_marked r p) (take-append-drop c.coins es) ∙ l.maps.marks_are p
+      sym (marked_behind (take (c.coins + length coins) es) (drop (c.coins + length coins) es) p (ap (lookup (point_eq p)) first_coins ∙ none))
+      ∙ ap (λ r. is_marked r p) (take-append-drop (c.coins + length coins) es) ∙ l.maps.marks_are p
 
   each : (before after : List Connected) (x : Connected) → placed (map place_of (drop k blocks)) (drop k now.blocks) ≡ before ++ x ∷ after
-      → IsConnected (record { coins = now.coins; times = now.times; blocks = take k now.blocks ++ map (λ c. c.block) before }) x
+      → IsConnected (record { first = now.first; coins = now.coins; times = now.times; blocks = take k now.blocks ++ map (λ c. c.block) before }) x
   each before after x e =
-      subst (λ (h : History). IsConnected h x) (λ j. record { coins = coins; times = take first times; blocks = (map-append block_of (take k blocks) before ∙ ap (λ r. r ++ map block_of before) (sym (take-map block_of k blocks))) j })
+      subst (λ (h : History). IsConnected h x) (λ j. record { first = start; coins = coins; times = take first times; blocks = (map-append block_of (take k blocks) before ∙ ap (λ r. r ++ map block_of before) (sym (take-map block_of k blocks))) j })
       (l.each (take k blocks ++ before) after x
       (sym (take-append-drop k blocks) ∙ ap (λ r. take k blocks ++ r) (sym placed_is ∙ e) ∙ sym (append_assoc (take k blocks) before (x ∷ after))))
 
-  pub coins_within : c.coins ≤ length es
+  pub coins_within : (c.coins + length coins) ≤ length es
   coins_within =
       let a = ap length (coins_split now k) in
       let b = length-append (coins_made (lowered now k)) (made_above now k) in
@@ -172,27 +181,28 @@ module _ (coins : List OpeningCoin) (opened first : ℕ) (opened_ids : List (Lis
       omega arith
 
   pub topped : (places : List Place) (es' : List (OutPoint × Marked)) (ids' : List (List ℕ)) (coin_room id_room time_room block_room : ℕ) (whole : History)
-      → IsDistinct point_eq (keys_of es) → IsDistinct bytes_eq txids → length es ≤ coin_room → length txids ≤ id_room → length times ≤ time_room → length blocks ≤ block_room
-      → now ≡ whole → places ≡ map place_of (drop k blocks) → es' ≡ drop c.coins es → ids' ≡ drop c.ids txids
+      → IsDistinct point_eq (keys_of (drop (length coins) es)) → IsDistinct bytes_eq txids → length es ≤ length coins + coin_room → length txids ≤ id_room → length times ≤ time_room → length blocks ≤ block_room
+      → now ≡ whole → places ≡ map place_of (drop k blocks) → es' ≡ drop (c.coins + length coins) es → ids' ≡ drop c.ids txids
       → IsTop (record { whole = whole; kept = k }) places es' ids' coin_room id_room time_room block_room
   topped places es' ids' coin_room id_room time_room block_room whole d d' a b t s view pe ee ie =
       subst (λ (w : History). IsTop (record { whole = w; kept = k }) places es' ids' coin_room id_room time_room block_room) view
       (subst (λ (x : List Place). IsTop (record { whole = now; kept = k }) x es' ids' coin_room id_room time_room block_room) (sym pe)
       (subst (λ (x : List (OutPoint × Marked)). IsTop (record { whole = now; kept = k }) (map place_of (drop k blocks)) x ids' coin_room id_room time_room block_room) (sym ee)
-      (subst (λ (x : List (List ℕ)). IsTop (record { whole = now; kept = k }) (map place_of (drop k blocks)) (drop c.coins es) x coin_room id_room time_room block_room) (sym ie)
+      (subst (λ (x : List (List ℕ)). IsTop (record { whole = now; kept = k }) (map place_of (drop k blocks)) (drop (c.coins + length coins) es) x coin_room id_room time_room block_room) (sym ie)
       (record {
         coins_are = ap (λ r. coins_made (lowered now k) ++ r) last_coins ∙ sym (coins_split now k);
         ids_are = ap (λ r. ids_of (take k now.blocks) ++ r) last_ids ∙ sym (ids_split now k);
         marks_are = marks;
         spent_made = spent_made now es txids l.maps;
-        apart = subst (IsDistinct point_eq) (sym (keys_of_coins es) ∙ ap keys_of l.maps.coins_are) d;
+        apart = subst (IsDistinct point_eq) (sym (keys_of_coins (drop (length coins) es))
+            ∙ ap keys_of (sym (drop-map coin_in (length coins) es) ∙ ap (drop (length coins)) l.maps.coins_are ∙ made_behind now)) d;
         ids_apart = subst (IsDistinct bytes_eq) l.maps.txids_are d';
-        few = let n = ap length (times_is coins opened first opened_ids times blocks es txids l) in let f = l.few in omega arith;
+        few = let n = ap length (times_is start coins opened first opened_ids times blocks es txids l) in let f = l.few in omega arith;
         counted = length-map (drop k blocks) place_of ∙ sym (length-map (drop k blocks) block_of) ∙ ap length (sym same_blocks);
         each = each;
         coins_fit = let n = count_coins now es txids l.maps in omega arith;
         ids_fit = let n = count_ids now es txids l.maps in omega arith;
-        times_fit = let n = ap length (times_is coins opened first opened_ids times blocks es txids l) in omega arith;
+        times_fit = let n = ap length (times_is start coins opened first opened_ids times blocks es txids l) in omega arith;
         blocks_fit = let n = length-map blocks block_of in omega arith;
       }))))
 
@@ -210,10 +220,13 @@ split_two (x ∷ xs) ys (b ∷ before) after c e =
     ]
 
 -- what was kept aside is put back
-module _ (coins : List OpeningCoin) (opened first : ℕ) (opened_ids : List (List ℕ)) (times : List ℕ) (blocks : List Connected) (es : List (OutPoint × Marked)) (txids : List (List ℕ)) (l : IsLinked coins opened first opened_ids times blocks es txids)
+module _ (start : ℕ) (coins : List OpeningCoin) (opened first : ℕ) (opened_ids : List (List ℕ)) (times : List ℕ) (blocks : List Connected) (es : List (OutPoint × Marked)) (txids : List (List ℕ)) (l : IsLinked start coins opened first opened_ids times blocks es txids)
     (whole : History) (k : ℕ) (places : List Place) (tes : List (OutPoint × Marked)) (tids : List (List ℕ)) (coin_room id_room time_room block_room : ℕ)
     (t : IsTop (record { whole = whole; kept = k }) places tes tids coin_room id_room time_room block_room)
-    (view : history coins (take first times) blocks ≡ lowered whole k) where
+    (view : history start coins (take first times) blocks ≡ lowered whole k) where
+  first_same : start ≡ whole.first
+  first_same = ap (λ (h : History). h.first) view
+
   coins_same : coins ≡ whole.coins
   coins_same = ap (λ (h : History). h.coins) view
 
@@ -226,8 +239,19 @@ module _ (coins : List OpeningCoin) (opened first : ℕ) (opened_ids : List (Lis
   low_coins : coins_in es ≡ coins_made (lowered whole k)
   low_coins = l.maps.coins_are ∙ ap coins_made view
 
-  pub coins_apart : IsDistinct point_eq (keys_of (es ++ tes))
-  coins_apart = subst (IsDistinct point_eq) (ap keys_of (sym t.coins_are ∙ ap (λ r. r ++ coins_in tes) (sym low_coins) ∙ sym (map-append coin_in es tes)) ∙ keys_of_coins (es ++ tes)) t.apart
+  opening_within : length whole.coins ≤ length es
+  opening_within =
+      let a = ap length low_coins in
+      let b = length-map es coin_in in
+      let c = length-append (map opening_entry whole.coins) (made_by_blocks (first_connected whole) (take k whole.blocks)) in
+      let d = length-map whole.coins opening_entry in
+      omega arith
+
+  pub coins_apart : IsDistinct point_eq (keys_of (drop (length whole.coins) es ++ tes))
+  coins_apart = subst (IsDistinct point_eq)
+      (ap keys_of (sym (made_behind whole) ∙ ap (drop (length whole.coins)) (sym t.coins_are ∙ ap (λ r. r ++ coins_in tes) (sym low_coins) ∙ sym (map-append coin_in es tes))
+      ∙ drop-map coin_in (length whole.coins) (es ++ tes))
+      ∙ keys_of_coins (drop (length whole.coins) (es ++ tes)) ∙ ap keys_of (drop_front (length whole.coins) es tes opening_within)) t.apart
 
   low_ids : txids ≡ ids_of (take k whole.blocks)
   low_ids = l.maps.txids_are ∙ ap (λ (h : History). ids_of h.blocks) view
@@ -235,13 +259,14 @@ module _ (coins : List OpeningCoin) (opened first : ℕ) (opened_ids : List (Lis
   pub ids_apart : IsDistinct bytes_eq (txids ++ tids)
   ids_apart = subst (IsDistinct bytes_eq) (sym t.ids_are ∙ ap (λ r. r ++ tids) (sym low_ids)) t.ids_apart
 
-  pub coins_fit : length es + length tes ≤ coin_room
+  pub coins_fit : length es + length tes ≤ length coins + coin_room
   coins_fit =
       let n = ap length t.coins_are in
       let a = length-append (coins_made (lowered whole k)) (coins_in tes) in
       let b = ap length low_coins in
       let c = length-map es coin_in in
       let d = length-map tes coin_in in
+      let e = ap (λ (l : List OpeningCoin). length l) coins_same in
       let f = t.coins_fit in
       omega arith
 
@@ -335,8 +360,8 @@ module _ (coins : List OpeningCoin) (opened first : ℕ) (opened_ids : List (Lis
           ap (map block_of) be ∙ map-append block_of blocks (placed places (drop k whole.blocks))
           ∙ (λ j. blocks_same j ++ top_blocks j) ∙ take-append-drop k whole.blocks
 
-      whole_is : history coins (take first times') blocks' ≡ whole
-      whole_is = λ j. record { coins = coins_same j; times = (opening_times ∙ times_same) j; blocks = whole_blocks j }
+      whole_is : history start coins (take first times') blocks' ≡ whole
+      whole_is = λ j. record { first = first_same j; coins = coins_same j; times = (opening_times ∙ times_same) j; blocks = whole_blocks j }
 
       all_times : times' ≡ take first times' ++ header_times blocks'
       all_times =
@@ -345,25 +370,25 @@ module _ (coins : List OpeningCoin) (opened first : ℕ) (opened_ids : List (Lis
           ∙ (λ j. sym opening_times j ++ (ap (λ r. header_times blocks ++ r) (ap (map time_of_block) (sym top_blocks) ∙ maps_join (placed places (drop k whole.blocks)))
           ∙ sym (map-append (λ (c : Connected). header_time c.block.header) blocks (placed places (drop k whole.blocks))) ∙ ap header_times (sym be)) j)
 
-      linked_all : IsLinked coins opened first opened_ids times' blocks' es2 txids'
+      linked_all : IsLinked start coins opened first opened_ids times' blocks' es2 txids'
       linked_all = record {
-        opening = subst (IsFaultless coins) (sym opening_times) l.opening;
+        opening = subst (IsOpening start coins) (sym opening_times) l.opening;
         opened_is = l.opened_is;
         opened_ids_are = l.opened_ids_are;
         times_are = all_times;
         within = let n = ap length te in let a = length-append times (map time_of_block (drop k whole.blocks)) in let w = l.within in omega arith;
-        few = let n = ap length te in let a = length-append times (map time_of_block (drop k whole.blocks)) in let b = length-map (drop k whole.blocks) time_of_block in let c = times_count in let f = t.few in omega arith;
+        few = let n = ap length te in let a = length-append times (map time_of_block (drop k whole.blocks)) in let b = length-map (drop k whole.blocks) time_of_block in let c = times_count in let f = t.few in let s = first_same in omega arith;
         maps = subst (λ (h : History). AreMaps h es2 txids') (sym whole_is) all_maps;
         each = λ before after c e. elim (split_two blocks (placed places (drop k whole.blocks)) before after c (sym be ∙ e)) [
-          | inl r ↦ subst (λ x. IsConnected (history coins x before) c) (sym opening_times) (l.each before r.0 c r.1)
+          | inl r ↦ subst (λ x. IsConnected (history start coins x before) c) (sym opening_times) (l.each before r.0 c r.1)
           | inr r ↦ subst (λ (h : History). IsConnected h c)
-              (λ j. record { coins = sym coins_same j; times = (sym times_same ∙ sym opening_times) j; blocks = (ap (λ x. x ++ map block_of r.0) (sym blocks_same) ∙ sym (map-append block_of blocks r.0) ∙ ap (map block_of) (sym r.1)) j })
+              (λ j. record { first = sym first_same j; coins = sym coins_same j; times = (sym times_same ∙ sym opening_times) j; blocks = (ap (λ x. x ++ map block_of r.0) (sym blocks_same) ∙ sym (map-append block_of blocks r.0) ∙ ap (map block_of) (sym r.1)) j })
               (t.each r.0 after c r.2)
         ];
       }
 
-      pub restored : IsLinked (opening_in opened es2) opened first opened_ids times' blocks' es2 txids' × (history (opening_in opened es2) (take first times') blocks' ≡ whole)
-      restored = (
-        relinked coins opened first opened_ids times' blocks' es2 txids' linked_all,
-        (λ j. history (opening_stays coins opened first opened_ids times' blocks' es2 txids' linked_all j) (take first times') blocks') ∙ whole_is,
+      pub restored : (opened' : ℕ) → opened' ≡ opened → IsLinked start (opening_in opened' es2) opened' first opened_ids times' blocks' es2 txids' × (history start (opening_in opened' es2) (take first times') blocks' ≡ whole)
+      restored opened' oe = recounted start opened opened' first opened_ids times' blocks' es2 txids' whole oe (
+        relinked start coins opened first opened_ids times' blocks' es2 txids' linked_all,
+        (λ j. history start (opening_stays start coins opened first opened_ids times' blocks' es2 txids' linked_all j) (take first times') blocks') ∙ whole_is,
       )

@@ -1,3 +1,4 @@
+pub mod Blocks
 pub mod Headers
 pub mod Median
 pub mod History
@@ -12,3 +13,9 @@ pub mod Linked
 pub mod Lowering
 pub mod Tops
 pub mod Examples
+pub mod Equality
+pub mod Learning
+pub mod Founding
+pub mod Forgetting
+pub mod Parting
+pub mod Laws

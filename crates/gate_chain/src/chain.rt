@@ -1,13 +1,16 @@
-ghost use Rattle.std.specs.Prelude.{◌≡◌, ◌≤◌, ◌↔◌, None, Some, is_some, length, nat_lt, slice_get, IsSome, IfSome, IfOk, IfErr, OnOk, OnErr};
+ghost use Rattle.std.specs.Prelude.{◌≡◌, ◌+◌, ◌-◌, ◌&&◌, ◌≤◌, ◌↔◌, None, Some, is_some, length, nat_le, nat_lt, slice_get, IsSome, IfSome, IfOk, IfErr, OnOk, OnErr, if◌then◌else◌};
 ghost use Rattle.std.specs.Option.{option_copied};
 ghost use Rattle.gate_bytes.specs.Order.{first_failing};
 ghost use Rattle.gate_chain.specs.Coins.{coin_of, opened_with_of};
 ghost use Rattle.gate_chain.specs.Connecting.{grown, head_rules, block_rules, undo_denial, Tells};
-ghost use Rattle.gate_chain.specs.History.{opened};
+ghost use Rattle.gate_chain.specs.Founding.{AreConnected, AreFounded};
+ghost use Rattle.gate_chain.specs.History.{opened, opened_from};
 ghost use Rattle.gate_chain.specs.Keeping.{IsFaultless};
-ghost use Rattle.gate_chain.specs.Opening.{open_fault, IsRefusedFor};
+ghost use Rattle.gate_chain.specs.Opening.{open_fault, open_fault_from, IsRefusedFor};
 ghost use Rattle.gate_chain.specs.Times.{tip_of, time_of, mtp_of};
 
+mod forget;
+mod learn;
 mod top;
 
 use crate::block::Block;
@@ -18,9 +21,11 @@ use crate::entering;
 use crate::fault::{ChainFault, OpenFault};
 use crate::heading::{is_too_old, lacks_coinbase};
 use crate::keeping::{Coins, keep};
-use crate::marked::{Marked, unspent};
+use crate::marked::unspent;
 use crate::median::mtp_in;
 use crate::opening::OpeningCoin;
+use crate::tables::CoinTables;
+pub use forget::{CoinTest, Forgotten};
 use gate_bytes::{Copied, Memory};
 use gate_tx::{Coin, OutPoint, Txid};
 use indexmap::{IndexMap, IndexSet};
@@ -38,56 +43,62 @@ const MAX_HEIGHT: u32 = 10_000_000;
 /// The coins and times of a chain: contracts see its history.
 #[derive(Drop)]
 pub struct Chain<S: BuildHasher + Copy + Drop> {
-    // How many of the coins and of the times are the opening's, which come first.
-    opening_coins: usize,
+    // The height of the first block that has a time.
+    first: u32,
+    // How many of the times are the opening's, which come first.
     opening_times: usize,
     opening_txids: IndexSet<Txid, S>,
     times: Vec<u32>,
     blocks: Vec<Connected>,
-    coins: IndexMap<OutPoint, Marked, S>,
+    coins: CoinTables<S>,
     // The ids of the connected blocks' transactions.
     txids: IndexSet<Txid, S>,
 }
 
 impl<S: BuildHasher + Copy + Drop> Model for Chain<S> {
-    ghost use Rattle.std.specs.Prelude.{take};
+    ghost use Rattle.std.specs.Prelude.{length, take};
     ghost use Rattle.gate_chain.specs.History.{History};
     ghost use Rattle.gate_chain.specs.Linked.{IsLinkedFrom, history, opening_in};
+    ghost use Rattle.gate_chain.specs.Marking.{all_in};
 
     ghost Value = { History };
 
-    ghost invariant = { λ c. IsLinkedFrom c.opening_coins c.opening_times c.opening_txids.keys c.times.items c.blocks.items c.coins.entries c.txids.keys };
+    ghost invariant = { λ c. IsLinkedFrom c.first (length c.coins.opening.entries) c.opening_times c.opening_txids.keys c.times.items c.blocks.items (all_in c.coins) c.txids.keys };
 
-    ghost view = { λ c. history (opening_in c.opening_coins c.coins.entries) (take c.opening_times c.times.items) c.blocks.items };
+    ghost view = { λ c. history c.first (opening_in (length c.coins.opening.entries) (all_in c.coins)) (take c.opening_times c.times.items) c.blocks.items };
 }
 
 /// Keeps the coins of an opening without a fault.
-#[tactic(auto, unfolding(crate::specs::Opening::open_fault))]
+#[tactic(auto, unfolding(crate::specs::Opening::open_fault_from))]
 fn checked<S: BuildHasher + Copy + Drop>(
     alloc: Global,
     hasher: S,
+    first: u32,
     coins: Vec<OpeningCoin>,
     times: &[u32],
 ) -> Result<Coins<S>, OpenFault>
     ensures kept { IfOk result (λ opening. opening ≡ coins.items) }
-    ensures faultless { OnOk result (IsFaultless coins.items times.now) }
-    ensures fault { IsRefusedFor (open_fault coins.items times.now) result }
+    ensures faultless { OnOk result (IsFaultless first coins.items times.now) }
+    ensures fault { IsRefusedFor (open_fault_from first coins.items times.now) result }
 {
     if times.is_empty() {
         return Err(OpenFault::NoTimes);
     }
-    if times.len() > MAX_TIMES {
+    let tip = times.len() + first as usize - 1;
+    if times.len() > MAX_TIMES || tip > MAX_HEIGHT as usize {
         return Err(OpenFault::TimesLimit);
     }
-    let tip = (times.len() - 1) as u32;
-    keep(alloc, hasher, coins, tip)
+    keep(alloc, hasher, coins, tip as u32)
 }
 
-fn time_in(times: &[u32], height: u32) -> Option<u32>
-    ensures time { result ≡ slice_get times.now height }
-    ensures within { is_some result ≡ nat_lt height (length times.now) }
+fn time_in(times: &[u32], first: u32, height: u32) -> Option<u32>
+    ensures time { result ≡ (if nat_lt height first then None else slice_get times.now (height - first)) }
+    ensures within { is_some result ≡ (nat_le first height && nat_lt height (length times.now + first)) }
 {
-    times.get(height as usize).copied()
+    if height < first {
+        return None;
+    }
+    times.get((height - first) as usize).copied()
 }
 
 impl<S: BuildHasher + Copy + Drop> Chain<S> {
@@ -103,16 +114,35 @@ impl<S: BuildHasher + Copy + Drop> Chain<S> {
         ensures opened { IfOk result (λ chain. chain ≡ opened coins.items times.items) }
         ensures fault { IsRefusedFor (open_fault coins.items times.items) result }
     {
-        let (kept, opening_txids) = checked(alloc, hasher, coins, times.as_slice())?.into_parts();
-        let opening_coins = kept.len();
+        Chain::open_from(alloc, hasher, 0, coins, times)
+    }
+
+    /// Opens a chain of these coins and of the times of its blocks from a height on; below it no time is known. Coins may
+    /// have heights below it. A fault is named as by `open`, and there are too many times also if the tip is above
+    /// 10,000,000.
+    pub fn open_from(
+        alloc: Global,
+        hasher: S,
+        first: u32,
+        coins: Vec<OpeningCoin>,
+        times: Vec<u32>,
+    ) -> Result<Chain<S>, OpenFault>
+        ensures opened { IfOk result (λ chain. chain ≡ opened_from first coins.items times.items) }
+        ensures fault { IsRefusedFor (open_fault_from first coins.items times.items) result }
+    {
+        let kept = checked(alloc, hasher, first, coins, times.as_slice())?;
+        let (opening, opening_txids) = kept.into_parts();
         let opening_times = times.len();
         Ok(Chain {
-            opening_coins,
+            first,
             opening_times,
             opening_txids,
             times,
             blocks: Vec::new(alloc),
-            coins: kept,
+            coins: CoinTables {
+                opening,
+                made: IndexMap::with_hasher(alloc, hasher),
+            },
             txids: IndexSet::with_hasher(alloc, hasher),
         })
     }
@@ -122,13 +152,16 @@ impl<S: BuildHasher + Copy + Drop> Chain<S> {
         ensures { IfOk result (λ chain. chain ≡ self.now) }
     {
         Ok(Chain {
-            opening_coins: self.opening_coins,
+            first: self.first,
             opening_times: self.opening_times,
             times: u32::copy_list(self.times.as_slice(), alloc)?,
             opening_txids: copy_ids(alloc, &self.opening_txids, 0)?,
             txids: copy_ids(alloc, &self.txids, 0)?,
             blocks: Connected::copy_list(self.blocks.as_slice(), alloc)?,
-            coins: copy_coins(alloc, &self.coins, 0)?,
+            coins: CoinTables {
+                opening: copy_coins(alloc, &self.coins.opening, 0)?,
+                made: copy_coins(alloc, &self.coins.made, 0)?,
+            },
         })
     }
 
@@ -137,6 +170,25 @@ impl<S: BuildHasher + Copy + Drop> Chain<S> {
         ensures { result ≡ length self.now.blocks }
     {
         self.blocks.len()
+    }
+
+    /// The connected block at a place, the lowest at 0.
+    pub fn block(&self, place: usize) -> Option<&Block>
+        ensures { option_copied result ≡ slice_get self.now.blocks place }
+    {
+        match self.blocks.get(place) {
+            Some(connected) => Some(&connected.block),
+            None => None,
+        }
+    }
+
+    /// States that each connected block had no fault on top of those before it, and that what it spends was known, for
+    /// proofs: it does nothing.
+    pub fn recall_blocks(&self)
+        ensures connected { AreConnected self.now }
+        ensures founded { AreFounded self.now }
+    {
+        let _first = self.first;
     }
 
     /// The coin at an outpoint.
@@ -155,28 +207,37 @@ impl<S: BuildHasher + Copy + Drop> Chain<S> {
         self.opening_txids.contains(txid)
     }
 
+    /// The height of the first block whose time is known.
+    pub fn first(&self) -> u32
+        ensures { result ≡ self.now.first }
+    {
+        self.first
+    }
+
     /// The greatest height.
     pub fn tip(&self) -> u32
         ensures tip { result ≡ tip_of self.now }
+        ensures known { self.now.first ≤ result }
         ensures bound { result ≤ 10000000 }
     {
-        (self.times.len() - 1) as u32
+        (self.times.len() - 1) as u32 + self.first
     }
 
-    /// The time of the block at a height, in seconds since 1970; none above the tip.
+    /// The time of the block at a height, in seconds since 1970; none below the first height or above the tip.
     pub fn time(&self, height: u32) -> Option<u32>
         ensures time { result ≡ time_of self.now height }
-        ensures within { IsSome result ↔ (height ≤ tip_of self.now) }
+        ensures within { IsSome result ↔ ((self.now.first ≤ height) × (height ≤ tip_of self.now)) }
     {
-        time_in(self.times.as_slice(), height)
+        time_in(self.times.as_slice(), self.first, height)
     }
 
-    /// The median of the times of a height and of up to ten heights before it (BIP 113); none above the tip.
+    /// The median of the times that are known among those of a height and of the ten heights before it (BIP 113); none
+    /// below the first height or above the tip.
     pub fn mtp(&self, height: u32) -> Option<u32>
         ensures median { result ≡ mtp_of self.now height }
-        ensures within { IsSome result ↔ (height ≤ tip_of self.now) }
+        ensures within { IsSome result ↔ ((self.now.first ≤ height) × (height ≤ tip_of self.now)) }
     {
-        mtp_in(self.times.as_slice(), height)
+        mtp_in(self.times.as_slice(), self.first, height)
     }
 
     /// Why a block is not connected, as far as that needs none of its transactions' coins.
@@ -187,9 +248,9 @@ impl<S: BuildHasher + Copy + Drop> Chain<S> {
         let tip = self.tip();
         if tip >= MAX_HEIGHT {
             Some(ChainDenial::ChainFull)
-        } else if is_too_old(block.header.time(), self.mtp(tip)) {
+        } else if is_too_old(block.header().time(), self.mtp(tip)) {
             Some(ChainDenial::TimeTooOld)
-        } else if lacks_coinbase(block.transactions.as_slice()) {
+        } else if lacks_coinbase(block.transactions()) {
             Some(ChainDenial::BlockCoinbase)
         } else {
             None
@@ -209,8 +270,8 @@ impl<S: BuildHasher + Copy + Drop> Chain<S> {
         }
         self.blocks.reserve(1)?;
         self.times.reserve(1)?;
-        let time = block.header.time();
-        let height = self.times.len() as u32;
+        let time = block.header().time();
+        let height = self.times.len() as u32 + self.first;
         let connected = entering::connect(
             alloc,
             &self.opening_txids,

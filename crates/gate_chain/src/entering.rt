@@ -1,5 +1,5 @@
 //! A block's transactions, entered one after another, and taken out again.
-ghost use Rattle.std.specs.Prelude.{◌≡◌, ℕ, ◌≤◌, ◌++◌, ◌∷◌, ◌&&◌, ◌||◌, [], List, drop, not, false, length, None, is_some, if◌then◌else◌};
+ghost use Rattle.std.specs.Prelude.{◌≡◌, ℕ, ◌+◌, ◌≤◌, ◌++◌, ◌∷◌, ◌&&◌, ◌||◌, [], List, drop, not, false, length, None, is_some, if◌then◌else◌};
 ghost use Rattle.std.specs.Str.{bytes_eq};
 ghost use Rattle.gate_tx.specs.Text.{is_nonempty};
 ghost use Rattle.gate_tx.specs.Tx.{Tx};
@@ -9,7 +9,7 @@ ghost use Rattle.gate_chain.specs.History.{History};
 ghost use Rattle.gate_tx.specs.Coins.{spends};
 ghost use Rattle.gate_chain.specs.Coins.{any_spends};
 ghost use Rattle.gate_chain.specs.Connecting.{grown, with_part, missing, transactions_denial};
-ghost use Rattle.gate_chain.specs.Marking.{coins_in, is_marked, unspent_in, coins_made, ids_of};
+ghost use Rattle.gate_chain.specs.Marking.{all_in, coins_in, is_marked, unspent_in, coins_made, ids_of};
 ghost use Rattle.gate_chain.specs.Linked.{IsConnected, AreMaps, SpentMade, Opens, Enters, Connects};
 
 use crate::block::Block;
@@ -17,22 +17,24 @@ use crate::connected::Connected;
 use crate::denial::ChainDenial;
 use crate::fault::ChainFault;
 use crate::making::make;
-use crate::marked::{Marked, spend, unspend};
-use gate_bytes::Memory;
-use gate_tx::{OutPoint, Transaction, TxIn, Txid};
-use indexmap::{IndexMap, IndexSet};
+use crate::marked::{spend, unspend};
+use crate::tables::CoinTables;
+use gate_bytes::{Counted, Memory};
+use gate_tx::{Identified, TxIn, Txid};
+use indexmap::IndexSet;
 use std::alloc::Global;
 use std::hash::BuildHasher;
 
 /// Spends the coins of a transaction's inputs, but not of a coinbase's.
 fn spend_later<S: BuildHasher + Copy + Drop>(
     coinbase: bool,
-    coins: &mut IndexMap<OutPoint, Marked, S>,
+    coins: &mut CoinTables<S>,
     inputs: &[TxIn],
 ) -> bool
-    ensures coins { coins_in coins.new.entries ≡ coins_in coins.old.entries }
-    ensures found { (not coinbase && missing (λ p. is_some (unspent_in coins.old.entries p)) inputs.now) ≡ not result }
-    ensures marks { (p : Point) → is_marked coins.new.entries p ≡ ((result && (not coinbase && spends inputs.now p)) || is_marked coins.old.entries p) }
+    ensures coins { coins_in (all_in coins.new) ≡ coins_in (all_in coins.old) }
+    ensures opening { coins_in coins.new.opening.entries ≡ coins_in coins.old.opening.entries }
+    ensures found { (not coinbase && missing (λ p. is_some (unspent_in (all_in coins.old) p)) inputs.now) ≡ not result }
+    ensures marks { (p : Point) → is_marked (all_in coins.new) p ≡ ((result && (not coinbase && spends inputs.now p)) || is_marked (all_in coins.old) p) }
 {
     if coinbase { true } else { spend(coins, inputs) }
 }
@@ -40,11 +42,12 @@ fn spend_later<S: BuildHasher + Copy + Drop>(
 /// Marks the coins of a transaction's inputs as unspent, but not of a coinbase's.
 fn unspend_later<S: BuildHasher + Copy + Drop>(
     coinbase: bool,
-    coins: &mut IndexMap<OutPoint, Marked, S>,
+    coins: &mut CoinTables<S>,
     inputs: &[TxIn],
 )
-    ensures coins { coins_in coins.new.entries ≡ coins_in coins.old.entries }
-    ensures marks { (p : Point) → is_marked coins.new.entries p ≡ (if not coinbase && spends inputs.now p then false else is_marked coins.old.entries p) }
+    ensures coins { coins_in (all_in coins.new) ≡ coins_in (all_in coins.old) }
+    ensures opening { coins_in coins.new.opening.entries ≡ coins_in coins.old.opening.entries }
+    ensures marks { (p : Point) → is_marked (all_in coins.new) p ≡ (if not coinbase && spends inputs.now p then false else is_marked (all_in coins.old) p) }
 {
     if !coinbase {
         unspend(coins, inputs);
@@ -84,17 +87,19 @@ struct Position {
 fn enter<S: BuildHasher + Copy + Drop>(
     alloc: Global,
     opened: &IndexSet<Txid, S>,
-    coins: &mut IndexMap<OutPoint, Marked, S>,
+    coins: &mut CoinTables<S>,
     txids: &mut IndexSet<Txid, S>,
     position: Position,
-    tx: &Transaction,
+    tx: &Identified,
 ) -> Result<(), ChainFault>
-    ensures { (h : History) (header : List ℕ) (done : List Tx) → Opens h opened.now.keys position.height → position.coinbase ≡ not (is_nonempty done)
-        → AreMaps (with_part h header done) coins.old.entries txids.old.keys
-        → Enters h header done tx.now result coins.new.entries txids.new.keys }
+    ensures entered { (h : History) (header : List ℕ) (done : List Tx) → Opens h opened.now.keys position.height → position.coinbase ≡ not (is_nonempty done)
+        → AreMaps (with_part h header done) (all_in coins.old) txids.old.keys
+        → Enters h header done tx.now result (all_in coins.new) txids.new.keys }
+    ensures opening { coins_in coins.new.opening.entries ≡ coins_in coins.old.opening.entries }
 {
     let Position { height, coinbase } = position;
-    let id = tx.txid(alloc)?;
+    let id = tx.txid();
+    let tx = tx.transaction();
     if is_repeated(opened, txids, &id) {
         return Err(ChainFault::Denied(ChainDenial::TxidRepeated));
     }
@@ -104,7 +109,7 @@ fn enter<S: BuildHasher + Copy + Drop>(
         return Err(ChainFault::Denied(ChainDenial::BlockInputs));
     }
     tx.recall_invariant();
-    match make(alloc, coins, id, height, coinbase, tx.outputs()) {
+    match make(alloc, &mut coins.made, id, height, coinbase, tx.outputs()) {
         Ok(()) => {
             note(txids, id);
             Ok(())
@@ -118,28 +123,27 @@ fn enter<S: BuildHasher + Copy + Drop>(
 
 /// Takes the first transactions of a block out again: the coins and ids past these numbers of them.
 pub(crate) fn leave<S: BuildHasher + Copy + Drop>(
-    coins: &mut IndexMap<OutPoint, Marked, S>,
+    coins: &mut CoinTables<S>,
     txids: &mut IndexSet<Txid, S>,
     coins_before: usize,
     ids_before: usize,
-    txs: &[Transaction],
+    txs: &[Counted<Identified>],
 )
-    ensures { (h : History) (header : List ℕ) → SpentMade h → transactions_denial h header [] txs.now ≡ None
-        → coins_before ≡ length (coins_made h) → ids_before ≡ length (ids_of h.blocks)
-        → AreMaps (with_part h header txs.now) coins.old.entries txids.old.keys → AreMaps h coins.new.entries txids.new.keys }
+    ensures left { (h : History) (header : List ℕ) → SpentMade h → transactions_denial h header [] txs.now ≡ None
+        → coins_before + length coins.old.opening.entries ≡ length (coins_made h) → ids_before ≡ length (ids_of h.blocks)
+        → AreMaps (with_part h header txs.now) (all_in coins.old) txids.old.keys → AreMaps h (all_in coins.new) txids.new.keys }
+    ensures opening { coins_in coins.new.opening.entries ≡ coins_in coins.old.opening.entries }
 {
-    coins.truncate(coins_before);
+    coins.made.truncate(coins_before);
     txids.truncate(ids_before);
     give_back(coins, txs);
 }
 
 /// Gives back the coins that the transactions of a block spent.
-fn give_back<S: BuildHasher + Copy + Drop>(
-    coins: &mut IndexMap<OutPoint, Marked, S>,
-    txs: &[Transaction],
-)
-    ensures coins { coins_in coins.new.entries ≡ coins_in coins.old.entries }
-    ensures marks { (p : Point) → is_marked coins.new.entries p ≡ (if any_spends (drop 1 txs.now) p then false else is_marked coins.old.entries p) }
+fn give_back<S: BuildHasher + Copy + Drop>(coins: &mut CoinTables<S>, txs: &[Counted<Identified>])
+    ensures coins { coins_in (all_in coins.new) ≡ coins_in (all_in coins.old) }
+    ensures opening { coins_in coins.new.opening.entries ≡ coins_in coins.old.opening.entries }
+    ensures marks { (p : Point) → is_marked (all_in coins.new) p ≡ (if any_spends (drop 1 txs.now) p then false else is_marked (all_in coins.old) p) }
 {
     match txs {
         [] => {}
@@ -147,15 +151,13 @@ fn give_back<S: BuildHasher + Copy + Drop>(
     }
 }
 
-fn unspend_all<S: BuildHasher + Copy + Drop>(
-    coins: &mut IndexMap<OutPoint, Marked, S>,
-    txs: &[Transaction],
-)
-    ensures coins { coins_in coins.new.entries ≡ coins_in coins.old.entries }
-    ensures marks { (p : Point) → is_marked coins.new.entries p ≡ (if any_spends txs.now p then false else is_marked coins.old.entries p) }
+fn unspend_all<S: BuildHasher + Copy + Drop>(coins: &mut CoinTables<S>, txs: &[Counted<Identified>])
+    ensures coins { coins_in (all_in coins.new) ≡ coins_in (all_in coins.old) }
+    ensures opening { coins_in coins.new.opening.entries ≡ coins_in coins.old.opening.entries }
+    ensures marks { (p : Point) → is_marked (all_in coins.new) p ≡ (if any_spends txs.now p then false else is_marked (all_in coins.old) p) }
 {
     for tx in txs {
-        unspend(coins, tx.inputs());
+        unspend(coins, tx.get().transaction().inputs());
     }
 }
 
@@ -163,23 +165,24 @@ fn unspend_all<S: BuildHasher + Copy + Drop>(
 pub(crate) fn connect<S: BuildHasher + Copy + Drop>(
     alloc: Global,
     opened: &IndexSet<Txid, S>,
-    coins: &mut IndexMap<OutPoint, Marked, S>,
+    coins: &mut CoinTables<S>,
     txids: &mut IndexSet<Txid, S>,
     height: u32,
     block: Block,
 ) -> Result<Connected, ChainFault>
-    ensures { (h : History) → Opens h opened.now.keys height → AreMaps h coins.old.entries txids.old.keys
-        → Connects h block result coins.new.entries txids.new.keys }
+    ensures connected { (h : History) → Opens h opened.now.keys height → length coins.old.opening.entries ≡ length h.coins → AreMaps h (all_in coins.old) txids.old.keys
+        → Connects h block result (all_in coins.new) txids.new.keys }
+    ensures opening { coins_in coins.new.opening.entries ≡ coins_in coins.old.opening.entries }
 {
-    let coins_before = coins.len();
+    let coins_before = coins.made.len();
     let ids_before = txids.len();
-    let txs = block.transactions.as_slice();
+    let txs = block.transactions();
     for (place, tx) in txs.iter().enumerate() {
         let position = Position {
             height,
             coinbase: place == 0,
         };
-        if let Err(fault) = enter(alloc, opened, coins, txids, position, tx) {
+        if let Err(fault) = enter(alloc, opened, coins, txids, position, tx.get()) {
             leave(coins, txids, coins_before, ids_before, &txs[..place]);
             return Err(fault);
         }
@@ -193,24 +196,19 @@ pub(crate) fn connect<S: BuildHasher + Copy + Drop>(
 
 /// Disconnects a block. It takes no memory.
 pub(crate) fn disconnect<S: BuildHasher + Copy + Drop>(
-    coins: &mut IndexMap<OutPoint, Marked, S>,
+    coins: &mut CoinTables<S>,
     txids: &mut IndexSet<Txid, S>,
     last: Connected,
 ) -> Block
     ensures block { result ≡ last.block }
-    ensures maps { (h : History) → IsConnected h last → AreMaps (grown h last.block) coins.old.entries txids.old.keys → AreMaps h coins.new.entries txids.new.keys }
+    ensures maps { (h : History) → IsConnected h last → length coins.old.opening.entries ≡ length h.coins → AreMaps (grown h last.block) (all_in coins.old) txids.old.keys → AreMaps h (all_in coins.new) txids.new.keys }
+    ensures opening { coins_in coins.new.opening.entries ≡ coins_in coins.old.opening.entries }
 {
     let Connected {
         block,
         coins: coins_before,
         ids,
     } = last;
-    leave(
-        coins,
-        txids,
-        coins_before,
-        ids,
-        block.transactions.as_slice(),
-    );
+    leave(coins, txids, coins_before, ids, block.transactions());
     block
 }

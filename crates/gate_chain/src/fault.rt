@@ -14,7 +14,7 @@ pub enum OpenFault {
     Memory,
     #[error("there are no block times")]
     NoTimes,
-    #[error("there are more than 1,000,000 block times")]
+    #[error("there are more than 1,000,000 block times, or the tip is above 10,000,000")]
     TimesLimit,
     #[error("coin {0} has a value outside 0 to 2,100,000,000,000,000")]
     CoinValue(usize),

@@ -1,17 +1,17 @@
 //! Coins that are marked as spent and unmarked again.
-ghost use Rattle.std.specs.Prelude.{◌≡◌, ◌&&◌, ◌||◌, not, false, drop, is_some, if◌then◌else◌};
+ghost use Rattle.std.specs.Prelude.{◌≡◌, ◌&&◌, ◌||◌, not, true, false, drop, is_some, Some, None, if◌then◌else◌};
 ghost use Rattle.std.specs.List.{list_any};
 ghost use Rattle.std.specs.Option.{option_copied};
 ghost use Rattle.gate_tx.specs.Coins.{point_eq, spends};
 ghost use Rattle.gate_tx.specs.declared.OutPoint.{OutPoint as Point};
 ghost use Rattle.gate_chain.specs.Coins.{any_spends, is_spent_in};
 ghost use Rattle.gate_chain.specs.Connecting.{missing};
-ghost use Rattle.gate_chain.specs.Marking.{coins_in, is_marked, unspent_in, MarksMore};
+ghost use Rattle.gate_chain.specs.Marking.{all_in, coins_in, is_marked, unspent_in, MarksMore};
 
 use crate::block::Block;
-use gate_bytes::{Copied, Memory};
-use gate_tx::{Coin, OutPoint, Transaction, TxIn};
-use indexmap::IndexMap;
+use crate::tables::CoinTables;
+use gate_bytes::{Copied, Counted, Memory};
+use gate_tx::{Coin, Identified, OutPoint, TxIn};
 use std::alloc::Global;
 use std::hash::BuildHasher;
 
@@ -31,55 +31,86 @@ impl Copied for Marked {
     }
 }
 
+/// The coin, if nothing spends it.
+fn if_unspent(marked: &Marked) -> Option<&Coin>
+    ensures { option_copied result ≡ (if marked.now.spent then None else Some marked.now.coin) }
+{
+    if marked.spent {
+        None
+    } else {
+        Some(&marked.coin)
+    }
+}
+
 /// The coin at an outpoint, if nothing spends it.
-pub(crate) fn unspent<'a, S: BuildHasher>(
-    coins: &'a IndexMap<OutPoint, Marked, S>,
+pub(crate) fn unspent<'a, S: BuildHasher + Copy + Drop>(
+    coins: &'a CoinTables<S>,
     outpoint: &OutPoint,
 ) -> Option<&'a Coin>
-    ensures { option_copied result ≡ unspent_in coins.now.entries outpoint.now }
+    ensures { option_copied result ≡ unspent_in (all_in coins.now) outpoint.now }
 {
-    match coins.get(outpoint) {
-        Some(marked) => {
-            if marked.spent {
-                None
-            } else {
-                Some(&marked.coin)
-            }
-        }
-        None => None,
+    match coins.opening.get(outpoint) {
+        Some(marked) => if_unspent(marked),
+        None => match coins.made.get(outpoint) {
+            Some(marked) => if_unspent(marked),
+            None => None,
+        },
     }
+}
+
+/// Marks a coin as spent, and says whether it was unspent.
+fn mark(marked: &mut Marked) -> bool
+    ensures marked { marked.new ≡ record { coin = marked.old.coin; spent = true } }
+    ensures found { result ≡ not marked.old.spent }
+{
+    let found = !marked.spent;
+    marked.spent = true;
+    found
 }
 
 /// Marks a coin as spent, and says whether it was there unspent.
-fn spend_one<S: BuildHasher>(coins: &mut IndexMap<OutPoint, Marked, S>, outpoint: OutPoint) -> bool
-    ensures coins { coins_in coins.new.entries ≡ coins_in coins.old.entries }
-    ensures found { result ≡ is_some (unspent_in coins.old.entries outpoint) }
-    ensures marks { (p : Point) → is_marked coins.new.entries p ≡ ((result && point_eq outpoint p) || is_marked coins.old.entries p) }
+fn spend_one<S: BuildHasher + Copy + Drop>(coins: &mut CoinTables<S>, outpoint: OutPoint) -> bool
+    ensures coins { coins_in (all_in coins.new) ≡ coins_in (all_in coins.old) }
+    ensures opening { coins_in coins.new.opening.entries ≡ coins_in coins.old.opening.entries }
+    ensures found { result ≡ is_some (unspent_in (all_in coins.old) outpoint) }
+    ensures marks { (p : Point) → is_marked (all_in coins.new) p ≡ ((result && point_eq outpoint p) || is_marked (all_in coins.old) p) }
 {
-    match coins.get_mut(&outpoint) {
-        Some(marked) => {
-            let found = !marked.spent;
-            marked.spent = true;
-            found
-        }
-        None => false,
+    match coins.opening.get_mut(&outpoint) {
+        Some(marked) => mark(marked),
+        None => match coins.made.get_mut(&outpoint) {
+            Some(marked) => mark(marked),
+            None => false,
+        },
     }
 }
 
-/// Marks a coin as unspent.
-fn unspend_one<S: BuildHasher>(coins: &mut IndexMap<OutPoint, Marked, S>, outpoint: OutPoint)
-    ensures coins { coins_in coins.new.entries ≡ coins_in coins.old.entries }
-    ensures marks { (p : Point) → is_marked coins.new.entries p ≡ (if point_eq outpoint p then false else is_marked coins.old.entries p) }
+fn unmark(marked: &mut Marked)
+    ensures { marked.new ≡ record { coin = marked.old.coin; spent = false } }
 {
-    if let Some(marked) = coins.get_mut(&outpoint) {
-        marked.spent = false;
+    marked.spent = false;
+}
+
+/// Marks a coin as unspent.
+fn unspend_one<S: BuildHasher + Copy + Drop>(coins: &mut CoinTables<S>, outpoint: OutPoint)
+    ensures coins { coins_in (all_in coins.new) ≡ coins_in (all_in coins.old) }
+    ensures opening { coins_in coins.new.opening.entries ≡ coins_in coins.old.opening.entries }
+    ensures marks { (p : Point) → is_marked (all_in coins.new) p ≡ (if point_eq outpoint p then false else is_marked (all_in coins.old) p) }
+{
+    match coins.opening.get_mut(&outpoint) {
+        Some(marked) => unmark(marked),
+        None => {
+            if let Some(marked) = coins.made.get_mut(&outpoint) {
+                unmark(marked);
+            }
+        }
     }
 }
 
 /// Marks the coins of inputs as unspent.
-pub(crate) fn unspend<S: BuildHasher>(coins: &mut IndexMap<OutPoint, Marked, S>, inputs: &[TxIn])
-    ensures coins { coins_in coins.new.entries ≡ coins_in coins.old.entries }
-    ensures marks { (p : Point) → is_marked coins.new.entries p ≡ (if spends inputs.now p then false else is_marked coins.old.entries p) }
+pub(crate) fn unspend<S: BuildHasher + Copy + Drop>(coins: &mut CoinTables<S>, inputs: &[TxIn])
+    ensures coins { coins_in (all_in coins.new) ≡ coins_in (all_in coins.old) }
+    ensures opening { coins_in coins.new.opening.entries ≡ coins_in coins.old.opening.entries }
+    ensures marks { (p : Point) → is_marked (all_in coins.new) p ≡ (if spends inputs.now p then false else is_marked (all_in coins.old) p) }
 {
     for input in inputs {
         unspend_one(coins, input.prevout);
@@ -87,13 +118,14 @@ pub(crate) fn unspend<S: BuildHasher>(coins: &mut IndexMap<OutPoint, Marked, S>,
 }
 
 /// Marks the coins of inputs as spent if all of them are there unspent, and says whether they were.
-pub(crate) fn spend<S: BuildHasher>(
-    coins: &mut IndexMap<OutPoint, Marked, S>,
+pub(crate) fn spend<S: BuildHasher + Copy + Drop>(
+    coins: &mut CoinTables<S>,
     inputs: &[TxIn],
 ) -> bool
-    ensures coins { coins_in coins.new.entries ≡ coins_in coins.old.entries }
-    ensures found { missing (λ p. is_some (unspent_in coins.old.entries p)) inputs.now ≡ not result }
-    ensures marks { (p : Point) → is_marked coins.new.entries p ≡ ((result && spends inputs.now p) || is_marked coins.old.entries p) }
+    ensures coins { coins_in (all_in coins.new) ≡ coins_in (all_in coins.old) }
+    ensures opening { coins_in coins.new.opening.entries ≡ coins_in coins.old.opening.entries }
+    ensures found { missing (λ p. is_some (unspent_in (all_in coins.old) p)) inputs.now ≡ not result }
+    ensures marks { (p : Point) → is_marked (all_in coins.new) p ≡ ((result && spends inputs.now p) || is_marked (all_in coins.old) p) }
 {
     for (place, input) in inputs.iter().enumerate() {
         if !spend_one(coins, input.prevout) {
@@ -105,9 +137,10 @@ pub(crate) fn spend<S: BuildHasher>(
 }
 
 /// Marks the coins of inputs as spent again.
-fn respend<S: BuildHasher>(coins: &mut IndexMap<OutPoint, Marked, S>, inputs: &[TxIn])
-    ensures coins { coins_in coins.new.entries ≡ coins_in coins.old.entries }
-    ensures marks { MarksMore (spends inputs.now) coins.old.entries coins.new.entries }
+fn respend<S: BuildHasher + Copy + Drop>(coins: &mut CoinTables<S>, inputs: &[TxIn])
+    ensures coins { coins_in (all_in coins.new) ≡ coins_in (all_in coins.old) }
+    ensures opening { coins_in coins.new.opening.entries ≡ coins_in coins.old.opening.entries }
+    ensures marks { MarksMore (spends inputs.now) (all_in coins.old) (all_in coins.new) }
 {
     for input in inputs {
         let _ = spend_one(coins, input.prevout);
@@ -115,19 +148,24 @@ fn respend<S: BuildHasher>(coins: &mut IndexMap<OutPoint, Marked, S>, inputs: &[
 }
 
 /// Marks the coins of all these transactions' inputs as spent again.
-fn respend_all<S: BuildHasher>(coins: &mut IndexMap<OutPoint, Marked, S>, txs: &[Transaction])
-    ensures coins { coins_in coins.new.entries ≡ coins_in coins.old.entries }
-    ensures marks { MarksMore (any_spends txs.now) coins.old.entries coins.new.entries }
+fn respend_all<S: BuildHasher + Copy + Drop>(coins: &mut CoinTables<S>, txs: &[Counted<Identified>])
+    ensures coins { coins_in (all_in coins.new) ≡ coins_in (all_in coins.old) }
+    ensures opening { coins_in coins.new.opening.entries ≡ coins_in coins.old.opening.entries }
+    ensures marks { MarksMore (any_spends txs.now) (all_in coins.old) (all_in coins.new) }
 {
     for tx in txs {
-        respend(coins, tx.inputs());
+        respend(coins, tx.get().transaction().inputs());
     }
 }
 
 /// Marks the coins of the inputs of a block's transactions as spent again, but not of its coinbase's.
-fn respend_block<S: BuildHasher>(coins: &mut IndexMap<OutPoint, Marked, S>, txs: &[Transaction])
-    ensures coins { coins_in coins.new.entries ≡ coins_in coins.old.entries }
-    ensures marks { MarksMore (any_spends (drop 1 txs.now)) coins.old.entries coins.new.entries }
+fn respend_block<S: BuildHasher + Copy + Drop>(
+    coins: &mut CoinTables<S>,
+    txs: &[Counted<Identified>],
+)
+    ensures coins { coins_in (all_in coins.new) ≡ coins_in (all_in coins.old) }
+    ensures opening { coins_in coins.new.opening.entries ≡ coins_in coins.old.opening.entries }
+    ensures marks { MarksMore (any_spends (drop 1 txs.now)) (all_in coins.old) (all_in coins.new) }
 {
     match txs {
         [] => {}
@@ -136,14 +174,15 @@ fn respend_block<S: BuildHasher>(coins: &mut IndexMap<OutPoint, Marked, S>, txs:
 }
 
 /// Marks the coins that blocks spent as spent again.
-pub(crate) fn respend_blocks<S: BuildHasher>(
-    coins: &mut IndexMap<OutPoint, Marked, S>,
+pub(crate) fn respend_blocks<S: BuildHasher + Copy + Drop>(
+    coins: &mut CoinTables<S>,
     blocks: &[Block],
 )
-    ensures coins { coins_in coins.new.entries ≡ coins_in coins.old.entries }
-    ensures marks { MarksMore (λ p. list_any (is_spent_in p) blocks.now) coins.old.entries coins.new.entries }
+    ensures coins { coins_in (all_in coins.new) ≡ coins_in (all_in coins.old) }
+    ensures opening { coins_in coins.new.opening.entries ≡ coins_in coins.old.opening.entries }
+    ensures marks { MarksMore (λ p. list_any (is_spent_in p) blocks.now) (all_in coins.old) (all_in coins.new) }
 {
     for block in blocks {
-        respend_block(coins, block.transactions.as_slice());
+        respend_block(coins, block.transactions());
     }
 }

@@ -1,4 +1,5 @@
 use gate_block::{read_block, switch};
+use gate_bytes::Copied;
 use gate_chain::{Block, Chain, ChainDenial, ChainFault, OpenFault};
 use std::alloc::Global;
 use std::hash::{BuildHasherDefault, FoldHasher};
@@ -25,9 +26,36 @@ fn block(alloc: Global, text: &str) -> Result<Block, Fail> {
 #[test]
 fn the_first_block_is_read(rt: HostRuntime) -> Result<(), Fail> {
     let block = block(rt.alloc(), GENESIS)?;
-    assert_eq!(rt; block.header.time(), 1_231_006_505);
-    assert_eq!(rt; block.header.as_bytes().last().copied(), Some(0x7c));
-    assert_eq!(rt; block.transactions.len(), 1);
+    assert_eq!(rt; block.header().time(), 1_231_006_505);
+    assert_eq!(rt; block.header().as_bytes().last().copied(), Some(0x7c));
+    assert_eq!(rt; block.transactions().len(), 1);
+    Ok(())
+}
+
+/// A list of blocks of which most do not read takes little room.
+#[test]
+fn a_block_is_a_pointer(rt: HostRuntime) {
+    assert!(rt; std::mem::size_of::<Option<Block>>() <= 16);
+}
+
+/// The txid of a block's first transaction, as it is printed.
+fn first_txid(alloc: Global, block: &Block) -> Result<Option<String>, Fail> {
+    match block.transactions() {
+        [first, ..] => {
+            let txid = first.get().txid();
+            Ok(Some(format!(in alloc; "{txid}")?))
+        }
+        [] => Ok(None),
+    }
+}
+
+#[test]
+fn transactions_of_a_block_have_their_ids(rt: HostRuntime) -> Result<(), Fail> {
+    let block = block(rt.alloc(), GENESIS)?;
+    let copy = block.copy(rt.alloc())?;
+    let txid = first_txid(rt.alloc(), &copy)?;
+    let known = "4a5e1e4baab89f3a32518a88c31bc87f618f76673e2cc77ab2127b7afdeda33b";
+    assert_eq!(rt; txid.as_deref(), Some(known));
     Ok(())
 }
 

@@ -1,20 +1,20 @@
-use gate_bytes::Kept;
+use gate_bytes::{Counted, Kept, Memory};
 use gate_chain::{Block, Chain, ChainDenial, ChainFault, Header, OpenFault, OpeningCoin};
-use gate_tx::{Coin, OutPoint, Transaction, TxIn, TxOut, Txid, Witness};
+use gate_tx::{Coin, Identified, OutPoint, Transaction, TxIn, TxOut, Txid, Witness};
 use std::alloc::{AllocError, Global};
 use std::hash::{BuildHasherDefault, FoldHasher};
 use std::process::Abort;
 use std::test::Fail;
 
-type Hasher = BuildHasherDefault<FoldHasher>;
+pub(crate) type Hasher = BuildHasherDefault<FoldHasher>;
 
 // An output that pays to a key hash.
-const SCRIPT: [u8; 25] = [
+pub(crate) const SCRIPT: [u8; 25] = [
     0x76, 0xa9, 0x14, 0x01, 0x02, 0x03, 0x04, 0x05, 0x06, 0x07, 0x08, 0x09, 0x0a, 0x0b, 0x0c, 0x0d,
     0x0e, 0x0f, 0x10, 0x11, 0x12, 0x13, 0x14, 0x88, 0xac,
 ];
 
-fn point(first: u8, index: u32) -> OutPoint {
+pub(crate) fn point(first: u8, index: u32) -> OutPoint {
     let mut hash = [0; 32];
     hash[0] = first;
     OutPoint {
@@ -24,7 +24,7 @@ fn point(first: u8, index: u32) -> OutPoint {
 }
 
 /// A coin's outpoint, value, height and script.
-type Row<'a> = (OutPoint, i64, u32, &'a [u8]);
+pub(crate) type Row<'a> = (OutPoint, i64, u32, &'a [u8]);
 
 fn coins_of(alloc: Global, rows: &[Row<'_>]) -> Result<Vec<OpeningCoin>, AllocError> {
     let mut coins = Vec::new(alloc);
@@ -43,7 +43,11 @@ fn coins_of(alloc: Global, rows: &[Row<'_>]) -> Result<Vec<OpeningCoin>, AllocEr
     Ok(coins)
 }
 
-fn opened(alloc: Global, rows: &[Row<'_>], times: &[u32]) -> Result<Chain<Hasher>, OpenFault> {
+pub(crate) fn opened(
+    alloc: Global,
+    rows: &[Row<'_>],
+    times: &[u32],
+) -> Result<Chain<Hasher>, OpenFault> {
     let coins = coins_of(alloc, rows)?;
     let times = Vec::from_slice(alloc, times)?;
     Chain::open(alloc, BuildHasherDefault::new(), coins, times)
@@ -53,7 +57,7 @@ fn fault_of(alloc: Global, rows: &[Row<'_>], times: &[u32]) -> Option<OpenFault>
     opened(alloc, rows, times).err()
 }
 
-fn value_at(chain: &Chain<Hasher>, outpoint: &OutPoint) -> Option<i64> {
+pub(crate) fn value_at(chain: &Chain<Hasher>, outpoint: &OutPoint) -> Option<i64> {
     Some(chain.coin(outpoint)?.value)
 }
 
@@ -121,12 +125,12 @@ fn a_chain_has_times(rt: HostRuntime) {
     assert!(rt; fault == Some(OpenFault::NoTimes));
 }
 
-/// A transaction that spends these outpoints and pays each value to a key hash.
-fn paying(
+/// A transaction that spends these outpoints and pays each value to a key hash, with its ids.
+pub(crate) fn paying(
     alloc: Global,
     outpoints: &[OutPoint],
     values: &[i64],
-) -> Result<Option<Transaction>, AllocError> {
+) -> Result<Option<Counted<Identified>>, Memory> {
     let mut inputs = Vec::new(alloc);
     for outpoint in outpoints {
         inputs.push(TxIn {
@@ -143,16 +147,20 @@ fn paying(
             script: Kept::from_vec(Vec::from_slice(alloc, &SCRIPT)?),
         })?;
     }
-    Ok(Transaction::new(2, inputs, outputs, 0).ok())
+    let Ok(transaction) = Transaction::new(2, inputs, outputs, 0) else {
+        return Ok(None);
+    };
+    let identified = Identified::new(alloc, transaction)?;
+    Ok(Some(Counted::new(alloc, identified)?))
 }
 
 /// A block of a coinbase and of one payment, none if one of them is no transaction.
-fn block(
+pub(crate) fn block(
     alloc: Global,
     time: u8,
     spent: &[OutPoint],
     values: &[i64],
-) -> Result<Option<Block>, AllocError> {
+) -> Result<Option<Block>, Memory> {
     let null = OutPoint {
         txid: Txid::new([0; 32]),
         index: 0xffff_ffff,
@@ -167,10 +175,7 @@ fn block(
     transactions.push(payment)?;
     let mut header = [0; 80];
     header[68] = time;
-    Ok(Some(Block {
-        header: Header::new(header),
-        transactions: Kept::from_vec(transactions),
-    }))
+    Ok(Some(Block::new(alloc, Header::new(header), transactions)?))
 }
 
 /// Connects a block of a coinbase and of one payment, and names the rule that fails.
@@ -190,7 +195,7 @@ fn denial(
     }
 }
 
-fn two_coins(alloc: Global) -> Result<Chain<Hasher>, OpenFault> {
+pub(crate) fn two_coins(alloc: Global) -> Result<Chain<Hasher>, OpenFault> {
     let rows: [Row<'_>; 2] = [(point(1, 0), 50, 0, &SCRIPT), (point(1, 7), 70, 1, &[0x51])];
     opened(alloc, &rows, &[5, 6])
 }
@@ -273,6 +278,11 @@ fn denials_are_printed(rt: HostRuntime) -> Result<(), Fail> {
         (ChainDenial::TimeTooOld, 5, "time-too-old"),
         (ChainDenial::NoUndo, 6, "no-undo"),
         (ChainDenial::ChainFull, 7, "chain-full"),
+        (ChainDenial::CoinValue, 8, "coin-value"),
+        (ChainDenial::CoinUnspendable, 9, "coin-unspendable"),
+        (ChainDenial::CoinAboveOpening, 10, "coin-above-opening"),
+        (ChainDenial::CoinKnown, 11, "coin-known"),
+        (ChainDenial::VerdictKnown, 12, "verdict-known"),
     ];
     for (denial, rule, token) in names {
         assert!(rt; denial.rule() == rule && denial.token() == token);
@@ -289,7 +299,7 @@ fn faults_are_told(rt: HostRuntime) -> Result<(), Fail> {
         (OpenFault::NoTimes, "there are no block times"),
         (
             OpenFault::TimesLimit,
-            "there are more than 1,000,000 block times",
+            "there are more than 1,000,000 block times, or the tip is above 10,000,000",
         ),
         (
             OpenFault::CoinValue(7),

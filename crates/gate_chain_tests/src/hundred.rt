@@ -1,9 +1,9 @@
 //! A hundred blocks of ten transactions each, connected and then disconnected in events of every depth: coins, times
 //! and median times are those of a chain that never had the disconnected blocks.
 use gate_block::switch;
-use gate_bytes::{Copied, Kept, Memory};
+use gate_bytes::{Copied, Counted, Kept, Memory};
 use gate_chain::{Block, Chain, Header, OpeningCoin};
-use gate_tx::{Coin, OutPoint, Transaction, TxIn, TxOut, Txid, Witness};
+use gate_tx::{Coin, Identified, OutPoint, Transaction, TxIn, TxOut, Txid, Witness};
 use std::alloc::{AllocError, Global};
 use std::hash::{BuildHasherDefault, FoldHasher};
 use std::process::Abort;
@@ -26,8 +26,8 @@ fn script(alloc: Global, byte: u8) -> Result<Kept<u8>, AllocError> {
     Ok(Kept::from_vec(Vec::from_slice(alloc, &[1, byte])?))
 }
 
-/// A transaction of one input and of two outputs.
-fn paying(alloc: Global, prevout: OutPoint, number: u8) -> Result<Transaction, Fail> {
+/// A transaction of one input and of two outputs, with its ids.
+fn paying(alloc: Global, prevout: OutPoint, number: u8) -> Result<Counted<Identified>, Fail> {
     let mut inputs = Vec::new(alloc);
     inputs.push(TxIn {
         prevout,
@@ -43,7 +43,8 @@ fn paying(alloc: Global, prevout: OutPoint, number: u8) -> Result<Transaction, F
         })?;
     }
     let transaction = Transaction::new(2, inputs, outputs, 0).ok();
-    Ok(transaction.ok_or("parts of no transaction")?)
+    let transaction = transaction.ok_or("parts of no transaction")?;
+    Ok(Counted::new(alloc, Identified::new(alloc, transaction)?)?)
 }
 
 /// Times that go up and down, while their median goes up.
@@ -66,16 +67,13 @@ fn block(alloc: Global, number: u8, heads: &mut [OutPoint]) -> Result<Block, Fai
     transactions.push(paying(alloc, within, number)?)?;
     for head in heads {
         let payment = paying(alloc, *head, number)?;
-        let txid = payment.txid(alloc)?;
+        let txid = payment.get().txid();
         *head = OutPoint { txid, index: 0 };
         within = OutPoint { txid, index: 1 };
         transactions.push(payment)?;
     }
     transactions.push(paying(alloc, within, number)?)?;
-    Ok(Block {
-        header: header(number),
-        transactions: Kept::from_vec(transactions),
-    })
+    Ok(Block::new(alloc, header(number), transactions)?)
 }
 
 /// The outpoints of the opening's coins.
@@ -103,8 +101,8 @@ fn hundred_blocks(alloc: Global) -> Result<Vec<Block>, Fail> {
 fn all_points(alloc: Global, blocks: &[Block]) -> Result<Vec<OutPoint>, Memory> {
     let mut points = opening_points(alloc)?;
     for block in blocks {
-        for transaction in block.transactions.as_slice() {
-            let txid = transaction.txid(alloc)?;
+        for transaction in block.transactions() {
+            let txid = transaction.get().txid();
             points.push(OutPoint { txid, index: 0 })?;
             points.push(OutPoint { txid, index: 1 })?;
         }

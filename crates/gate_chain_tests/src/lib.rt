@@ -8,4 +8,6 @@ mod chain;
 #[cfg(test)]
 mod hundred;
 #[cfg(test)]
+mod living;
+#[cfg(test)]
 mod locks;

@@ -1,3 +1,4 @@
+use crate::living::from_height;
 use gate_bytes::Kept;
 use gate_chain::{Chain, OpenFault};
 use gate_locks::{is_final, sequence_locks_met};
@@ -151,4 +152,17 @@ fn relative_locks_by_time(rt: HostRuntime) -> Result<(), Fail> {
         (2, 0x0040_0001, 101, false),
     ];
     assert_above_a_hundred(&rt, &locks)
+}
+
+/// At a tip of 900,100 a lock of 111 units of 512 seconds is met if the chain knows the median time past before the coin's
+/// block; its times begin at height 900,000.
+#[test]
+fn no_lock_by_time_is_met_below_the_first_height(rt: HostRuntime) -> Result<(), Fail> {
+    let chain = from_height(rt.alloc(), 900_000, 101)?;
+    for (height, met) in [(1, false), (900_000, false), (900_001, true)] {
+        let found = is_met_with(rt.alloc(), &chain, 2, 0x0040_006f, height)?;
+        assert_eq!(rt; found, Some(met));
+    }
+    drop(chain);
+    Ok(())
 }

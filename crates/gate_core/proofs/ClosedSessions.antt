@@ -8,14 +8,14 @@ use Rattle.gate_standard.specs.declared.Denial.TheVariants.{Decode}
 use Rattle.gate_message.specs.declared.caller.Caller.{Caller}
 use Rattle.gate_message.specs.declared.caller.Caller.TheVariants.{Chain, Operator, Peer, User}
 use Rattle.gate_message.specs.declared.event.Event.{Event}
-use Rattle.gate_message.specs.declared.event.Event.TheVariants.{Enter, Leave, Tx as Submit, Mempool, GetBlock, Headers, FeeFilter, Rpc, SetFloor, Set as Turn, Chain as Extend}
+use Rattle.gate_message.specs.declared.event.Event.TheVariants.{Enter, Leave, Tx as Submit, Mempool, GetBlock, Headers, FeeFilter, Rpc, SetFloor, Set as Turn, Chain as Extend, LearnCoin, LearnVerdict, Forget}
 use Rattle.gate_message.specs.declared.denial.PeerDenial.{PeerDenial}
 use Rattle.gate_message.specs.declared.denial.PeerDenial.TheVariants.{PeerUnknown, PeerClosed, PeerKnown, BlocksOnly, AlreadyInMempool, MempoolNoBloom, MempoolUploadTarget, HeadersDuringDownload, UnknownBlock, HistoricalUploadTarget, Admission}
 use Rattle.gate_message.specs.declared.reply.Reply.{Reply}
 use Rattle.gate_message.specs.Callers.{caller_of}
 use Rattle.gate_core.specs.Sessions.{Session, session_of, flags_in}
 use Rattle.gate_core.specs.World.{World}
-use Rattle.gate_core.specs.Access.{is_pooled, lacks_relay, lacks_bloom, lacks_upload, lacks_headers, lacks_history, is_above_tip, entering_rules, session_rules}
+use Rattle.gate_core.specs.Access.{is_pooled, lacks_relay, lacks_bloom, lacks_upload, lacks_headers, lacks_history, is_above_tip, is_unknown_block, entering_rules, session_rules}
 use Rattle.gate_core.specs.PeerSteps.{answered, entered, left, submitted, listed, block_given, headers_given, filter_set}
 use Rattle.gate_core.specs.Steps.{step_of}
 use Rattle.gate_core.specs.Runs.{run_of}
@@ -57,7 +57,7 @@ step_closed w (Submit number now transaction) peer s own h shut =
 step_closed w (Mempool number) peer s own h shut = ap (λ r. told (answered w number (listed w number) r)) (closed_first w.sessions number s ((MempoolNoBloom, lacks_bloom w (flags_in w.sessions number)) ∷ (MempoolUploadTarget, lacks_upload w (flags_in w.sessions number)) ∷ []) (own_session w number peer s own h) shut)
 step_closed w (GetBlock number height) peer s own h shut =
     ap (λ r. told (answered w number (block_given w height) r))
-    (closed_first w.sessions number s ((UnknownBlock, is_above_tip w height) ∷ (HistoricalUploadTarget, lacks_history w (flags_in w.sessions number) height) ∷ []) (own_session w number peer s own h) shut)
+    (closed_first w.sessions number s ((UnknownBlock, is_unknown_block w height) ∷ (HistoricalUploadTarget, lacks_history w (flags_in w.sessions number) height) ∷ []) (own_session w number peer s own h) shut)
 step_closed w (Headers number height) peer s own h shut =
     ap (λ r. told (answered w number (headers_given w height) r))
     (closed_first w.sessions number s ((HeadersDuringDownload, lacks_headers w (flags_in w.sessions number)) ∷ (UnknownBlock, is_above_tip w height) ∷ []) (own_session w number peer s own h) shut)
@@ -66,6 +66,9 @@ step_closed w (Rpc call) peer s own h shut = cc
 step_closed w (SetFloor rate) peer s own h shut = cc
 step_closed w (Turn switch on) peer s own h shut = cc
 step_closed w (Extend disconnect now blocks) peer s own h shut = no_peer peer own
+step_closed w (LearnCoin coin) peer s own h shut = no_peer peer own
+step_closed w (LearnVerdict row) peer s own h shut = no_peer peer own
+step_closed w (Forget blocks) peer s own h shut = no_peer peer own
 
 by_caller : (event : Event) (peer : ℕ) → (caller_of event ≡ Peer peer) ⊎ (caller_of event ≢ Peer peer)
 by_caller event peer = by (caller_of event)

@@ -10,7 +10,7 @@ use Rattle.gate_message.specs.declared.denial.PeerDenial.{PeerDenial}
 use Rattle.gate_message.specs.declared.denial.PeerDenial.TheVariants.{PeerUnknown, PeerClosed, PeerKnown, BlocksOnly, AlreadyInMempool, MempoolNoBloom, MempoolUploadTarget, HeadersDuringDownload, UnknownBlock, HistoricalUploadTarget, Admission}
 use Rattle.gate_message.specs.declared.denial.Then.TheVariants.{Keep, Close, Relay}
 use Rattle.gate_message.specs.declared.reply.Reply.{Reply}
-use Rattle.gate_core.specs.Access.{is_known, is_closed, is_historical, is_above_tip, is_pooled, lacks_relay, lacks_bloom, lacks_upload, lacks_headers, lacks_history}
+use Rattle.gate_core.specs.Access.{is_known, is_closed, is_historical, is_unknown_block, is_pooled, lacks_relay, lacks_bloom, lacks_upload, lacks_headers, lacks_history}
 use Rattle.gate_core.specs.AccessLaws.{FlagsGuard, NobanIsKept}
 use Rattle.gate_core.specs.PeerSteps.{answered, submitted, listed, block_given, headers_given}
 use Rattle.gate_message.specs.PeerDenials.{then_of}
@@ -104,7 +104,7 @@ flags_guard w peer =
           denies w peer (headers_given w height) _ (session_first known closed _ (one_fails (lacks_headers w flags) HeadersDuringDownload _ during_download (both w.switches.download flags.download on lacks)));
       blocks = λ on lacks height old.
           denies w peer (block_given w height) _
-          (session_first known closed _ (two_fail (is_above_tip w height) (lacks_history w flags height) UnknownBlock HistoricalUploadTarget _ unknown_block historical_target (all_of w.switches.historic flags.download (is_historical w.chain height) on lacks old)));
+          (session_first known closed _ (two_fail (is_unknown_block w height) (lacks_history w flags height) UnknownBlock HistoricalUploadTarget _ unknown_block historical_target (all_of w.switches.historic flags.download (is_historical w.chain height) on lacks old)));
     }
 
 kept : (b : Bool) → b ≡ true → (if b then Keep else Close) ≢ Close

@@ -9,9 +9,10 @@ use Rattle.gate_tx.specs.Ids.{txid_of}
 use Rattle.gate_tx.specs.Text.{IsTx}
 use Rattle.gate_tx.specs.Tx.{Tx}
 use Rattle.gate_standard.specs.declared.Denial.{Denial}
-use Rattle.gate_chain.specs.declared.Block.{Block}
+use Rattle.gate_chain.specs.Blocks.{Block}
 use Rattle.gate_chain.specs.declared.ChainDenial.{ChainDenial}
 use Rattle.gate_chain.specs.declared.ChainDenial.TheVariants.{BlockDecode}
+use Rattle.gate_chain.specs.Forgetting.{forget_denial}
 use Rattle.gate_chain.specs.History.{History}
 use Rattle.gate_bytes.proofs.Members.{Contains-cons_cases, not_in_none}
 use Rattle.gate_block.specs.Switching.{switch_rules}
@@ -21,10 +22,11 @@ use Rattle.gate_pool.proofs.Entries.{Contains-map, Contains-from_map}
 use Rattle.gate_pool.proofs.Walking.{Contains-from_filter}
 use Rattle.gate_admit.specs.declared.Attempt.TheVariants.{First}
 use Rattle.gate_admit.specs.declared.Grant.{Grant}
-use Rattle.gate_admit.specs.Good.{Limits, IsGood, IsSettled, IsUnconnected, AreApart, connected_transactions}
+use Rattle.gate_admit.specs.Good.{Limits, IsGood, IsSettled, IsUnconnected, AreApart, SpendsCoins, connected_transactions}
 use Rattle.gate_admit.specs.Rules.{decision_of}
 use Rattle.gate_admit.specs.Standing.{Standing}
 use Rattle.gate_admit.specs.Submission.{admitted, entry_of, submitted_by, submit_of}
+use Rattle.gate_admit.specs.Verdicts.{row_rules}
 use Rattle.gate_admit.proofs.Entering.{StaysUnconnected, stays_if_apart, stays_if_unconnected}
 use Rattle.gate_admit.proofs.Submissions.{empty_good, entry_within, submission_good}
 use Rattle.gate_reorg.specs.Events.{Happened, event_rules, event_of}
@@ -32,24 +34,28 @@ use Rattle.gate_submission.specs.Blocks.{present}
 use Rattle.gate_submission.specs.Blocks.{transactions_of as block_transactions}
 use Rattle.gate_reorg.proofs.Keeping.{events_keep_pools_good}
 use Rattle.gate_reorg.proofs.Origins.{events_bring_nothing_else}
+use Rattle.gate_reorg.proofs.Spent.{events_spend_coins}
 use Rattle.gate_message.specs.declared.event.Event.{Event}
-use Rattle.gate_message.specs.declared.event.Event.TheVariants.{Enter, Leave, Tx as Submit, Mempool, GetBlock, Headers, FeeFilter, Rpc, SetFloor, Set as Turn, Chain as Extend}
+use Rattle.gate_message.specs.declared.event.Event.TheVariants.{Enter, Leave, Tx as Submit, Mempool, GetBlock, Headers, FeeFilter, Rpc, SetFloor, Set as Turn, Chain as Extend, LearnCoin, LearnVerdict, Forget}
 use Rattle.gate_core.specs.Opening.{Start}
 use Rattle.gate_message.specs.declared.denial.PeerDenial.{PeerDenial}
 use Rattle.gate_message.specs.declared.reply.Reply.{Reply}
 use Rattle.gate_core.specs.World.{World, opened_world, standing_of}
 use Rattle.gate_core.specs.Access.{entering_rules, session_rules, submission_rules, listing_rules, block_rules, headers_rules}
 use Rattle.gate_core.specs.PeerSteps.{decided, answered, entered, left, submitted, listed, block_given, headers_given, filter_set}
-use Rattle.gate_core.specs.ChainSteps.{chained_as}
+use Rattle.gate_core.specs.ChainSteps.{chained_as, coin_rules, forgotten_as, learnt_as, with_coin, with_verdict}
 use Rattle.gate_core.specs.Steps.{step_of}
 use Rattle.gate_message.specs.Spelled.{IsSpelled, offered, transactions_of}
 use Rattle.gate_core.specs.Good.{IsApartFrom, IsGoodWorld, StepGives, limits_of, transactions_in}
 use Rattle.gate_rpc.specs.Calls.{request_of}
 use Rattle.gate_core.proofs.Calls.{call_gives}
+use Rattle.gate_core.proofs.Forgetting.{forgetting_from, forgetting_good}
+use Rattle.gate_core.proofs.Learning.{coin_good}
 
 same_good : (w v : World) → v.chain ≡ w.chain → v.pool ≡ w.pool → limits_of v ≡ limits_of w → IsGoodWorld w → IsGoodWorld v
 same_good w v c p b good = record {
   chain = subst IsSettled (sym c) good.chain;
+  spends = subst SpendsCoins (sym c) good.spends;
   pool = subst (λ (l : Limits). IsGood l v.chain v.pool) (sym b) (subst (λ (h : History). IsGood (limits_of w) h v.pool) (sym c) (subst (IsGood (limits_of w) w.chain) (sym p) good.pool));
   spelled = subst (λ (l : List Admitted). (e : Admitted) → Contains l e → IsTx e.tx) (sym p) good.spelled;
 }
@@ -67,6 +73,9 @@ StaysApart w (Rpc call) = StaysUnconnected (standing_of w) (offered (request_of 
 StaysApart w (SetFloor rate) = Unit {0}
 StaysApart w (Turn switch on) = Unit {0}
 StaysApart w (Extend disconnect now blocks) = IsApartFrom w (Extend disconnect now blocks)
+StaysApart w (LearnCoin coin) = Unit {0}
+StaysApart w (LearnVerdict row) = Unit {0}
+StaysApart w (Forget blocks) = Unit {0}
 
 -- ---- where transactions come from
 
@@ -141,6 +150,7 @@ after_good : (w : World) (now : ℕ) (transaction : Option Tx) → IfSome transa
     → let s = submit_of (standing_of w) transaction now w.budget in IsGoodWorld (record w { pool = s.entries; floor = s.floor })
 after_good w now transaction told new good = record {
   chain = good.chain;
+  spends = good.spends;
   pool = submission_good (standing_of w) transaction now w.budget new good.pool;
   spelled = λ e m. ⊎_elim (λ k. entry_spelled w.pool good.spelled e.tx k) (λ k. option_spelled transaction told e.tx k)
       (Contains-append_cases (map (λ (a : Admitted). a.tx) w.pool) (option_to_list transaction) e.tx
@@ -163,6 +173,7 @@ none (x ∷ before) after b h = cc
 pub opened_good : (o : Start) → IsGoodWorld (opened_world o)
 opened_good o = record {
   chain = record { coinbases = λ b h. absurd (omega arith); spelled = λ tx h. absurd (omega arith); founded = λ before after b h. absurd (none before after b h) };
+  spends = record { made = λ before after b h. absurd (none before after b h); once = λ before after b h. absurd (none before after b h) };
   pool = empty_good (limits_of (opened_world o)) (opened_world o).chain;
   spelled = λ e m. not_in_none e m;
 }
@@ -189,6 +200,7 @@ chained_good w disconnect now blocks told apart good None is =
     (record { settled = good.chain; entries_spelled = good.spelled; blocks_spelled = told; apart = apart; good = good.pool }) in
     record {
       chain = stays.settled;
+      spends = events_spend_coins (standing_of w) disconnect (present blocks) now w.budget (switch_passes w.chain disconnect blocks is) good.spends;
       pool = stays.good;
       spelled = λ e m. ⊎_elim
           (λ k. ⊎_elim (λ l. good.chain.spelled e.tx l) (λ l. entry_spelled w.pool good.spelled e.tx l) (Contains-append_cases (connected_transactions w.chain) (map (λ (a : Admitted). a.tx) w.pool) e.tx k))
@@ -197,6 +209,15 @@ chained_good w disconnect now blocks told apart good None is =
           (events_bring_nothing_else (standing_of w) disconnect (present blocks) now w.budget e.tx
           (Contains-append_right (connected_transactions after.chain) (map (λ (a : Admitted). a.tx) after.entries) e.tx (Contains-map (λ (a : Admitted). a.tx) after.entries e m))));
     }
+
+-- a coin or a verdict that is learnt, or not
+learnt_good : (w after : World) (denial : Option ChainDenial) → IsGoodWorld w → (denial ≡ None → IsGoodWorld after) → IsGoodWorld (learnt_as w after denial).1
+learnt_good w after (Some denial) good done = good
+learnt_good w after None good done = done refl
+
+forgotten_good : (w : World) (n : ℕ) (denial : Option ChainDenial) → IsGoodWorld w → IsGoodWorld (forgotten_as w n denial).1
+forgotten_good w n (Some denial) good = good
+forgotten_good w n None good = forgetting_good w n good
 
 pub step_good : (w : World) (event : Event) → IsSpelled event → StaysApart w event → IsGoodWorld w → IsGoodWorld (step_of w event).1
 unfolding step_of
@@ -214,6 +235,9 @@ step_good w (Rpc call) told new good =
 step_good w (SetFloor rate) told new good = same_good w _ refl refl refl good
 step_good w (Turn switch on) told new good = same_good w _ refl refl refl good
 step_good w (Extend disconnect now blocks) told new good = chained_good w disconnect now blocks told new good (first_failing (event_rules w.chain disconnect blocks)) refl
+step_good w (LearnCoin coin) told new good = learnt_good w (with_coin w coin) (first_failing (coin_rules w coin)) good (λ passes. coin_good w coin passes good)
+step_good w (LearnVerdict row) told new good = learnt_good w (with_verdict w row) (first_failing (row_rules w.verdicts row)) good (λ passes. same_good w (with_verdict w row) refl refl refl good)
+step_good w (Forget blocks) told new good = forgotten_good w blocks (forget_denial w.chain blocks) good
 
 -- a part of what is apart is
 pub apart_part : (part whole : List Tx) → ((tx : Tx) → Contains part tx → Contains whole tx) → AreApart whole → AreApart part
@@ -243,6 +267,9 @@ apart_stays w (Rpc call) settled spelled apart = offered_stays w (offered (reque
 apart_stays w (SetFloor rate) settled spelled apart = tt
 apart_stays w (Turn switch on) settled spelled apart = tt
 apart_stays w (Extend disconnect now blocks) settled spelled apart = apart
+apart_stays w (LearnCoin coin) settled spelled apart = tt
+apart_stays w (LearnVerdict row) settled spelled apart = tt
+apart_stays w (Forget blocks) settled spelled apart = tt
 
 -- no event changes the limits
 decided_limits : (w : World) (peer : ℕ) (transaction : Option Tx) (decision : Result Grant Denial) → limits_of (decided w peer transaction decision).1 ≡ limits_of w
@@ -257,6 +284,14 @@ answered_limits w peer served None h = h
 chained_limits : (w : World) (after : Happened) (denial : Option ChainDenial) → limits_of (chained_as w after denial).1 ≡ limits_of w
 chained_limits w after (Some denial) = refl
 chained_limits w after None = refl
+
+learnt_limits : (w after : World) (denial : Option ChainDenial) → limits_of after ≡ limits_of w → limits_of (learnt_as w after denial).1 ≡ limits_of w
+learnt_limits w after (Some denial) h = refl
+learnt_limits w after None h = h
+
+forgotten_limits : (w : World) (n : ℕ) (denial : Option ChainDenial) → limits_of (forgotten_as w n denial).1 ≡ limits_of w
+forgotten_limits w n (Some denial) = refl
+forgotten_limits w n None = refl
 
 pub step_limits : (w : World) (event : Event) → limits_of (step_of w event).1 ≡ limits_of w
 unfolding step_of
@@ -273,11 +308,23 @@ step_limits w (Rpc call) = call_gives (λ p. limits_of p.1 ≡ limits_of w) w ca
 step_limits w (SetFloor rate) = refl
 step_limits w (Turn switch on) = refl
 step_limits w (Extend disconnect now blocks) = chained_limits w (event_of (standing_of w) disconnect (present blocks) now w.budget) (first_failing (event_rules w.chain disconnect blocks))
+step_limits w (LearnCoin coin) = learnt_limits w (with_coin w coin) (first_failing (coin_rules w coin)) refl
+step_limits w (LearnVerdict row) = learnt_limits w (with_verdict w row) (first_failing (row_rules w.verdicts row)) refl
+step_limits w (Forget blocks) = forgotten_limits w blocks (forget_denial w.chain blocks)
 
 chained_from : (w : World) (disconnect now : ℕ) (blocks : List (Option Block)) (denial : Option ChainDenial) (tx : Tx)
     → Contains (transactions_in (chained_as w (event_of (standing_of w) disconnect (present blocks) now w.budget) denial).1) tx → Contains (transactions_in w ++ block_transactions (present blocks)) tx
 chained_from w disconnect now blocks (Some denial) tx h = Contains-append_left _ _ tx h
 chained_from w disconnect now blocks None tx h = events_bring_nothing_else (standing_of w) disconnect (present blocks) now w.budget tx h
+
+learnt_from : (w after : World) (denial : Option ChainDenial) (tx : Tx) → (Contains (transactions_in after) tx → Contains (transactions_in w) tx) → Contains (transactions_in (learnt_as w after denial).1) tx
+    → Contains (transactions_in w) tx
+learnt_from w after (Some denial) tx from h = h
+learnt_from w after None tx from h = from h
+
+forgotten_from : (w : World) (n : ℕ) (denial : Option ChainDenial) (tx : Tx) → Contains (transactions_in (forgotten_as w n denial).1) tx → Contains (transactions_in w) tx
+forgotten_from w n (Some denial) tx h = h
+forgotten_from w n None tx h = forgetting_from w n tx h
 
 pub step_from : (w : World) (event : Event) (tx : Tx) → Contains (transactions_in (step_of w event).1) tx → Contains (transactions_in w ++ transactions_of event) tx
 unfolding step_of
@@ -296,6 +343,9 @@ step_from w (Rpc call) tx h =
 step_from w (SetFloor rate) tx h = Contains-append_left _ _ tx h
 step_from w (Turn switch on) tx h = Contains-append_left _ _ tx h
 step_from w (Extend disconnect now blocks) tx h = chained_from w disconnect now blocks (first_failing (event_rules w.chain disconnect blocks)) tx h
+step_from w (LearnCoin coin) tx h = Contains-append_left _ _ tx (learnt_from w (with_coin w coin) (first_failing (coin_rules w coin)) tx (λ k. k) h)
+step_from w (LearnVerdict row) tx h = Contains-append_left _ _ tx (learnt_from w (with_verdict w row) (first_failing (row_rules w.verdicts row)) tx (λ k. k) h)
+step_from w (Forget blocks) tx h = Contains-append_left _ _ tx (forgotten_from w blocks (forget_denial w.chain blocks) tx h)
 
 -- a step gives what it is to give
 pub step_gives : (w : World) (event : Event) (reply : Reply) (next : World) → IsSpelled event → (reply, next) ≡ step_of w event → StepGives w event reply next

@@ -1,15 +1,19 @@
 mod Barring
+mod ByChain
 mod Calls
 mod ClosedSessions
 mod Denials
 mod Floors
+mod Forgetting
 pub mod Keeping
 mod Guarding
+mod Learning
 mod Listings
 mod Peers
 mod Rates
 mod Settling
 pub mod Running
+mod SameAnswers
 mod Sending
 mod Separate
 pub mod Spends

@@ -8,12 +8,14 @@ use Rattle.gate_standard.specs.declared.Denial.{Denial}
 use Rattle.gate_standard.specs.declared.Denial.TheVariants.{Decode}
 use Rattle.gate_admit.specs.declared.Grant.{Grant}
 use Rattle.gate_admit.specs.Submission.{submit_of}
+use Rattle.gate_admit.specs.Verdicts.{row_rules}
+use Rattle.gate_chain.specs.Forgetting.{forget_denial}
 use Rattle.gate_chain.specs.declared.ChainDenial.{ChainDenial}
 use Rattle.gate_reorg.specs.Events.{Happened, event_rules, event_of}
 use Rattle.gate_submission.specs.Blocks.{present}
 use Rattle.gate_message.specs.declared.caller.Caller.TheVariants.{Peer}
 use Rattle.gate_message.specs.declared.event.Event.{Event}
-use Rattle.gate_message.specs.declared.event.Event.TheVariants.{Enter, Leave, Tx as Submit, Mempool, GetBlock, Headers, FeeFilter, Rpc, SetFloor, Set as Turn, Chain as Extend}
+use Rattle.gate_message.specs.declared.event.Event.TheVariants.{Enter, Leave, Tx as Submit, Mempool, GetBlock, Headers, FeeFilter, Rpc, SetFloor, Set as Turn, Chain as Extend, LearnCoin, LearnVerdict, Forget}
 use Rattle.gate_message.specs.declared.denial.PeerDenial.{PeerDenial}
 use Rattle.gate_message.specs.declared.denial.PeerDenial.TheVariants.{Admission}
 use Rattle.gate_message.specs.declared.denial.Then.{Then}
@@ -26,7 +28,7 @@ use Rattle.gate_core.specs.Sessions.{Session, session, session_of, flags_in, rat
 use Rattle.gate_core.specs.World.{World, flags_at, standing_of}
 use Rattle.gate_core.specs.Access.{entering_rules, session_rules, submission_rules, listing_rules, block_rules, headers_rules}
 use Rattle.gate_core.specs.PeerSteps.{sessions_after, decided, answered, entered, left, submitted, listed, block_given, headers_given, filter_set}
-use Rattle.gate_core.specs.ChainSteps.{chained_as}
+use Rattle.gate_core.specs.ChainSteps.{chained_as, coin_rules, forgotten_as, learnt_as, with_coin, with_verdict}
 use Rattle.gate_core.specs.Steps.{step_of}
 use Rattle.gate_core.specs.Runs.{run_of}
 use Rattle.gate_rpc.specs.Calls.{request_of}
@@ -88,6 +90,14 @@ chained_leaves : (w : World) (other : ℕ) (after : Happened) (denial : Option C
 chained_leaves w other after (Some denial) = refl
 chained_leaves w other after None = refl
 
+learnt_leaves : (w after : World) (other : ℕ) (denial : Option ChainDenial) → after.sessions ≡ w.sessions → session_of (learnt_as w after denial).1.sessions other ≡ session_of w.sessions other
+learnt_leaves w after other (Some denial) h = refl
+learnt_leaves w after other None h = ap (λ sessions. session_of sessions other) h
+
+forgotten_leaves : (w : World) (n other : ℕ) (denial : Option ChainDenial) → session_of (forgotten_as w n denial).1.sessions other ≡ session_of w.sessions other
+forgotten_leaves w n other (Some denial) = refl
+forgotten_leaves w n other None = refl
+
 another : (peer other : ℕ) → Peer peer ≢ Peer other → other ≢ peer
 another peer other h = λ k. h (ap Peer (sym k))
 
@@ -113,6 +123,9 @@ step_leaves w (Rpc call) other h =
 step_leaves w (SetFloor rate) other h = refl
 step_leaves w (Turn switch on) other h = refl
 step_leaves w (Extend disconnect now blocks) other h = chained_leaves w other (event_of (standing_of w) disconnect (present blocks) now w.budget) (first_failing (event_rules w.chain disconnect blocks))
+step_leaves w (LearnCoin coin) other h = learnt_leaves w (with_coin w coin) other (first_failing (coin_rules w coin)) refl
+step_leaves w (LearnVerdict row) other h = learnt_leaves w (with_verdict w row) other (first_failing (row_rules w.verdicts row)) refl
+step_leaves w (Forget blocks) other h = forgotten_leaves w blocks other (forget_denial w.chain blocks)
 
 pub run_leaves : (events : List Event) (w : World) (peer : ℕ) → All (λ (e : Event). caller_of e ≢ Peer peer) events → session_of (run_of w events).1.sessions peer ≡ session_of w.sessions peer
 run_leaves [] w peer others = refl

@@ -10,7 +10,7 @@ use Rattle.gate_chain.specs.Times.{tip_of, time_of}
 use Rattle.gate_pool.specs.Pool.{Admitted, entry_by_wtxid}
 use Rattle.gate_net.specs.Permissions.{Permissions}
 use Rattle.gate_message.specs.declared.event.Event.{Event}
-use Rattle.gate_message.specs.declared.event.Event.TheVariants.{Enter, Leave, Tx as Submit, Mempool, GetBlock, Headers, FeeFilter, Rpc, SetFloor, Set, Chain as Extend}
+use Rattle.gate_message.specs.declared.event.Event.TheVariants.{Enter, Leave, Tx as Submit, Mempool, GetBlock, Headers, FeeFilter, Rpc, SetFloor, Set, Chain as Extend, LearnCoin, LearnVerdict, Forget}
 use Rattle.gate_message.specs.declared.denial.PeerDenial.{PeerDenial}
 use Rattle.gate_message.specs.declared.denial.PeerDenial.TheVariants.{PeerUnknown, PeerClosed, PeerKnown, BlocksOnly, AlreadyInMempool, MempoolNoBloom, MempoolUploadTarget, HeadersDuringDownload, UnknownBlock, HistoricalUploadTarget, Admission}
 use Rattle.gate_core.specs.Sessions.{Session, session_of, flags_in}
@@ -55,6 +55,10 @@ lacks_history w flags height = w.switches.historic && (not flags.download && is_
 abbrev pub is_above_tip : World → ℕ → Bool
 is_above_tip w height = nat_lt (tip_of w.chain) height
 
+-- a block stands above the tip, or below the first one whose time is known
+abbrev pub is_unknown_block : World → ℕ → Bool
+is_unknown_block w height = is_none (time_of w.chain height)
+
 -- whether a transaction's wtxid is in the pool
 abbrev pub is_pooled : List Admitted → Option Tx → Bool
 is_pooled pool transaction = option_map_or (λ (tx : Tx). is_some (entry_by_wtxid pool (wtxid_of tx))) transaction false
@@ -94,7 +98,7 @@ headers_rules w peer height =
 abbrev pub block_rules : World → ℕ → ℕ → List (Rule PeerDenial)
 block_rules w peer height =
     session_rules w.sessions peer
-    ++ (UnknownBlock, is_above_tip w height)
+    ++ (UnknownBlock, is_unknown_block w height)
     ∷ (HistoricalUploadTarget, lacks_history w (flags_in w.sessions peer) height)
     ∷ []
 
@@ -111,6 +115,9 @@ caller_rules w (Rpc call) = []
 caller_rules w (SetFloor rate) = []
 caller_rules w (Set switch on) = []
 caller_rules w (Extend disconnect now blocks) = []
+caller_rules w (LearnCoin coin) = []
+caller_rules w (LearnVerdict row) = []
+caller_rules w (Forget blocks) = []
 
 -- a denial names a rule that fails, with none failing before it; without one no rule fails
 abbrev pub AccessFollowsTheOrder : Type 0

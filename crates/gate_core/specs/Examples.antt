@@ -1,11 +1,16 @@
 -- The step and what it rests on at small values, by computation.
-use Rattle.std.specs.Prelude.{◌≡◌, ℕ, Bool, true, false, List, [], ◌∷◌, None, Some, Result, Ok, Err, codes}
+use Rattle.std.specs.Prelude.{◌≡◌, ℕ, ℤ, pos, Bool, true, false, List, [], ◌∷◌, None, Some, Result, Ok, Err, codes, replicate}
 use Rattle.gate_standard.specs.declared.Denial.TheVariants.{Decode, VinEmpty}
-use Rattle.gate_message.specs.declared.event.Event.TheVariants.{Enter, Leave, Tx as Submit, Mempool, GetBlock, Headers as AskHeaders, FeeFilter, SetFloor, Set as Turn}
+use Rattle.gate_message.specs.declared.event.Event.TheVariants.{Enter, Leave, Tx as Submit, Mempool, GetBlock, Headers as AskHeaders, FeeFilter, SetFloor, Set as Turn, LearnCoin, LearnVerdict, Forget}
 use Rattle.gate_message.specs.declared.switch.Switch.TheVariants.{Download}
 use Rattle.gate_message.specs.declared.denial.Then.TheVariants.{Keep, Close, Relay}
 use Rattle.gate_message.specs.declared.denial.PeerDenial.TheVariants.{PeerUnknown, PeerClosed, PeerKnown, BlocksOnly, AlreadyInMempool, MempoolNoBloom, MempoolUploadTarget, HeadersDuringDownload, UnknownBlock, HistoricalUploadTarget, Admission}
-use Rattle.gate_message.specs.declared.reply.Reply.TheVariants.{Entered, Left, Listing, Block, Headers, Filter, Rpc, Denied, Set}
+use Rattle.gate_message.specs.declared.reply.Reply.TheVariants.{Entered, Left, Listing, Block, Headers, Filter, Rpc, Denied, Set, Forgotten, Refused}
+use Rattle.gate_chain.specs.declared.ChainDenial.TheVariants.{CoinValue, CoinUnspendable, CoinAboveOpening, CoinKnown, NoUndo, VerdictKnown}
+use Rattle.gate_chain.specs.declared.OpeningCoin.{OpeningCoin}
+use Rattle.gate_submission.specs.declared.Verdict.{Verdict}
+use Rattle.gate_submission.specs.declared.Verdict.TheVariants.{Good, Hard}
+use Rattle.gate_submission.specs.declared.VerdictRow.{VerdictRow}
 use Rattle.gate_admit.specs.Policies.{usual_policy}
 use Rattle.gate_net.specs.Addresses.{V4}
 use Rattle.gate_net.specs.Permissions.{Permissions, no_permissions, permissions_text}
@@ -29,7 +34,7 @@ use Rattle.gate_core.specs.Steps.{step_of}
 -- a state with these sessions and an empty pool
 abbrev pub with_sessions : Bool → List Session → World
 with_sessions bloom sessions = record {
-  chain = record { coins = []; times = []; blocks = [] };
+  chain = record { first = 0; coins = []; times = []; blocks = [] };
   pool = [];
   floor = 0;
   sessions = sessions;
@@ -76,7 +81,7 @@ blocks_only flags is_open = record (one_peer flags is_open) { blocksonly = true 
 -- peer 7 alone, with all switches on, over blocks of these times
 abbrev pub all_on : List ℕ → Permissions → Bool → World
 all_on times flags is_open = record (one_peer flags is_open) {
-  chain = record { coins = []; times = times; blocks = [] };
+  chain = record { first = 0; coins = []; times = times; blocks = [] };
   switches = record { bloom = true; upload = true; historic = true; download = true };
 }
 
@@ -133,6 +138,42 @@ pub record GuardedSteps : Type 0 where
   pub old_by_download : step_of (all_on (0 ∷ 604801 ∷ []) download true) (GetBlock 7 0) ≡ (Block 0 0, all_on (0 ∷ 604801 ∷ []) download true)
   pub unknown_first : step_of (all_on (0 ∷ 604801 ∷ []) no_permissions true) (GetBlock 7 2) ≡ (Denied UnknownBlock Keep, all_on (0 ∷ 604801 ∷ []) no_permissions true)
   pub turns : step_of (one_peer noban true) (Turn Download true) ≡ (Set, record (one_peer noban true) { switches = record (unswitched false) { download = true } })
+
+-- a coin of this value, script and height
+abbrev pub small_coin : ℤ → List ℕ → ℕ → OpeningCoin
+small_coin value script height = record {
+  outpoint = record { txid = replicate 32 7; index = 0 };
+  coin = record { value = value; script = script; height = height; coinbase = false };
+}
+
+abbrev pub small_row : Verdict → VerdictRow
+small_row verdict = record { wtxid = replicate 32 7; input = 0; verdict = verdict }
+
+-- peer 7 alone, over two blocks from this height on, with these coins and rows
+abbrev pub two_blocks : ℕ → List OpeningCoin → List VerdictRow → World
+two_blocks first coins rows = record (one_peer no_permissions true) {
+  chain = record { first = first; coins = coins; times = 1000 ∷ 1600 ∷ []; blocks = [] };
+  verdicts = record { rows = rows; other = None };
+}
+
+abbrev pub plain_coin : OpeningCoin
+plain_coin = small_coin (pos 5) [] 1
+
+-- steps of the chain's caller that learn and forget, and blocks below the first one
+pub record LearningSteps : Type 0 where
+  pub learns : step_of (two_blocks 0 [] []) (LearnCoin plain_coin) ≡ (Set, two_blocks 0 (plain_coin ∷ []) [])
+  pub worthless : step_of (two_blocks 0 [] []) (LearnCoin (small_coin (pos 2_100_000_000_000_001) [] 1)) ≡ (Refused CoinValue, two_blocks 0 [] [])
+  pub unspendable : step_of (two_blocks 0 [] []) (LearnCoin (small_coin (pos 5) (0x6a ∷ []) 1)) ≡ (Refused CoinUnspendable, two_blocks 0 [] [])
+  pub too_high : step_of (two_blocks 0 [] []) (LearnCoin (small_coin (pos 5) [] 2)) ≡ (Refused CoinAboveOpening, two_blocks 0 [] [])
+  pub as_high : step_of (two_blocks 5 [] []) (LearnCoin (small_coin (pos 5) [] 6)) ≡ (Set, two_blocks 5 (small_coin (pos 5) [] 6 ∷ []) [])
+  pub known : step_of (two_blocks 0 (plain_coin ∷ []) []) (LearnCoin plain_coin) ≡ (Refused CoinKnown, two_blocks 0 (plain_coin ∷ []) [])
+  pub verdict : step_of (two_blocks 0 [] []) (LearnVerdict (small_row Good)) ≡ (Set, two_blocks 0 [] (small_row Good ∷ []))
+  pub verdict_again : step_of (two_blocks 0 [] (small_row Good ∷ [])) (LearnVerdict (small_row Hard)) ≡ (Refused VerdictKnown, two_blocks 0 [] (small_row Good ∷ []))
+  pub forgets : step_of (two_blocks 0 (plain_coin ∷ []) (small_row Good ∷ [])) (Forget 0) ≡ (Forgotten 0 1 1, two_blocks 0 [] [])
+  pub too_few : step_of (two_blocks 0 (plain_coin ∷ []) []) (Forget 1) ≡ (Refused NoUndo, two_blocks 0 (plain_coin ∷ []) [])
+  pub below_the_first : step_of (two_blocks 5 [] []) (GetBlock 7 4) ≡ (Denied UnknownBlock Keep, two_blocks 5 [] [])
+  pub the_first : step_of (two_blocks 5 [] []) (GetBlock 7 5) ≡ (Block 5 1000, two_blocks 5 [] [])
+  pub headers_below : step_of (two_blocks 5 [] []) (AskHeaders 7 4) ≡ (Headers 5 2, two_blocks 5 [] [])
 
 -- steps of users' calls
 pub record CallSteps : Type 0 where

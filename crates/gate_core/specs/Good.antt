@@ -3,7 +3,7 @@ use Rattle.std.specs.Prelude.{◌≡◌, List, ◌++◌, map, Contains}
 use Rattle.gate_tx.specs.Text.{IsTx}
 use Rattle.gate_tx.specs.Tx.{Tx}
 use Rattle.gate_pool.specs.Pool.{Admitted}
-use Rattle.gate_admit.specs.Good.{Limits, IsGood, IsSettled, AreApart, connected_transactions, limits_for}
+use Rattle.gate_admit.specs.Good.{Limits, IsGood, IsSettled, AreApart, SpendsCoins, connected_transactions, limits_for}
 use Rattle.gate_message.specs.declared.event.Event.{Event}
 use Rattle.gate_message.specs.declared.reply.Reply.{Reply}
 use Rattle.gate_message.specs.Spelled.{transactions_of}
@@ -14,9 +14,11 @@ use Rattle.gate_core.specs.Steps.{step_of}
 abbrev pub limits_of : World → Limits
 limits_of w = limits_for w.policy w.budget
 
--- the connected blocks are well formed, the pool is good over the chain, and each entry's transaction has a text
+-- the connected blocks are well formed and spend coins that were made, each once, the pool is good over the chain, and each
+-- entry's transaction has a text
 pub record IsGoodWorld (w : World) : Type 0 where
   pub chain : IsSettled w.chain
+  pub spends : SpendsCoins w.chain
   pub pool : IsGood (limits_of w) w.chain w.pool
   pub spelled : (e : Admitted) → Contains w.pool e → IsTx e.tx
 

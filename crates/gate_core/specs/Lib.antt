@@ -13,4 +13,5 @@ pub mod Good
 pub mod Runs
 pub mod SessionLaws
 pub mod AccessLaws
+pub mod ChainLaws
 pub mod Examples

@@ -5,11 +5,11 @@ use Rattle.gate_tx.specs.Money.{max_money}
 use Rattle.gate_standard.specs.declared.Denial.TheVariants.{MempoolFull}
 use Rattle.gate_message.specs.declared.caller.Caller.TheVariants.{Peer}
 use Rattle.gate_message.specs.declared.event.Event.{Event}
-use Rattle.gate_message.specs.declared.event.Event.TheVariants.{Enter, Leave, Tx as Submit, Mempool, GetBlock, Headers, FeeFilter, Rpc, SetFloor, Set as Turn, Chain as Extend}
+use Rattle.gate_message.specs.declared.event.Event.TheVariants.{Enter, Leave, Tx as Submit, Mempool, GetBlock, Headers, FeeFilter, Rpc, SetFloor, Set as Turn, Chain as Extend, LearnCoin, LearnVerdict, Forget}
 use Rattle.gate_message.specs.declared.denial.PeerDenial.TheVariants.{PeerClosed, PeerKnown, Admission}
 use Rattle.gate_message.specs.declared.denial.Then.TheVariants.{Keep}
 use Rattle.gate_message.specs.declared.reply.Reply.{Reply}
-use Rattle.gate_message.specs.declared.reply.Reply.TheVariants.{Entered, Left, Admitted, Listing, Block, Headers, Filter, Rpc as Answered, Denied, Set, Moved, Refused}
+use Rattle.gate_message.specs.declared.reply.Reply.TheVariants.{Entered, Left, Admitted, Listing, Block, Headers, Filter, Rpc as Answered, Denied, Set, Moved, Forgotten, Refused}
 use Rattle.gate_rpc.specs.declared.error.RpcError.{RpcError}
 use Rattle.gate_rpc.specs.declared.error.RpcError.TheVariants as errors
 use Rattle.gate_rpc.specs.declared.reply.RpcReply.{RpcReply}
@@ -34,6 +34,9 @@ closed_reply (Rpc call) = None
 closed_reply (SetFloor rate) = None
 closed_reply (Turn switch on) = None
 closed_reply (Extend disconnect now blocks) = None
+closed_reply (LearnCoin coin) = None
+closed_reply (LearnVerdict row) = None
+closed_reply (Forget blocks) = None
 
 -- after any events a closed session is as it was, and each event of its peer among them has the reply to a closed session
 abbrev pub ClosedStaysClosed : Type 0
@@ -75,6 +78,7 @@ IsDenied (Answered answer) = IsFailed answer
 IsDenied (Denied denial then) = denial ≢ Admission MempoolFull
 IsDenied Set = ⊥
 IsDenied (Moved moved) = ⊥
+IsDenied (Forgotten blocks coins rows) = ⊥
 IsDenied (Refused denial) = Unit {0}
 
 -- events that are all denied, by other rules than A46, leave the chain, the pool and its floor as they were

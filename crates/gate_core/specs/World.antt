@@ -1,6 +1,6 @@
 -- What a state is: the chain, the pool over it with its floor, the sessions of peers, and the settings.
 use Rattle.std.specs.Prelude.{ℕ, Bool, List, []}
-use Rattle.gate_chain.specs.History.{History, opened}
+use Rattle.gate_chain.specs.History.{History, opened_from}
 use Rattle.gate_admit.specs.Policies.{Policy}
 use Rattle.gate_admit.specs.Standing.{Standing, standing}
 use Rattle.gate_admit.specs.Verdicts.{VerdictTable}
@@ -39,7 +39,7 @@ flags_at w address = flags_of w.whitelist address
 -- the state of an opening: no entries, a floor of 0, no peers
 abbrev pub opened_world : Start → World
 opened_world o = record {
-  chain = opened o.coins o.times;
+  chain = opened_from o.first o.coins o.times;
   pool = [];
   floor = 0;
   sessions = [];

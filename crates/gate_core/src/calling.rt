@@ -13,7 +13,7 @@ use crate::parts::Parts;
 use crate::planning::{Change, Plan};
 use crate::submitting::standing_for;
 use gate_admit::{Conditions, Prepared, plan_submission};
-use gate_bytes::{Boxed, Copied, Kept, Memory};
+use gate_bytes::{Boxed, Copied, Counted, Kept, Memory};
 use gate_message::{Call, Reply};
 use gate_query::{ancestors_listed, descendants_listed, entry_info, pool_info, test_submission};
 use gate_rpc::{Command, EntryInfo, Id, Request, RpcError, RpcReply, RpcResult};
@@ -46,22 +46,22 @@ fn telling(alloc: Global, id: &Id, outcome: Result<RpcResult, RpcError>) -> Resu
 }
 
 /// The result of a call that asks for the ids of an entry's ancestors or descendants.
-fn of_ids(found: Option<Kept<Txid>>) -> Result<RpcResult, RpcError>
-    ensures { result ≡ of_entry Txids found }
+fn of_ids(alloc: Global, found: Option<Kept<Txid>>) -> Result<Result<RpcResult, RpcError>, Memory>
+    ensures { IfOk result (λ outcome. outcome ≡ of_entry Txids found) }
 {
     match found {
-        Some(txids) => Ok(RpcResult::Txids(txids)),
-        None => Err(RpcError::NotInMempool),
+        Some(txids) => Ok(Ok(RpcResult::Txids(Counted::new(alloc, txids)?))),
+        None => Ok(Err(RpcError::NotInMempool)),
     }
 }
 
 /// The result of a call that asks for what is known of an entry.
-fn of_info(found: Option<EntryInfo>) -> Result<RpcResult, RpcError>
-    ensures { result ≡ of_entry Entry found }
+fn of_info(alloc: Global, found: Option<EntryInfo>) -> Result<Result<RpcResult, RpcError>, Memory>
+    ensures { IfOk result (λ outcome. outcome ≡ of_entry Entry found) }
 {
     match found {
-        Some(info) => Ok(RpcResult::Entry(info)),
-        None => Err(RpcError::NotInMempool),
+        Some(info) => Ok(Ok(RpcResult::Entry(Counted::new(alloc, info)?))),
+        None => Ok(Err(RpcError::NotInMempool)),
     }
 }
 
@@ -119,19 +119,20 @@ impl<S: BuildHasher + Copy + Drop> Parts<S> {
             }
             Command::GetRawMempool => {
                 let txids = self.pool.listing(alloc)?;
+                let txids = self.listing.share(alloc, txids)?;
                 telling(alloc, id, Ok(RpcResult::Txids(txids)))
             }
             Command::GetMempoolEntry(txid) => {
                 let found = entry_info(alloc, &self.pool, txid)?;
-                telling(alloc, id, of_info(found))
+                telling(alloc, id, of_info(alloc, found)?)
             }
             Command::GetMempoolAncestors(txid) => {
                 let found = ancestors_listed(alloc, &self.pool, txid)?;
-                telling(alloc, id, of_ids(found))
+                telling(alloc, id, of_ids(alloc, found)?)
             }
             Command::GetMempoolDescendants(txid) => {
                 let found = descendants_listed(alloc, &self.pool, txid)?;
-                telling(alloc, id, of_ids(found))
+                telling(alloc, id, of_ids(alloc, found)?)
             }
             Command::GetMempoolInfo => {
                 let found = pool_info(&self.pool, &self.floor, self.budget);
@@ -150,7 +151,7 @@ impl<S: BuildHasher + Copy + Drop> Parts<S> {
             &self.chain,
             &self.pool,
             &self.floor,
-            self.verdicts.get(),
+            &self.verdicts,
             &self.policy,
             transaction,
         )?;
@@ -177,7 +178,7 @@ impl<S: BuildHasher + Copy + Drop> Parts<S> {
         let under = Conditions {
             chain: &self.chain,
             floor: &self.floor,
-            verdicts: self.verdicts.get(),
+            verdicts: &self.verdicts,
             policy: &self.policy,
             second: now,
             budget: self.budget,

@@ -1,26 +1,70 @@
-//! Events of the chain.
-ghost use Rattle.std.specs.Prelude.{◌≡◌, IfOk, OnErr};
+//! Events of the chain's caller.
+ghost use Rattle.std.specs.Prelude.{◌≡◌, Some, true, is_some, IfOk, OnErr};
+ghost use Rattle.gate_bytes.specs.Order.{first_failing};
+ghost use Rattle.gate_pool.specs.Pool.{entry_by_txid};
+ghost use Rattle.gate_message.specs.Callers.{caller_of};
 ghost use Rattle.gate_message.specs.Replies.{chain_reply};
-ghost use Rattle.gate_core.specs.ChainSteps.{chained};
+ghost use Rattle.gate_message.specs.declared.caller.Caller.TheVariants.{Chain as TheChain};
+ghost use Rattle.gate_core.specs.ChainSteps.{chained, coin_rules, coin_step, verdict_step, forget_step};
 ghost use Rattle.gate_core.specs.Planning.{world_of};
+ghost use Rattle.gate_core.specs.Steps.{step_of};
 
 use crate::parts::Parts;
-use gate_bytes::Memory;
-use gate_chain::{Block, ChainDenial, ChainFault};
-use gate_reorg::{Moved, chain_event};
+use gate_admit::{OpeningCoin, Pool, VerdictRow};
+use gate_bytes::{Copied, Memory};
+use gate_chain::{Block, ChainDenial, ChainFault, CoinTest};
+use gate_message::{ChainOutcome, Event};
+use gate_reorg::chain_event;
+use gate_tx::OutPoint;
 use std::alloc::Global;
 use std::hash::BuildHasher;
 
+/// The outpoints that entries of a pool spend.
+#[derive(Drop)]
+struct Spends<'a, S: BuildHasher + Copy + Drop> {
+    pool: &'a Pool<S>,
+}
+
+impl<'a, S: BuildHasher + Copy + Drop> CoinTest for Spends<'a, S> {
+    ghost use Rattle.gate_core.specs.ChainSteps.{is_spent_by_some};
+
+    ghost wanted = { λ spends p. is_spent_by_some spends.pool.now.entries p };
+
+    fn wants(&self, outpoint: &OutPoint) -> bool {
+        self.pool.spender(outpoint).is_some()
+    }
+}
+
 impl<S: BuildHasher + Copy + Drop> Parts<S> {
-    /// Disconnects this many blocks and connects these in their place, at this second. A denial names the first rule
-    /// that fails, and nothing changes.
-    pub(crate) fn change_chain(
+    /// Makes an event of the chain's caller. A denial names the first rule that fails, and then nothing changes; nor does
+    /// it if memory runs out.
+    #[tactic(auto, unfolding(crate::specs::Steps::step_of))]
+    pub(crate) fn follow(&mut self, alloc: Global, event: &Event) -> Result<ChainOutcome, Memory>
+        requires { caller_of event.now ≡ TheChain }
+        ensures ok { IfOk result (λ outcome. (chain_reply outcome, world_of self.new) ≡ step_of (world_of self.old) event.now) }
+        ensures err { OnErr result (world_of self.new ≡ world_of self.old) }
+    {
+        match event {
+            Event::Chain {
+                disconnect,
+                now,
+                blocks,
+            } => self.change_chain(alloc, *disconnect, *now, blocks.get().as_slice()),
+            Event::LearnCoin(coin) => self.learn_coin(alloc, coin),
+            Event::LearnVerdict(row) => self.learn_verdict(*row),
+            Event::Forget { blocks } => self.forget(alloc, *blocks),
+            _ => unreachable!(),
+        }
+    }
+
+    /// Disconnects this many blocks and connects these in their place, at this second.
+    fn change_chain(
         &mut self,
         alloc: Global,
         disconnect: u64,
         now: u64,
         blocks: &[Option<Block>],
-    ) -> Result<Result<Moved, ChainDenial>, Memory>
+    ) -> Result<ChainOutcome, Memory>
         ensures ok { IfOk result (λ outcome. (chain_reply outcome, world_of self.new) ≡ chained (world_of self.old) disconnect now blocks.now) }
         ensures err { OnErr result (world_of self.new ≡ world_of self.old) }
     {
@@ -29,15 +73,78 @@ impl<S: BuildHasher + Copy + Drop> Parts<S> {
             &mut self.chain,
             &mut self.pool,
             &mut self.floor,
-            self.verdicts.get(),
+            &self.verdicts,
             &self.policy,
             disconnect,
             blocks,
             now,
             self.budget,
         ) {
-            Ok(moved) => Ok(Ok(moved)),
-            Err(ChainFault::Denied(denial)) => Ok(Err(denial)),
+            Ok(moved) => Ok(ChainOutcome::Moved(moved)),
+            Err(ChainFault::Denied(denial)) => Ok(ChainOutcome::Refused(denial)),
+            Err(ChainFault::Memory) => Err(Memory),
+        }
+    }
+
+    /// The denial of a coin of an entry's transaction: C11, unless a rule before it fails.
+    fn denial_of_entry_coin(&self, coin: &OpeningCoin) -> ChainDenial
+        requires { is_some (entry_by_txid self.now.pool.entries coin.now.outpoint.txid) ≡ true }
+        ensures { first_failing (coin_rules (world_of self.now) coin.now) ≡ Some result }
+    {
+        match self.chain.learn_denial(coin) {
+            Some(denial) => denial,
+            None => ChainDenial::CoinKnown,
+        }
+    }
+
+    /// Learns a coin: it is one of the opening's from now on.
+    fn learn_coin(&mut self, alloc: Global, coin: &OpeningCoin) -> Result<ChainOutcome, Memory>
+        ensures ok { IfOk result (λ outcome. (chain_reply outcome, world_of self.new) ≡ coin_step (world_of self.old) coin.now) }
+        ensures err { OnErr result (world_of self.new ≡ world_of self.old) }
+    {
+        if self.pool.entry(&coin.outpoint.txid).is_some() {
+            let denial = self.denial_of_entry_coin(coin);
+            return Ok(ChainOutcome::Refused(denial));
+        }
+        match self.chain.learn(coin.copy(alloc)?) {
+            Ok(()) => Ok(ChainOutcome::Learnt),
+            Err(ChainFault::Denied(denial)) => Ok(ChainOutcome::Refused(denial)),
+            Err(ChainFault::Memory) => Err(Memory),
+        }
+    }
+
+    /// Learns the verdict on an input.
+    fn learn_verdict(&mut self, row: VerdictRow) -> Result<ChainOutcome, Memory>
+        ensures ok { IfOk result (λ outcome. (chain_reply outcome, world_of self.new) ≡ verdict_step (world_of self.old) row) }
+        ensures err { OnErr result (world_of self.new ≡ world_of self.old) }
+    {
+        match self.verdicts.learn(row) {
+            Ok(()) => Ok(ChainOutcome::Learnt),
+            Err(ChainFault::Denied(denial)) => Ok(ChainOutcome::Refused(denial)),
+            Err(ChainFault::Memory) => Err(Memory),
+        }
+    }
+
+    /// Makes the lowest blocks blocks of the opening, and forgets the coins and the verdicts that neither an entry nor a
+    /// block above them needs. All memory is taken before anything changes, for what stays alone.
+    fn forget(&mut self, alloc: Global, blocks: u64) -> Result<ChainOutcome, Memory>
+        ensures ok { IfOk result (λ outcome. (chain_reply outcome, world_of self.new) ≡ forget_step (world_of self.old) blocks) }
+        ensures err { OnErr result (world_of self.new ≡ world_of self.old) }
+    {
+        let confirmed = self
+            .verdicts
+            .confirmed(alloc, &self.chain, blocks as usize)?;
+        let spends = Spends { pool: &self.pool };
+        match self.chain.forget(alloc, blocks as usize, &spends) {
+            Ok(forgotten) => {
+                let rows = self.verdicts.forget(&self.pool, &confirmed);
+                Ok(ChainOutcome::Forgotten {
+                    blocks,
+                    coins: forgotten.coins,
+                    rows: rows as u64,
+                })
+            }
+            Err(ChainFault::Denied(denial)) => Ok(ChainOutcome::Refused(denial)),
             Err(ChainFault::Memory) => Err(Memory),
         }
     }

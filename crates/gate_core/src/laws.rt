@@ -1,6 +1,7 @@
 //! Laws above the definitions.
 ghost use Rattle.gate_core.specs.Access.{AccessFollowsTheOrder};
 ghost use Rattle.gate_core.specs.AccessLaws.{ClosedSessionsChangeNothing, FlagsGuard, ListsBar, NobanIsKept, OnlySendersChange, QuestionsChangeNothing};
+ghost use Rattle.gate_core.specs.ChainLaws.{ForgettingChangesNoAnswer, LearningLeavesTheRest, OthersLeaveTheChain};
 ghost use Rattle.gate_core.specs.Runs.{AdmissionsLeaveNothingStale, CallsLeaveNothingStale, OnlyOperatorsLowerTheFloor, RunsEndGood, RunsKeepFamilies, RunsKeepTheBudget, RunsKeepThePoolSound, StepsGiveTheRun};
 ghost use Rattle.gate_core.specs.SessionLaws.{ClosedStaysClosed, DenialsLeaveThePool, GreatRatesChangeNothing, PeersAreSeparate};
 
@@ -64,6 +65,20 @@ pub fn great_rates_change_nothing()
 /// No event of a peer changes another peer's session, its fee filter included, or opens one.
 pub fn peers_are_separate()
     ensures { PeersAreSeparate }
+{}
+
+/// Events of other callers than the chain's leave the chain and the verdicts as they were, and what that caller says is
+/// learnt or forgotten leaves everything else.
+pub fn the_chain_is_of_its_caller()
+    ensures others { OthersLeaveTheChain }
+    ensures rest { LearningLeavesTheRest }
+{}
+
+/// A submission has one answer before and after blocks, coins and verdicts are forgotten, if the coins of its inputs and
+/// the verdicts on them are the same, an opening coin came from its transaction in both states or in neither, and its own
+/// outputs are unspent coins in both or in neither.
+pub fn forgetting_changes_no_answer()
+    ensures { ForgettingChangesNoAnswer }
 {}
 
 /// Events that are denied, by other rules than A46, leave the chain, the pool and its floor as they were.

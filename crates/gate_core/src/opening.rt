@@ -13,8 +13,10 @@ pub struct Opening<S: BuildHasher + Copy + Drop> {
     pub budget: u64,
     /// The limits of families and the rule on replacements.
     pub policy: Policy,
+    /// The height of the first block whose time is given: 0, unless the times below it are not known.
+    pub first: u32,
     pub coins: Kept<OpeningCoin>,
-    /// The times of the blocks in seconds, from height 0 on.
+    /// The times of the blocks in seconds, from the first height on.
     pub times: Kept<u32>,
     pub verdicts: Verdicts<S>,
     /// What peers are permitted by their addresses (Bitcoin Core's `-whitelist`).
@@ -36,6 +38,7 @@ impl<S: BuildHasher + Copy + Drop> Model for Opening<S> {
     ghost view = { λ o. record {
       budget = o.budget;
       policy = o.policy;
+      first = o.first;
       coins = o.coins;
       times = o.times;
       verdicts = o.verdicts;

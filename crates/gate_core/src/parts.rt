@@ -11,10 +11,11 @@ ghost use Rattle.gate_core.specs.Planning.{Fits, Plans, made_by, world_of};
 
 use crate::planning::{Change, Plan};
 use crate::session::Sessions;
+use crate::sharing::LastListing;
 use crate::submitting::standing_for;
 use crate::switches::Switches;
 use gate_admit::{Chain, Coming, Floor, Policy, Pool, Prepared, Verdicts, commit_submission};
-use gate_bytes::{Copied, Counted, Memory};
+use gate_bytes::{Copied, Memory};
 use gate_message::{Event, Reply};
 use gate_net::Whitelist;
 use gate_rpc::RpcWhitelist;
@@ -31,12 +32,13 @@ pub(crate) struct Parts<S: BuildHasher + Copy + Drop> {
     pub(crate) sessions: Sessions,
     pub(crate) budget: u64,
     pub(crate) policy: Policy,
-    /// They never change, so copies share them.
-    pub(crate) verdicts: Counted<Verdicts<S>>,
+    pub(crate) verdicts: Verdicts<S>,
     pub(crate) whitelist: Whitelist,
     pub(crate) rpcwhitelist: RpcWhitelist,
     pub(crate) blocksonly: bool,
     pub(crate) switches: Switches,
+    /// No part of the state: it only saves memory.
+    pub(crate) listing: LastListing,
 }
 
 impl<S: BuildHasher + Copy + Drop> Parts<S> {
@@ -80,6 +82,9 @@ impl<S: BuildHasher + Copy + Drop> Parts<S> {
                 },
             }),
             Event::Chain { .. } => unreachable!(),
+            Event::LearnCoin(_) => unreachable!(),
+            Event::LearnVerdict(_) => unreachable!(),
+            Event::Forget { .. } => unreachable!(),
         }
     }
 
@@ -142,8 +147,8 @@ impl<S: BuildHasher + Copy + Drop> Parts<S> {
         }
     }
 
-    /// The verdicts, shared, and a copy of the sessions.
-    fn copy_sessions(&self, alloc: Global) -> Result<(Counted<Verdicts<S>>, Sessions), Memory>
+    /// Copies of the verdicts and the sessions.
+    fn copy_sessions(&self, alloc: Global) -> Result<(Verdicts<S>, Sessions), Memory>
         ensures verdicts { IfOk result (λ copies. copies.0 ≡ self.now.verdicts) }
         ensures sessions { IfOk result (λ copies. copies.1.all ≡ self.now.sessions.all) }
     {
@@ -157,7 +162,7 @@ impl<S: BuildHasher + Copy + Drop> Parts<S> {
         }
     }
 
-    /// A copy of all parts, which shares the verdicts.
+    /// A copy of all parts.
     pub(crate) fn copy(&self, alloc: Global) -> Result<Parts<S>, Memory>
         ensures { IfOk result (λ copy. world_of copy ≡ world_of self.now) }
     {
@@ -180,6 +185,7 @@ impl<S: BuildHasher + Copy + Drop> Parts<S> {
                 rpcwhitelist,
                 blocksonly: self.blocksonly,
                 switches: self.switches,
+                listing: LastListing::none(),
             }),
             Err(fault) => {
                 drop(chain);

@@ -82,15 +82,18 @@ impl<S: BuildHasher + Copy + Drop> Parts<S> {
         }
     }
 
-    pub(crate) fn listing(&self, alloc: Global, peer: u64) -> Result<Plan, Memory>
-        ensures ok { IfOk result (Plans (world_of self.now) (listing_step (world_of self.now) peer)) }
+    pub(crate) fn listing(&mut self, alloc: Global, peer: u64) -> Result<Plan, Memory>
+        ensures ok { IfOk result (Plans (world_of self.old) (listing_step (world_of self.old) peer)) }
         ensures fits { IfOk result (λ plan. (sessions : Seated) (pool : Pooled) → Fits plan.change sessions pool) }
+        ensures same { world_of self.new ≡ world_of self.old }
     {
         match self.denial_of_listing(peer) {
             Some(denial) => Ok(self.denying(peer, denial)),
             None => {
                 let rate = self.sessions.rate(peer);
-                Ok(Plan::telling(Reply::Listing(listing_at(alloc, &self.pool, rate)?)))
+                let txids = listing_at(alloc, &self.pool, rate)?;
+                let txids = self.listing.share(alloc, txids)?;
+                Ok(Plan::telling(Reply::Listing(txids)))
             }
         }
     }
@@ -190,7 +193,7 @@ impl<S: BuildHasher + Copy + Drop> Parts<S> {
         let under = Conditions {
             chain: &self.chain,
             floor: &self.floor,
-            verdicts: self.verdicts.get(),
+            verdicts: &self.verdicts,
             policy: &self.policy,
             second: now,
             budget: self.budget,
@@ -237,7 +240,7 @@ impl<S: BuildHasher + Copy + Drop> Parts<S> {
         if let Some(denial) = self.sessions.denial(peer) {
             return Some(denial);
         }
-        if height > self.chain.tip() {
+        if self.chain.time(height).is_none() {
             return Some(PeerDenial::UnknownBlock);
         }
         if self.switches.historic

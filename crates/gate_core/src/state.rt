@@ -4,10 +4,9 @@ ghost use Rattle.std.specs.Option.{option_copied, option_map};
 ghost use Rattle.gate_core.specs.Submissions.{StandsFor, submission_of};
 ghost use Rattle.gate_message.specs.Callers.{caller_of};
 ghost use Rattle.gate_message.specs.Replies.{chain_reply};
-ghost use Rattle.gate_core.specs.ChainSteps.{chained};
 ghost use Rattle.gate_message.specs.declared.caller.Caller.TheVariants.{Chain as TheChain};
-ghost use Rattle.gate_chain.specs.History.{opened};
-ghost use Rattle.gate_chain.specs.Opening.{open_fault, IsRefusedFor};
+ghost use Rattle.gate_chain.specs.History.{opened_from};
+ghost use Rattle.gate_chain.specs.Opening.{open_fault_from, IsRefusedFor};
 ghost use Rattle.gate_core.specs.World.{opened_world};
 ghost use Rattle.gate_core.specs.Planning.{world_of};
 ghost use Rattle.gate_message.specs.Recording.{AreCopies};
@@ -19,13 +18,12 @@ use crate::opening::Opening;
 use crate::parts::Parts;
 use crate::planning::Plan;
 use crate::session::{Session, Sessions};
+use crate::sharing::LastListing;
 use crate::switches::Switches;
 use gate_admit::{Chain, Floor, OpenFault, OpeningCoin, Policy, Pool, Prepared, Verdicts};
-use gate_bytes::{Counted, Kept, Memory};
-use gate_chain::{Block, ChainDenial};
-use gate_message::{Event, Replies, Reply};
+use gate_bytes::{Kept, Memory};
+use gate_message::{Caller, ChainOutcome, Event, Replies, Reply};
 use gate_net::Whitelist;
-use gate_reorg::Moved;
 use gate_rpc::RpcWhitelist;
 use std::alloc::Global;
 use std::hash::BuildHasher;
@@ -60,18 +58,19 @@ impl<S: BuildHasher + Copy + Drop> Model for State<S> {
     ghost view = { λ s. world_of s.parts };
 }
 
-/// The chain of these coins and times, and an empty pool.
+/// The chain of these coins, and of these times from a height on, and an empty pool.
 fn opened_ledger<S: BuildHasher + Copy + Drop>(
     alloc: Global,
     hasher: S,
+    first: u32,
     coins: Kept<OpeningCoin>,
     times: Kept<u32>,
 ) -> Result<(Chain<S>, Pool<S>), OpenFault>
-    ensures chain { IfOk result (λ ledger. ledger.0 ≡ opened coins times) }
+    ensures chain { IfOk result (λ ledger. ledger.0 ≡ opened_from first coins times) }
     ensures pool { IfOk result (λ ledger. ledger.1.entries ≡ []) }
-    ensures fault { IsRefusedFor (open_fault coins times) result }
+    ensures fault { IsRefusedFor (open_fault_from first coins times) result }
 {
-    let chain = Chain::open(alloc, hasher, coins.into_vec(), times.into_vec())?;
+    let chain = Chain::open_from(alloc, hasher, first, coins.into_vec(), times.into_vec())?;
     match Pool::new(alloc, hasher) {
         Ok(pool) => Ok((chain, pool)),
         Err(_) => {
@@ -84,11 +83,12 @@ fn opened_ledger<S: BuildHasher + Copy + Drop>(
 impl<S: BuildHasher + Copy + Drop> State<S> {
     fn opened(alloc: Global, hasher: S, opening: Opening<S>) -> Result<State<S>, OpenFault>
         ensures ok { IfOk result (λ state. state ≡ opened_world opening) }
-        ensures fault { IsRefusedFor (open_fault opening.coins opening.times) result }
+        ensures fault { IsRefusedFor (open_fault_from opening.first opening.coins opening.times) result }
     {
         let Opening {
             budget,
             policy,
+            first,
             coins,
             times,
             verdicts,
@@ -97,10 +97,7 @@ impl<S: BuildHasher + Copy + Drop> State<S> {
             blocksonly,
             bloom,
         } = opening;
-        let Ok(verdicts) = Counted::new(alloc, verdicts) else {
-            return Err(OpenFault::Memory);
-        };
-        match opened_ledger(alloc, hasher, coins, times) {
+        match opened_ledger(alloc, hasher, first, coins, times) {
             Ok((chain, pool)) => Ok(State {
                 parts: Parts {
                     chain,
@@ -114,6 +111,7 @@ impl<S: BuildHasher + Copy + Drop> State<S> {
                     rpcwhitelist,
                     blocksonly,
                     switches: Switches::opened(bloom),
+                    listing: LastListing::none(),
                 },
             }),
             Err(fault) => {
@@ -130,7 +128,7 @@ impl<S: BuildHasher + Copy + Drop> State<S> {
     pub fn open(alloc: Global, hasher: S, opening: Opening<S>) -> Result<State<S>, OpenFault>
         ensures ok { IfOk result (λ state. state ≡ opened_world opening) }
         ensures good { IfOk result IsGoodWorld }
-        ensures fault { IsRefusedFor (open_fault opening.coins opening.times) result }
+        ensures fault { IsRefusedFor (open_fault_from opening.first opening.coins opening.times) result }
     {
         State::opened(alloc, hasher, opening)
     }
@@ -166,42 +164,31 @@ impl<S: BuildHasher + Copy + Drop> State<S> {
         Ok(replies.settled(denial))
     }
 
-    /// The outcome of a chain event: what moved, or the first rule that fails, and then nothing changes.
-    fn change_chain(
-        &mut self,
-        alloc: Global,
-        disconnect: u64,
-        now: u64,
-        blocks: &[Option<Block>],
-    ) -> Result<Result<Moved, ChainDenial>, Memory>
-        ensures ok { IfOk result (λ outcome. (chain_reply outcome, self.new) ≡ chained self.old disconnect now blocks.now) }
+    /// The step of an event of the chain's caller. Its outcome holds no memory, so that its reply, and any copies, are made
+    /// once all is done.
+    fn follow(&mut self, alloc: Global, event: &Event) -> Result<ChainOutcome, Memory>
+        requires { caller_of event.now ≡ TheChain }
+        ensures ok { IfOk result (λ outcome. (chain_reply outcome, self.new) ≡ step_of self.old event.now) }
         ensures err { OnErr result (self.new ≡ self.old) }
     {
-        self.parts.change_chain(alloc, disconnect, now, blocks)
+        self.parts.follow(alloc, event)
     }
 
     /// Makes one step, and returns the reply to the event. Only running out of memory can prevent it; the state is then
     /// what it was.
-    #[tactic(auto, unfolding(crate::specs::Steps::step_of))]
     pub fn apply(&mut self, alloc: Global, event: &Event) -> Result<Reply, Memory>
         ensures ok { IfOk result (λ reply. (reply, self.new) ≡ step_of self.old event.now) }
         ensures err { OnErr result (self.new ≡ self.old) }
     {
-        match event {
-            Event::Chain {
-                disconnect,
-                now,
-                blocks,
-            } => {
-                let outcome = self.change_chain(alloc, *disconnect, *now, blocks.as_slice())?;
-                Ok(Reply::of_chain(outcome))
-            }
-            _ => self.plan_and_commit(alloc, event),
+        if event.is_of(&Caller::Chain) {
+            let outcome = self.follow(alloc, event)?;
+            Ok(Reply::of_chain(outcome))
+        } else {
+            self.plan_and_commit(alloc, event)
         }
     }
 
     /// The step of any event, with copies of the reply. `prepared` may stand for the event's submission.
-    #[tactic(auto, unfolding(crate::specs::Steps::step_of))]
     fn record(
         &mut self,
         alloc: Global,
@@ -213,16 +200,11 @@ impl<S: BuildHasher + Copy + Drop> State<S> {
         ensures copies { IfOk result AreCopies }
         ensures err { OnErr result (self.new ≡ self.old) }
     {
-        match event {
-            Event::Chain {
-                disconnect,
-                now,
-                blocks,
-            } => {
-                let outcome = self.change_chain(alloc, *disconnect, *now, blocks.as_slice())?;
-                Ok(Replies::of_chain(outcome))
-            }
-            _ => self.plan_and_record(alloc, event, prepared),
+        if event.is_of(&Caller::Chain) {
+            let outcome = self.follow(alloc, event)?;
+            Ok(Replies::of_chain(outcome))
+        } else {
+            self.plan_and_record(alloc, event, prepared)
         }
     }
 
@@ -300,7 +282,7 @@ impl<S: BuildHasher + Copy + Drop> State<S> {
     pub fn verdicts(&self) -> &Verdicts<S>
         ensures { result.now ≡ self.now.verdicts }
     {
-        self.parts.verdicts.get()
+        &self.parts.verdicts
     }
 
     pub fn whitelist(&self) -> &Whitelist
@@ -328,7 +310,7 @@ impl<S: BuildHasher + Copy + Drop> State<S> {
         &self.parts.switches
     }
 
-    /// A copy of the state: only verdicts and transactions, which never change, are shared.
+    /// A copy of the state: only transactions, which never change, are shared.
     pub fn copy(&self, alloc: Global) -> Result<State<S>, Memory>
         ensures { IfOk result (λ copy. copy ≡ self.now) }
     {

@@ -1,8 +1,9 @@
 -- The chain's event: what is printed for it is what was read, or is read as the same.
-use Rattle.std.proofs.Common.{◌≡◌, ℕ, ◌<◌, ◌≤◌, ◌==◌, ◌||◌, ◌⊎◌, Bool, true, false, List, [], ◌∷◌, ◌++◌, length, map, codes, All, Option, Some, None, refl, ap, sym, subst, ◌∙◌, inl, inr, arith, length-append, append-nil}
+use Rattle.std.proofs.Common.{◌≡◌, ℕ, ◌<◌, ◌≤◌, ◌^◌, ◌==◌, ◌||◌, ◌⊎◌, Bool, true, false, if◌then◌else◌, List, [], ◌∷◌, ◌++◌, length, map, codes, All, Option, Some, None, refl, ap, sym, subst, ◌∙◌, inl, inr, arith, length-append, append-nil}
 use Rattle.std.specs.Fmt.{decimal}
 use Rattle.std.specs.List.{flat_map, join_with_byte}
-use Rattle.std.specs.Option.{option_and_then}
+use Rattle.std.specs.Option.{option_and_then, option_map}
+use Rattle.std.specs.Str.{bytes_eq}
 use Rattle.std.proofs.lemmas.Bool.{eqb-false}
 use Rattle.std.proofs.lemmas.Bool.Decides.{nat_tests}
 use Rattle.std.proofs.lemmas.List.Elements.{All-nil, All-cons}
@@ -11,13 +12,20 @@ use Rattle.std.proofs.lemmas.Option.{option_and_then_some}
 use Rattle.gate_lines.specs.Numbers.{number_of, max_number}
 use Rattle.gate_lines.specs.Words.{part_of}
 use Rattle.gate_lines.proofs.Decimals.{number_decimal, decimal_number}
-use Rattle.gate_chain.specs.declared.Block.{Block}
+use Rattle.gate_chain.specs.Blocks.{Block}
 use Rattle.gate_message.specs.declared.event.Event.{Event}
-use Rattle.gate_message.specs.declared.event.Event.TheVariants.{Chain}
+use Rattle.gate_message.specs.declared.event.Event.TheVariants.{Chain, LearnCoin, LearnVerdict, Forget}
+use Rattle.gate_chain.specs.declared.opening.OpeningCoin.{OpeningCoin}
+use Rattle.gate_submission.specs.declared.verdict.VerdictRow.{VerdictRow}
+use Rattle.gate_words.specs.CoinWords.{coin_of, coin_text}
+use Rattle.gate_words.specs.VerdictWords.{row_of, row_text}
 use Rattle.gate_events.specs.ChainLines.{block_of, blocks_of, words_of, has_gap}
-use Rattle.gate_events.specs.EventLines.{numbered_of, with_blocks, timed_blocks_of, chain_event_of}
-use Rattle.gate_events.specs.EventTexts.{block_word, block_words}
-use Rattle.gate_events.proofs.Again.{IsAgain, IsAgainIn, again_behind, either, option_map_is, some_is}
+use Rattle.gate_events.specs.EventLines.{numbered_of, with_blocks, timed_blocks_of, blocks_event_of, chain_event, chain_event_of}
+use Rattle.gate_events.specs.EventTexts.{block_word, block_words, text_of}
+use Rattle.gate_events.proofs.Again.{IsAgain, IsAgainIn, again_behind, either, option_map_is, same_word, some_is}
+use Rattle.gate_events.proofs.CoinTexts.{IsCoinRead, coin_again}
+use Rattle.gate_events.proofs.IdWords.{not_word}
+use Rattle.gate_events.proofs.RowTexts.{IsRowRead, row_again}
 use Rattle.gate_events.proofs.Hexes.{IsReread, block_again}
 use Rattle.gate_events.proofs.Letters.{all_letters, letters_joined}
 use Rattle.gate_events.proofs.Numbered.{numbered_joined, numbered_at, decimal_letters, small_fits}
@@ -181,21 +189,108 @@ chained_again disconnect text timed (inr is) = inr (record {
   short = inl is.short;
 })
 
+-- none of three words
+none_of_three : (a b c : Bool) (first second third last : Option Event) → a ≡ false → b ≡ false → c ≡ false
+    → (if a then first else if b then second else if c then third else last) ≡ last
+none_of_three a b c first second third last p q r = rw (p, q, r) refl
+
+-- a number is none of the words of the other events
+blocks_at : (disconnect : ℕ) (rest : List ℕ) → disconnect ≤ max_number → chain_event_of (decimal disconnect ++ 32 ∷ rest) ≡ blocks_event_of (decimal disconnect ++ 32 ∷ rest)
+blocks_at disconnect rest small =
+    let fits : disconnect < 2 ^ 64 = small_fits disconnect small in
+    let text : List ℕ = decimal disconnect ++ 32 ∷ rest in
+    ap (option_and_then (chain_event text)) (part_at (decimal disconnect) rest (number_no_space disconnect fits))
+    ∙ none_of_three (bytes_eq (decimal disconnect) (codes "coin")) (bytes_eq (decimal disconnect) (codes "verdict")) (bytes_eq (decimal disconnect) (codes "forget"))
+    (option_map LearnCoin (coin_of rest)) (option_map LearnVerdict (row_of rest)) (option_map Forget (number_of rest)) (blocks_event_of text)
+    (not_word disconnect (codes "coin") fits refl) (not_word disconnect (codes "verdict") fits refl) (not_word disconnect (codes "forget") fits refl)
+
 numbered_again : (disconnect : ℕ) (rest : List ℕ) (timed : ℕ × List (Option Block)) → disconnect ≤ max_number → IsTimed rest timed
     → IsAgainIn (λ x. codes "chain " ++ x) chain_event_of (Chain disconnect timed.0 timed.1) (decimal disconnect ++ 32 ∷ rest)
 numbered_again disconnect rest timed small is = (
   decimal disconnect ++ 32 ∷ timed_text timed,
   refl,
   again_behind (decimal disconnect) (behind disconnect) chain_event_of (Chain disconnect timed.0 timed.1) rest (timed_text timed) (decimal_letters disconnect small)
-      (λ x. ap (option_and_then (λ p. behind p.0 p.1)) (numbered_at disconnect x small)) (chained_again disconnect rest timed is),
+      (λ x. blocks_at disconnect x small ∙ ap (option_and_then (λ p. behind p.0 p.1)) (numbered_at disconnect x small)) (chained_again disconnect rest timed is),
 )
 
-pub chain_again : (text : List ℕ) (event : Event) → chain_event_of text ≡ Some event → IsAgainIn (λ x. codes "chain " ++ x) chain_event_of event text
-chain_again text event h = option_and_then_some (λ p. behind p.0 p.1) (numbered_of text) event h by
+-- what is printed for an event of the chain is what was read, or is read as the same
+abbrev Chained : List ℕ → Event → Type 0
+Chained text event = IsAgainIn (λ x. codes "chain " ++ x) chain_event_of event text
+
+extended_again : (text : List ℕ) (event : Event) → blocks_event_of text ≡ Some event → Chained text event
+extended_again text event h = option_and_then_some (λ p. behind p.0 p.1) (numbered_of text) event h by
   where
-    by : (p : ℕ × List ℕ) → numbered_of text ≡ Some p → behind p.0 p.1 ≡ Some event → IsAgainIn (λ x. codes "chain " ++ x) chain_event_of event text
+    by : (p : ℕ × List ℕ) → numbered_of text ≡ Some p → behind p.0 p.1 ≡ Some event → Chained text event
     by p is read =
         option_and_then_some (chained p.0) (timed_blocks_of p.1) event read (λ timed found same.
         let number = numbered_joined text p is in
-        subst (λ e. IsAgainIn (λ x. codes "chain " ++ x) chain_event_of e text) (some_is (Chain p.0 timed.0 timed.1) event same)
-        (subst (IsAgainIn (λ x. codes "chain " ++ x) chain_event_of (Chain p.0 timed.0 timed.1)) (sym number.joined) (numbered_again p.0 p.1 timed number.small (timed_again p.1 timed found))))
+        subst (Chained text) (some_is (Chain p.0 timed.0 timed.1) event same)
+        (subst (λ t. Chained t (Chain p.0 timed.0 timed.1)) (sym number.joined) (numbered_again p.0 p.1 timed number.small (timed_again p.1 timed found))))
+
+-- ---- what is learnt and forgotten
+
+-- behind the word of the event
+worded_again : (word : List ℕ) (form : List ℕ → Option Event) (event : Event) (rest printed : List ℕ) → all_letters word ≡ true
+    → ((x : List ℕ) → chain_event_of (word ++ 32 ∷ x) ≡ form x) → text_of event ≡ codes "chain " ++ (word ++ 32 ∷ printed)
+    → IsAgain form event rest printed → Chained (word ++ 32 ∷ rest) event
+worded_again word form event rest printed letters read is again = (word ++ 32 ∷ printed, is, again_behind word form chain_event_of event rest printed letters read again)
+
+coin_learnt : (rest : List ℕ) (event : Event) → option_map LearnCoin (coin_of rest) ≡ Some event → Chained (codes "coin" ++ 32 ∷ rest) event
+coin_learnt rest event h =
+    let found = option_map_is LearnCoin (coin_of rest) event h in
+    subst (Chained (codes "coin" ++ 32 ∷ rest)) found.2 (by found.0 (coin_again rest found.0 found.1))
+  where
+    by : (coin : OpeningCoin) → IsCoinRead rest coin → Chained (codes "coin" ++ 32 ∷ rest) (LearnCoin coin)
+    by coin is =
+        worded_again (codes "coin") (λ x. option_map LearnCoin (coin_of x)) (LearnCoin coin) rest (coin_text coin) refl
+        (λ x. ap (option_and_then (chain_event (codes "coin" ++ 32 ∷ x))) (part_at (codes "coin") x refl)) refl
+        (inr (record { read = ap (option_map LearnCoin) is.read; letters = is.letters; short = inl is.short }))
+
+verdict_learnt : (rest : List ℕ) (event : Event) → option_map LearnVerdict (row_of rest) ≡ Some event → Chained (codes "verdict" ++ 32 ∷ rest) event
+verdict_learnt rest event h =
+    let found = option_map_is LearnVerdict (row_of rest) event h in
+    subst (Chained (codes "verdict" ++ 32 ∷ rest)) found.2 (by found.0 (row_again rest found.0 found.1))
+  where
+    by : (row : VerdictRow) → IsRowRead rest row → Chained (codes "verdict" ++ 32 ∷ rest) (LearnVerdict row)
+    by row is =
+        worded_again (codes "verdict") (λ x. option_map LearnVerdict (row_of x)) (LearnVerdict row) rest (row_text row) refl
+        (λ x. ap (option_and_then (chain_event (codes "verdict" ++ 32 ∷ x))) (part_at (codes "verdict") x refl)) refl
+        (inr (record { read = ap (option_map LearnVerdict) is.read; letters = is.letters; short = inl is.short }))
+
+forgotten : (rest : List ℕ) (event : Event) → option_map Forget (number_of rest) ≡ Some event → Chained (codes "forget" ++ 32 ∷ rest) event
+forgotten rest event h =
+    let found = option_map_is Forget (number_of rest) event h in
+    let number : rest ≡ decimal found.0 = (number_decimal rest found.0 found.1).0 in
+    subst (Chained (codes "forget" ++ 32 ∷ rest)) found.2 (codes "forget " ++ decimal found.0, refl, inl (ap (λ r. codes "forget " ++ r) (sym number)))
+
+as_word : (word literal rest : List ℕ) (event : Event) → bytes_eq word literal ≡ true → Chained (literal ++ 32 ∷ rest) event → Chained (word ++ 32 ∷ rest) event
+as_word word literal rest event is again = subst (λ w. Chained (w ++ 32 ∷ rest) event) (sym (same_word word literal is)) again
+
+first_word : (word rest : List ℕ) (event : Event) → chain_event (word ++ 32 ∷ rest) (word, rest) ≡ Some event → Chained (word ++ 32 ∷ rest) event
+first_word word rest event h = first (either (bytes_eq word (codes "coin")) (option_map LearnCoin (coin_of rest)) behind_coin event h)
+  where
+    behind_verdict : Option Event
+    behind_verdict = if bytes_eq word (codes "forget") then option_map Forget (number_of rest) else blocks_event_of (word ++ 32 ∷ rest)
+
+    behind_coin : Option Event
+    behind_coin = if bytes_eq word (codes "verdict") then option_map LearnVerdict (row_of rest) else behind_verdict
+
+    third : ((bytes_eq word (codes "forget") ≡ true) × (option_map Forget (number_of rest) ≡ Some event)) ⊎ ((bytes_eq word (codes "forget") ≡ false) × (blocks_event_of (word ++ 32 ∷ rest) ≡ Some event)) → Chained (word ++ 32 ∷ rest) event
+    third (inl is) = as_word word (codes "forget") rest event is.0 (forgotten rest event is.1)
+    third (inr other) = extended_again (word ++ 32 ∷ rest) event other.1
+
+    second : ((bytes_eq word (codes "verdict") ≡ true) × (option_map LearnVerdict (row_of rest) ≡ Some event)) ⊎ ((bytes_eq word (codes "verdict") ≡ false) × (behind_verdict ≡ Some event)) → Chained (word ++ 32 ∷ rest) event
+    second (inl is) = as_word word (codes "verdict") rest event is.0 (verdict_learnt rest event is.1)
+    second (inr other) = third (either (bytes_eq word (codes "forget")) (option_map Forget (number_of rest)) (blocks_event_of (word ++ 32 ∷ rest)) event other.1)
+
+    first : ((bytes_eq word (codes "coin") ≡ true) × (option_map LearnCoin (coin_of rest) ≡ Some event)) ⊎ ((bytes_eq word (codes "coin") ≡ false) × (behind_coin ≡ Some event)) → Chained (word ++ 32 ∷ rest) event
+    first (inl is) = as_word word (codes "coin") rest event is.0 (coin_learnt rest event is.1)
+    first (inr other) = second (either (bytes_eq word (codes "verdict")) (option_map LearnVerdict (row_of rest)) behind_verdict event other.1)
+
+pub chain_again : (text : List ℕ) (event : Event) → chain_event_of text ≡ Some event → IsAgainIn (λ x. codes "chain " ++ x) chain_event_of event text
+chain_again text event h = option_and_then_some (chain_event text) (part_of text) event h by
+  where
+    by : (p : List ℕ × List ℕ) → part_of text ≡ Some p → chain_event text p ≡ Some event → Chained text event
+    by p is read =
+        let joined = part_joined text p.0 p.1 is in
+        subst (λ t. Chained t event) (sym joined) (first_word p.0 p.1 event (ap (λ t. chain_event t p) (sym joined) ∙ read))

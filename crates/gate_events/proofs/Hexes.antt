@@ -7,7 +7,7 @@ use Rattle.gate_tx.specs.Tx.{Tx}
 use Rattle.gate_tx.specs.Text.{text}
 use Rattle.gate_tx.specs.Reading.{decoded}
 use Rattle.gate_tx.proofs.Laws.{decoded_is_spelled}
-use Rattle.gate_chain.specs.declared.Block.{Block}
+use Rattle.gate_chain.specs.Blocks.{Block}
 use Rattle.gate_block.specs.Reading.{decoded_block}
 use Rattle.gate_block.specs.Text.{block_text}
 use Rattle.gate_block.proofs.Spelled.{block_takes}

@@ -5,6 +5,9 @@ pub mod ReadAddresses
 pub mod Hexes
 pub mod Again
 pub mod Numbered
+pub mod IdWords
+pub mod CoinTexts
+pub mod RowTexts
 pub mod PeerTexts
 pub mod OtherTexts
 pub mod ChainTexts

@@ -9,7 +9,7 @@ use Rattle.gate_lines.specs.Numbers.{max_number}
 use Rattle.gate_net.specs.Addresses.{Address, V4, V6, address_text}
 use Rattle.gate_net.specs.Spelling.{IsAddress}
 use Rattle.gate_message.specs.declared.event.Event.{Event}
-use Rattle.gate_message.specs.declared.event.Event.TheVariants.{Enter, Leave, Tx as Submit, Mempool, GetBlock, Headers, FeeFilter, Rpc, SetFloor, Set, Chain}
+use Rattle.gate_message.specs.declared.event.Event.TheVariants.{Enter, Leave, Tx as Submit, Mempool, GetBlock, Headers, FeeFilter, Rpc, SetFloor, Set, Chain, LearnCoin, LearnVerdict, Forget}
 use Rattle.gate_events.specs.EventLines.{event_of}
 use Rattle.gate_events.specs.EventTexts.{text_of}
 use Rattle.gate_events.specs.TextLaws.{TextsAreLines}
@@ -80,6 +80,9 @@ entering_few (Rpc call) is = absurd is
 entering_few (SetFloor rate) is = absurd is
 entering_few (Set switch on) is = absurd is
 entering_few (Chain disconnect now blocks) is = absurd is
+entering_few (LearnCoin coin) is = absurd is
+entering_few (LearnVerdict row) is = absurd is
+entering_few (Forget blocks) is = absurd is
 
 -- ---- a text begins with the word of its caller
 
@@ -95,6 +98,9 @@ never_skipped (Rpc call) = refl
 never_skipped (SetFloor rate) = refl
 never_skipped (Set switch on) = refl
 never_skipped (Chain disconnect now blocks) = refl
+never_skipped (LearnCoin coin) = refl
+never_skipped (LearnVerdict row) = refl
+never_skipped (Forget blocks) = refl
 
 short : (line : List ℕ) (event : Event) → length line ≤ line_limit → (length (text_of event) ≤ length line) ⊎ IsEntering event → length (text_of event) ≤ line_limit
 short line event limit (inl few) = omega arith

@@ -3,7 +3,7 @@ use Rattle.std.specs.Prelude.{ℕ, ◌==◌, Bool, if◌then◌else◌, List, ma
 use Rattle.std.specs.List.{slice_split, list_any}
 use Rattle.hex.specs.Hex.{decode_of}
 use Rattle.hex.specs.declared.error.FromHexError.{FromHexError}
-use Rattle.gate_chain.specs.declared.Block.{Block}
+use Rattle.gate_chain.specs.Blocks.{Block}
 use Rattle.gate_block.specs.Reading.{decoded_block}
 
 abbrev pub block_from : Result (List ℕ) FromHexError → Option Block

@@ -12,11 +12,13 @@ use Rattle.gate_message.specs.declared.event.Event.{Event}
 use Rattle.gate_message.specs.declared.event.Event.TheVariants as events
 use Rattle.gate_message.specs.declared.switch.Switch.{Switch}
 use Rattle.gate_message.specs.declared.switch.Switch.TheVariants.{Bloom, Upload, Historic, Download}
-use Rattle.gate_chain.specs.declared.Block.{Block}
+use Rattle.gate_chain.specs.Blocks.{Block}
 use Rattle.gate_events.specs.ChainLines.{blocks_of}
 use Rattle.gate_lines.specs.Lines.{if_text}
 use Rattle.gate_lines.specs.Words.{part_of, is_word}
 use Rattle.gate_lines.specs.Numbers.{number_of, small_number_of}
+use Rattle.gate_words.specs.CoinWords.{coin_of}
+use Rattle.gate_words.specs.VerdictWords.{row_of}
 
 infixl 10 ◌>>=◌
 abbrev pub ◌>>=◌ : {A B : Type 0} → Option A → (A → Option B) → Option B
@@ -122,11 +124,23 @@ abbrev pub timed_blocks_of : List ℕ → Option (ℕ × List (Option Block))
 timed_blocks_of text = with_blocks text (part_of text)
 
 -- `D NOW`, or `D NOW BLOCKHEX ..`
-abbrev pub chain_event_of : List ℕ → Option Event
-chain_event_of text = do
+abbrev pub blocks_event_of : List ℕ → Option Event
+blocks_event_of text = do
   p ← numbered_of text
   timed ← timed_blocks_of p.1
   Some (events.Chain p.0 timed.0 timed.1)
+
+-- by the first word of the text and what stands behind it
+abbrev pub chain_event : List ℕ → List ℕ × List ℕ → Option Event
+chain_event text p =
+    if bytes_eq p.0 (codes "coin") then option_map events.LearnCoin (coin_of p.1)
+    else if bytes_eq p.0 (codes "verdict") then option_map events.LearnVerdict (row_of p.1)
+    else if bytes_eq p.0 (codes "forget") then option_map events.Forget (number_of p.1)
+    else blocks_event_of text
+
+-- `coin TXID INDEX VALUE HEIGHT plain|cb SCRIPT`, `verdict WTXID INPUT ok|soft|hard`, `forget N`, or blocks
+abbrev pub chain_event_of : List ℕ → Option Event
+chain_event_of text = option_and_then (chain_event text) (part_of text)
 
 abbrev pub called_event : List ℕ × List ℕ → Option Event
 called_event p =

@@ -6,11 +6,15 @@ use Rattle.hex.specs.Hex.{encode_lower}
 use Rattle.gate_tx.specs.Tx.{Tx}
 use Rattle.gate_tx.specs.Text.{text}
 use Rattle.gate_net.specs.Addresses.{Address, address_text}
-use Rattle.gate_chain.specs.declared.Block.{Block}
+use Rattle.gate_chain.specs.Blocks.{Block}
+use Rattle.gate_chain.specs.declared.opening.OpeningCoin.{OpeningCoin}
+use Rattle.gate_submission.specs.declared.verdict.VerdictRow.{VerdictRow}
 use Rattle.gate_block.specs.Text.{block_text}
 use Rattle.gate_message.specs.UserCalls.{UserCall}
+use Rattle.gate_words.specs.CoinWords.{coin_text}
+use Rattle.gate_words.specs.VerdictWords.{row_text}
 use Rattle.gate_message.specs.declared.event.Event.{Event}
-use Rattle.gate_message.specs.declared.event.Event.TheVariants.{Enter, Leave, Tx as Submit, Mempool, GetBlock, Headers, FeeFilter, Rpc, SetFloor, Set, Chain}
+use Rattle.gate_message.specs.declared.event.Event.TheVariants.{Enter, Leave, Tx as Submit, Mempool, GetBlock, Headers, FeeFilter, Rpc, SetFloor, Set, Chain, LearnCoin, LearnVerdict, Forget}
 use Rattle.gate_message.specs.declared.switch.Switch.{Switch}
 use Rattle.gate_message.specs.declared.switch.Switch.TheVariants.{Bloom, Upload, Historic, Download}
 
@@ -51,6 +55,12 @@ call_text call = codes "user " ++ (call.user ++ (codes " rpc " ++ (decimal call.
 abbrev pub chain_text : ℕ → ℕ → List (Option Block) → List ℕ
 chain_text disconnect now blocks = codes "chain " ++ (decimal disconnect ++ (codes " " ++ (decimal now ++ block_words blocks)))
 
+abbrev pub learn_coin_text : OpeningCoin → List ℕ
+learn_coin_text coin = codes "chain coin " ++ coin_text coin
+
+abbrev pub learn_verdict_text : VerdictRow → List ℕ
+learn_verdict_text row = codes "chain verdict " ++ row_text row
+
 abbrev pub switch_text : Switch → Bool → List ℕ
 switch_text switch on = codes "operator " ++ (switch_word switch ++ (codes " " ++ on_word on))
 
@@ -66,3 +76,6 @@ text_of (Rpc call) = call_text call
 text_of (SetFloor rate) = codes "operator floor " ++ decimal rate
 text_of (Set switch on) = switch_text switch on
 text_of (Chain disconnect now blocks) = chain_text disconnect now blocks
+text_of (LearnCoin coin) = learn_coin_text coin
+text_of (LearnVerdict row) = learn_verdict_text row
+text_of (Forget blocks) = codes "chain forget " ++ decimal blocks

@@ -1,13 +1,12 @@
 //! The blocks that a line of the chain spells.
-ghost use Rattle.std.specs.Prelude.{◌≡◌, ◌==◌, IfOk, map, length};
-ghost use Rattle.std.specs.List.{list_any};
-ghost use Rattle.gate_events.specs.ChainLines.{block_of, blocks_of, words_of};
+ghost use Rattle.std.specs.Prelude.{◌≡◌, IfOk, length};
+ghost use Rattle.gate_events.specs.ChainLines.{block_of, blocks_of, has_gap, words_of};
 
 use crate::hexadecimal::decode;
 use gate_block::read_block;
 use gate_bytes::{Kept, Memory};
 use gate_chain::{Block, ChainFault};
-use std::alloc::{AllocError, Global};
+use std::alloc::Global;
 
 /// The block that a word of hex spells; a word that isn't hex spells none.
 fn block_in(alloc: Global, word: &[u8]) -> Result<Option<Block>, Memory>
@@ -23,28 +22,30 @@ fn block_in(alloc: Global, word: &[u8]) -> Result<Option<Block>, Memory>
     }
 }
 
-fn words_in(alloc: Global, text: &str) -> Result<Vec<&[u8]>, AllocError>
-    ensures { IfOk result (λ words. map (λ word. word.now) words.items ≡ words_of text.now) }
+/// How many words a text has: one more than spaces.
+fn count_words(text: &[u8]) -> usize
+    ensures { result ≡ length (words_of text.now) }
 {
-    text.as_bytes().split(|byte| *byte == b' ').collect(alloc)
+    text.split(|byte| *byte == b' ').count()
 }
 
-fn has_gap(words: &[&[u8]]) -> bool
-    ensures { result ≡ list_any (λ word. length word.now == 0) words.now }
+/// Whether a word of a text is empty.
+fn has_gap(text: &[u8]) -> bool
+    ensures { result ≡ has_gap (words_of text.now) }
 {
-    words.iter().any(|word| word.is_empty())
+    text.split(|byte| *byte == b' ').any(|word| word.is_empty())
 }
 
 /// The blocks that the words of a text spell, or `None` if a word is empty.
 pub(crate) fn blocks_in(alloc: Global, text: &str) -> Result<Option<Kept<Option<Block>>>, Memory>
     ensures { IfOk result (λ blocks. blocks ≡ blocks_of text.now) }
 {
-    let words = words_in(alloc, text)?;
-    if has_gap(words.as_slice()) {
+    let text = text.as_bytes();
+    if has_gap(text) {
         return Ok(None);
     }
-    let mut blocks = Vec::with_capacity(alloc, words.len())?;
-    for word in &words {
+    let mut blocks = Vec::with_capacity(alloc, count_words(text))?;
+    for word in text.split(|byte| *byte == b' ') {
         blocks.push(block_in(alloc, word)?)?;
     }
     Ok(Some(Kept::from_vec(blocks)))

@@ -1,10 +1,12 @@
-//! The text of the chain's event.
+//! The texts of the chain's events.
 ghost use Rattle.std.specs.Prelude.{◌≡◌, IfOk, string_bytes};
-ghost use Rattle.gate_events.specs.EventTexts.{block_word, chain_text};
+ghost use Rattle.gate_events.specs.EventTexts.{block_word, chain_text, learn_coin_text, learn_verdict_text};
 
 use gate_block::write_block;
 use gate_bytes::Memory;
-use gate_chain::Block;
+use gate_chain::{Block, OpeningCoin};
+use gate_submission::VerdictRow;
+use gate_words::{coin_text, row_text};
 use std::alloc::Global;
 
 fn block_word(alloc: Global, block: &Option<Block>) -> Result<String, Memory>
@@ -34,4 +36,18 @@ pub(crate) fn chain_text(
         text.push_str(word.as_str())?;
     }
     Ok(text)
+}
+
+pub(crate) fn learn_coin_text(alloc: Global, coin: &OpeningCoin) -> Result<String, Memory>
+    ensures { IfOk result (λ text. string_bytes text ≡ learn_coin_text coin.now) }
+{
+    let words = coin_text(alloc, coin)?;
+    Ok(format!(in alloc; "chain coin {words}")?)
+}
+
+pub(crate) fn learn_verdict_text(alloc: Global, row: &VerdictRow) -> Result<String, Memory>
+    ensures { IfOk result (λ text. string_bytes text ≡ learn_verdict_text row.now) }
+{
+    let words = row_text(alloc, row)?;
+    Ok(format!(in alloc; "chain verdict {words}")?)
 }

@@ -1,6 +1,6 @@
 //! The event that a line spells.
 ghost use Rattle.std.specs.Prelude.{◌≡◌, IfOk, MatchOption, None, Some};
-ghost use Rattle.gate_events.specs.EventLines.{line_event, event_of, numbered_of, peer_event_of, worded_event, enter_event_of, tx_event_of, user_event_of, call_event_of, chain_event_of, timed_blocks_of, operator_event_of, switch_event_of, switch_of, is_on_of, prepared_of};
+ghost use Rattle.gate_events.specs.EventLines.{line_event, event_of, numbered_of, peer_event_of, worded_event, enter_event_of, tx_event_of, user_event_of, call_event_of, chain_event_of, blocks_event_of, timed_blocks_of, operator_event_of, switch_event_of, switch_of, is_on_of, prepared_of};
 
 use crate::chain_line::blocks_in;
 use crate::hexadecimal::decode;
@@ -10,6 +10,7 @@ use gate_lines::{is_one_word, next_word, read_number, read_small_number};
 use gate_message::{Call, Event, Switch};
 use gate_net::Address;
 use gate_submission::Prepared;
+use gate_words::{read_coin, read_row};
 use std::alloc::Global;
 
 /// The event that the bytes of a line spell, without its newline; bytes that are not UTF-8 spell none.
@@ -83,9 +84,28 @@ fn worded_event(alloc: Global, peer: u64, word: &str, rest: &str) -> Result<Opti
     Ok(None)
 }
 
-/// `D NOW`, or `D NOW BLOCKHEX ..`: whatever the words of hex are, the line is an event.
+/// `coin TXID INDEX VALUE HEIGHT plain|cb SCRIPT`, `verdict WTXID INPUT ok|soft|hard`, `forget N`, or blocks.
 fn chain_event(alloc: Global, rest: &str) -> Result<Option<Event>, Memory>
     ensures { IfOk result (λ event. event ≡ chain_event_of rest.now) }
+{
+    let Some((word, behind)) = next_word(rest) else {
+        return Ok(None);
+    };
+    if word == "coin" {
+        return Ok(read_coin(alloc, behind)?.map(Event::LearnCoin));
+    }
+    if word == "verdict" {
+        return Ok(read_row(behind).map(Event::LearnVerdict));
+    }
+    if word == "forget" {
+        return Ok(read_number(behind).map(|blocks| Event::Forget { blocks }));
+    }
+    blocks_event(alloc, rest)
+}
+
+/// `D NOW`, or `D NOW BLOCKHEX ..`: whatever the words of hex are, the line is an event.
+fn blocks_event(alloc: Global, rest: &str) -> Result<Option<Event>, Memory>
+    ensures { IfOk result (λ event. event ≡ blocks_event_of rest.now) }
 {
     let Some((disconnect, rest)) = numbered(rest) else {
         return Ok(None);
@@ -94,7 +114,7 @@ fn chain_event(alloc: Global, rest: &str) -> Result<Option<Event>, Memory>
         Some((now, blocks)) => Ok(Some(Event::Chain {
             disconnect,
             now,
-            blocks,
+            blocks: Counted::new(alloc, blocks)?,
         })),
         None => Ok(None),
     }

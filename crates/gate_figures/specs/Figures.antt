@@ -17,8 +17,8 @@ use Rattle.gate_locks.specs.Locks.{median_at}
 use Rattle.gate_pool.specs.Pool.{Admitted, size_of, spender_of}
 use Rattle.gate_pool.specs.Family.{ancestors_above, conflicts_of, fees_of, replaced_of}
 use Rattle.gate_rbf.specs.Replacing.{descendant_count, incremental_relay_rate, signals}
-use Rattle.gate_admit.specs.declared.verdicts.Verdict.{Verdict}
-use Rattle.gate_admit.specs.declared.verdicts.Verdict.TheVariants.{Good}
+use Rattle.gate_submission.specs.declared.verdict.Verdict.{Verdict}
+use Rattle.gate_submission.specs.declared.verdict.Verdict.TheVariants.{Good}
 use Rattle.gate_admit.specs.Coins.{coins_of, view_coin}
 use Rattle.gate_admit.specs.Limits.{carve_out_size, family_size_limit}
 use Rattle.gate_admit.specs.Policies.{Policy, most_ancestors}

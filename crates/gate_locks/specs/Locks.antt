@@ -1,5 +1,5 @@
 -- The relative locks of a transaction's inputs (BIP 68).
-use Rattle.std.specs.Prelude.{ℕ, ℤ, ◌+◌, ◌-◌, ◌*◌, ◌==◌, ◌||◌, nat_le, not, bit_and, Bool, List, zip, unwrap_or, if◌then◌else◌}
+use Rattle.std.specs.Prelude.{ℕ, ℤ, ◌+◌, ◌-◌, ◌*◌, ◌==◌, ◌||◌, nat_le, not, bit_and, Bool, false, List, zip, Option, Some, None, unwrap_or, if◌then◌else◌}
 use Rattle.std.specs.Int.{w32, cast_unsigned}
 use Rattle.std.specs.List.{list_all}
 use Rattle.gate_tx.specs.Tx.{Tx}
@@ -22,7 +22,7 @@ is_by_time sequence = not (bit_and sequence 0x40_0000 == 0)
 abbrev pub span_of : ℕ → ℕ
 span_of sequence = bit_and sequence 0xffff
 
--- the median time past of a height up to the tip
+-- the median time past of a height from the first one up to the tip
 abbrev pub median_at : History → ℕ → ℕ
 median_at chain height = unwrap_or (mtp_of chain height) 0
 
@@ -30,9 +30,15 @@ median_at chain height = unwrap_or (mtp_of chain height) 0
 abbrev pub is_height_lock_met : History → ℕ → ℕ → Bool
 is_height_lock_met chain span height = nat_le (height + span) (tip_of chain + 1)
 
--- the tip's median time past is at least the length of the lock after that of the block before the coin's
+-- a second is at least so many seconds after another one, if that is known
+abbrev pub is_later_by : ℕ → Option ℕ → ℕ → Bool
+is_later_by wait None now = false
+is_later_by wait (Some start) now = nat_le (start + wait) now
+
+-- the tip's median time past is at least the length of the lock after that of the block before the coin's; where the
+-- chain doesn't know that one, the lock is not met
 abbrev pub is_time_lock_met : History → ℕ → ℕ → Bool
-is_time_lock_met chain span height = nat_le (median_at chain (height - 1) + 512 * span) (median_at chain (tip_of chain))
+is_time_lock_met chain span height = is_later_by (512 * span) (mtp_of chain (height - 1)) (median_at chain (tip_of chain))
 
 -- the lock of an input whose coin has this height
 unfoldable pub is_lock_met_by : History → ℕ → ℕ → Bool

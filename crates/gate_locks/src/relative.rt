@@ -1,6 +1,6 @@
-ghost use Rattle.std.specs.Prelude.{◌≡◌, ◌≤◌, ◌+◌, length, All};
+ghost use Rattle.std.specs.Prelude.{◌≡◌, ◌<◌, ◌≤◌, ◌+◌, ◌^◌, length, All};
 ghost use Rattle.gate_chain.specs.Times.{tip_of};
-ghost use Rattle.gate_locks.specs.Locks.{median_at, is_lock_met_by, sequence_locks_met_by};
+ghost use Rattle.gate_locks.specs.Locks.{is_later_by, median_at, is_lock_met_by, sequence_locks_met_by};
 
 use gate_chain::Chain;
 use gate_tx::Transaction;
@@ -19,7 +19,8 @@ const SPAN: u32 = 0xffff;
 const SECONDS: u64 = 512;
 
 /// Whether the relative lock of each input is met in the next block (BIP 68). The heights are those of the inputs'
-/// coins, one for each input; a coin of an unconfirmed transaction has the height of the next block.
+/// coins, one for each input; a coin of an unconfirmed transaction has the height of the next block. A lock by time whose
+/// coin is too old for the chain to know the median time past before it is not met.
 #[tactic(auto, unfolding(crate::specs::Locks::sequence_locks_met_by))]
 pub fn sequence_locks_met<S: BuildHasher + Copy + Drop>(
     tx: &Transaction,
@@ -54,15 +55,24 @@ fn is_lock_met<S: BuildHasher + Copy + Drop>(sequence: u32, height: u32, chain: 
     if sequence & BY_TIME == 0 {
         return height + span <= tip + 1;
     }
-    let start = u64::from(median_at(chain, height.saturating_sub(1)));
-    let now = u64::from(median_at(chain, tip));
-    start + SECONDS * u64::from(span) <= now
+    let start = chain.mtp(height.saturating_sub(1));
+    is_later_by(SECONDS * u64::from(span), start, tip_mtp(chain))
 }
 
-/// The median time past of a height up to the tip.
-fn median_at<S: BuildHasher + Copy + Drop>(chain: &Chain<S>, height: u32) -> u32
-    requires { height ≤ tip_of chain.now }
-    ensures { result ≡ median_at chain.now height }
+/// Whether a second is at least so many seconds after another one, if that is known.
+fn is_later_by(wait: u64, start: Option<u32>, now: u32) -> bool
+    requires { wait < 2 ^ 63 }
+    ensures { result ≡ is_later_by wait start now }
 {
-    chain.mtp(height).unwrap()
+    match start {
+        None => false,
+        Some(start) => u64::from(start) + wait <= u64::from(now),
+    }
+}
+
+/// The median time past of the tip.
+fn tip_mtp<S: BuildHasher + Copy + Drop>(chain: &Chain<S>) -> u32
+    ensures { result ≡ median_at chain.now (tip_of chain.now) }
+{
+    chain.mtp(chain.tip()).unwrap()
 }

@@ -3,7 +3,7 @@ use Rattle.std.specs.Prelude.{ℕ, Option, Some, None}
 use Rattle.gate_message.specs.declared.caller.Caller.{Caller}
 use Rattle.gate_message.specs.declared.caller.Caller.TheVariants.{Chain, Operator, Peer, User}
 use Rattle.gate_message.specs.declared.event.Event.{Event}
-use Rattle.gate_message.specs.declared.event.Event.TheVariants.{Enter, Leave, Tx as Submit, Mempool, GetBlock, Headers, FeeFilter, Rpc, SetFloor, Set, Chain as Extend}
+use Rattle.gate_message.specs.declared.event.Event.TheVariants.{Enter, Leave, Tx as Submit, Mempool, GetBlock, Headers, FeeFilter, Rpc, SetFloor, Set, Chain as Extend, LearnCoin, LearnVerdict, Forget}
 
 abbrev pub caller_of : Event → Caller
 caller_of (Enter peer address) = Peer peer
@@ -17,6 +17,9 @@ caller_of (Rpc call) = User call.user
 caller_of (SetFloor rate) = Operator
 caller_of (Set switch on) = Operator
 caller_of (Extend disconnect now blocks) = Chain
+caller_of (LearnCoin coin) = Chain
+caller_of (LearnVerdict row) = Chain
+caller_of (Forget blocks) = Chain
 
 -- the number of the peer, if the caller is one
 abbrev pub peer_of : Caller → Option ℕ

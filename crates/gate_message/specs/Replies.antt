@@ -1,19 +1,21 @@
--- The reply to a chain event, and the denial that takes the place of a reply that was planned.
-use Rattle.std.specs.Prelude.{Option, Some, None, Result, Ok, Err}
-use Rattle.gate_chain.specs.declared.ChainDenial.{ChainDenial}
+-- The reply to an event of the chain's caller, and the denial that takes the place of a reply that was planned.
+use Rattle.std.specs.Prelude.{Option, Some, None}
 use Rattle.gate_standard.specs.declared.Denial.{Denial}
-use Rattle.gate_submission.specs.declared.moved.Moved.{Moved as Move}
 use Rattle.gate_rpc.specs.declared.error.RpcError.TheVariants as errors
 use Rattle.gate_rpc.specs.declared.reply.RpcReply.TheVariants.{NotAllowed, Answer, Failure}
 use Rattle.gate_message.specs.declared.denial.PeerDenial.TheVariants.{Admission}
 use Rattle.gate_message.specs.declared.denial.Then.TheVariants.{Keep}
+use Rattle.gate_message.specs.declared.outcome.ChainOutcome.{ChainOutcome}
+use Rattle.gate_message.specs.declared.outcome.ChainOutcome.TheVariants as outcomes
 use Rattle.gate_message.specs.declared.reply.Reply.{Reply}
-use Rattle.gate_message.specs.declared.reply.Reply.TheVariants.{Entered, Left, Admitted, Listing, Block, Headers, Filter, Rpc, Denied, Set, Moved, Refused}
+use Rattle.gate_message.specs.declared.reply.Reply.TheVariants.{Entered, Left, Admitted, Listing, Block, Headers, Filter, Rpc, Denied, Set, Moved, Forgotten, Refused}
 
--- the reply to a chain event with this outcome
-abbrev pub chain_reply : Result Move ChainDenial → Reply
-chain_reply (Ok moved) = Moved moved
-chain_reply (Err denial) = Refused denial
+-- the reply to an event of the chain's caller with this outcome
+abbrev pub chain_reply : ChainOutcome → Reply
+chain_reply outcomes.Learnt = Set
+chain_reply (outcomes.Moved moved) = Moved moved
+chain_reply (outcomes.Forgotten blocks coins rows) = Forgotten blocks coins rows
+chain_reply (outcomes.Refused denial) = Refused denial
 
 -- the denial in the place of a reply to a submission: a call's answer keeps its id
 abbrev pub denied_instead : Reply → Denial → Reply
@@ -30,6 +32,7 @@ denied_instead (Rpc (Failure id error)) denial = Denied (Admission denial) Keep
 denied_instead (Denied reason then) denial = Denied (Admission denial) Keep
 denied_instead Set denial = Denied (Admission denial) Keep
 denied_instead (Moved moved) denial = Denied (Admission denial) Keep
+denied_instead (Forgotten blocks coins rows) denial = Denied (Admission denial) Keep
 denied_instead (Refused denied) denial = Denied (Admission denial) Keep
 
 -- the reply once the change is made: the planned one, or in its place the denial of a transaction that was granted and has left

@@ -11,7 +11,7 @@ use Rattle.gate_rpc.specs.declared.request.Request.{Request}
 use Rattle.gate_rpc.specs.declared.fault.CallError.{CallError}
 use Rattle.gate_rpc.specs.Calls.{request_of}
 use Rattle.gate_message.specs.declared.event.Event.{Event}
-use Rattle.gate_message.specs.declared.event.Event.TheVariants.{Enter, Leave, Tx as Submit, Mempool, GetBlock, Headers, FeeFilter, Rpc, SetFloor, Set, Chain as Extend}
+use Rattle.gate_message.specs.declared.event.Event.TheVariants.{Enter, Leave, Tx as Submit, Mempool, GetBlock, Headers, FeeFilter, Rpc, SetFloor, Set, Chain as Extend, LearnCoin, LearnVerdict, Forget}
 
 -- the transaction that a command offers to the pool
 abbrev pub offered_by : Command → Option Tx
@@ -40,6 +40,9 @@ transactions_of (Rpc call) = option_to_list (offered (request_of call.json))
 transactions_of (SetFloor rate) = []
 transactions_of (Set switch on) = []
 transactions_of (Extend disconnect now blocks) = block_transactions (present blocks)
+transactions_of (LearnCoin coin) = []
+transactions_of (LearnVerdict row) = []
+transactions_of (Forget blocks) = []
 
 -- the event's transactions have a text, as each transaction that was read has
 abbrev pub IsSpelled : Event → Type 0
@@ -54,3 +57,6 @@ IsSpelled (Rpc call) = IfSome (offered (request_of call.json)) IsTx
 IsSpelled (SetFloor rate) = Unit {0}
 IsSpelled (Set switch on) = Unit {0}
 IsSpelled (Extend disconnect now blocks) = (tx : Tx) → Contains (block_transactions (present blocks)) tx → IsTx tx
+IsSpelled (LearnCoin coin) = Unit {0}
+IsSpelled (LearnVerdict row) = Unit {0}
+IsSpelled (Forget blocks) = Unit {0}

@@ -8,7 +8,7 @@ use Rattle.gate_chain.specs.Denials.{rule_of as chain_rule, token_of}
 use Rattle.gate_submission.specs.declared.Moved.{Moved as Change}
 use Rattle.gate_message.specs.declared.denial.PeerDenial.{PeerDenial}
 use Rattle.gate_message.specs.declared.reply.Reply.{Reply}
-use Rattle.gate_message.specs.declared.reply.Reply.TheVariants.{Entered, Left, Admitted, Listing, Block, Headers, Filter, Rpc, Denied, Set, Moved, Refused}
+use Rattle.gate_message.specs.declared.reply.Reply.TheVariants.{Entered, Left, Admitted, Listing, Block, Headers, Filter, Rpc, Denied, Set, Moved, Forgotten, Refused}
 use Rattle.gate_rpc.specs.declared.reply.RpcReply.{RpcReply}
 use Rattle.gate_rpc.specs.Replies.{reply_status, reply_text as answer_text}
 use Rattle.gate_net.specs.Permissions.{Permissions, permissions_text}
@@ -47,6 +47,10 @@ denied_text denial then = codes "denied " ++ (rule_text denial ++ (codes " " ++ 
 abbrev pub moved_text : Change → List ℕ
 moved_text moved = codes "chain " ++ (decimal moved.tip ++ (codes " removed " ++ (decimal moved.removed ++ (codes " entered " ++ decimal moved.entered))))
 
+-- how many blocks are part of the opening now, and how many unspent coins and rows of verdicts are known no more
+abbrev pub forgotten_text : ℕ → ℕ → ℕ → List ℕ
+forgotten_text blocks coins rows = codes "forgotten " ++ (decimal blocks ++ (codes " " ++ (decimal coins ++ (codes " " ++ decimal rows))))
+
 -- the rule of the chain that fails, and its token
 abbrev pub refused_text : ChainDenial → List ℕ
 refused_text denial = codes "refused C" ++ (decimal (chain_rule denial) ++ (codes " " ++ token_of denial))
@@ -63,4 +67,5 @@ reply_text (Rpc answer) = rpc_text answer
 reply_text (Denied denial then) = denied_text denial (then_text then)
 reply_text Set = codes "set"
 reply_text (Moved moved) = moved_text moved
+reply_text (Forgotten blocks coins rows) = forgotten_text blocks coins rows
 reply_text (Refused denial) = refused_text denial

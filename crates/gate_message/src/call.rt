@@ -141,7 +141,7 @@ impl Copied for Call {
 /// Calls are equal if their users, seconds and JSON are: they then ask for the same.
 impl PartialEq for Call {
     ghost use Rattle.gate_message.specs.Equality.{call_eq, call_decides};
-    ghost use Rattle.gate_submission.specs.Equality.{deciding};
+    ghost use Rattle.gate_tx.specs.Equality.{deciding};
 
     ghost eq = { call_eq };
 
@@ -154,7 +154,7 @@ impl PartialEq for Call {
 
 impl Eq for Call {
     ghost use Rattle.gate_message.specs.Equality.{call_decides};
-    ghost use Rattle.gate_submission.specs.Equality.{deciding_all};
+    ghost use Rattle.gate_tx.specs.Equality.{deciding_all};
 
     ghost laws = { deciding_all call_decides };
 }

@@ -5,9 +5,9 @@ use crate::call::Call;
 use crate::caller::Caller;
 use crate::switch::Switch;
 use gate_bytes::{Copied, Counted, Exact, Kept, Memory, Text};
-use gate_chain::Block;
+use gate_chain::{Block, OpeningCoin};
 use gate_net::Address;
-use gate_submission::{Prepared, recall_spelled};
+use gate_submission::{Prepared, VerdictRow, recall_spelled};
 use std::alloc::Global;
 
 /// One request to the gate. A peer is named by a number that its first `Enter` takes for good.
@@ -63,7 +63,16 @@ pub enum Event {
     Chain {
         disconnect: u64,
         now: u64,
-        blocks: Kept<Option<Block>>,
+        blocks: Counted<Kept<Option<Block>>>,
+    },
+    /// A coin of the chain is learnt: it is one of the opening's coins from now on.
+    LearnCoin(OpeningCoin),
+    /// The verdict on an input is learnt.
+    LearnVerdict(VerdictRow),
+    /// This many connected blocks, the lowest, become part of the opening, and the coins and verdicts that nothing needs
+    /// any more are forgotten.
+    Forget {
+        blocks: u64,
     },
 }
 
@@ -89,6 +98,9 @@ impl Event {
             Event::SetFloor { .. } => Ok(Caller::Operator),
             Event::Set { .. } => Ok(Caller::Operator),
             Event::Chain { .. } => Ok(Caller::Chain),
+            Event::LearnCoin(_) => Ok(Caller::Chain),
+            Event::LearnVerdict(_) => Ok(Caller::Chain),
+            Event::Forget { .. } => Ok(Caller::Chain),
         }
     }
 }
@@ -112,6 +124,9 @@ impl Event {
             Event::SetFloor { .. } => None,
             Event::Set { .. } => None,
             Event::Chain { .. } => None,
+            Event::LearnCoin(_) => None,
+            Event::LearnVerdict(_) => None,
+            Event::Forget { .. } => None,
         }
     }
 
@@ -132,6 +147,9 @@ impl Event {
             },
             Caller::Chain => match self {
                 Event::Chain { .. } => true,
+                Event::LearnCoin(_) => true,
+                Event::LearnVerdict(_) => true,
+                Event::Forget { .. } => true,
                 _ => false,
             },
         }
@@ -148,7 +166,7 @@ impl Event {
         match self {
             Event::Tx { transaction, .. } => transaction.recall_spelled(),
             Event::Rpc(call) => call.get().recall_spelled(),
-            Event::Chain { blocks, .. } => recall_spelled(blocks.as_slice()),
+            Event::Chain { blocks, .. } => recall_spelled(blocks.get().as_slice()),
             _ => (),
         }
     }
@@ -199,6 +217,9 @@ impl Copied for Event {
                 now: *now,
                 blocks: blocks.copy(alloc)?,
             }),
+            Event::LearnCoin(coin) => Ok(Event::LearnCoin(coin.copy(alloc)?)),
+            Event::LearnVerdict(row) => Ok(Event::LearnVerdict(*row)),
+            Event::Forget { blocks } => Ok(Event::Forget { blocks: *blocks }),
         }
     }
 }
@@ -207,10 +228,13 @@ impl Exact for Event {
     ghost use Rattle.std.specs.Cmp.{booleans_Decides};
     ghost use Rattle.std.proofs.lemmas.Bool.Decides.{Decides-eqb};
     ghost use Rattle.std.proofs.lemmas.Slice.Eq.{bytes_eq-Decides};
-    ghost use Rattle.gate_tx.specs.contracts.transaction.TransactionExact.TheImpl.Laws.{exact-law as transaction_decides};
-    ghost use Rattle.gate_chain.specs.contracts.block.Block.{the_type as block};
+    ghost use Rattle.gate_tx.specs.Equality.{coin_decides, out_point_decides};
+    ghost use Rattle.gate_chain.specs.contracts.block.BlockExact.TheImpl.Laws.{exact-law as block_decides};
+    ghost use Rattle.gate_chain.specs.contracts.opening.OpeningCoin.{the_type as opening_coins};
     ghost use Rattle.gate_submission.specs.Equality.{option_decides};
     ghost use Rattle.gate_submission.specs.contracts.prepared.PreparedExact.TheImpl.Laws.{exact-law as prepared_decides};
+    ghost use Rattle.gate_submission.specs.contracts.verdict.Verdict.{enum as verdicts};
+    ghost use Rattle.gate_submission.specs.contracts.verdict.VerdictRow.{the_type as verdict_rows};
     ghost use Rattle.gate_bytes.specs.Equality.{struct_decides, enum_decides, ◌or◌, ◌&◌, last_decides, bare_decides};
     ghost use Rattle.gate_message.specs.Equality.{address_decides, call_decides, list_decides};
     ghost use Rattle.gate_message.specs.contracts.switch.Switch.{enum as switches};
@@ -227,6 +251,9 @@ impl Exact for Event {
         or last_decides Decides-eqb
         or bare_decides switches tt & last_decides booleans_Decides
         or Decides-eqb & Decides-eqb
-        & last_decides (list_decides (option_decides (struct_decides block (bytes_eq-Decides & last_decides (list_decides transaction_decides)))))
+        & last_decides (list_decides (option_decides block_decides))
+        or last_decides (struct_decides opening_coins (out_point_decides & last_decides coin_decides))
+        or last_decides (struct_decides verdict_rows (bytes_eq-Decides & Decides-eqb & last_decides (bare_decides verdicts tt)))
+        or last_decides Decides-eqb
         or tt) };
 }

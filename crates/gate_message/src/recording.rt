@@ -3,11 +3,10 @@ ghost use Rattle.std.specs.Prelude.{◌≡◌, IfOk};
 ghost use Rattle.gate_message.specs.Replies.{chain_reply, settled};
 ghost use Rattle.gate_message.specs.Recording.{AreCopies};
 
+use crate::outcome::ChainOutcome;
 use crate::reply::Reply;
 use gate_bytes::{Copied, Memory};
-use gate_chain::ChainDenial;
 use gate_standard::Denial;
-use gate_submission::Moved;
 use std::alloc::Global;
 
 /// The reply to one event, and two copies of it.
@@ -53,8 +52,8 @@ impl Replies {
         }
     }
 
-    /// The reply to a chain event with its copies, which take no memory.
-    pub fn of_chain(outcome: Result<Moved, ChainDenial>) -> Replies
+    /// The reply to an event of the chain's caller with its copies, which take no memory.
+    pub fn of_chain(outcome: ChainOutcome) -> Replies
         ensures reply { result.reply ≡ chain_reply outcome }
         ensures copies { AreCopies result }
     {

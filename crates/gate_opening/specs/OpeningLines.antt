@@ -1,21 +1,17 @@
 -- What one line of an opening says.
-use Rattle.std.specs.Prelude.{ℕ, nat_le, ◌==◌, pos, if◌then◌else◌, Bool, true, false, List, [], length, codes, Option, Some, None, Result, Ok, Err, option_and_then}
+use Rattle.std.specs.Prelude.{ℕ, nat_le, ◌==◌, if◌then◌else◌, Bool, true, false, List, length, codes, Option, Some, None, option_and_then}
 use Rattle.std.specs.Option.{option_map}
 use Rattle.std.specs.Str.{bytes_eq}
-use Rattle.hex.specs.Hex.{decode_of}
-use Rattle.hex.specs.declared.error.FromHexError.{FromHexError}
-use Rattle.gate_tx.specs.Ids.{read_id}
-use Rattle.gate_tx.specs.declared.OutPoint.{OutPoint}
-use Rattle.gate_admit.specs.declared.verdicts.Verdict.{Verdict}
-use Rattle.gate_admit.specs.declared.verdicts.Verdict.TheVariants.{Good, Soft, Hard}
+use Rattle.gate_chain.specs.History.{max_height}
 use Rattle.gate_net.specs.Whitelists.{entry_of}
 use Rattle.gate_admit.specs.Policies.{is_count}
+use Rattle.gate_words.specs.CoinWords.{coin_of}
+use Rattle.gate_words.specs.VerdictWords.{row_of, verdict_of}
 use Rattle.gate_opening.specs.Limits.{limit_named}
 use Rattle.gate_opening.specs.Settings.{setting_named}
 use Rattle.gate_opening.specs.declared.limit.Limit.{Limit}
 use Rattle.gate_opening.specs.declared.opening_line.OpeningLine.{OpeningLine}
 use Rattle.gate_opening.specs.declared.opening_line.OpeningLine.TheVariants as says
-use Rattle.gate_opening.specs.declared.opening_line.CoinHead.{CoinHead}
 use Rattle.gate_lines.specs.Lines.{if_text}
 use Rattle.gate_lines.specs.Words.{part_of}
 use Rattle.gate_lines.specs.Numbers.{number_of, small_number_of}
@@ -30,6 +26,12 @@ budget_line_of text = do
   budget ← number_of text
   if nat_le budget 1000000000 then Some (says.Budget budget) else None
 
+-- `HEIGHT`, at most the greatest height of a chain
+abbrev pub from_line_of : List ℕ → Option OpeningLine
+from_line_of text = do
+  height ← small_number_of text
+  if nat_le height max_height then Some (says.From height) else None
+
 -- `COUNT FIRST STEP`
 abbrev pub times_line_of : List ℕ → Option OpeningLine
 times_line_of text = do
@@ -40,79 +42,15 @@ times_line_of text = do
   step ← number_of q.1
   Some (says.Times count first step)
 
-abbrev pub is_coinbase_of : List ℕ → Option Bool
-is_coinbase_of text =
-    if bytes_eq text (codes "plain") then Some false
-    else if bytes_eq text (codes "cb") then Some true
-    else None
-
--- `TXID INDEX`, and what stands after it
-abbrev pub outpoint_of : List ℕ → Option (OutPoint × List ℕ)
-outpoint_of text = do
-  p ← part_of text
-  q ← part_of p.1
-  txid ← read_id p.0
-  index ← small_number_of q.0
-  Some (record { txid = txid; index = index }, q.1)
-
--- `VALUE HEIGHT plain|cb`, and what stands after it
-abbrev pub coin_head_of : List ℕ → Option (CoinHead × List ℕ)
-coin_head_of text = do
-  p ← part_of text
-  q ← part_of p.1
-  r ← part_of q.1
-  value ← number_of p.0
-  height ← small_number_of q.0
-  coinbase ← is_coinbase_of r.0
-  Some (record { value = pos value; height = height; coinbase = coinbase }, r.1)
-
-abbrev pub script_from : Result (List ℕ) FromHexError → Option (List ℕ)
-script_from (Ok script) = Some script
-script_from (Err fault) = None
-
--- a script in hex, or `-` for an empty one
-abbrev pub script_of : List ℕ → Option (List ℕ)
-script_of text =
-    if length text == 0 then None
-    else if bytes_eq text (codes "-") then Some []
-    else script_from (decode_of text)
-
--- a coin, as a line says it
-abbrev pub coin_line : OutPoint → CoinHead → List ℕ → OpeningLine
-coin_line outpoint head script = says.Coin (record {
-  outpoint = outpoint;
-  coin = record { value = head.value; script = script; height = head.height; coinbase = head.coinbase };
-})
-
 -- `TXID INDEX VALUE HEIGHT plain|cb SCRIPT`
 abbrev pub coin_line_of : List ℕ → Option OpeningLine
-coin_line_of text = do
-  p ← outpoint_of text
-  q ← coin_head_of p.1
-  script ← script_of q.1
-  Some (coin_line p.0 q.0 script)
-
-abbrev pub verdict_of : List ℕ → Option Verdict
-verdict_of text =
-    if bytes_eq text (codes "ok") then Some Good
-    else if bytes_eq text (codes "soft") then Some Soft
-    else if bytes_eq text (codes "hard") then Some Hard
-    else None
-
--- `WTXID`, and `INPUT ok|soft|hard`
-abbrev pub row_of : List ℕ → List ℕ → Option OpeningLine
-row_of subject text = do
-  p ← part_of text
-  wtxid ← read_id subject
-  input ← small_number_of p.0
-  verdict ← verdict_of p.1
-  Some (says.Verdict (record { wtxid = wtxid; input = input; verdict = verdict }))
+coin_line_of text = option_map says.Coin (coin_of text)
 
 -- `WTXID INPUT ok|soft|hard`, or `* ok|soft|hard`
 abbrev pub verdict_line_of : List ℕ → Option OpeningLine
 verdict_line_of text = do
   p ← part_of text
-  if bytes_eq p.0 (codes "*") then option_map says.OtherVerdicts (verdict_of p.1) else row_of p.0 p.1
+  if bytes_eq p.0 (codes "*") then option_map says.OtherVerdicts (verdict_of p.1) else option_map says.Verdict (row_of text)
 
 -- `TEXT`, which isn't empty
 abbrev pub whitelist_line_of : List ℕ → Option OpeningLine
@@ -150,6 +88,7 @@ other_line_of (Some limit) name text = limit_line_of limit text
 abbrev pub named_line : List ℕ × List ℕ → Option OpeningLine
 named_line p =
     if bytes_eq p.0 (codes "budget") then budget_line_of p.1
+    else if bytes_eq p.0 (codes "from") then from_line_of p.1
     else if bytes_eq p.0 (codes "times") then times_line_of p.1
     else if bytes_eq p.0 (codes "coin") then coin_line_of p.1
     else if bytes_eq p.0 (codes "verdict") then verdict_line_of p.1

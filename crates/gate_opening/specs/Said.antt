@@ -2,11 +2,12 @@
 use Rattle.std.specs.Prelude.{◌≡◌, ℕ, ◌+◌, nat_lt, nat_le, ◌||◌, not, if◌then◌else◌, Bool, false, List, [], ◌∷◌, ◌++◌, length, map, codes, Option, Some, None, is_some, Result, Ok, Err}
 use Rattle.std.specs.Option.{unwrap_or}
 use Rattle.std.specs.Str.{bytes_eq}
-use Rattle.gate_chain.specs.Opening.{open_fault, times_limit}
+use Rattle.gate_chain.specs.History.{max_height}
+use Rattle.gate_chain.specs.Opening.{open_fault_from, times_limit}
 use Rattle.gate_chain.specs.declared.OpenFault.{OpenFault}
 use Rattle.gate_chain.specs.declared.OpeningCoin.{OpeningCoin}
-use Rattle.gate_admit.specs.declared.verdicts.Verdict.{Verdict}
-use Rattle.gate_admit.specs.declared.verdicts.VerdictRow.{VerdictRow}
+use Rattle.gate_submission.specs.declared.verdict.Verdict.{Verdict}
+use Rattle.gate_submission.specs.declared.verdict.VerdictRow.{VerdictRow}
 use Rattle.gate_admit.specs.Verdicts.{has_row_on}
 use Rattle.gate_net.specs.declared.denial.NetDenial.{NetDenial}
 use Rattle.gate_net.specs.declared.entry.WhitelistEntry.{WhitelistEntry}
@@ -33,6 +34,7 @@ use Rattle.gate_opening.specs.BlockTimes.{times_from, some_too_great}
 -- what was said, with the line of each coin, the entries of the whitelist, and the texts of the entries of the lists of methods
 pub record Said : Type 0 where
   pub budget : Option ℕ
+  pub from : Option ℕ
   pub times : List ℕ
   pub coins : List OpeningCoin
   pub coin_lines : List ℕ
@@ -44,9 +46,17 @@ pub record Said : Type 0 where
   pub limits : Limits
 
 abbrev pub nothing_said : Said
-nothing_said = record { budget = None; times = []; coins = []; coin_lines = []; rows = []; other = None; whitelist = []; rpcwhitelist = []; settings = nothing_set; limits = no_limits }
+nothing_said = record { budget = None; from = None; times = []; coins = []; coin_lines = []; rows = []; other = None; whitelist = []; rpcwhitelist = []; settings = nothing_set; limits = no_limits }
 
 -- ---- one line
+
+-- the height of the first time
+abbrev pub first_height : Said → ℕ
+first_height said = unwrap_or said.from 0
+
+-- with this many times, and this many more, from this height on, the tip is above the greatest height
+abbrev pub is_past : ℕ → ℕ → ℕ → Bool
+is_past from held more = nat_lt (max_height + 1) (from + held + more)
 
 -- with this many more times there are more than an opening may have, or one of them doesn't fit 32 bits
 abbrev pub exceeds : ℕ → ℕ → ℕ → ℕ → Bool
@@ -62,7 +72,10 @@ entry_fault (Err denial) = Some (tokens.Whitelist denial)
 -- what is wrong with one more line: a setting, or a verdict on an input, may stand only once
 abbrev pub line_fault : Said → OpeningLine → Option OpeningToken
 line_fault said (says.Budget budget) = fault_if (is_some said.budget) tokens.BadLine
-line_fault said (says.Times count first step) = fault_if (exceeds (length said.times) count first step) tokens.TimesLimit
+line_fault said (says.From height) =
+    if is_some said.from then Some tokens.BadLine else fault_if (is_past height (length said.times) 0) tokens.TimesLimit
+line_fault said (says.Times count first step) =
+    fault_if (exceeds (length said.times) count first step || is_past (first_height said) (length said.times) count) tokens.TimesLimit
 line_fault said (says.Coin coin) = None
 line_fault said (says.Verdict row) = fault_if (has_row_on said.rows row.wtxid row.input) tokens.BadLine
 line_fault said (says.OtherVerdicts verdict) = fault_if (is_some said.other) tokens.BadLine
@@ -78,6 +91,7 @@ with_entry entries (Err denial) = entries
 -- what is said with one more line
 abbrev pub joined : Said → ℕ → OpeningLine → Said
 joined said number (says.Budget budget) = record said { budget = Some budget }
+joined said number (says.From height) = record said { from = Some height }
 joined said number (says.Times count first step) = record said { times = said.times ++ times_from count first step }
 joined said number (says.Coin coin) = record said { coins = said.coins ++ coin ∷ []; coin_lines = said.coin_lines ++ number ∷ [] }
 joined said number (says.Verdict row) = record said { rows = said.rows ++ row ∷ [] }
@@ -149,6 +163,7 @@ abbrev pub opening_of : Said → Start
 opening_of said = record {
   budget = unwrap_or said.budget 300000000;
   policy = policy_in said;
+  first = first_height said;
   coins = said.coins;
   times = said.times;
   verdicts = record { rows = said.rows; other = said.other };
@@ -164,7 +179,7 @@ opened_unless (Some fault) said = Err (located said.coin_lines fault)
 
 -- the state of what was said, or the first fault of its times and coins
 abbrev pub opened_from : Said → Result World OpeningFault
-opened_from said = opened_unless (open_fault said.coins said.times) said
+opened_from said = opened_unless (open_fault_from (first_height said) said.coins said.times) said
 
 abbrev pub on_all_said : Result Said OpeningFault → Result World OpeningFault
 on_all_said (Ok said) = opened_from said

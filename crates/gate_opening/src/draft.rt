@@ -2,11 +2,11 @@
 ghost use Rattle.std.specs.Prelude.{◌≡◌, ◌≢◌, Ok, Err, IfOk, IfErr};
 ghost use Rattle.gate_core.specs.Good.{IsGoodWorld};
 ghost use Rattle.gate_opening.specs.OpeningLines.{said_by};
-ghost use Rattle.gate_opening.specs.Said.{exceeds, nothing_said, opened_from, opening_of, policy_in, with_line, with_text, Takes};
+ghost use Rattle.gate_opening.specs.Said.{exceeds, is_past, nothing_said, opened_from, opening_of, policy_in, with_line, with_text, Takes};
 
 use crate::limit::{Limit, Limits};
 use crate::opening_fault::{OpeningFault, OpeningToken, at_line};
-use crate::opening_line::{OpeningLine, read_opening_line};
+use crate::opening_line::{MAX_HEIGHT, OpeningLine, read_opening_line};
 use crate::setting::{Setting, Settings};
 use crate::times::{append_times, times_fit};
 use gate_admit::{OpeningCoin, Policy, Verdicts};
@@ -33,6 +33,8 @@ const DEFAULT_LIMIT: u64 = 25;
 #[derive(Drop)]
 pub(crate) struct Draft<S: BuildHasher + Copy + Drop> {
     budget: Option<u64>,
+    /// The height of the first time.
+    from: Option<u32>,
     times: Vec<u32>,
     coins: Vec<OpeningCoin>,
     /// The line of each coin.
@@ -51,6 +53,7 @@ impl<S: BuildHasher + Copy + Drop> Model for Draft<S> {
 
     ghost view = { λ d. record {
       budget = d.budget;
+      from = d.from;
       times = d.times.items;
       coins = d.coins.items;
       coin_lines = d.coin_lines.items;
@@ -69,6 +72,7 @@ impl<S: BuildHasher + Copy + Drop> Draft<S> {
     {
         Draft {
             budget: None,
+            from: None,
             times: Vec::new(alloc),
             coins: Vec::new(alloc),
             coin_lines: Vec::new(alloc),
@@ -110,6 +114,7 @@ impl<S: BuildHasher + Copy + Drop> Draft<S> {
                 self.budget = Some(budget);
                 Ok(())
             }
+            OpeningLine::From(height) => self.begin_at(number, height),
             OpeningLine::Times { count, first, step } => self.add_times(number, count, first, step),
             OpeningLine::Coin(coin) => self.add_coin(number, coin),
             OpeningLine::Verdict(row) => match self.verdicts.add(row) {
@@ -134,6 +139,20 @@ impl<S: BuildHasher + Copy + Drop> Draft<S> {
         }
     }
 
+    /// Sets the height of the first time.
+    fn begin_at(&mut self, number: u64, height: u32) -> Result<(), OpeningFault>
+        ensures { Takes result self.new (with_line self.old number (OpeningLine.From height)) }
+    {
+        if self.from.is_some() {
+            return Err(OpeningFault::Line(number, OpeningToken::BadLine));
+        }
+        if is_past(height, self.times.len(), 0) {
+            return Err(OpeningFault::Line(number, OpeningToken::TimesLimit));
+        }
+        self.from = Some(height);
+        Ok(())
+    }
+
     fn add_times(
         &mut self,
         number: u64,
@@ -143,7 +162,8 @@ impl<S: BuildHasher + Copy + Drop> Draft<S> {
     ) -> Result<(), OpeningFault>
         ensures { Takes result self.new (with_line self.old number (OpeningLine.Times count first step)) }
     {
-        if exceeds(self.times.len(), count, first, step) {
+        let held = self.times.len();
+        if exceeds(held, count, first, step) || is_past(self.from.unwrap_or(0), held, count) {
             return Err(OpeningFault::Line(number, OpeningToken::TimesLimit));
         }
         match append_times(&mut self.times, count, first, step) {
@@ -217,6 +237,7 @@ impl<S: BuildHasher + Copy + Drop> Draft<S> {
         let policy = self.policy();
         let Draft {
             budget,
+            from,
             times,
             coins,
             coin_lines,
@@ -235,6 +256,7 @@ impl<S: BuildHasher + Copy + Drop> Draft<S> {
         let opening = Opening {
             budget: budget.unwrap_or(DEFAULT_BUDGET),
             policy,
+            first: from.unwrap_or(0),
             coins: Kept::from_vec(coins),
             times: Kept::from_vec(times),
             verdicts,
@@ -285,4 +307,11 @@ fn exceeds(held: usize, count: u64, first: u32, step: u64) -> bool
         return true;
     }
     !times_fit(count, first, step)
+}
+
+/// Whether the tip is above the greatest height with this many times, and this many more, from this height on.
+fn is_past(from: u32, held: usize, more: u64) -> bool
+    ensures { result ≡ is_past from held more }
+{
+    u128::from(from) + held as u128 + u128::from(more) > u128::from(MAX_HEIGHT) + 1
 }

@@ -13,7 +13,7 @@ use thiserror::Error;
 pub enum OpeningToken {
     /// A line without a form, past a limit, or that says a second time what may be said once.
     BadLine,
-    /// More than 1,000,000 block times, or one after the first of its line that doesn't fit 32 bits.
+    /// More than 1,000,000 block times, one after the first of its line that doesn't fit 32 bits, or a tip above 10,000,000.
     TimesLimit,
     /// A whitelist entry that breaks a rule.
     Whitelist(NetDenial),

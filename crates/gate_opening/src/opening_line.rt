@@ -1,27 +1,31 @@
 //! What one line of an opening says.
 ghost use Rattle.std.specs.Prelude.{◌≡◌, MatchOption, IfOk, None, Some};
 ghost use Rattle.std.specs.Option.{option_map};
-ghost use Rattle.gate_opening.specs.OpeningLines.{opening_line_of, budget_line_of, times_line_of, coin_line_of, outpoint_of, coin_head_of, script_of, verdict_line_of, row_of, verdict_of, is_coinbase_of, whitelist_line_of, rpc_line_of, limit_line_of, set_line_of, on_of};
+ghost use Rattle.gate_opening.specs.OpeningLines.{opening_line_of, budget_line_of, from_line_of, times_line_of, coin_line_of, verdict_line_of, whitelist_line_of, rpc_line_of, limit_line_of, set_line_of, on_of};
 
 use crate::limit::Limit;
 use crate::setting::Setting;
 use gate_admit::{MAX_LIMIT, Verdict, VerdictRow};
-use gate_bytes::{Kept, Memory, Text};
+use gate_bytes::{Memory, Text};
 use gate_chain::OpeningCoin;
 use gate_lines::{next_word, read_number, read_small_number};
 use gate_net::{NetDenial, WhitelistEntry};
-use gate_tx::{Coin, OutPoint, Txid, Wtxid};
-use hex::FromHexError;
+use gate_words::{read_coin, read_row, read_verdict};
 use std::alloc::Global;
 
 /// The most virtual bytes that a budget may give the pool.
 pub const MAX_BUDGET: u64 = 1_000_000_000;
+
+/// The greatest height that a chain may have.
+pub(crate) const MAX_HEIGHT: u32 = 10_000_000;
 
 /// What one line of an opening says.
 #[derive(Debug, Drop)]
 pub(crate) enum OpeningLine {
     /// The pool's budget in virtual bytes.
     Budget(u64),
+    /// The height of the first block time.
+    From(u32),
     /// Block times in seconds: the first of them, and the step to each next one.
     Times { count: u64, first: u32, step: u64 },
     Coin(OpeningCoin),
@@ -46,6 +50,9 @@ pub(crate) fn read_opening_line(alloc: Global, line: &str) -> Result<Option<Open
     };
     if name == "budget" {
         return Ok(budget_line(rest));
+    }
+    if name == "from" {
+        return Ok(from_line(rest));
     }
     if name == "times" {
         return Ok(times_line(rest));
@@ -80,6 +87,18 @@ fn budget_line(rest: &str) -> Option<OpeningLine>
     }
 }
 
+/// `HEIGHT`, up to the greatest height of a chain, behind the name `from`
+fn from_line(rest: &str) -> Option<OpeningLine>
+    ensures { result ≡ from_line_of rest.now }
+{
+    let height = read_small_number(rest)?;
+    if height <= MAX_HEIGHT {
+        Some(OpeningLine::From(height))
+    } else {
+        None
+    }
+}
+
 /// `COUNT FIRST STEP`, behind the name `times`
 fn times_line(rest: &str) -> Option<OpeningLine>
     ensures { result ≡ times_line_of rest.now }
@@ -96,119 +115,18 @@ fn times_line(rest: &str) -> Option<OpeningLine>
 fn coin_line(alloc: Global, rest: &str) -> Result<Option<OpeningLine>, Memory>
     ensures { IfOk result (λ read. read ≡ coin_line_of rest.now) }
 {
-    let Some((outpoint, rest)) = coin_outpoint(rest) else {
-        return Ok(None);
-    };
-    let Some((head, script)) = coin_head(rest) else {
-        return Ok(None);
-    };
-    let Some(script) = read_script(alloc, script)? else {
-        return Ok(None);
-    };
-    Ok(Some(OpeningLine::Coin(OpeningCoin {
-        outpoint,
-        coin: Coin {
-            value: head.value,
-            script,
-            height: head.height,
-            coinbase: head.coinbase,
-        },
-    })))
-}
-
-/// `TXID INDEX`, and what stands after it
-fn coin_outpoint(rest: &str) -> Option<(OutPoint, &str)>
-    ensures { MatchOption result (outpoint_of rest.now ≡ None) (λ p. outpoint_of rest.now ≡ Some (p.0, p.1.now)) }
-{
-    let (txid, rest) = next_word(rest)?;
-    let (index, rest) = next_word(rest)?;
-    let outpoint = OutPoint {
-        txid: Txid::read(txid)?,
-        index: read_small_number(index)?,
-    };
-    Some((outpoint, rest))
-}
-
-/// What a coin's line says between its outpoint and its script.
-#[derive(Clone, Copy, Debug)]
-struct CoinHead {
-    value: i64,
-    height: u32,
-    coinbase: bool,
-}
-
-/// `VALUE HEIGHT plain|cb`, and what stands after it
-fn coin_head(rest: &str) -> Option<(CoinHead, &str)>
-    ensures { MatchOption result (coin_head_of rest.now ≡ None) (λ p. coin_head_of rest.now ≡ Some (p.0, p.1.now)) }
-{
-    let (value, rest) = next_word(rest)?;
-    let (height, rest) = next_word(rest)?;
-    let (kind, script) = next_word(rest)?;
-    let head = CoinHead {
-        value: read_number(value)? as i64,
-        height: read_small_number(height)?,
-        coinbase: is_coinbase(kind)?,
-    };
-    Some((head, script))
-}
-
-fn is_coinbase(kind: &str) -> Option<bool>
-    ensures { result ≡ is_coinbase_of kind.now }
-{
-    if kind == "plain" {
-        Some(false)
-    } else if kind == "cb" {
-        Some(true)
-    } else {
-        None
-    }
-}
-
-/// A script in hex, or `-` for an empty one.
-fn read_script(alloc: Global, text: &str) -> Result<Option<Kept<u8>>, Memory>
-    ensures { IfOk result (λ script. script ≡ script_of text.now) }
-{
-    if text.is_empty() {
-        return Ok(None);
-    }
-    if text == "-" {
-        return Ok(Some(Kept::from_vec(Vec::new(alloc))));
-    }
-    match hex::decode(alloc, text) {
-        Ok(script) => Ok(Some(Kept::from_vec(script))),
-        Err(FromHexError::OutOfMemory) => Err(Memory),
-        Err(_) => Ok(None),
-    }
+    Ok(read_coin(alloc, rest)?.map(OpeningLine::Coin))
 }
 
 /// `WTXID INPUT ok|soft|hard`, or `* ok|soft|hard`
 fn verdict_line(rest: &str) -> Option<OpeningLine>
     ensures { result ≡ verdict_line_of rest.now }
 {
-    let (subject, rest) = next_word(rest)?;
+    let (subject, others) = next_word(rest)?;
     if subject == "*" {
-        return Some(OpeningLine::OtherVerdicts(read_verdict(rest)?));
+        return Some(OpeningLine::OtherVerdicts(read_verdict(others)?));
     }
-    let (input, verdict) = next_word(rest)?;
-    Some(OpeningLine::Verdict(VerdictRow {
-        wtxid: Wtxid::read(subject)?,
-        input: read_small_number(input)?,
-        verdict: read_verdict(verdict)?,
-    }))
-}
-
-fn read_verdict(text: &str) -> Option<Verdict>
-    ensures { result ≡ verdict_of text.now }
-{
-    if text == "ok" {
-        Some(Verdict::Good)
-    } else if text == "soft" {
-        Some(Verdict::Soft)
-    } else if text == "hard" {
-        Some(Verdict::Hard)
-    } else {
-        None
-    }
+    Some(OpeningLine::Verdict(read_row(rest)?))
 }
 
 /// `TEXT`, which isn't empty

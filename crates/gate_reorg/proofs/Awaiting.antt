@@ -13,7 +13,7 @@ use Rattle.gate_tx.specs.declared.TxIn.{TxIn}
 use Rattle.gate_tx.specs.Ids.{txid_of}
 use Rattle.gate_tx.specs.Text.{IsTx}
 use Rattle.gate_tx.specs.Tx.{Tx}
-use Rattle.gate_chain.specs.declared.Block.{Block}
+use Rattle.gate_chain.specs.Blocks.{Block}
 use Rattle.gate_chain.specs.Coins.{coin_of, is_known_txid, is_spent_in, has_txid, opening_coin_of}
 use Rattle.gate_chain.specs.History.{History}
 use Rattle.gate_block.specs.Switching.{left_of, without_last, last_blocks, switched, blocks_rules}

@@ -1,5 +1,6 @@
 pub mod Knowing
 pub mod Settling
+pub mod Spent
 pub mod Making
 pub mod Leaving
 pub mod Awaiting
@@ -8,6 +9,7 @@ pub mod Keeping
 pub mod Ripening
 pub mod Origins
 pub mod Spending
+pub mod ByBlock
 pub mod Counting
 pub mod Listed
 pub mod Picked

@@ -17,9 +17,9 @@ use Rattle.gate_tx.specs.Ids.{txid_of}
 use Rattle.gate_tx.specs.Text.{IsTx, stripped}
 use Rattle.gate_tx.specs.Tx.{Tx}
 use Rattle.gate_tx.proofs.Stripped.{stripped_same}
-use Rattle.gate_chain.specs.declared.Block.{Block}
+use Rattle.gate_chain.specs.Blocks.{Block}
 use Rattle.gate_chain.specs.Coins.{coin_made, coin_of_transaction, coin_of_transactions, coin_of_blocks, coin_of, opening_coin_of, is_spent_in, is_known_txid}
-use Rattle.gate_chain.specs.History.{History}
+use Rattle.gate_chain.specs.History.{History, first_connected}
 use Rattle.gate_chain.specs.Times.{tip_of}
 use Rattle.gate_pool.specs.Pool.{Admitted, has_txid, entry_by_txid}
 use Rattle.gate_pool.proofs.Adding.{found_by_id}
@@ -135,11 +135,11 @@ unspent_made false o h = (refl, h)
 pub coin_is_made : (h : History) (p : OutPoint) → IsSome (coin_of h p) → (is_spent h p ≡ false) × IsMade h p
 unfolding coin_of
 coin_is_made h p k =
-    let w = unspent_made (is_spent h p) (option_or (opening_coin_of h.coins p) (coin_of_blocks (length h.times) h.blocks p)) k in (
+    let w = unspent_made (is_spent h p) (option_or (opening_coin_of h.coins p) (coin_of_blocks (first_connected h) h.blocks p)) k in (
       w.0,
       ⊎_elim (λ (o : is_some (opening_coin_of h.coins p) ≡ true). inl o)
-          (λ o. let m = in_blocks (length h.times) h.blocks p o in inr (m.made.0, Contains-flat_map (λ (b : Block). b.transactions) h.blocks m.block m.made.0 m.among m.made.1, m.made.2))
-          (some_or (opening_coin_of h.coins p) (coin_of_blocks (length h.times) h.blocks p) w.1),
+          (λ o. let m = in_blocks (first_connected h) h.blocks p o in inr (m.made.0, Contains-flat_map (λ (b : Block). b.transactions) h.blocks m.block m.made.0 m.among m.made.1, m.made.2))
+          (some_or (opening_coin_of h.coins p) (coin_of_blocks (first_connected h) h.blocks p) w.1),
     )
 
 left_over : {X : Type 0} (b : Bool) (o : Option X) → b ≡ false → is_some o ≡ true → is_some (if b then None else o) ≡ true
@@ -149,11 +149,11 @@ left_over false o e h = h
 pub made_is_coin : (h : History) (p : OutPoint) → is_spent h p ≡ false → IsMade h p → IsSome (coin_of h p)
 unfolding coin_of
 made_is_coin h p unspent made =
-    left_over (is_spent h p) (option_or (opening_coin_of h.coins p) (coin_of_blocks (length h.times) h.blocks p)) unspent
-    (⊎_elim (λ (o : is_some (opening_coin_of h.coins p) ≡ true). or_first (opening_coin_of h.coins p) (coin_of_blocks (length h.times) h.blocks p) o)
+    left_over (is_spent h p) (option_or (opening_coin_of h.coins p) (coin_of_blocks (first_connected h) h.blocks p)) unspent
+    (⊎_elim (λ (o : is_some (opening_coin_of h.coins p) ≡ true). or_first (opening_coin_of h.coins p) (coin_of_blocks (first_connected h) h.blocks p) o)
     (λ (w : MadeBy (connected_transactions h) p).
     let m = Contains-from_flat_map (λ (b : Block). b.transactions) h.blocks w.0 w.1 in
-    or_second (opening_coin_of h.coins p) (coin_of_blocks (length h.times) h.blocks p) (from_blocks (length h.times) h.blocks p m.item w.0 m.among m.within w.2))
+    or_second (opening_coin_of h.coins p) (coin_of_blocks (first_connected h) h.blocks p) (from_blocks (first_connected h) h.blocks p m.item w.0 m.among m.within w.2))
     made)
 
 -- what is behind the first of a list is in it

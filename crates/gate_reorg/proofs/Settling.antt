@@ -14,7 +14,7 @@ use Rattle.gate_tx.specs.Ids.{txid_of}
 use Rattle.gate_tx.specs.Text.{IsTx, is_nonempty}
 use Rattle.gate_tx.specs.Tx.{Tx}
 use Rattle.gate_standard.specs.Rules.{is_coinbase as coinbase_inputs}
-use Rattle.gate_chain.specs.declared.Block.{Block}
+use Rattle.gate_chain.specs.Blocks.{Block}
 use Rattle.gate_chain.specs.Coins.{coin_of, is_known_txid}
 use Rattle.gate_chain.specs.Connecting.{grown, with_part, missing, spends_null, lacks_coinbase, head_rules, transaction_rules, transactions_rules, block_rules}
 use Rattle.gate_chain.specs.History.{History}
@@ -31,7 +31,7 @@ true_from_not true h = refl
 true_from_not false h = sym h
 
 -- an input that is not missing finds a coin
-found : (has : OutPoint → Bool) (inputs : List TxIn) → missing has inputs ≡ false → (i : TxIn) → Contains inputs i → has i.prevout ≡ true
+pub found : (has : OutPoint → Bool) (inputs : List TxIn) → missing has inputs ≡ false → (i : TxIn) → Contains inputs i → has i.prevout ≡ true
 found has [] h i c = not_in_none i c
 found has (j ∷ inputs) h i c =
     let parts = or_parts (not (has j.prevout)) (missing (λ p. not (point_eq j.prevout p) && has p) inputs) h in
@@ -39,11 +39,11 @@ found has (j ∷ inputs) h i c =
     (λ (k : Contains inputs i). (and_parts _ _ (found (λ p. not (point_eq j.prevout p) && has p) inputs parts.1 i k)).1)
     (Contains-cons_cases j inputs i c)
 
-asked : (some lacks : Bool) → some ≡ true → (some && lacks) ≡ false → lacks ≡ false
+pub asked : (some lacks : Bool) → some ≡ true → (some && lacks) ≡ false → lacks ≡ false
 asked true lacks e h = h
 asked false lacks e h = absurd (true≢false (sym e))
 
-nonempty-append : (done : List Tx) (x : Tx) → is_nonempty (done ++ x ∷ []) ≡ true
+pub nonempty-append : (done : List Tx) (x : Tx) → is_nonempty (done ++ x ∷ []) ≡ true
 nonempty-append [] x = refl
 nonempty-append (y ∷ done) x = refl
 

@@ -3,7 +3,7 @@ use Rattle.std.specs.Prelude.{ℕ, is_none, filter, length, List, ◌∷◌, Opt
 use Rattle.std.specs.List.{list_any}
 use Rattle.gate_bytes.specs.Order.{Rule}
 use Rattle.gate_tx.specs.Ids.{txid_of}
-use Rattle.gate_chain.specs.declared.Block.{Block}
+use Rattle.gate_chain.specs.Blocks.{Block}
 use Rattle.gate_chain.specs.declared.ChainDenial.{ChainDenial}
 use Rattle.gate_chain.specs.declared.ChainDenial.TheVariants.{BlockDecode}
 use Rattle.gate_chain.specs.History.{History}

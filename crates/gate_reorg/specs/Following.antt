@@ -7,7 +7,7 @@ use Rattle.gate_reorg.specs.declared.event.Draft.{Draft}
 use Rattle.gate_reorg.specs.declared.terms.Switched.{Switched}
 use Rattle.gate_reorg.specs.declared.terms.Terms.{Terms as Lent}
 use Rattle.gate_reorg.specs.Reorganisation.{Terms, unconfirmed, all_tried_again, returned}
-use Rattle.gate_submission.specs.Blocks.{transactions_of}
+use Rattle.gate_submission.specs.Blocks.{present, transactions_of}
 
 -- the terms that are lent
 abbrev pub terms_of : {S H : Type 0} → Lent S H → Terms
@@ -25,7 +25,7 @@ returns_of under entries landed txs = all_tried_again (terms_of under) entries (
 
 abbrev pub left_by : {S H : Type 0} → Lent S H → Switched → List Admitted → ℕ → Trimmed
 left_by under change entries floor =
-    returned (terms_of under) entries floor change.landings.now (transactions_of change.gone.now)
+    returned (terms_of under) entries floor (transactions_of (present change.new.now)) (transactions_of change.gone.now)
 
 -- the entries and the floor of a draft
 abbrev pub drafted : {S H : Type 0} → Draft S H → Trimmed

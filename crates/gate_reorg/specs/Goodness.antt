@@ -6,7 +6,7 @@ use Rattle.gate_tx.specs.declared.OutPoint.{OutPoint}
 use Rattle.gate_tx.specs.Ids.{txid_of}
 use Rattle.gate_tx.specs.Text.{IsTx}
 use Rattle.gate_tx.specs.Tx.{Tx}
-use Rattle.gate_chain.specs.declared.Block.{Block}
+use Rattle.gate_chain.specs.Blocks.{Block}
 use Rattle.gate_chain.specs.Coins.{has_transaction}
 use Rattle.gate_chain.specs.History.{History}
 use Rattle.gate_chain.specs.Times.{tip_of}
@@ -14,7 +14,7 @@ use Rattle.gate_locks.specs.Finality.{is_final_at}
 use Rattle.gate_locks.specs.Locks.{median_at, sequence_locks_met_by}
 use Rattle.gate_block.specs.Switching.{last_blocks, switched, switch_rules}
 use Rattle.gate_pool.specs.Pool.{Admitted, spent_by, size_of}
-use Rattle.gate_admit.specs.Good.{AreApart, IsGood, IsSettled, Limits, connected_transactions, limits_for}
+use Rattle.gate_admit.specs.Good.{AreApart, IsGood, IsSettled, Limits, SpendsCoins, connected_transactions, limits_for}
 use Rattle.gate_admit.specs.Standing.{Standing}
 use Rattle.gate_reorg.specs.Reorganisation.{input_heights, spends_young_coin}
 use Rattle.gate_submission.specs.Blocks.{transactions_of}
@@ -45,6 +45,11 @@ EventsKeepPoolsGood = (over : Standing) (depth : ℕ) (blocks : List Block) (now
     let after = event_of over depth blocks now budget in
     first_failing (switch_rules over.chain depth blocks) ≡ None → IsReadyFor limits over.chain over.entries blocks
     → StaysGood limits after.chain after.entries
+
+-- after an event that no rule denies, the connected blocks spend coins that were made, each once, if they did before
+abbrev pub EventsSpendCoins : Type 0
+EventsSpendCoins = (over : Standing) (depth : ℕ) (blocks : List Block) (now budget : ℕ)
+    → first_failing (switch_rules over.chain depth blocks) ≡ None → SpendsCoins over.chain → SpendsCoins (event_of over depth blocks now budget).chain
 
 -- the next block may have the transaction: it is final there, its relative locks are met, and it spends no coin of a coinbase
 -- that is less than 100 blocks below

@@ -13,9 +13,9 @@ ghost use Rattle.gate_reorg.specs.Changing.{HoldsTheSame, held, left_after, move
 ghost use Rattle.gate_reorg.specs.Following.{left_by, drafted};
 ghost use Rattle.gate_reorg.specs.Goodness.{IsReadyFor, StaysGood};
 ghost use Rattle.gate_reorg.specs.Events.{event_rules, event_of, happening, moved_from};
-ghost use Rattle.gate_submission.specs.Blocks.{present};
+ghost use Rattle.gate_submission.specs.Blocks.{present, transactions_of};
 
-use crate::confirming::{Landing, confirm_all, ids_of, landings};
+use crate::confirming::{confirm_all, ids_of};
 use crate::moved::count_beyond;
 use crate::returning::return_all;
 use crate::staleness::take_premature;
@@ -30,7 +30,7 @@ use gate_trim::{expire, trim};
 use std::alloc::Global;
 use std::hash::BuildHasher;
 
-/// Copies of the blocks, or C1 if one could not be read.
+/// The blocks, shared with those that lend them, or C1 if one could not be read.
 fn copies(alloc: Global, blocks: &[Option<Block>]) -> Result<Vec<Block>, ChainFault>
     ensures ok { IfOk result (λ copies. copies.items ≡ present blocks.now) }
     ensures passes { OnOk result (list_any is_none blocks.now ≡ false) }
@@ -62,12 +62,12 @@ impl<S: BuildHasher + Copy + Drop> Draft<S> {
         &mut self,
         alloc: Global,
         under: &Terms<'_, S>,
-        change: &Switched<'_, '_, '_>,
+        change: &Switched<'_, '_>,
     ) -> Result<(), Memory>
         ensures { OnOk result (left_by under.now change.now self.old.pool.entries self.old.floor ≡ drafted self.new) }
     {
-        let new = ids_of(alloc, self.pool.hasher(), change.landings)?;
-        confirm_all(&mut self.pool, change.landings);
+        let new = ids_of(alloc, self.pool.hasher(), change.new)?;
+        confirm_all(&mut self.pool, change.new);
         let returned = return_all(alloc, under, &mut self.pool, &new, change.gone);
         drop(new);
         returned?;
@@ -95,7 +95,7 @@ impl<S: BuildHasher + Copy + Drop> Draft<S> {
 fn redraft<S: BuildHasher + Copy + Drop>(
     alloc: Global,
     under: &Terms<'_, S>,
-    change: &Switched<'_, '_, '_>,
+    change: &Switched<'_, '_>,
     pool: &Pool<S>,
     floor: &Floor,
 ) -> Result<Draft<S>, Memory>
@@ -134,7 +134,7 @@ fn moved<S: BuildHasher + Copy + Drop>(
 fn follow_up<S: BuildHasher + Copy + Drop>(
     alloc: Global,
     under: &Terms<'_, S>,
-    change: &Switched<'_, '_, '_>,
+    change: &Switched<'_, '_>,
     pool: &Pool<S>,
     floor: &Floor,
 ) -> Result<(Draft<S>, Moved), Memory>
@@ -157,11 +157,11 @@ impl<'a, S: BuildHasher + Copy + Drop> Changing<'a, S> {
         &mut self,
         alloc: Global,
         blocks: Vec<Block>,
-        landings: &[Landing<'_>],
+        new: &[Option<Block>],
     ) -> Result<Moved, ChainFault>
         ensures same { HoldsTheSame self.old self.new }
         ensures chain { OnOk result (self.new.chain.now ≡ switched self.old.chain.now 0 blocks.items) }
-        ensures entries { OnOk result (self.new.pool.now.entries ≡ all_confirmed self.old.pool.now.entries landings.now) }
+        ensures entries { OnOk result (self.new.pool.now.entries ≡ all_confirmed self.old.pool.now.entries (transactions_of (present new.now))) }
         ensures floor { self.new.floor.now ≡ self.old.floor.now }
         ensures moved { IfOk result (λ moved. moved ≡ moved_between self.old self.new) }
         ensures chain_kept { OnErr result (self.new.chain.now ≡ self.old.chain.now) }
@@ -172,7 +172,7 @@ impl<'a, S: BuildHasher + Copy + Drop> Changing<'a, S> {
         let _way = switch(alloc, self.chain, 0, blocks)?;
         self.pool.recall_distinct();
         let before = self.pool.count();
-        confirm_all(self.pool, landings);
+        confirm_all(self.pool, new);
         Ok(Moved {
             tip: self.chain.tip(),
             removed: before - self.pool.count(),
@@ -187,11 +187,11 @@ impl<'a, S: BuildHasher + Copy + Drop> Changing<'a, S> {
         alloc: Global,
         depth: u64,
         blocks: Vec<Block>,
-        landings: &[Landing<'_>],
+        new: &[Option<Block>],
     ) -> Result<Moved, ChainFault>
         ensures same { HoldsTheSame self.old self.new }
         ensures chain { OnOk result (self.new.chain.now ≡ switched self.old.chain.now depth blocks.items) }
-        ensures pool { OnOk result (left_after self.old self.new.chain.now depth landings.now ≡ held self.new) }
+        ensures pool { OnOk result (left_after self.old self.new.chain.now depth (transactions_of (present new.now)) ≡ held self.new) }
         ensures moved { IfOk result (λ moved. moved ≡ moved_between self.old self.new) }
         ensures chain_kept { OnErr result (self.new.chain.now ≡ self.old.chain.now) }
         ensures pool_kept { OnErr result (self.new.pool.now.entries ≡ self.old.pool.now.entries) }
@@ -208,7 +208,7 @@ impl<'a, S: BuildHasher + Copy + Drop> Changing<'a, S> {
             budget: self.budget,
         };
         let change = Switched {
-            landings,
+            new,
             gone: way.gone(),
         };
         match follow_up(alloc, &under, &change, self.pool, self.floor) {
@@ -241,11 +241,10 @@ impl<'a, S: BuildHasher + Copy + Drop> Changing<'a, S> {
         ensures denied { IfErr result (λ fault. Tells fault (first_failing (event_rules self.old.chain.now disconnect blocks.now))) }
     {
         let copies = copies(alloc, blocks)?;
-        let landings = landings(alloc, blocks)?;
         if disconnect == 0 {
-            self.extend(alloc, copies, &landings)
+            self.extend(alloc, copies, blocks)
         } else {
-            self.reorganise(alloc, disconnect, copies, &landings)
+            self.reorganise(alloc, disconnect, copies, blocks)
         }
     }
 }

@@ -1,10 +1,16 @@
 //! Laws of chain events, stated apart from their steps.
-ghost use Rattle.gate_reorg.specs.Goodness.{BlocksComeBack, BlocksOnlyTake, EntriesAreUnconfirmed, EventsBringNothingElse, EventsKeepPoolsGood, EventsKeepTheBudget, EventsSpendOnce, FloorsNeverFall, ReturnsLeaveTheRipe};
+ghost use Rattle.gate_reorg.specs.Goodness.{BlocksComeBack, BlocksOnlyTake, EntriesAreUnconfirmed, EventsBringNothingElse, EventsKeepPoolsGood, EventsKeepTheBudget, EventsSpendCoins, EventsSpendOnce, FloorsNeverFall, ReturnsLeaveTheRipe};
 
 /// An event that no rule denies keeps a settled chain settled and a good pool good, if transactions are told apart by
 /// their ids.
 pub fn events_keep_pools_good()
     ensures { EventsKeepPoolsGood }
+{}
+
+/// After an event that no rule denies, each outpoint that a connected block spends has a coin that was made by then, and
+/// no two blocks spend one outpoint, if it was so before.
+pub fn events_spend_coins()
+    ensures { EventsSpendCoins }
 {}
 
 /// After an event that no rule denies, no connected block has the transaction of an entry, if chain and pool were good

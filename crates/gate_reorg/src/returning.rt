@@ -11,25 +11,24 @@ use gate_admit::{Prepared, readmit};
 use gate_bytes::{Copied, Counted, Memory};
 use gate_chain::Block;
 use gate_pool::Pool;
-use gate_tx::{Identified, Transaction, Txid};
+use gate_tx::{Identified, Txid};
 use indexmap::IndexSet;
 use std::alloc::Global;
 use std::hash::BuildHasher;
 
-/// Tries a transaction again: it enters, or the entries that spend its outputs leave with all below them. The
-/// disconnected blocks are kept in case the chain is switched back, so that the entry has a copy of the transaction.
+/// Tries a transaction again: it enters, or the entries that spend its outputs leave with all below them. An entry and
+/// the disconnected block, which is kept in case the chain is switched back, share the transaction and its ids.
 #[tactic(auto, unfolding(crate::specs::Reorganisation::tried_again))]
 fn try_again<S: BuildHasher + Copy + Drop>(
     alloc: Global,
     under: &Terms<'_, S>,
     pool: &mut Pool<S>,
-    transaction: &Transaction,
+    transaction: &Counted<Identified>,
 ) -> Result<(), Memory>
     ensures { OnOk result (pool.new.entries ≡ tried_again (terms_of under.now) pool.old.entries transaction.now) }
 {
-    let identified = Identified::new(alloc, transaction.copy(alloc)?)?;
-    let txid = identified.txid();
-    let prepared = Prepared::of(alloc, Counted::new(alloc, identified)?)?;
+    let txid = transaction.get().txid();
+    let prepared = Prepared::of(alloc, transaction.copy(alloc)?)?;
     match readmit(
         alloc,
         under.chain,
@@ -51,13 +50,13 @@ fn return_block<S: BuildHasher + Copy + Drop>(
     under: &Terms<'_, S>,
     pool: &mut Pool<S>,
     new: &IndexSet<Txid, S>,
-    transactions: &[Transaction],
+    transactions: &[Counted<Identified>],
 ) -> Result<(), Memory>
     ensures { (landed : List Tx) → HasIdsOf new.now landed →
         OnOk result (pool.new.entries ≡ returns_of under.now pool.old.entries landed transactions.now) }
 {
     for transaction in transactions {
-        if !new.contains(&transaction.txid(alloc)?) {
+        if !new.contains(&transaction.get().txid()) {
             try_again(alloc, under, pool, transaction)?;
         }
     }
@@ -76,7 +75,7 @@ pub(crate) fn return_all<S: BuildHasher + Copy + Drop>(
         OnOk result (pool.new.entries ≡ returns_of under.now pool.old.entries landed (transactions_of gone.now)) }
 {
     for block in gone {
-        return_block(alloc, under, pool, new, block.transactions.as_slice())?;
+        return_block(alloc, under, pool, new, block.transactions())?;
     }
     Ok(())
 }

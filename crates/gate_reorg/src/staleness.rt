@@ -91,17 +91,19 @@ fn spends_young_coin<S: BuildHasher + Copy + Drop>(
 }
 
 /// Whether the next block cannot have a transaction: it is not final there, a relative lock is not met, or it spends a
-/// coinbase too early.
+/// coinbase too early. `median` is the median time past of the tip.
 #[tactic(auto, unfolding(crate::specs::Reorganisation::is_premature))]
 fn is_premature<S: BuildHasher + Copy + Drop>(
     alloc: Global,
     chain: &Chain<S>,
     pool: &Pool<S>,
+    median: u32,
     tx: &Transaction,
 ) -> Result<bool, Memory>
+    requires { median ≡ median_at chain.now (tip_of chain.now) }
     ensures { IfOk result (λ found. found ≡ is_premature chain.now pool.now.entries tx.now) }
 {
-    if !is_final(tx, chain.tip() + 1, tip_median(chain)) {
+    if !is_final(tx, chain.tip() + 1, median) {
         return Ok(true);
     }
     let heights = input_heights(alloc, chain, pool, tx.inputs())?;
@@ -116,12 +118,14 @@ fn is_premature_id<S: BuildHasher + Copy + Drop>(
     alloc: Global,
     chain: &Chain<S>,
     pool: &Pool<S>,
+    median: u32,
     txid: &Txid,
 ) -> Result<bool, Memory>
+    requires { median ≡ median_at chain.now (tip_of chain.now) }
     ensures { IfOk result (λ found. found ≡ is_premature_id chain.now pool.now.entries txid.now) }
 {
     match pool.entry(txid) {
-        Some(entry) => is_premature(alloc, chain, pool, entry.transaction()),
+        Some(entry) => is_premature(alloc, chain, pool, median, entry.transaction()),
         None => Ok(false),
     }
 }
@@ -134,10 +138,11 @@ fn premature_ids<S: BuildHasher + Copy + Drop>(
 ) -> Result<IndexSet<Txid, S>, Memory>
     ensures { IfOk result (λ ids. (id : List ℕ) → contains bytes_eq ids id ≡ is_listed_premature chain.now pool.now.entries id) }
 {
+    let median = tip_median(chain);
     let listing = pool.listing(alloc)?;
     let mut ids = IndexSet::with_hasher(alloc, pool.hasher());
     for txid in listing.as_slice() {
-        if is_premature_id(alloc, chain, pool, txid)? {
+        if is_premature_id(alloc, chain, pool, median, txid)? {
             ids.insert(*txid)?;
         }
     }

@@ -1,5 +1,5 @@
 //! The results of calls.
-use gate_bytes::{Copied, Exact, Kept, Memory};
+use gate_bytes::{Copied, Counted, Exact, Kept, Memory};
 use gate_standard::Denial;
 use gate_tx::{Txid, Wtxid};
 use std::alloc::Global;
@@ -28,30 +28,7 @@ pub struct EntryInfo {
     pub spent_by: Kept<Txid>,
 }
 
-impl Copied for EntryInfo {
-    fn copy(&self, alloc: Global) -> Result<EntryInfo, Memory> {
-        let depends = self.depends.copy(alloc)?;
-        let spent_by = self.spent_by.copy(alloc)?;
-        Ok(EntryInfo {
-            wtxid: self.wtxid,
-            fee: self.fee,
-            vsize: self.vsize,
-            weight: self.weight,
-            time: self.time,
-            ancestor_count: self.ancestor_count,
-            ancestor_size: self.ancestor_size,
-            ancestor_fees: self.ancestor_fees,
-            descendant_count: self.descendant_count,
-            descendant_size: self.descendant_size,
-            descendant_fees: self.descendant_fees,
-            is_replaceable: self.is_replaceable,
-            depends,
-            spent_by,
-        })
-    }
-}
-
-/// The result of a call.
+/// The result of a call. Copies of one share its lists.
 #[derive(Debug, Drop, PartialEq, Eq)]
 pub enum RpcResult {
     /// The transaction is in the pool.
@@ -70,9 +47,9 @@ pub enum RpcResult {
         denial: Denial,
     },
     /// Transactions in the pool.
-    Txids(Kept<Txid>),
+    Txids(Counted<Kept<Txid>>),
     /// An entry of the pool.
-    Entry(EntryInfo),
+    Entry(Counted<EntryInfo>),
     /// The pool's total size and the most that it may be, in virtual bytes; the least feerate that the pool takes and
     /// the one for relay, in satoshi per 1,000 virtual bytes; and the number of entries.
     Info {

@@ -94,8 +94,8 @@ pub(crate) fn result_json(alloc: Global, outcome: &RpcResult) -> Result<String, 
             let object = rejected_json(alloc, txid, wtxid, denial)?;
             Ok(listed(alloc, object.as_str())?)
         }
-        RpcResult::Txids(txids) => txids_json(alloc, txids.as_slice()),
-        RpcResult::Entry(entry) => entry_json(alloc, entry),
+        RpcResult::Txids(txids) => txids_json(alloc, txids.get().as_slice()),
+        RpcResult::Entry(entry) => entry_json(alloc, entry.get()),
         RpcResult::Info {
             size,
             budget,

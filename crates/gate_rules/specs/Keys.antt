@@ -115,7 +115,7 @@ whitelist_rules =
     ∷ key (codes "N3") (codes "mapped-subnet") EndsProgram
     ∷ []
 
--- C1 to C7: events of the chain
+-- C1 to C12: events of the chain
 abbrev pub chain_event_rules : List Key
 chain_event_rules =
     key (codes "C1") (codes "block-decode") Nothing
@@ -125,6 +125,11 @@ chain_event_rules =
     ∷ key (codes "C5") (codes "time-too-old") Nothing
     ∷ key (codes "C6") (codes "no-undo") Nothing
     ∷ key (codes "C7") (codes "chain-full") Nothing
+    ∷ key (codes "C8") (codes "coin-value") Nothing
+    ∷ key (codes "C9") (codes "coin-unspendable") Nothing
+    ∷ key (codes "C10") (codes "coin-above-opening") Nothing
+    ∷ key (codes "C11") (codes "coin-known") Nothing
+    ∷ key (codes "C12") (codes "verdict-known") Nothing
     ∷ []
 
 -- L1 to L3: lines that are no events

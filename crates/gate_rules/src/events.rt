@@ -5,8 +5,8 @@ ghost use Rattle.gate_rules.specs.Rules.{key_of};
 
 use crate::rule::{Rule, Then};
 
-/// C1 to C7: events of the chain.
-pub(crate) fn chain_event_rules() -> [Rule; 7]
+/// C1 to C12: events of the chain.
+pub(crate) fn chain_event_rules() -> [Rule; 12]
     ensures { map key_of result ≡ chain_event_rules }
 {
     [
@@ -50,7 +50,7 @@ pub(crate) fn chain_event_rules() -> [Rule; 7]
             token: "no-undo",
             then: Then::Nothing,
             core: None,
-            says: "More blocks are to be disconnected than are connected, or than 100",
+            says: "More blocks are to be disconnected than are connected, or than 100; or more are to be forgotten than are connected",
         },
         Rule {
             name: "C7",
@@ -58,6 +58,41 @@ pub(crate) fn chain_event_rules() -> [Rule; 7]
             then: Then::Nothing,
             core: None,
             says: "The height would pass 10,000,000",
+        },
+        Rule {
+            name: "C8",
+            token: "coin-value",
+            then: Then::Nothing,
+            core: None,
+            says: "The value of the coin is above 2,100,000,000,000,000 satoshi",
+        },
+        Rule {
+            name: "C9",
+            token: "coin-unspendable",
+            then: Then::Nothing,
+            core: None,
+            says: "The script of the coin begins with 0x6a (OP_RETURN) or has more than 10,000 bytes",
+        },
+        Rule {
+            name: "C10",
+            token: "coin-above-opening",
+            then: Then::Nothing,
+            core: None,
+            says: "The height of the coin is above that of the opening's last block; coins of later heights are made by blocks",
+        },
+        Rule {
+            name: "C11",
+            token: "coin-known",
+            then: Then::Nothing,
+            core: None,
+            says: "An opening coin has the outpoint, spent or not, or a connected block's transaction or an entry of the pool has the txid",
+        },
+        Rule {
+            name: "C12",
+            token: "verdict-known",
+            then: Then::Nothing,
+            core: None,
+            says: "There is a verdict on this input of the transaction already",
         },
     ]
 }
@@ -101,14 +136,14 @@ pub(crate) fn opening_words() -> [Rule; 7]
             token: "bad-line",
             then: Then::EndsProgram,
             core: None,
-            says: "A line has none of the forms of an opening, says again what was said, or passes the limits of lines",
+            says: "A line has none of the forms of an opening, repeats a setting or a verdict, or passes the limits of lines",
         },
         Rule {
             name: "opening",
             token: "times-limit",
             then: Then::EndsProgram,
             core: None,
-            says: "There are more than 1,000,000 block times, or one after the first of its line does not fit 32 bits",
+            says: "There are more than 1,000,000 block times, one after the first of its line does not fit 32 bits, or the tip is above 10,000,000",
         },
         Rule {
             name: "opening",
@@ -136,7 +171,7 @@ pub(crate) fn opening_words() -> [Rule; 7]
             token: "coin-above-tip",
             then: Then::EndsProgram,
             core: None,
-            says: "The height of a coin is above the tip, which is the number of block times less one",
+            says: "The height of a coin is above the tip, which is the height of the first block time, less one and as many as there are times",
         },
         Rule {
             name: "opening",

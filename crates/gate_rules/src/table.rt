@@ -40,7 +40,7 @@ fn append_callers(rules: &mut Vec<Rule>) -> Result<(), Memory>
     append(rules, &whitelist_rules())
 }
 
-/// Appends C1 to C7, L1 to L3, and the words for openings and lanes.
+/// Appends C1 to C12, L1 to L3, and the words for openings and lanes.
 fn append_events(rules: &mut Vec<Rule>) -> Result<(), Memory>
     ensures { OnOk result (map key_of rules.new.items ≡ with_events (map key_of rules.old.items)) }
 {

@@ -3,7 +3,7 @@ use Rattle.std.specs.Prelude.{List, Option}
 use Rattle.std.specs.List.{flat_map}
 use Rattle.std.specs.Option.{option_to_list}
 use Rattle.gate_tx.specs.Tx.{Tx}
-use Rattle.gate_chain.specs.declared.Block.{Block}
+use Rattle.gate_chain.specs.Blocks.{Block}
 
 -- the blocks that could be read
 abbrev pub present : List (Option Block) → List Block

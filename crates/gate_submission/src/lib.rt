@@ -1,5 +1,5 @@
-//! What is submitted, before it meets a chain and a pool, and the outcome of a chain event: what callers and replies
-//! say of admission and reorganisation without depending on them.
+//! What is submitted, before it meets a chain and a pool, a verdict on a script, and the outcome of a chain event: what
+//! callers and replies say of admission and reorganisation without depending on them.
 //!
 //! The main clause is that of `Prepared::of`: the transaction, with the first of A2 to A19 that fails.
 #![tactic(auto)]
@@ -7,8 +7,10 @@
 mod moved;
 mod prepared;
 mod spelling;
+mod verdict;
 
 pub use gate_inputs::InputReport;
 pub use moved::Moved;
 pub use prepared::{Candidate, Prepared};
 pub use spelling::recall_spelled;
+pub use verdict::{Verdict, VerdictRow};

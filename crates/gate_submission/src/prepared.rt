@@ -220,8 +220,8 @@ impl Copied for Prepared {
 impl PartialEq for Prepared {
     ghost use Rattle.std.proofs.Common.{refl};
     ghost use Rattle.std.specs.Option.{option_eq};
-    ghost use Rattle.gate_tx.specs.Equality.{transaction_decides, tx_in_decides, tx_out_decides};
-    ghost use Rattle.gate_submission.specs.Equality.{option_decides, deciding};
+    ghost use Rattle.gate_tx.specs.Equality.{deciding, transaction_decides, tx_in_decides, tx_out_decides};
+    ghost use Rattle.gate_submission.specs.Equality.{option_decides};
 
     ghost eq = { λ a b. option_eq ⟦<Transaction as PartialEq>⟧.eq a b };
 
@@ -238,8 +238,8 @@ impl PartialEq for Prepared {
 
 impl Eq for Prepared {
     ghost use Rattle.std.proofs.Common.{refl};
-    ghost use Rattle.gate_tx.specs.Equality.{transaction_decides, tx_in_decides, tx_out_decides};
-    ghost use Rattle.gate_submission.specs.Equality.{option_decides, deciding_all};
+    ghost use Rattle.gate_tx.specs.Equality.{deciding_all, transaction_decides, tx_in_decides, tx_out_decides};
+    ghost use Rattle.gate_submission.specs.Equality.{option_decides};
 
     ghost laws = { deciding_all (option_decides (λ a b. transaction_decides tx_in_decides tx_out_decides a b (⟦<Transaction as PartialEq>⟧.eq a b) refl)) };
 }

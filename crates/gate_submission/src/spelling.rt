@@ -4,14 +4,15 @@ ghost use Rattle.gate_tx.specs.Text.{IsTx};
 ghost use Rattle.gate_tx.specs.Tx.{Tx};
 ghost use Rattle.gate_submission.specs.Blocks.{present, transactions_of};
 
+use gate_bytes::Counted;
 use gate_chain::Block;
-use gate_tx::Transaction;
+use gate_tx::Identified;
 
-fn recall_all(transactions: &[Transaction])
+fn recall_all(transactions: &[Counted<Identified>])
     ensures { (tx : Tx) → Contains transactions.now tx → IsTx tx }
 {
     for transaction in transactions {
-        transaction.recall_invariant();
+        transaction.get().transaction().recall_invariant();
     }
 }
 
@@ -21,7 +22,7 @@ pub fn recall_spelled(blocks: &[Option<Block>])
 {
     for block in blocks {
         if let Some(block) = block {
-            recall_all(block.transactions.as_slice());
+            recall_all(block.transactions());
         }
     }
 }

@@ -1,6 +1,11 @@
-use Rattle.std.proofs.Common.{rules, ◌≡◌, true, false, [], ◌∷◌, ◌++◌, refl, sym, ap, subst, ◌∙◌, arith}
+use Rattle.std.proofs.Common.{List, rules, ◌≡◌, true, false, [], ◌∷◌, ◌++◌, refl, sym, ap, subst, ◌∙◌, arith}
 use Rattle.std.proofs.lemmas.List.{nil_from_length}
+use Rattle.std.specs.Prelude.{Contains}
+use Rattle.gate_tx.specs.declared.TxIn.{TxIn}
+use Rattle.gate_tx.specs.Tx.{Tx}
 use Rattle.gate_tx.specs.Ids.{txid_of}
+use Rattle.gate_pool.specs.Pool.{Admitted}
+use Rattle.gate_pool.proofs.Walking.{Contains-filter}
 use Rattle.gate_pool.specs.Family.{names, children_of, AreIdsOf}
 use Rattle.gate_admit.proofs.Behind.{differs}
 use Rattle.gate_admit.proofs.Families.{none_are}
@@ -28,3 +33,12 @@ returns-clause-above g c =
     let n = c.args.newcomer.now in
     let own : names n (txid_of n.tx) ≡ false = ap (names n) (sym c.txid-txid.ensures) ∙ sym c.names.ensures ∙ c.if-names.false in
     root_ids entries n (differs entries n c.requires.new) own (sym c.has_parent.ensures ∙ c.if-has_parent.false) c.new.result.items (search rules)
+
+pub fits_between-requires-clause-adds : goal.fits_between-requires-clause-adds
+fits_between-requires-clause-adds g c i m entry d k named =
+    let entries = c.args.pool.now.entries in
+    let n = c.args.newcomer.now in
+    let inputs = c.inputs-inputs.ensures ∙ ap (λ (t : Tx). t.inputs) c.transaction.ensures in
+    let are = subst (λ x. AreIdsOf c.in_ok-children.children.items (children_of entries x)) c.txid-txid.ensures c.in_ok-children.ensures in
+    let all : Contains c.in_ok-children.children.items (txid_of d.tx) = are.all d (Contains-filter (λ (e : Admitted). names e (txid_of n.tx)) entries d k named) in
+    c.in_ok-adds_no_chain.ensures c.if-branch.true i (subst (λ (l : List TxIn). Contains l i) (sym inputs) m) entry (txid_of d.tx) (subst (λ l. Contains l (txid_of d.tx)) (sym c.deref.ensures.value) all)

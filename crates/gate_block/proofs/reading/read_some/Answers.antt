@@ -19,7 +19,7 @@ returns-in_err-transaction c = λ few.
 pub loop-preserved : goal.loop-preserved
 loop-preserved c = λ few.
     let i = c.loop.invariant few in (
-      rw c.in_ok-push.ensures.items (goes_on tx_at _ _ _ _ _ _ _ c.loop-test.true (sym (front_is _ i.1) ∙ c.in_ok-transaction.ensures.exact) i.0),
+      rw (c.in_ok-push.ensures.items, c.in_ok-new.ensures) (goes_on tx_at _ _ _ _ _ _ _ c.loop-test.true (sym (front_is _ i.1) ∙ c.in_ok-transaction.ensures.exact) i.0),
       behind_short _ _ _ longest c.in_ok-transaction.ensures.found.1 i.1,
     )
 

@@ -1,8 +1,11 @@
 use Rattle.std.proofs.Common.{refl}
+use Rattle.gate_chain.specs.Learning.{learn_rules}
+use Rattle.gate_core.specs.ChainSteps.{coin_rules}
 use Rattle.gate_core.specs.Steps.{step_of}
 use Rattle.gate_net.specs.Whitelists.{flags_of}
 use Rattle.gate_admit.specs.Submission.{submit_of}
 use Rattle.gate_admit.specs.Rules.{decision_of}
+use Rattle.gate_admit.specs.Verdicts.{row_rules}
 use Rattle.gate_core.proofs.examples.small_steps.Goals as goal
 
 pub returns-clause-small : goal.returns-clause-small
@@ -69,4 +72,22 @@ returns-clause-calls c = record {
   no_entry = refl;
   sends_nothing = refl;
   tests_nothing = refl;
+}
+
+pub returns-clause-learning : goal.returns-clause-learning
+unfolding step_of coin_rules learn_rules row_rules
+returns-clause-learning c = record {
+  learns = refl;
+  worthless = refl;
+  unspendable = refl;
+  too_high = refl;
+  as_high = refl;
+  known = refl;
+  verdict = refl;
+  verdict_again = refl;
+  forgets = refl;
+  too_few = refl;
+  below_the_first = refl;
+  the_first = refl;
+  headers_below = refl;
 }

@@ -9,7 +9,7 @@ use Rattle.gate_reorg.proofs.confirming.confirm.Goals as goal
 pub returns : goal.returns
 unfolding confirmed
 returns g c =
-    let tx = c.args.landing.now in
+    let tx = c.args.transaction.now in
     let old = c.args.pool.now.entries in
     let inputs = c.inputs.ensures ∙ ap (λ (t : Tx). t.inputs) c.transaction.ensures in
     c.take_spenders.ensures

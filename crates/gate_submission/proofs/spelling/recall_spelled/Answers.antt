@@ -7,7 +7,7 @@ use Rattle.gate_submission.proofs.spelling.recall_spelled.Goals.{in-Some, in_def
 pub loop-block-preserved : goal.loop-block-preserved
 loop-block-preserved c = λ rest.
     let told : AreSpelled (transactions_of (present (c.block-item.result ∷ []))) = elim c.match-block.branch [
-      | in-Some w ↦ told_some c.block-item.result w.in-Some.block w.as_slice.result.now w.in-Some.is w.as_slice.ensures w.recall_all.ensures
+      | in-Some w ↦ told_some c.block-item.result w.in-Some.block w.transactions.result.now w.in-Some.is w.transactions.ensures w.recall_all.ensures
       | in_default w ↦ told_none c.block-item.result w.in_default.is
     ] in
     c.loop-block.invariant (blocks_next c.args.blocks.now c.loop-block.block-index c.block-item.result c.loop-block-test.true c.block-item.is told rest)

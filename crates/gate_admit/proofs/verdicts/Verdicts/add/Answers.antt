@@ -1,6 +1,6 @@
 use Rattle.std.proofs.Common.{◌≡◌, ◌++◌, ◌∷◌, [], ◌∙◌, ap, sym, not, false, List, is_some}
 use Rattle.std.specs.Map.{lookup}
-use Rattle.gate_admit.specs.declared.verdicts.VerdictRow.{VerdictRow}
+use Rattle.gate_submission.specs.declared.verdict.VerdictRow.{VerdictRow}
 use Rattle.gate_admit.specs.Verdicts.{VerdictTable, has_row_on}
 use Rattle.gate_admit.specs.VerdictMap.{rows_of, subject, subject_eq}
 use Rattle.gate_admit.proofs.Rows.{has_row_on-entries, rows_of-pushed}

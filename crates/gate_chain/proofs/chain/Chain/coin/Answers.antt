@@ -1,7 +1,7 @@
 use Rattle.std.proofs.Common.{ap, ◌∙◌, subst}
 use Rattle.gate_chain.specs.Coins.{coin_of}
 use Rattle.gate_chain.specs.History.{History}
-use Rattle.gate_chain.specs.Keeping.{IsFaultless}
+use Rattle.gate_chain.specs.Keeping.{IsOpening}
 use Rattle.gate_chain.proofs.Growing.{unspent_is}
 use Rattle.gate_chain.proofs.Heights.{coin_within}
 use Rattle.gate_chain.proofs.Opened.{height_of_lent}
@@ -13,4 +13,4 @@ returns-clause-coin g c = c.unspent.ensures ∙ unspent_is _ _ _ c.self.invarian
 pub returns-clause-height : goal.returns-clause-height
 returns-clause-height g c =
     height_of_lent c.unspent.result _ _ (returns-clause-coin g c)
-    (coin_within c.args.self.now c.args.outpoint.now (subst (λ (h : History). IsFaultless h.coins h.times) c.self.view_is c.self.invariant.opening))
+    (coin_within c.args.self.now c.args.outpoint.now (subst (λ (h : History). IsOpening h.first h.coins h.times) c.self.view_is c.self.invariant.opening))

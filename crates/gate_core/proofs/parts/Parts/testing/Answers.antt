@@ -1,7 +1,5 @@
-use Rattle.std.proofs.Common.{IfOk, ◌≡◌, ◌∙◌, ap, subst, Result}
+use Rattle.std.proofs.Common.{IfOk, ◌≡◌, subst, Result}
 use Rattle.std.proofs.lemmas.Result.{IfOk-weaker}
-use Rattle.gate_admit.specs.Standing.{standing}
-use Rattle.gate_admit.specs.Verdicts.{VerdictTable}
 use Rattle.gate_rpc.specs.declared.error.RpcError.{RpcError}
 use Rattle.gate_rpc.specs.declared.result.RpcResult.{RpcResult}
 use Rattle.gate_query.specs.Answers.{tested}
@@ -12,11 +10,8 @@ use Rattle.gate_core.proofs.parts.Parts.testing.Goals as goal
 
 pub returns-clause-ok : goal.returns-clause-ok
 returns-clause-ok g c =
-    let self = c.args.self.now in
-    let w : World = world_of self in
-    let tx = c.args.transaction.now in
-    let judged : VerdictTable → Result RpcResult RpcError = λ verdicts. tested (standing w.chain w.pool w.floor verdicts w.policy) tx in
-    let found : c.in_ok-outcome.outcome ≡ judged w.verdicts = c.in_ok-outcome.ensures ∙ ap judged c.get.ensures in
+    let w : World = world_of c.args.self.now in
+    let found : c.in_ok-outcome.outcome ≡ tested (standing_of w) c.args.transaction.now = c.in_ok-outcome.ensures in
     subst (λ (outcome : Result RpcResult RpcError). (planned : IfOk c.telling.result (λ plan. Plans w (told w c.args.id.now c.in_ok-outcome.outcome) plan)) → IfOk c.telling.result (Plans w (told w c.args.id.now outcome))) found
     (λ planned. planned)
     (IfOk-weaker c.telling.result _ _ (λ plan planned. planned w) c.telling.ensures.ok)

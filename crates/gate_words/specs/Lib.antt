@@ -1,0 +1,2 @@
+pub mod CoinWords
+pub mod VerdictWords
