@@ -6,6 +6,7 @@ ghost use Rattle.gate_prog.specs.Jobs.{GateRan, GateStopped};
 ghost use Rattle.gate_prog.specs.Lanes.{LaneDone, LaneUnread, StoppedBy};
 
 use crate::progress::Progress;
+use crate::quantity::Quantity;
 use crate::tally::Tally;
 use crate::telling::Telling;
 use crate::told::reply_told;
@@ -95,7 +96,7 @@ impl<T: Clock + Eprint> Explaining<'_, T> {
         let explained = self.explained(&run.state, event);
         match run.state.step(self.alloc, event) {
             Ok(answer) => {
-                run.tally.count(&explained, &answer);
+                run.tally.count(event, &explained, &answer);
                 self.tell(&explained, &answer);
                 Ok(answer)
             }
@@ -129,10 +130,11 @@ fn summary<S: BuildHasher + Copy + Drop>(
 ) -> Result<String, Memory> {
     let counts = end.tally.text()?;
     let state = &end.state;
-    let entries = state.pool().count();
+    let lines = Quantity::new(refused, "line", "lines");
+    let entries = Quantity::new(state.pool().count() as u64, "entry", "entries");
     let size = state.pool().size();
     Ok(format!(in alloc;
-        "{counts}, {refused} refused lines; pool {entries} entries, {size} of {} virtual bytes, floor {}",
+        "{counts}, {lines} refused; pool: {entries}, {size} of {} virtual bytes, floor {}",
         state.budget(),
         state.floor().rate()
     )?)

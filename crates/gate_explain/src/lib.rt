@@ -6,6 +6,7 @@
 mod denied;
 mod lane;
 mod progress;
+mod quantity;
 mod tally;
 mod telling;
 mod told;

@@ -1,8 +1,9 @@
 //! The totals of the events of a run, by their replies.
-use crate::denied::rule_in;
+use crate::denied::{RuleName, rule_in};
+use crate::quantity::Quantity;
 use gate_bytes::Memory;
 use gate_figures::Explained;
-use gate_message::Reply;
+use gate_message::{Event, Reply};
 use gate_rpc::{RpcReply, RpcResult};
 use gate_rules::rules;
 use std::alloc::Global;
@@ -14,6 +15,50 @@ struct Count {
     times: u64,
 }
 
+/// How many coins and verdicts were learnt, and how many blocks were forgotten.
+#[derive(Clone, Copy)]
+struct Learning {
+    coins: u64,
+    verdicts: u64,
+    blocks: u64,
+}
+
+impl Learning {
+    fn new() -> Learning {
+        Learning {
+            coins: 0,
+            verdicts: 0,
+            blocks: 0,
+        }
+    }
+
+    /// Counts what an event of the chain taught or let forget, by its reply.
+    fn count(&mut self, event: &Event, reply: &Reply) {
+        match (event, reply) {
+            (Event::LearnCoin(_), Reply::Set) => one_more(&mut self.coins),
+            (Event::LearnVerdict(_), Reply::Set) => one_more(&mut self.verdicts),
+            (_, Reply::Forgotten { blocks, .. }) => {
+                self.blocks = self.blocks.saturating_add(*blocks);
+            }
+            _ => {}
+        }
+    }
+
+    /// Appends the counts, if one of them is not 0.
+    fn push_text(self, text: &mut String) -> Result<(), Memory> {
+        if self.coins > 0 || self.verdicts > 0 || self.blocks > 0 {
+            write!(
+                text,
+                ", learnt {} and {}, forgot {}",
+                Quantity::new(self.coins, "coin", "coins"),
+                Quantity::new(self.verdicts, "verdict", "verdicts"),
+                Quantity::new(self.blocks, "block", "blocks")
+            )?;
+        }
+        Ok(())
+    }
+}
+
 /// The totals of the events of a run.
 #[derive(Drop)]
 pub(crate) struct Tally {
@@ -22,6 +67,7 @@ pub(crate) struct Tally {
     admitted: u64,
     replaced: u64,
     denied: u64,
+    learning: Learning,
     faults: u64,
     /// The count of each rule, in the order of the rules.
     counts: Vec<Count>,
@@ -43,6 +89,15 @@ fn lets_enter(reply: &Reply) -> bool {
             _ => false,
         },
         _ => false,
+    }
+}
+
+/// How many entries the transaction replaced that entered by this reply.
+fn replaced_by(explained: &Option<Explained>, reply: &Reply) -> u64 {
+    match (reply, explained) {
+        (Reply::Admitted { replaced, .. }, _) => *replaced,
+        (_, Some(Ok(grant))) => grant.replaced,
+        _ => 0,
     }
 }
 
@@ -72,6 +127,7 @@ impl Tally {
             admitted: 0,
             replaced: 0,
             denied: 0,
+            learning: Learning::new(),
             faults: 0,
             counts,
         }
@@ -82,18 +138,17 @@ impl Tally {
         self.events
     }
 
-    /// Counts the reply to an event. Without memory for the name of its rule it is counted without that.
-    pub(crate) fn count(&mut self, explained: &Option<Explained>, reply: &Reply) {
+    /// Counts an event by its reply. How many entries a user's transaction replaced is known from the explanation alone.
+    pub(crate) fn count(&mut self, event: &Event, explained: &Option<Explained>, reply: &Reply) {
         one_more(&mut self.events);
-        if let Some(Ok(grant)) = explained
-            && lets_enter(reply)
-        {
+        self.learning.count(event, reply);
+        if lets_enter(reply) {
             one_more(&mut self.admitted);
-            self.replaced = self.replaced.saturating_add(grant.replaced);
+            self.replaced = self.replaced.saturating_add(replaced_by(explained, reply));
         }
-        if let Ok(Some(rule)) = rule_in(self.alloc, reply) {
+        if let Some(rule) = rule_in(reply) {
             one_more(&mut self.denied);
-            self.count_rule(rule.as_str());
+            self.count_rule(rule);
         }
     }
 
@@ -103,9 +158,9 @@ impl Tally {
         one_more(&mut self.faults);
     }
 
-    fn count_rule(&mut self, rule: &str) {
+    fn count_rule(&mut self, rule: RuleName) {
         for count in self.counts.as_mut_slice() {
-            if count.rule == rule {
+            if rule.is(count.rule) {
                 one_more(&mut count.times);
                 return;
             }
@@ -127,13 +182,18 @@ impl Tally {
         Ok(text)
     }
 
-    /// `812 events: 640 admitted, 12 replaced, 160 denied (A25 90, A35 70)`, and how often memory ran out, if it did.
+    /// `812 events: 640 admitted, 12 replaced, 160 denied (A25 90, A35 70)`, then `learnt 40 coins and 2 verdicts, forgot 3
+    /// blocks` if there was any of these, and how often memory ran out, if it did.
     pub(crate) fn text(&self) -> Result<String, Memory> {
         let rules = self.rules_text()?;
         let mut text = format!(in self.alloc;
-            "{} events: {} admitted, {} replaced, {} denied{rules}",
-            self.events, self.admitted, self.replaced, self.denied
+            "{}: {} admitted, {} replaced, {} denied{rules}",
+            Quantity::new(self.events, "event", "events"),
+            self.admitted,
+            self.replaced,
+            self.denied
         )?;
+        self.learning.push_text(&mut text)?;
         if self.faults > 0 {
             write!(text, ", {} out of memory", self.faults)?;
         }

@@ -1,5 +1,5 @@
 //! What is said of a reply.
-use crate::denied::{call_fault, denial_in, rule_in};
+use crate::denied::{RuleName, call_fault, denial_in, rule_in};
 use gate_bytes::Memory;
 use gate_figures::{Explained, Figures};
 use gate_message::Reply;
@@ -17,11 +17,12 @@ fn figures_for(explained: &Option<Explained>, reply: &Reply) -> Option<Figures> 
 }
 
 /// A rule by its name, and its sentence.
-fn rule_text(alloc: Global, name: &str) -> Result<String, Memory> {
-    let rules = rules_named(alloc, name)?;
+fn rule_text(alloc: Global, rule: RuleName) -> Result<String, Memory> {
+    let name = format!(in alloc; "{rule}")?;
+    let rules = rules_named(alloc, name.as_str())?;
     match rules.as_slice().first() {
         Some(rule) => Ok(format!(in alloc; "{name} {}", rule.says)?),
-        None => Ok(String::from_str(alloc, name)?),
+        None => Ok(name),
     }
 }
 
@@ -32,14 +33,14 @@ pub(crate) fn reply_told(
     explained: &Option<Explained>,
     reply: &Reply,
 ) -> Result<Option<String>, Memory> {
-    let Some(name) = rule_in(alloc, reply)? else {
+    let Some(rule) = rule_in(reply) else {
         return match call_fault(reply) {
             Some(fault) => Ok(Some(String::from_str(alloc, fault)?)),
             None => Ok(None),
         };
     };
     match figures_for(explained, reply) {
-        Some(figures) => Ok(Some(format!(in alloc; "{name} {figures}")?)),
-        None => Ok(Some(rule_text(alloc, name.as_str())?)),
+        Some(figures) => Ok(Some(format!(in alloc; "{rule} {figures}")?)),
+        None => Ok(Some(rule_text(alloc, rule)?)),
     }
 }

@@ -56,19 +56,19 @@ LaneUnread Answers input rest before after old new =
     × Consumes input rest (unlines lines ++ piece) × EachLacksNewline lines × LacksNewline piece
     × Appends before after (unlines replies) × Run Answers 0 old lines replies new
 
--- the part of a last reply line that went out before the fault: a prefix of it, or nothing if memory ran out
+-- the part of a last reply line that the writer took before the fault: a prefix of it, or nothing if memory ran out
 abbrev pub SentOf : LaneFault → List (List ℕ) → List ℕ → Type 0
 SentOf faults.Write last part = StartsWith (unlines last) part
 SentOf faults.Memory last part = part ≡ []
 SentOf faults.Read last part = ⊥
 
--- all of these reply lines but at most the last were sent whole, and a part of the last
+-- the writer took all of these reply lines but at most the last whole, and a part of the last
 abbrev pub AllSentButOne : LaneFault → List (List ℕ) → List ℕ → Type 0
 AllSentButOne fault replies sent = (whole : List (List ℕ)) × (last : List (List ℕ)) × (part : List ℕ)
     × (replies ≡ whole ++ last) × (length last ≤ 1) × (sent ≡ unlines whole ++ part) × SentOf fault last part
 
--- the writer failed, or memory ran out: what went out is a prefix of the run's text, and the value is the run's after the
--- lines whose replies went out whole, with at most one line more
+-- the writer failed, or memory ran out: what the writer took is a prefix of the run's text, and the value is the run's after
+-- the lines whose replies it took whole, with at most one line more
 abbrev pub StoppedBy : {V : Type 0} → Answering V → LaneFault → ℕ → Known → Known → Known → V → V → Type 0
 StoppedBy Answers fault number input before after old new =
     (lines : List (List ℕ)) × (replies : List (List ℕ)) × (sent : List ℕ)

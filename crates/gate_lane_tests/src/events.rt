@@ -72,3 +72,78 @@ fn blocks_are_printed(rt: HostRuntime) -> Result<(), Fail> {
     assert!(rt; prints(alloc, "chain 0 6000", "chain 0 6000")?);
     Ok(())
 }
+
+const ID: &str = "00000000000000000000000000000000000000000000000000000000000000AB";
+
+/// What stands behind the id of a coin, and how it is printed.
+const COINS: [(&str, &str); 3] = [
+    ("0 100000 1 plain 6AaB", "0 100000 1 plain 6aab"),
+    (
+        "4294967295 9007199254740991 4294967295 cb -",
+        "4294967295 9007199254740991 4294967295 cb -",
+    ),
+    ("1 0 0 plain 51", "1 0 0 plain 51"),
+];
+
+/// What stands behind the id of a coin in lines that don't parse.
+const NO_COINS: [&str; 8] = [
+    "0 100000 1 plain",
+    "0 100000 1 plain ",
+    "0 100000 1 plain 6",
+    "0 100000 1 plain 6x",
+    "0 100000 1 PLAIN 6a",
+    "0 100000 4294967296 plain 6a",
+    "0 9007199254740992 1 plain 6a",
+    "01 100000 1 plain 6a",
+];
+
+#[test]
+fn coins_are_printed(rt: HostRuntime) -> Result<(), Fail> {
+    let alloc = rt.alloc();
+    let lower = ID.to_ascii_lowercase(alloc)?;
+    for (rest, printed) in COINS {
+        let line = format!(in alloc; "chain coin {ID} {rest}")?;
+        let text = format!(in alloc; "chain coin {lower} {printed}")?;
+        assert!(rt; prints(alloc, line.as_str(), text.as_str())?, "{rest}");
+    }
+    for rest in NO_COINS {
+        let line = format!(in alloc; "chain coin {ID} {rest}")?;
+        assert!(rt; read_event(alloc, line.as_str())?.is_none(), "{rest}");
+    }
+    Ok(())
+}
+
+#[test]
+fn verdicts_are_printed(rt: HostRuntime) -> Result<(), Fail> {
+    let alloc = rt.alloc();
+    let lower = ID.to_ascii_lowercase(alloc)?;
+    for rest in ["0 ok", "4294967295 soft", "7 hard"] {
+        let line = format!(in alloc; "chain verdict {ID} {rest}")?;
+        let text = format!(in alloc; "chain verdict {lower} {rest}")?;
+        assert!(rt; prints(alloc, line.as_str(), text.as_str())?, "{rest}");
+    }
+    for rest in ["0 good", "0 ok ", "0", "4294967296 ok", "-1 ok"] {
+        let line = format!(in alloc; "chain verdict {ID} {rest}")?;
+        assert!(rt; read_event(alloc, line.as_str())?.is_none(), "{rest}");
+    }
+    assert!(rt; read_event(alloc, "chain verdict * ok")?.is_none());
+    Ok(())
+}
+
+#[test]
+fn forgetting_is_printed(rt: HostRuntime) -> Result<(), Fail> {
+    let alloc = rt.alloc();
+    for line in ["chain forget 0", "chain forget 9007199254740991"] {
+        assert!(rt; prints(alloc, line, line)?);
+    }
+    for line in [
+        "chain forget",
+        "chain forget ",
+        "chain forget 01",
+        "chain forget 1 5000",
+        "chain forgets 1",
+    ] {
+        assert!(rt; read_event(alloc, line)?.is_none(), "{line}");
+    }
+    Ok(())
+}

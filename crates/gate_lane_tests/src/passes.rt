@@ -67,6 +67,7 @@ fn opening(alloc: Global, hasher: Hasher) -> Result<Opening<Hasher>, Memory> {
     Ok(Opening {
         budget: 1_000_000,
         policy: Policy::default(),
+        first: 0,
         coins: Kept::from_vec(coins),
         times: Kept::from_vec(times),
         verdicts: verdicts(alloc, hasher),

@@ -1,10 +1,13 @@
 //! Rounds: the next gate begins with the state that the one before led to, and counts its calls anew.
 use gate_core::State;
 use gate_lanes::{Conclusion, Lane, RoundEnd, run_rounds};
+use gate_lines::LaneFault;
 use gate_opening::read_opening;
+use gate_testing::Interrupted;
 use gate_verify::{PolicyCheck, Workers};
 use std::alloc::Global;
 use std::hash::{BuildHasherDefault, FoldHasher};
+use std::io::BufReader;
 use std::test::*;
 
 type Hasher = BuildHasherDefault<FoldHasher>;
@@ -57,11 +60,53 @@ fn a_round_goes_on_from_the_one_before(rt: HostRuntime) -> Result<(), Fail> {
     let alloc = rt.alloc();
     let state = opened(alloc)?;
     let rounds = Vec::from_array(alloc, [round(alloc, SENDS)?, round(alloc, LISTS)?])?;
-    let ends = run_rounds(&rt, alloc, state, &PolicyCheck, rounds, Workers::default())?;
-    let [sent, listed] = ends.as_slice() else {
+    let ended = run_rounds(&rt, alloc, state, &PolicyCheck, rounds, Workers::default());
+    assert!(rt; ended.result.is_ok());
+    let [sent, listed] = ended.rounds.as_slice() else {
         return Err(Fail::new("not two rounds"));
     };
     assert!(rt; told(sent, SENT));
     assert!(rt; told(listed, LISTED));
+    Ok(())
+}
+
+/// A round of one lane over these lines, whose reader breaks behind them.
+fn broken_round(
+    alloc: Global,
+    lines: &'static [u8],
+) -> Result<Vec<Lane<BufReader<Interrupted<'static>>, Vec<u8>>>, Fail> {
+    let lane = Lane {
+        reader: BufReader::new(alloc, Interrupted(lines))?,
+        writer: Vec::new(alloc),
+    };
+    Ok(Vec::from_array(alloc, [lane])?)
+}
+
+/// Whether the calls of this round settled, and its one lane stopped when its reader broke.
+fn settled_broken(round: &RoundEnd<Vec<u8>>) -> bool {
+    let [end] = round.ends.as_slice() else {
+        return false;
+    };
+    let settled = match &round.conclusion {
+        Conclusion::Settles(settled) => settled.count == 1,
+        Conclusion::Differs | Conclusion::Unknown => false,
+    };
+    settled && !round.is_whole() && end.result == Err(LaneFault::Read)
+}
+
+#[test]
+fn no_round_follows_one_whose_lane_stopped(rt: HostRuntime) -> Result<(), Fail> {
+    let alloc = rt.alloc();
+    let state = opened(alloc)?;
+    let rounds = Vec::from_array(
+        alloc,
+        [broken_round(alloc, SENDS)?, broken_round(alloc, LISTS)?],
+    )?;
+    let ended = run_rounds(&rt, alloc, state, &PolicyCheck, rounds, Workers::default());
+    assert!(rt; ended.result.is_ok());
+    let [stopped] = ended.rounds.as_slice() else {
+        return Err(Fail::new("not one round"));
+    };
+    assert!(rt; settled_broken(stopped));
     Ok(())
 }

@@ -1,11 +1,12 @@
 -- A lane leads through the events of its lines.
-use Rattle.std.proofs.Common.{◌≡◌, ℕ, List, [], ◌∷◌, ◌++◌, Option, Some, None, Ok, Err, inl, inr, refl, sym, ap, subst, ◌∙◌, append_assoc, append-nil}
+use Rattle.std.proofs.Common.{◌≡◌, ℕ, ◌<◌, List, [], ◌∷◌, ◌++◌, Option, Some, None, Ok, Err, inl, inr, refl, sym, ap, subst, ◌∙◌, append_assoc, append-nil}
 use Rattle.gate_message.specs.declared.caller.Caller.{Caller}
 use Rattle.gate_message.specs.declared.event.Event.{Event}
-use Rattle.gate_shared.specs.Calls.{PassView}
+use Rattle.gate_shared.specs.Calls.{EachBelow, PassView, Rises}
 use Rattle.gate_shared.specs.Held.{Grows, IsOwn}
+use Rattle.gate_shared.specs.declared.receipt.Made.{Made}
 use Rattle.gate_shared.specs.declared.shared.CallFault.TheVariants.{WrongCaller, PassFull, HistoryShort, AuditFull, Memory}
-use Rattle.gate_lanes.specs.LaneCalls.{Answer, answer_line, calls_made, IsAnsweredFor, AreAnsweredFor, HasCalls, LanesAreCalls}
+use Rattle.gate_lanes.specs.LaneCalls.{Answer, answer_line, calls_made, AreRising, IsAnsweredFor, AreAnsweredFor, HasCalls, LanesAreCalls}
 use Rattle.gate_lane.proofs.Led.{Leading, led, all_fit}
 use Rattle.gate_lane.specs.LaneEvents.{lane_events}
 use Rattle.gate_lanes.specs.Lanes.{Calls, IsUnder, MayFault}
@@ -50,6 +51,15 @@ same_caller : (p q : PassView) (event : Event) (answer : Answer) → Answered p 
 same_caller p q event (Ok r) h = ap (λ (v : PassView). v.caller) h.1.0
 same_caller p q event (Err fault) h = ap (λ (v : PassView). v.caller) h.1
 
+-- the numbers of a pass's receipts rise with one call more
+rises_more : (n : ℕ) (calls : List Made) (call : Made) → Rises n calls → n < call.receipt.number → EachBelow call.receipt.number calls → Rises n (calls ++ call ∷ [])
+rises_more n [] call rises above below = (above, tt)
+rises_more n (c ∷ cs) call rises above below = (rises.0, rises_more c.receipt.number cs call rises.1 below.0 below.1)
+
+rising_more : (calls : List Made) (call : Made) → AreRising calls → EachBelow call.receipt.number calls → AreRising (calls ++ call ∷ [])
+rising_more [] call rising below = tt
+rising_more (c ∷ cs) call rising below = rises_more c.receipt.number cs call rising below.0 below.1
+
 -- the pass after events, from the one before them
 record Held (p : PassView) (events : List Event) (answers : List Answer) (new : Option PassView) : Type 0 where
   pass : PassView
@@ -57,6 +67,7 @@ record Held (p : PassView) (events : List Event) (answers : List Answer) (new : 
   caller : pass.caller ≡ p.caller
   calls : pass.calls ≡ p.calls ++ calls_made events answers
   fit : AreAnsweredFor p.caller events answers
+  rising : AreRising p.calls → AreRising pass.calls
 
 held_call : (p q : PassView) (event : Event) (answer : Answer) (events : List Event) (answers : List Answer) (new : Option PassView)
     → Answered p event answer q → Held q events answers new → Held p (event ∷ events) (answer ∷ answers) new
@@ -66,6 +77,7 @@ held_call p q event (Ok r) events answers new h held = record {
   caller = held.caller ∙ same_caller p q event (Ok r) h;
   calls = held.calls ∙ ap (λ (v : PassView). v.calls ++ calls_made events answers) h.1.0 ∙ append_assoc p.calls (record { event = event; receipt = r } ∷ []) (calls_made events answers);
   fit = (fits p q event (Ok r) h, subst (λ (c : Caller). AreAnsweredFor c events answers) (same_caller p q event (Ok r) h) held.fit);
+  rising = λ rising. held.rising (subst (λ (v : PassView). AreRising v.calls) (sym h.1.0) (rising_more p.calls (record { event = event; receipt = r }) rising h.1.1));
 }
 held_call p q event (Err fault) events answers new h held = record {
   pass = held.pass;
@@ -73,10 +85,11 @@ held_call p q event (Err fault) events answers new h held = record {
   caller = held.caller ∙ same_caller p q event (Err fault) h;
   calls = held.calls ∙ ap (λ (v : PassView). v.calls ++ calls_made events answers) h.1;
   fit = (fits p q event (Err fault) h, subst (λ (c : Caller). AreAnsweredFor c events answers) (same_caller p q event (Err fault) h) held.fit);
+  rising = λ rising. held.rising (subst (λ (v : PassView). AreRising v.calls) (sym h.1) rising);
 }
 
 held : (p : PassView) (events : List Event) (answers : List Answer) (new : Option PassView) → Leads (Some p) events answers new → Held p events answers new
-held p [] [] new h = record { pass = p; is = h; caller = refl; calls = sym (append-nil p.calls); fit = tt }
+held p [] [] new h = record { pass = p; is = h; caller = refl; calls = sym (append-nil p.calls); fit = tt; rising = λ rising. rising }
 held p [] (answer ∷ answers) new h = absurd h
 held p (event ∷ events) [] new h = absurd h
 held p (event ∷ events) (answer ∷ answers) new (p', q, under, answered, leads) =
@@ -93,6 +106,7 @@ has_calls (event ∷ events) (answer ∷ answers) new (p, q, under, answered, le
       h.caller ∙ under.0,
       h.calls ∙ ap (λ cs. cs ++ calls_made (event ∷ events) (answer ∷ answers)) under.1,
       subst (λ (c : Caller). AreAnsweredFor c (event ∷ events) (answer ∷ answers)) (sym h.caller) h.fit,
+      h.rising (subst AreRising (sym under.1) tt),
     )
 
 pub lanes_are_calls : LanesAreCalls

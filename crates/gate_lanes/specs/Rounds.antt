@@ -1,5 +1,5 @@
 -- Rounds: gates one after another, each on the state that the round before led to.
-use Rattle.std.specs.Prelude.{◌≡◌, ℕ, ◌≤◌, ◌⊎◌, List, [], ◌∷◌, length, map, Option, Some, None}
+use Rattle.std.specs.Prelude.{◌≡◌, ℕ, ◌≤◌, ◌⊎◌, List, [], ◌∷◌, length, map, Option, Some, None, IsErr, IsOk, Result}
 use Rattle.std.specs.Global.{Vec}
 use Rattle.gate_core.specs.World.{World}
 use Rattle.gate_journal.specs.Legal.{entry_limit, state_after}
@@ -9,7 +9,7 @@ use Rattle.gate_shared.specs.Settling.{SettlesAll, DontSettle}
 use Rattle.gate_shared.specs.declared.settle.Settled.{Settled}
 use Rattle.gate_shared.specs.declared.settle.Unsettled.{Unsettled}
 use Rattle.gate_shared.specs.declared.settle.Unsettled.TheVariants as causes
-use Rattle.gate_lanes.specs.Ends.{Given, Left, LanesRan, all_given, all_left}
+use Rattle.gate_lanes.specs.Ends.{AreWhole, Given, Left, LanesRan, all_given, all_left}
 use Rattle.gate_lanes.specs.declared.lane.Lane.{Lane}
 use Rattle.gate_lanes.specs.declared.round.Conclusion.{Conclusion}
 use Rattle.gate_lanes.specs.declared.round.RoundEnd.{RoundEnd}
@@ -53,9 +53,17 @@ round_left ends conclusion = record { ends = ends; conclusion = conclusion }
 abbrev pub left_by : {W : Type 0} → (W → Option (List ℕ)) → RoundEnd W → RoundLeft
 left_by contents end = round_left (all_left contents end.ends.items) end.conclusion
 
--- from this state the lanes of a round ran, the round ended like this, and it leads to this next state, if it settles
+-- The next round begins with this state: the one that this round's passes lead to, if they settle and the round is whole. If
+-- there is no such state, the passes don't settle or the round is not whole.
+abbrev pub IsNextState : Type 0 → Option World → Option World → Type 0
+IsNextState IsWhole led None = (led ≡ None) ⊎ (¬ IsWhole)
+IsNextState IsWhole led (Some next) = IsWhole × (led ≡ Some next)
+
+-- From this state the lanes of a round ran, the round ended like this, and the next round begins with this state, if there may be
+-- one: if the passes settle and each lane went to its end.
 abbrev pub RoundRan : World → List Given → RoundLeft → Option World → Type 0
-RoundRan w lanes round next = (passes : List PassView) × LanesRan lanes round.ends passes × Concludes w passes round.conclusion next
+RoundRan w lanes round next = (passes : List PassView) × (led : Option World)
+    × LanesRan lanes round.ends passes × Concludes w passes round.conclusion led × IsNextState (AreWhole round.ends) led next
 
 -- ---- all rounds
 
@@ -63,20 +71,20 @@ RoundRan w lanes round next = (passes : List PassView) × LanesRan lanes round.e
 abbrev pub rounds_given : {R W : Type 0} → (R → Option (List ℕ)) → (W → Option (List ℕ)) → List (Vec (Lane R W)) → List (List Given)
 rounds_given remaining contents rounds = map (λ lanes. all_given remaining contents lanes.items) rounds
 
--- from this state the rounds of these lanes settled one after another, each on the state that the round before led to, and the
--- last leads to this state
+-- from this state the rounds of these lanes settled one after another, each whole and on the state that the round before led to,
+-- and the last leads to this state
 abbrev pub RoundsSettled : World → List (List Given) → List RoundLeft → World → Type 0
 RoundsSettled w [] [] last = last ≡ w
 RoundsSettled w [] (round ∷ rounds) last = ⊥
 RoundsSettled w (lanes ∷ more) [] last = ⊥
 RoundsSettled w (lanes ∷ more) (round ∷ rounds) last = (next : World) × RoundRan w lanes round (Some next) × RoundsSettled next more rounds last
 
--- from this state the rounds of these lanes ran one after another, each on the state that the round before led to; no round ran
--- after one that doesn't settle
-abbrev pub RoundsRan : World → List (List Given) → List RoundLeft → Type 0
-RoundsRan w [] [] = Unit {0}
-RoundsRan w [] (round ∷ rounds) = ⊥
-RoundsRan w (lanes ∷ more) [] = ⊥
-RoundsRan w (lanes ∷ more) (round ∷ rounds) =
-    ((next : World) × RoundRan w lanes round (Some next) × RoundsRan next more rounds)
-    ⊎ (RoundRan w lanes round None × (rounds ≡ []))
+-- From this state the rounds of these lanes ran one after another, each on the state that the round before led to. No round ran
+-- after one that doesn't settle or is not whole, nor after these if memory ran out in the next.
+abbrev pub RoundsRan : {M : Type 0} → World → List (List Given) → List RoundLeft → Result (Unit {0}) M → Type 0
+RoundsRan w [] [] result = IsOk result
+RoundsRan w [] (round ∷ rounds) result = ⊥
+RoundsRan w (lanes ∷ more) [] result = IsErr result
+RoundsRan w (lanes ∷ more) (round ∷ rounds) result =
+    ((next : World) × RoundRan w lanes round (Some next) × RoundsRan next more rounds result)
+    ⊎ (RoundRan w lanes round None × (rounds ≡ []) × IsOk result)

@@ -1,8 +1,8 @@
 //! Rounds: gates one after another, each on the state that the one before led to.
-ghost use Rattle.std.specs.Prelude.{◌≡◌, ◌≢◌, [], true, map, IfErr, IfOk, OnOk};
+ghost use Rattle.std.specs.Prelude.{◌≡◌, ◌≢◌, ◌↔◌, ◌++◌, ◌∷◌, [], true, map, IfErr, IfOk, IsOk, IsTrue, OnErr, OnOk};
 ghost use Rattle.std.specs.List.{All};
 ghost use Rattle.gate_lanes.specs.Ends.{all_given};
-ghost use Rattle.gate_lanes.specs.Rounds.{Concludes, RoundRan, RoundsRan, left_by, rounds_given, unsettled_by};
+ghost use Rattle.gate_lanes.specs.Rounds.{Concludes, IsNextState, RoundLeft, RoundRan, RoundsRan, left_by, rounds_given, unsettled_by};
 
 use crate::lane::{Lane, LaneEnd};
 use crate::run::run_lanes;
@@ -35,11 +35,40 @@ pub struct RoundEnd<W> {
     pub conclusion: Conclusion,
 }
 
-/// A round that ended, and the state that the next round begins with, if this one settles.
+/// The rounds that ended, one after another, and whether memory ran out in the round after them.
+#[derive(Drop)]
+pub struct RoundsEnd<W> {
+    pub rounds: Vec<RoundEnd<W>>,
+    pub result: Result<(), Memory>,
+}
+
+/// A round that ended, and the state that the next round begins with: there is one if this round settles and each of its
+/// lanes went to its end.
 #[derive(Drop)]
 pub struct Round<S: BuildHasher + Copy + Drop, W> {
     pub end: RoundEnd<W>,
     pub next: Option<State<S>>,
+}
+
+impl<W> RoundEnd<W> {
+    /// Whether each lane went to its end, or to the first line past a limit.
+    pub fn is_whole(&self) -> bool
+        ensures { IsTrue result ↔ All (λ end. IsOk end.result) self.now.ends.items }
+    {
+        self.ends.iter().all(|end| end.result.is_ok())
+    }
+
+    /// The state that the next round begins with, if this round led to a state.
+    fn next<S: BuildHasher + Copy + Drop>(&self, led: Option<State<S>>) -> Option<State<S>>
+        ensures { IsNextState (All (λ end. IsOk end.result) self.now.ends.items) led result }
+    {
+        if self.is_whole() {
+            led
+        } else {
+            drop(led);
+            None
+        }
+    }
 }
 
 /// The conclusion for passes that were not settled with a journal, by the cause.
@@ -101,8 +130,9 @@ where
     let gate: Gate<N, S> = Gate::open(alloc, state);
     match run_lanes(rt, alloc, &gate, check, lanes, workers) {
         Ok((ends, passes)) => {
-            let (conclusion, next) = conclude(alloc, gate, passes);
+            let (conclusion, led) = conclude(alloc, gate, passes);
             let end = RoundEnd { ends, conclusion };
+            let next = end.next(led);
             Ok(Round { end, next })
         }
         Err(Memory) => {
@@ -113,8 +143,8 @@ where
 }
 
 /// Runs lanes over a gate on this state, as `run_lanes` does, settles their passes with its journal, and ends the gate.
-/// If they settle, the state that the journal leads to is the next round's: the gate of that round has an empty
-/// journal, its receipts begin at 1, and no pass of this round fits it.
+/// If they settle, and each lane went to its end, the state that the journal leads to is the next round's: the gate of
+/// that round has an empty journal, its receipts begin at 1, and no pass of this round fits it.
 ///
 /// `Memory` is that of `run_lanes`: what the lanes did and wrote is then lost.
 pub fn run_round<
@@ -141,8 +171,42 @@ where
     run_named::<Brand, S, T, C, R, W>(rt, alloc, state, check, lanes, workers)
 }
 
-/// Runs rounds one after another, each on the state that the round before led to. The last round returned is the first
-/// that doesn't settle, if there is one: no round is run after it.
+/// Runs a round, and adds its end to those of the rounds before it. If memory runs out, it adds none.
+fn run_next<
+    S: BuildHasher + Copy + Drop + Send + Sync,
+    T: Threads + Wait + Sync,
+    C: InputCheck + Sync,
+    R: Source + Send + Drop,
+    W: Sink + Send + Drop,
+>(
+    rt: &T,
+    alloc: Global,
+    state: State<S>,
+    check: &C,
+    lanes: Vec<Lane<R, W>>,
+    workers: Workers,
+    ended: &mut Vec<RoundEnd<W>>,
+) -> Result<Option<State<S>>, Memory>
+where
+    S::Hasher: Send + Sync,
+    ensures ok { IfOk result (λ next. (round : RoundLeft) × RoundRan state (all_given R.remaining W.contents lanes.items) round next
+        × (map (left_by W.contents) ended.new.items ≡ map (left_by W.contents) ended.old.items ++ round ∷ [])) }
+    ensures err { OnErr result (ended.new.items ≡ ended.old.items) }
+{
+    if ended.reserve(1).is_err() {
+        drop(state);
+        drop(lanes);
+        return Err(Memory);
+    }
+    let Round { end, next } = run_round(rt, alloc, state, check, lanes, workers)?;
+    let kept: Result<_, _> = ended.push(end);
+    kept.unwrap();
+    Ok(next)
+}
+
+/// Runs rounds one after another, each on the state that the round before led to. The last round that ended is the first
+/// that doesn't settle, or in which a lane stopped, if there is one: no round is run after it. If memory runs out in a
+/// round, the rounds before it are returned.
 pub fn run_rounds<
     S: BuildHasher + Copy + Drop + Send + Sync,
     T: Threads + Wait + Sync,
@@ -156,20 +220,32 @@ pub fn run_rounds<
     check: &C,
     rounds: Vec<Vec<Lane<R, W>>>,
     workers: Workers,
-) -> Result<Vec<RoundEnd<W>>, Memory>
+) -> RoundsEnd<W>
 where
     S::Hasher: Send + Sync,
-    ensures { IfOk result (λ told. RoundsRan state (rounds_given R.remaining W.contents rounds.items) (map (left_by W.contents) told.items)) }
+    ensures { RoundsRan state (rounds_given R.remaining W.contents rounds.items) (map (left_by W.contents) result.rounds.items) result.result }
 {
-    let mut told = Vec::new(alloc);
+    let mut ended = Vec::new(alloc);
     for lanes in rounds {
-        let Round { end, next } = run_round(rt, alloc, state, check, lanes, workers)?;
-        told.push(end)?;
-        match next {
-            Some(next) => state = next,
-            None => return Ok(told),
+        match run_next(rt, alloc, state, check, lanes, workers, &mut ended) {
+            Ok(Some(next)) => state = next,
+            Ok(None) => {
+                return RoundsEnd {
+                    rounds: ended,
+                    result: Ok(()),
+                };
+            }
+            Err(Memory) => {
+                return RoundsEnd {
+                    rounds: ended,
+                    result: Err(Memory),
+                };
+            }
         }
     }
     drop(state);
-    Ok(told)
+    RoundsEnd {
+        rounds: ended,
+        result: Ok(()),
+    }
 }

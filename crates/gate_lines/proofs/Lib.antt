@@ -6,3 +6,4 @@ pub mod NumberParts
 pub mod Decimals
 pub mod FirstLines
 pub mod Limits
+pub mod LastLines

@@ -133,3 +133,10 @@ byte_taken TooLong r r' old new more (bytes, read, (clean, long, same), end) =
     let one = one_byte bytes long in
     (one.0, subst (Consumes r r') one.1 read)
 byte_taken End r r' old new more h = absurd (more refl)
+
+-- where no byte may be kept, none is
+pub nothing_kept : (part : Part) (r r' : Option (List ℕ)) (old new : List ℕ) → PartTaken r r' old new 0 (Ok part) → old ≡ [] → new ≡ []
+nothing_kept Newline r r' old new (bytes, read, (piece, is, clean, short, grown), end) none = grown ∙ ap (λ (l : List ℕ). l ++ piece) none ∙ no_byte piece short
+nothing_kept More r r' old new (bytes, read, (clean, short, some, grown), end) none = absurd (omega arith)
+nothing_kept TooLong r r' old new (bytes, read, (clean, long, same), end) none = same ∙ none
+nothing_kept End r r' old new (bytes, read, (ends, same), end) none = same ∙ none

@@ -1,5 +1,5 @@
 -- What reading a line takes from the known bytes of a reader.
-use Rattle.std.specs.Prelude.{◌≡◌, ℕ, ◌+◌, ◌<◌, ◌≤◌, Bool, true, false, List, [], ◌∷◌, ◌++◌, length, Option, OnSome, Result, Ok, Err}
+use Rattle.std.specs.Prelude.{◌≡◌, ℕ, ◌+◌, ◌<◌, ◌≤◌, Bool, true, false, List, [], ◌∷◌, ◌++◌, length, Option, OnSome, Some, Result, Ok, Err}
 use Rattle.std.specs.Io.KnownBytes.{Consumes, IsAtEnd}
 use Rattle.gate_lines.specs.declared.fault.LaneFault.{LaneFault}
 use Rattle.gate_lines.specs.declared.fault.LaneFault.TheVariants as faults
@@ -22,6 +22,11 @@ LineReadWithin most old new line (Err faults.Read) = Consumes old new line × La
 -- memory ran out for more of the line, and what was taken is kept
 LineReadWithin most old new line (Err faults.Memory) = Consumes old new line × LacksNewline line
 LineReadWithin most old new line (Err faults.Write) = ⊥
+
+-- a last line without a newline that has at most `most` bytes is read whole, also if it has exactly as many
+abbrev pub LastLinesAreRead : Type 0
+LastLinesAreRead = (most : ℕ) (text line : List ℕ) (rest : Option (List ℕ)) (found : Found) → LacksNewline text → 0 < length text → length text ≤ most
+    → LineReadWithin most (Some text) rest line (Ok found) → (found ≡ Rest) × (line ≡ text)
 
 abbrev pub LineRead : Option (List ℕ) → Option (List ℕ) → List ℕ → Result Found LaneFault → Type 0
 LineRead old new line result = LineReadWithin line_limit old new line result

@@ -16,7 +16,9 @@ mod waiting;
 mod word;
 
 pub use fault::LaneFault;
-pub use line::{Found, MAX_LINE, MAX_LINES, asks_nothing, has_ended, next_line};
+pub use line::{
+    Found, MAX_LINE, MAX_LINES, asks_nothing, has_ended, last_lines_are_read, next_line,
+};
 pub use lines::{Lines, Next};
 pub use number::{MAX_NUMBER, numbers_are_decimal, read_number, read_small_number};
 pub use part::Part;

@@ -1,9 +1,9 @@
 //! Lines from a reader.
 //!
 //! A line ends at a newline and nowhere else, so a carriage return is a byte of its line.
-ghost use Rattle.std.specs.Prelude.{◌≡◌, ◌≢◌, ◌≤◌, length, true, IfErr};
+ghost use Rattle.std.specs.Prelude.{◌≡◌, ◌≢◌, ◌≤◌, length, [], true, IfErr, OnOk};
 ghost use Rattle.gate_lines.specs.Lines.{is_skipped, line_limit};
-ghost use Rattle.gate_lines.specs.Reading.{EndTold, LineRead, LineReadWithin};
+ghost use Rattle.gate_lines.specs.Reading.{EndTold, LastLinesAreRead, LineRead, LineReadWithin};
 
 use crate::fault::LaneFault;
 use crate::part::Part;
@@ -65,11 +65,18 @@ pub fn next_line_within<R: Source>(
     }
 }
 
-/// Whether the input ends here. If it doesn't, one byte of it is taken.
+/// That a last line without a newline is read whole, also if it has as many bytes as a line may have.
+pub fn last_lines_are_read()
+    ensures { LastLinesAreRead }
+{}
+
+/// Whether the input ends here. If it doesn't, one byte of it is taken, and `line` keeps none.
 pub fn has_ended<R: Source>(reader: &mut R, line: &mut Vec<u8>) -> Result<bool, LaneFault>
     ensures told { EndTold (R.remaining reader.old) (R.remaining reader.new) result }
+    ensures empty { OnOk result (line.new.items ≡ []) }
     ensures steady { R.steady ≡ true → IfErr result (λ fault. fault ≢ LaneFault.Read) }
 {
+    line.clear();
     match reader.take_part(line, 0)? {
         Part::End => Ok(true),
         _ => Ok(false),

@@ -1,12 +1,12 @@
 //! Readers of lines.
-ghost use Rattle.std.specs.Prelude.{◌≡◌, ◌≢◌, ◌+◌, ◌++◌, Bool, true, false, take, IfErr, IfOk, IfSome, OnOk};
+ghost use Rattle.std.specs.Prelude.{◌≡◌, ◌≢◌, ◌+◌, Bool, true, false, take, IfErr, IfOk, IfSome};
 ghost use Rattle.gate_lines.specs.Lines.{LacksNewline};
 ghost use Rattle.gate_lines.specs.Parts.{PartTaken, WaitingTaken};
 
 use crate::fault::LaneFault;
 use crate::part::{Part, append_line, append_part};
 use gate_bytes::Memory;
-use std::io::{BufRead, BufReader, ErrorKind, Read};
+use std::io::{BufRead, BufReader, Read};
 
 /// A reader of lines. One over bytes in memory never fails.
 pub trait Source: BufRead {
@@ -24,12 +24,6 @@ pub trait Source: BufRead {
     /// kept, and at most `room` bytes and one that isn't kept.
     fn take_part(&mut self, line: &mut Vec<u8>, room: usize) -> Result<Part, LaneFault>
         ensures taken { PartTaken (Self.remaining self.old) (Self.remaining self.new) line.old.items line.new.items room result }
-        ensures steady { steady ≡ true → IfErr result (λ fault. fault ≢ LaneFault.Read) };
-
-    /// Moves all that is left to the end of `text`. After a fault some of it may be lost.
-    fn take_rest(&mut self, text: &mut Vec<u8>) -> Result<(), LaneFault>
-        ensures rest { OnOk result (IfSome (Self.remaining self.old) (λ rest. text.new.items ≡ text.old.items ++ rest)) }
-        ensures kind { IfErr result (λ fault. fault ≢ LaneFault.Write) }
         ensures steady { steady ≡ true → IfErr result (λ fault. fault ≢ LaneFault.Read) };
 }
 
@@ -51,15 +45,10 @@ impl Source for &[u8] {
         *self = &shown[taken..];
         Ok(part)
     }
-
-    fn take_rest(&mut self, text: &mut Vec<u8>) -> Result<(), LaneFault> {
-        text.extend_from_slice(*self)?;
-        *self = &[];
-        Ok(())
-    }
 }
 
-/// A reader with a buffer, over one that may fail or wait.
+/// A reader with a buffer, over one that may fail or wait. A buffer without room for a byte shows none, which is not the
+/// end of the input: such a reader fails.
 impl<R: Read> Source for BufReader<R> {
     ghost steady = { false };
 
@@ -71,17 +60,10 @@ impl<R: Read> Source for BufReader<R> {
     }
 
     fn take_part(&mut self, line: &mut Vec<u8>, room: usize) -> Result<Part, LaneFault> {
-        take_shown(self, line, room)
-    }
-
-    fn take_rest(&mut self, text: &mut Vec<u8>) -> Result<(), LaneFault> {
-        match self.read_to_end(text) {
-            Ok(_) => Ok(()),
-            Err(error) => Err(match error.kind() {
-                ErrorKind::OutOfMemory => LaneFault::Memory,
-                _ => LaneFault::Read,
-            }),
+        if self.capacity() == 0 {
+            return Err(LaneFault::Read);
         }
+        take_shown(self, line, room)
     }
 }
 

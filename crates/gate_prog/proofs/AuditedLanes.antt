@@ -1,9 +1,9 @@
 -- The journals that lanes print are legal ones for an audit.
-use Rattle.std.proofs.Common.{◌≡◌, ℕ, zero, suc, ◌+◌, ◌-◌, ◌<◌, ◌≤◌, nat_lt, nat_le, Bool, true, false, if◌then◌else◌, List, [], ◌∷◌, ◌++◌, length, take, get_or, map, Option, Some, None, IsOk, Result, Ok, Err, inl, inr, refl, sym, ap, ap₂, subst, ◌∙◌, append_assoc, append-nil, arith}
+use Rattle.std.proofs.Common.{◌≡◌, ◌≢◌, ℕ, zero, suc, ◌+◌, ◌-◌, ◌<◌, ◌≤◌, ◌==◌, nat_lt, nat_le, Bool, true, false, if◌then◌else◌, List, [], ◌∷◌, ◌++◌, length, take, get_or, map, Option, Some, None, IsOk, Result, Ok, Err, inl, inr, refl, sym, ap, ap₂, subst, ◌∙◌, append_assoc, append-nil, arith}
 use Rattle.std.specs.List.{All, cons_option}
 use Rattle.std.specs.Prelude.{slice_get}
 use Rattle.std.proofs.lemmas.List.Elements.{All-cons, All-head, All-nil, All-tail}
-use Rattle.std.proofs.lemmas.Bool.{false≢true}
+use Rattle.std.proofs.lemmas.Bool.{false≢true, leb-true, true≢false}
 use Rattle.std.proofs.lemmas.Option.{none-some, same_Some, slice_get-get_or}
 use Rattle.gate_audit.specs.Audits.{IsLegal}
 use Rattle.gate_audit.specs.Journals.{AreBounded, AreWithin, Round, Rounds, base_line, count_of, ended_lines, entries_of, entry_lines, event_line, reply_line, round_lines, rounds_lines}
@@ -17,15 +17,17 @@ use Rattle.gate_events.proofs.SpelledTexts.{texts_spell}
 use Rattle.gate_journal.specs.Legal.{AreLegalRounds, entry, entry_limit, events_of, joined, replies_of, state_after}
 use Rattle.gate_journal.specs.Legal.{IsLegal as IsLegalJournal}
 use Rattle.gate_journal.specs.declared.Entry.{Entry}
-use Rattle.gate_lanes.specs.Ends.{Left, LaneRan, LanesRan}
+use Rattle.gate_lanes.specs.Ends.{Left, LaneRan, LanesRan, lane_over}
+use Rattle.gate_lanes.specs.LaneReplies.{RepliesAsTheRun}
 use Rattle.gate_lanes.specs.Parts.{rounds_of}
 use Rattle.gate_lanes.specs.Rounds.{Concludes}
 use Rattle.gate_lanes.specs.declared.round.Conclusion.{Conclusion}
 use Rattle.gate_lanes.specs.declared.round.Conclusion.TheVariants as conclusions
 use Rattle.gate_lane.specs.LaneEvents.{lane_events, with_event}
 use Rattle.gate_lanes.specs.LaneCalls.{Answer, HasCalls, calls_made}
+use Rattle.gate_lanes.proofs.LaneReplies.{lanes_reply_as_the_run}
 use Rattle.gate_lanes.proofs.LedCalls.{lanes_are_calls}
-use Rattle.gate_lines.specs.Lines.{count_limit, is_skipped, line_limit, lines_of, unlines}
+use Rattle.gate_lines.specs.Lines.{EachLacksNewline, LacksNewline, count_limit, is_skipped, line_limit, lines_of, onto_first, unlines}
 use Rattle.gate_lines.specs.declared.fault.LaneFault.{LaneFault}
 use Rattle.gate_opening.specs.Openings.{opening_part}
 use Rattle.gate_opening.specs.Said.{spelled}
@@ -35,15 +37,13 @@ use Rattle.gate_shared.specs.Settling.{AreTheCalls, owner_at}
 use Rattle.gate_shared.specs.declared.receipt.Made.{Made}
 use Rattle.gate_shared.specs.declared.settle.Owner.{Owner}
 use Rattle.gate_shared.specs.declared.settle.Settled.{Settled}
-use Rattle.gate_prog.specs.Jobs.{LanesDone}
+use Rattle.gate_prog.specs.Jobs.{LanesDone, LanesPrinted}
+use Rattle.gate_prog.proofs.JournalLines.{IsSpelled, Shows, shown, shows_base, shows_both, shows_end, shows_lanes, shows_none}
 use Rattle.gate_prog.specs.LaneJobs.{GoOn, GoesOn, RoundsTell, Start, first_start}
-use Rattle.gate_prog.specs.LaneLines.{base_text, count_before, entries_by, journal_lines, lane_over, lanes_text, settled_line, settled_lines, told_lines}
-use Rattle.gate_prog.specs.PrintedJournals.{LanesAreAudited, PrintedRound, base_lines, behind_round, entries_in, rounds_journal, rounds_text}
+use Rattle.gate_prog.specs.LaneLines.{asked_lines, base_text, count_before, entries_by, journal_lines, lanes_text, settled_line, told_lines}
+use Rattle.gate_prog.specs.PrintedJournals.{LanesAreAudited, PrintedRound, base_lines, behind_round, end_lines, entries_in, rounds_journal, rounds_text}
+use Rattle.gate_prog.specs.PrintedReplies.{GateLanesAreRuns, ReplyAsRuns}
 use Rattle.std.proofs.lemmas.List.{append_cancel_left}
-
--- some line spells the event
-abbrev IsSpelled : Event → Type 0
-IsSpelled event = (line : List ℕ) × (line_event line ≡ Some event)
 
 -- ---- the calls of a lane
 
@@ -59,18 +59,31 @@ abbrev PassSpelled : Option PassView → Type 0
 PassSpelled None = Unit {0}
 PassSpelled (Some pass) = CallsSpelled pass.calls
 
-event_spelled : (few short skipped : Bool) (rest : List Event) (event : Option Event) (line : List ℕ) → line_event line ≡ event → AreSpelled rest
+event_spelled : (few short skipped : Bool) (rest : List Event) (event : Option Event) (line : List ℕ) → line_event line ≡ event → LacksNewline line → (short ≡ true → length line ≤ line_limit) → AreSpelled rest
     → AreSpelled (if few then if short then if skipped then rest else with_event event rest else [] else [])
-event_spelled true true true rest event line is h = h
-event_spelled true true false rest None line is h = h
-event_spelled true true false rest (Some event) line is h = ((line, is), h)
-event_spelled true false skipped rest event line is h = tt
-event_spelled false short skipped rest event line is h = tt
+event_spelled true true true rest event line is clean within h = h
+event_spelled true true false rest None line is clean within h = h
+event_spelled true true false rest (Some event) line is clean within h = ((line, is, clean, within refl), h)
+event_spelled true false skipped rest event line is clean within h = tt
+event_spelled false short skipped rest event line is clean within h = tt
 
-events_spelled : (number : ℕ) (lines : List (List ℕ)) → AreSpelled (lane_events number lines)
-events_spelled number [] = tt
-events_spelled number (line ∷ lines) = event_spelled (nat_lt number count_limit) (nat_le (length line) line_limit) (is_skipped line)
-    (lane_events (number + 1) lines) (line_event line) line refl (events_spelled (number + 1) lines)
+events_spelled : (number : ℕ) (lines : List (List ℕ)) → EachLacksNewline lines → AreSpelled (lane_events number lines)
+events_spelled number [] clean = tt
+events_spelled number (line ∷ lines) clean = event_spelled (nat_lt number count_limit) (nat_le (length line) line_limit) (is_skipped line)
+    (lane_events (number + 1) lines) (line_event line) line refl clean.0 (λ short. leb-true (length line) line_limit short) (events_spelled (number + 1) lines clean.1)
+
+onto_clean : (x : ℕ) (lines : List (List ℕ)) → x ≢ 10 → EachLacksNewline lines → EachLacksNewline (onto_first x lines)
+onto_clean x [] other h = ((other, tt), tt)
+onto_clean x (line ∷ lines) other h = ((other, h.0), h.1)
+
+-- the lines of a text have no newline
+lines_clean : (text : List ℕ) → EachLacksNewline (lines_of text)
+lines_clean [] = tt
+lines_clean (x ∷ text) = by (x == 10) refl (lines_clean text)
+  where
+    by : (b : Bool) → (x == 10) ≡ b → EachLacksNewline (lines_of text) → EachLacksNewline (if b then [] ∷ lines_of text else onto_first x (lines_of text))
+    by true is rest = (tt, rest)
+    by false is rest = onto_clean x (lines_of text) (λ same. let k : (10 == 10) ≡ false = subst (λ (y : ℕ). (y == 10) ≡ false) same is in true≢false k) rest
 
 made_spelled : (events : List Event) (answers : List Answer) → AreSpelled events → CallsSpelled (calls_made events answers)
 made_spelled [] answers h = tt
@@ -80,14 +93,14 @@ made_spelled (event ∷ events) (Err fault ∷ answers) h = made_spelled events 
 
 pass_spelled : (events : List Event) (answers : List Answer) (pass : Option PassView) → AreSpelled events → HasCalls events answers pass → PassSpelled pass
 pass_spelled [] answers pass h (none, is) = subst PassSpelled (sym is) tt
-pass_spelled (event ∷ events) answers pass h (p, is, caller, calls, answered) =
+pass_spelled (event ∷ events) answers pass h (p, is, caller, calls, answered, rising) =
     subst PassSpelled (sym is) (subst CallsSpelled (sym calls) (made_spelled (event ∷ events) answers h))
 
 lane_spelled : (bytes : List ℕ) (before after : Option (List ℕ)) (pass : Option PassView) (result : Result ℕ LaneFault) → IsOk result
     → LaneRan (Some bytes) before after pass result → PassSpelled pass
 lane_spelled bytes before after pass (Ok count) ok (replies, wrote, counted, run) =
     let led = lanes_are_calls (lines_of bytes) replies pass run in
-    pass_spelled (lane_events 0 (lines_of bytes)) led.0 pass (events_spelled 0 (lines_of bytes)) led.1
+    pass_spelled (lane_events 0 (lines_of bytes)) led.0 pass (events_spelled 0 (lines_of bytes) (lines_clean bytes)) led.1
 lane_spelled bytes before after pass (Err fault) ok ran = absurd (false≢true ok)
 
 -- ---- the calls of all lanes
@@ -239,83 +252,122 @@ journal_legal w (round ∷ rounds) (one, more) within =
 
 -- ---- what is printed
 
--- the text of a round whose calls were settled, up to the journal
-told_head : (texts : List (List ℕ)) (settled : Settled)
-    → lanes_text 1 texts ++ unlines (settled_lines true settled) ≡ (lanes_text 1 texts ++ (settled_line settled.count ++ 10 ∷ [])) ++ unlines (journal_lines settled.journal.entries)
-told_head texts settled =
-    ap (λ (l : List ℕ). lanes_text 1 texts ++ l) (sym (append_assoc (settled_line settled.count) (10 ∷ []) (unlines (journal_lines settled.journal.entries))))
-    ∙ sym (append_assoc (lanes_text 1 texts) (settled_line settled.count ++ 10 ∷ []) (unlines (journal_lines settled.journal.entries)))
-
 base_same : (before : Option ℕ) → base_text before ≡ unlines (base_lines before)
 base_same None = refl
 base_same (Some count) = refl
 
 -- a round that went on, as it is printed
-record Printed (start : Start) (text : List ℕ) (next : Start) : Type 0 where
+record Printed (journal : Bool) (start : Start) (lanes : List (List ℕ)) (text : List ℕ) (next : Start) : Type 0 where
   round : PrintedRound
-  is : text ≡ unlines (base_lines start.behind) ++ (round.head ++ unlines (journal_lines round.entries))
+  is : text ≡ unlines (base_lines start.behind) ++ (lanes_text 1 round.texts ++ unlines (end_lines journal round))
   sound : IsSound start.state round.entries
+  replied : RepliesAsTheRun start.state (events_of round.entries) lanes round.texts
   state : next.state ≡ state_after start.state round.entries
   behind : next.behind ≡ behind_round start.behind round
 
-printed_one : (start : Start) (lanes : List (List ℕ)) (text : List ℕ) (next : Start) → GoesOn true start lanes text next → Printed start text next
-printed_one start lanes text next goes = settled goes.round.conclusion goes.tells.ran.2 goes.tells.told goes.behind
+printed_one : (journal : Bool) (start : Start) (lanes : List (List ℕ)) (text : List ℕ) (next : Start) → GoesOn journal start lanes text next → Printed journal start lanes text next
+printed_one journal start lanes text next goes = settled goes.round.conclusion refl concludes goes.tells.told goes.behind
   where
-    settled : (conclusion : Conclusion) → Concludes start.state goes.tells.ran.0 conclusion (Some next.state)
-        → goes.told ≡ lanes_text 1 goes.tells.texts ++ unlines (told_lines true conclusion)
-        → next.behind ≡ Some (count_before start.behind + entries_by conclusion) → Printed start text next
-    settled (conclusions.Settles s) to told behind =
-        let head = lanes_text 1 goes.tells.texts ++ (settled_line s.count ++ 10 ∷ []) in
-        record {
-          round = record { head = head; entries = s.journal.entries };
-          is = goes.is ∙ ap₂ (λ (xs ys : List ℕ). xs ++ ys) (base_same start.behind) (told ∙ told_head goes.tells.texts s);
-          sound = record {
-            legal = to.settles.0;
-            few = to.few;
-            told = entries_spelled s.journal.entries goes.tells.ran.0 s.owners to.settles.1.2 (passes_spelled lanes goes.round.ends goes.tells.ran.0 goes.tells.ran.1 goes.whole);
-          };
-          state = to.leads;
-          behind = behind ∙ ap (λ (n : ℕ). Some (count_before start.behind + n)) to.settles.1.1;
-        }
-    settled conclusions.Differs to told behind = absurd to
-    settled conclusions.Unknown to told behind = absurd to
+    passes : List PassView
+    passes = goes.tells.ran.0
 
-record PrintedAll (start : Start) (rounds : List (List (List ℕ))) (text : List ℕ) : Type 0 where
+    concludes : Concludes start.state passes goes.round.conclusion (Some next.state)
+    concludes = subst (λ (o : Option World). Concludes start.state passes goes.round.conclusion o) goes.tells.ran.4.1 goes.tells.ran.3
+
+    settled : (conclusion : Conclusion) → goes.round.conclusion ≡ conclusion → Concludes start.state passes conclusion (Some next.state)
+        → goes.told ≡ lanes_text 1 goes.tells.texts ++ unlines (told_lines journal conclusion)
+        → next.behind ≡ Some (count_before start.behind + entries_by conclusion) → Printed journal start lanes text next
+    settled (conclusions.Settles s) same to told behind = record {
+      round = record { texts = goes.tells.texts; entries = s.journal.entries };
+      is = goes.is ∙ ap₂ (λ (xs ys : List ℕ). xs ++ ys) (base_same start.behind)
+          (told ∙ ap (λ (n : ℕ). lanes_text 1 goes.tells.texts ++ unlines (settled_line n ∷ asked_lines journal s.journal.entries)) to.settles.1.1);
+      sound = record {
+        legal = to.settles.0;
+        few = to.few;
+        told = entries_spelled s.journal.entries passes s.owners to.settles.1.2 (passes_spelled lanes goes.round.ends passes goes.tells.ran.2 goes.tells.ran.4.0);
+      };
+      replied = lanes_reply_as_the_run start.state next.state lanes goes.tells.texts goes.round s goes.tells.ran same goes.tells.written;
+      state = to.leads;
+      behind = behind ∙ ap (λ (n : ℕ). Some (count_before start.behind + n)) to.settles.1.1;
+    }
+    settled conclusions.Differs same to told behind = absurd to
+    settled conclusions.Unknown same to told behind = absurd to
+
+record PrintedAll (journal : Bool) (start : Start) (rounds : List (List (List ℕ))) (text : List ℕ) : Type 0 where
   printed : List PrintedRound
   count : length printed ≡ length rounds
-  is : text ≡ rounds_text start.behind printed
+  is : text ≡ rounds_text journal start.behind printed
   sound : AreSound start.state printed
+  replied : ReplyAsRuns start.state rounds printed
 
-printed_all : (start : Start) (rounds : List (List (List ℕ))) (text : List ℕ) (last : Start) → GoOn true start rounds text last → PrintedAll start rounds text
-printed_all start [] text last (none, same) = record { printed = []; count = refl; is = none; sound = tt }
-printed_all start (lanes ∷ rounds) text last (next, front, rest, goes, on, is) =
-    let one = printed_one start lanes front next goes in
-    let more = printed_all next rounds rest last on in
+printed_all : (journal : Bool) (start : Start) (rounds : List (List (List ℕ))) (text : List ℕ) (last : Start) → GoOn journal start rounds text last → PrintedAll journal start rounds text
+printed_all journal start [] text last (none, same) = record { printed = []; count = refl; is = none; sound = tt; replied = tt }
+printed_all journal start (lanes ∷ rounds) text last (next, front, rest, goes, on, is) =
+    let one = printed_one journal start lanes front next goes in
+    let more = printed_all journal next rounds rest last on in
     let base = unlines (base_lines start.behind) in
-    let journal = unlines (journal_lines one.round.entries) in
+    let told = lanes_text 1 one.round.texts in
+    let end = unlines (end_lines journal one.round) in
     record {
       printed = one.round ∷ more.printed;
       count = ap suc more.count;
-      is = is ∙ ap₂ (λ (xs ys : List ℕ). xs ++ ys) one.is (more.is ∙ ap (λ (b : Option ℕ). rounds_text b more.printed) one.behind)
-          ∙ append_assoc base (one.round.head ++ journal) (rounds_text (behind_round start.behind one.round) more.printed)
-          ∙ ap (λ (l : List ℕ). base ++ l) (append_assoc one.round.head journal (rounds_text (behind_round start.behind one.round) more.printed));
+      is = is ∙ ap₂ (λ (xs ys : List ℕ). xs ++ ys) one.is (more.is ∙ ap (λ (b : Option ℕ). rounds_text journal b more.printed) one.behind)
+          ∙ append_assoc base (told ++ end) (rounds_text journal (behind_round start.behind one.round) more.printed)
+          ∙ ap (λ (l : List ℕ). base ++ l) (append_assoc told end (rounds_text journal (behind_round start.behind one.round) more.printed));
       sound = (one.sound, subst (λ (w : World). AreSound w more.printed) one.state more.sound);
+      replied = (one.replied, subst (λ (w : World). ReplyAsRuns w rounds more.printed) one.state more.replied);
     }
 
 one_not_zero : ◌≡◌ {A = ℕ} 0 1 → ⊥
 one_not_zero e = omega arith
 
-told_all : (w : World) (rounds : List (List (List ℕ))) (printed : List ℕ) → RoundsTell true w rounds printed 0 → PrintedAll (first_start w) rounds printed
-told_all w rounds printed (inl (last, on, status)) = printed_all (first_start w) rounds printed last on
-told_all w rounds printed (inr (lanes, start, front, told, reaches, ends, is, status)) = absurd (one_not_zero status)
+told_all : (journal : Bool) (w : World) (rounds : List (List (List ℕ))) (printed : List ℕ) → RoundsTell journal w rounds printed 0 → PrintedAll journal (first_start w) rounds printed
+told_all journal w rounds printed (inl (last, on, status)) = printed_all journal (first_start w) rounds printed last on
+told_all journal w rounds printed (inr (lanes, start, front, told, reaches, ends, is, status)) = absurd (one_not_zero status)
+
+-- the lines of what is printed that are a journal's
+shows_rounds : (before : Option ℕ) (w : World) (rounds : List (List (List ℕ))) (printed : List PrintedRound) → AreSound w printed → ReplyAsRuns w rounds printed
+    → Shows (rounds_text true before printed) (rounds_journal before printed)
+shows_rounds before w [] [] sound runs = shows_none
+shows_rounds before w [] (round ∷ more) sound runs = absurd runs
+shows_rounds before w (lanes ∷ rounds) [] sound runs = absurd runs
+shows_rounds before w (lanes ∷ rounds) (round ∷ more) sound runs =
+    let base = base_lines before in
+    let journal = journal_lines round.entries in
+    let rest = rounds_text true (behind_round before round) more in
+    let later = rounds_journal (behind_round before round) more in
+    let told : Shows (lanes_text 1 round.texts) [] = subst (λ (ts : List (List ℕ)). Shows (lanes_text 1 ts) []) (sym runs.0.written) (shows_lanes 1 lanes runs.0.answers) in
+    shows_both (unlines base) (lanes_text 1 round.texts ++ (unlines (end_lines true round) ++ rest)) base (journal ++ later) (shows_base before)
+    (shows_both (lanes_text 1 round.texts) (unlines (end_lines true round) ++ rest) [] (journal ++ later) told
+    (shows_both (unlines (end_lines true round)) rest journal later (shows_end (length round.entries) round.entries sound.0.told)
+    (shows_rounds (behind_round before round) (state_after w round.entries) rounds more sound.1 runs.1)))
+
+-- what `gate lanes` writes of the rounds behind an opening
+record PrintedLanes (journal : Bool) (w : World) (rest before after : List ℕ) : Type 0 where
+  printed : List ℕ
+  all : PrintedAll journal (first_start w) (rounds_of rest) printed
+  wrote : after ≡ before ++ printed
+
+printed_lanes : (text rest before after : List ℕ) (w : World) (journal : Bool) → spelled text ≡ Ok w → text ≡ opening_part text ++ rest
+    → LanesPrinted journal (Some text) (Some before) (Some after) 0 → PrintedLanes journal w rest before after
+printed_lanes text rest before after w journal is parted done =
+    let d : LanesDone journal text (Ok w) (Some before) (Some after) 0 = subst (λ (r : Result World OpeningFault). LanesDone journal text r (Some before) (Some after) 0) is done in
+    let same : d.0 ≡ rest = append_cancel_left (opening_part text) d.0 rest (sym d.2 ∙ parted) in
+    let tells : RoundsTell journal w (rounds_of rest) d.1 0 = subst (λ (t : List ℕ). RoundsTell journal w (rounds_of t) d.1 0) same d.4 in
+    record { printed = d.1; all = told_all journal w (rounds_of rest) d.1 tells; wrote = d.5 }
 
 pub lanes_are_audited : LanesAreAudited
 lanes_are_audited text rest before after w workers explain is parted done =
-    let d : LanesDone true text (Ok w) (Some before) (Some after) 0 = subst (λ (r : Result World OpeningFault). LanesDone true text r (Some before) (Some after) 0) is done in
-    let same : d.0 ≡ rest = append_cancel_left (opening_part text) d.0 rest (sym d.2 ∙ parted) in
-    let all = told_all w (rounds_of d.0) d.1 d.4 in (
+    let p = printed_lanes text rest before after w true is parted done in
+    let all = p.all in (
       all.printed,
-      all.count ∙ ap (λ (t : List ℕ). length (rounds_of t)) same,
-      d.5 ∙ ap (λ (l : List ℕ). before ++ l) all.is,
+      all.count,
+      p.wrote ∙ ap (λ (l : List ℕ). before ++ l) all.is,
+      shown (rounds_text true None all.printed) (rounds_journal None all.printed) (shows_rounds None w (rounds_of rest) all.printed all.sound all.replied),
       λ n within. journal_legal w (take n all.printed) (sound_front n w all.printed all.sound) within,
     )
+
+pub gate_lanes_are_runs : GateLanesAreRuns
+gate_lanes_are_runs text rest before after w workers journal explain is parted done =
+    let p = printed_lanes text rest before after w journal is parted done in
+    let all = p.all in (all.printed, p.wrote ∙ ap (λ (l : List ℕ). before ++ l) all.is, all.replied)

@@ -23,7 +23,8 @@ pub struct FinishFault<N: Base, S: BuildHasher + Copy + Drop> {
 }
 
 impl<N: Base, S: BuildHasher + Copy + Drop> Shared<N, S> {
-    /// Settles the passes with the journal, and takes the state out. A fault hands back this value and the passes.
+    /// Settles the passes with the journal, and takes journal and state out: neither is copied. A fault hands back this
+    /// value and the passes.
     pub fn finish(
         self,
         alloc: Global,
@@ -35,8 +36,8 @@ impl<N: Base, S: BuildHasher + Copy + Drop> Shared<N, S> {
         ensures shared { IfErr result (λ e. e.shared ≡ self) }
         ensures fault { IfErr result (λ e. WhyUnsettled e.shared.journal passes.items e.fault.why × (e.fault.passes ≡ passes)) }
     {
-        match self.settle(alloc, passes) {
-            Ok(settled) => Ok((settled, self.into_state())),
+        match self.owners(alloc, passes) {
+            Ok(owners) => Ok(self.into_settled(owners)),
             Err(fault) => Err(FinishFault {
                 shared: self,
                 fault,

@@ -9,8 +9,8 @@ ghost use Rattle.gate_shared.specs.Calls.{made, receipt};
 use crate::base::Base;
 use crate::pass::{Pass, stands};
 use crate::receipt::{Made, Receipt};
-use crate::settle::{SettleFault, Settled, settle};
-use gate_bytes::{Copied, Memory};
+use crate::settle::{Owner, SettleFault, Settled, owners, settle};
+use gate_bytes::{Copied, Kept, Memory};
 use gate_core::State;
 use gate_journal::{Entry, Journal};
 use gate_message::{Caller, Event, Replies};
@@ -123,7 +123,7 @@ impl<N: Base, S: BuildHasher + Copy + Drop> Shared<N, S> {
     ghost use Rattle.gate_shared.specs.Held.{held, IsHeld, Enters, Enrolls, FirstFault, NoFault, Applies};
     ghost use Rattle.gate_shared.specs.Calls.{EachBelow};
     ghost use Rattle.gate_shared.specs.Ends.{EndsGood};
-    ghost use Rattle.gate_shared.specs.Settling.{IsSettled, WhyUnsettled};
+    ghost use Rattle.gate_shared.specs.Settling.{AreTheCalls, IsSettled, WhyUnsettled};
 
     /// The state of the name, with an empty journal.
     pub fn new(alloc: Global, state: State<S>) -> Shared<N, S>
@@ -268,7 +268,34 @@ impl<N: Base, S: BuildHasher + Copy + Drop> Shared<N, S> {
         })
     }
 
-    /// Settles passes with the journal. A fault hands the passes back.
+    /// The owners of the journal's entries, if passes settle with it. A fault hands the passes back.
+    pub(crate) fn owners(
+        &self,
+        alloc: Global,
+        passes: Vec<Pass<N>>,
+    ) -> Result<Kept<Owner>, SettleFault<N>>
+        ensures is { IsHeld N.base self.now }
+        ensures ok { IfOk result (AreTheCalls self.now.journal passes.items) }
+        ensures err { IfErr result (λ fault. WhyUnsettled self.now.journal passes.items fault.why × (fault.passes ≡ passes)) }
+    {
+        match owners(alloc, &self.journal, passes.as_slice()) {
+            Ok(owners) => Ok(owners),
+            Err(why) => Err(SettleFault { why, passes }),
+        }
+    }
+
+    /// The journal itself with the owners of its entries, and the state.
+    pub(crate) fn into_settled(self, owners: Kept<Owner>) -> (Settled, State<S>)
+        ensures journal { result.0.journal.entries ≡ self.journal }
+        ensures count { result.0.count ≡ length self.journal }
+        ensures owners { result.0.owners ≡ owners }
+        ensures state { result.1 ≡ self.state }
+    {
+        let Shared { state, journal, .. } = self;
+        (Settled::of(journal, owners), state)
+    }
+
+    /// Settles passes with a copy of the journal. A fault hands the passes back.
     pub fn settle(&self, alloc: Global, passes: Vec<Pass<N>>) -> Result<Settled, SettleFault<N>>
         ensures is { IsHeld N.base self.now }
         ensures ok { IfOk result (IsSettled self.now.journal passes.items) }

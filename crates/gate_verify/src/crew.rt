@@ -56,8 +56,30 @@ fn work<T: Wait, C: InputCheck>(rt: &T, alloc: Global, check: &C, tasks: Receive
     }
 }
 
+/// Checks a piece that was handed out and those that come after it, until no more can come, with two threads fewer than
+/// there are workers: this thread checks too, and so do those who hand pieces out.
+fn serve_all<T: Threads + Wait + Sync, C: InputCheck + Sync>(
+    rt: &T,
+    alloc: Global,
+    check: &C,
+    first: Task,
+    tasks: Receiver<Task>,
+    workers: Workers,
+) {
+    thread::scope(thread::scope_env(), rt, |scope| {
+        for _ in 2..workers.count() {
+            if let Ok(tasks) = tasks.clone() {
+                let _ = scope.spawn(move || work(rt, alloc, check, tasks));
+            }
+        }
+        finish(rt, alloc, check, first);
+        work(rt, alloc, check, tasks);
+    });
+}
+
 /// Checks the pieces that are handed out, with one thread fewer than there are workers, since those who hand them out check
-/// too. It ends once nobody can hand out any more.
+/// too. Until a first piece comes this thread waits for it alone: it starts the others once it has one, and none if none
+/// comes. It ends once nobody can hand out any more.
 pub fn serve<T: Threads + Wait + Sync, C: InputCheck + Sync>(
     rt: &T,
     alloc: Global,
@@ -66,14 +88,9 @@ pub fn serve<T: Threads + Wait + Sync, C: InputCheck + Sync>(
     workers: Workers,
 ) {
     let Post { tasks } = post;
-    thread::scope(thread::scope_env(), rt, |scope| {
-        for _ in 2..workers.count() {
-            if let Ok(tasks) = tasks.clone() {
-                let _ = scope.spawn(move || work(rt, alloc, check, tasks));
-            }
-        }
-        work(rt, alloc, check, tasks);
-    });
+    if let Ok(first) = tasks.recv(rt) {
+        serve_all(rt, alloc, check, first, tasks, workers);
+    }
 }
 
 /// The reports that came, each at its place.

@@ -2,52 +2,41 @@ use Rattle.std.proofs.Common.{arith}
 use Rattle.std.proofs.lemmas.Result.{err_from_is_err_and}
 use Rattle.gate_prog.specs.LaneJobs.{start_at}
 use Rattle.gate_prog.specs.Printing.{bytes_of}
-use Rattle.gate_prog.proofs.Telling.{few_entries, round_bound, round_printed, stopped_behind_base, stopped_in_base, stopped_in_told}
+use Rattle.gate_prog.proofs.Telling.{few_entries, round_bounded, round_ended, stopped_behind_base, stopped_in_base, stopped_in_end}
 use Rattle.gate_prog.proofs.lanes_job.run_one.Goals as goal
 
-pub next_start-requires : goal.next_start-requires
-next_start-requires g c =
+pub end_round-requires : goal.end_round-requires
+end_round-requires g c =
     omega (arith, c.requires, few_entries c.args.start.state (bytes_of c.args.parts.now) c.in_ok-round.round.end c.in_ok-round.round.next c.in_ok-round.ensures)
 
-pub returns-in_err-print_base-clause-stopped : goal.returns-in_err-print_base-clause-stopped
-returns-in_err-print_base-clause-stopped g c =
-    let p = err_from_is_err_and c.from_residual.result c.from_residual.ensures.1 in
-    rw (p.1, p.2) (stopped_in_base c.args.options.now.journal (start_at c.args.start.state c.args.start.behind) (bytes_of c.args.parts.now)
-    (g.W.Write.contents c.args.writer.now) (g.W.Write.contents c.print_base.new.writer) c.in_err-print_base.field-0.0 c.in_err-print_base.ensures.printed)
+pub returns-in-Err-clause-stopped : goal.returns-in-Err-clause-stopped
+returns-in-Err-clause-stopped g c =
+    stopped_in_base c.args.options.now.journal (start_at c.args.start.state c.args.start.behind) (bytes_of c.args.parts.now)
+    (g.W.Write.contents c.args.writer.now) (g.W.Write.contents c.print_base.new.writer) c.in-Err.fault c.in-Err.ensures.printed
 
 pub returns-in_err-round-clause-stopped : goal.returns-in_err-round-clause-stopped
 returns-in_err-round-clause-stopped g c =
-    let p = err_from_is_err_and c.from_residual-in_err-round.result c.from_residual-in_err-round.ensures.1 in
+    let p = err_from_is_err_and c.from_residual.result c.from_residual.ensures.1 in
     rw (p.1, p.2) (
       stopped_behind_base c.args.options.now.journal (start_at c.args.start.state c.args.start.behind) (bytes_of c.args.parts.now)
-          (g.W.Write.contents c.args.writer.now) (g.W.Write.contents c.print_base.new.writer) c.in_ok-print_base.ensures.printed,
+          (g.W.Write.contents c.args.writer.now) (g.W.Write.contents c.print_base.new.writer) c.in_default.ensures.printed,
       λ e. cc,
-    )
-
-pub returns-in_err-tell-clause-stopped : goal.returns-in_err-tell-clause-stopped
-returns-in_err-tell-clause-stopped g c =
-    let p = err_from_is_err_and c.from_residual-in_err-tell.result c.from_residual-in_err-tell.ensures.1 in
-    let stopped = c.in_err-tell.ensures.stopped in
-    rw (p.1, p.2) (
-      stopped_in_told c.args.options.now.journal (start_at c.args.start.state c.args.start.behind) (bytes_of c.args.parts.now) c.in_ok-round.round.end c.in_ok-round.round.next
-          (g.W.Write.contents c.args.writer.now) (g.W.Write.contents c.print_base.new.writer) (g.W.Write.contents c.tell.new.writer)
-          c.in_ok-round.ensures c.in_ok-print_base.ensures.printed stopped.0,
-      stopped.1,
     )
 
 pub returns-clause-done : goal.returns-clause-done
 returns-clause-done g c =
-    round_printed c.next_start.result (λ later. later.state) (λ later. later.behind) c.args.options.now.journal (start_at c.args.start.state c.args.start.behind)
-    (bytes_of c.args.parts.now) c.in_ok-round.round.end c.in_ok-round.round.next c.in_ok-tell.field-0
-    (g.W.Write.contents c.args.writer.now) (g.W.Write.contents c.print_base.new.writer) (g.W.Write.contents c.tell.new.writer)
-    c.in_ok-round.ensures c.in_ok-tell.ensures.whole c.in_ok-print_base.ensures.printed c.in_ok-tell.ensures.done.0 c.in_ok-tell.ensures.done.1 c.next_start.ensures
+    round_ended c.end_round.result (λ later. later.state) (λ later. later.behind) c.args.options.now.journal (start_at c.args.start.state c.args.start.behind)
+    (bytes_of c.args.parts.now) c.in_ok-round.round.end c.in_ok-round.round.next
+    (g.W.Write.contents c.args.writer.now) (g.W.Write.contents c.print_base.new.writer) (g.W.Write.contents c.end_round.new.writer)
+    c.in_ok-round.ensures c.in_default.ensures.printed c.end_round.ensures.done c.end_round.ensures.whole c.end_round.ensures.next
 
 pub returns-clause-bound : goal.returns-clause-bound
 returns-clause-bound g c =
-    round_bound c.next_start.result (λ later. later.state) (λ later. later.behind) c.args.start.behind c.in_ok-round.round.end.conclusion c.in_ok-round.round.next
-    (few_entries c.args.start.state (bytes_of c.args.parts.now) c.in_ok-round.round.end c.in_ok-round.round.next c.in_ok-round.ensures) c.next_start.ensures
+    round_bounded c.end_round.result (λ later. later.state) (λ later. later.behind) c.args.start.behind c.in_ok-round.round.end.conclusion c.in_ok-round.round.next
+    (few_entries c.args.start.state (bytes_of c.args.parts.now) c.in_ok-round.round.end c.in_ok-round.round.next c.in_ok-round.ensures) c.end_round.ensures.next
 
-pub returns-in_err-print_base-clause-steady : goal.returns-in_err-print_base-clause-steady
-returns-in_err-print_base-clause-steady g c = λ steady.
-    let p = err_from_is_err_and c.from_residual.result c.from_residual.ensures.1 in
-    rw (p.1, p.2) (c.in_err-print_base.ensures.steady steady)
+pub returns-clause-stopped : goal.returns-clause-stopped
+returns-clause-stopped g c =
+    stopped_in_end c.end_round.result c.args.options.now.journal (start_at c.args.start.state c.args.start.behind) (bytes_of c.args.parts.now) c.in_ok-round.round.end c.in_ok-round.round.next
+    (g.W.Write.contents c.args.writer.now) (g.W.Write.contents c.print_base.new.writer) (g.W.Write.contents c.end_round.new.writer)
+    c.in_ok-round.ensures c.in_default.ensures.printed c.end_round.ensures.stopped

@@ -8,6 +8,6 @@ use Rattle.gate_shared.proofs.shared.Shared.settle.Goals as goal
 pub returns-in-Ok-clause-good : goal.returns-in-Ok-clause-good
 returns-in-Ok-clause-good g c =
     let of_slice : EndsGood g.N.Base.base c.as_slice.result.now c.self.inside.state =
-    ends_good g.N.Base.base (held c.self.inside.state c.self.inside.journal.entries c.self.inside.passes) c.as_slice.result.now c.in-Ok.settled c.self.invariant c.in-Ok.ensures in
+    ends_good g.N.Base.base (held c.self.inside.state c.self.inside.journal.entries c.self.inside.passes) c.as_slice.result.now c.in-Ok.settled.owners c.self.invariant c.in-Ok.ensures.2 in
     subst (λ (s : Held). EndsGood g.N.Base.base c.args.passes.items s.state) c.self.view_is
     (subst (λ (passes : List PassView). EndsGood g.N.Base.base passes c.self.inside.state) c.as_slice.ensures.value of_slice)
