@@ -118,9 +118,9 @@ class CallerModel(Model):
         return self.refused(peer, ("P8", hidden), ("P9", height > self.tip)) or "headers %d %d" % (height + 1, min(2000, self.tip - height))
 
     def block(self, peer, height):
-        times = self.opening.times
-        old = self.switches["historic"] and "download" not in self.flags(peer) and height <= self.tip and times[-1] - times[height] > WEEK
-        return self.refused(peer, ("P9", height > self.tip), ("P10", old)) or "block %d %d" % (height, times[height])
+        times = dict(enumerate(self.opening.times, self.opening.first))
+        old = self.switches["historic"] and "download" not in self.flags(peer) and height in times and times[self.tip] - times[height] > WEEK
+        return self.refused(peer, ("P9", height not in times), ("P10", old)) or "block %d %d" % (height, times[height])
 
     def submit(self, peer, now, tx):
         shut = self.opening.blocksonly and "relay" not in self.flags(peer)

@@ -4,6 +4,7 @@ import json
 
 from bitcoin import Input, Output, Transaction, coin, number_hash, padded, payment
 from callers import json_text
+from kinds import heavy
 
 TIMES = "times 101 1000 600"
 OPEN = [TIMES, "verdict * ok"] + [coin(number) for number in range(1, 5)]
@@ -203,11 +204,13 @@ def test_a_great_submission_by_a_user(gate):
     gate.answers(opening, [(asked(called("testmempoolaccept", [tx.hex()])), result(accepted)), (asked(called("sendrawtransaction", tx.hex())), result(tx.txid()))])
 
 
+@heavy
 def test_a_long_id(gate):
     """An id of a million characters, each of which is written as six."""
     gate.answers([TIMES], [(asked('{"method":"getrawmempool","id":"%s"}' % ("\\u0001" * 1000000)), 'rpc 200 {"error":null,"id":"%s","result":[]}' % ("\\u0001" * 1000000))])
 
 
+@heavy
 def test_a_listing_of_many(gate):
     """A pool of 5,000 entries, listed by a user."""
     made = [payment(number, 99000) for number in range(1, 5001)]

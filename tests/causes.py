@@ -5,13 +5,14 @@ import re
 
 from bitcoin import coin, number_hash, printed
 from gate import ROOT, as_bytes, same, true
+from kinds import heavy
 
 TIMES = "times 101 1000 600\n"
 ENTER = "peer 1 enter 192.0.2.1\n"
 OPENED = TIMES + "---\n"
 ID = printed(number_hash(1))
 SCRIPT = "00142222222222222222222222222222222222222222"
-SUMMARY = re.compile(r"gate: \d+ events: ")
+SUMMARY = re.compile(r"gate: \d+ events?: ")
 DENIED = re.compile(r"gate: line \d+: [APUC]\d+ ")
 STRANGE = "the caller is not that of the lane, which is the caller of its first event; is a line --- missing?"
 
@@ -55,7 +56,7 @@ def test_openings(gate):
     refuses(gate, TIMES + "bloom  1\n", 2, "has two spaces in a row")
     refuses(gate, TIMES + " bloom 1\n", 2, "begins with a space")
     refuses(gate, TIMES + "bloom 1 \n", 2, "ends with a space")
-    refuses(gate, TIMES + "bloom\t1\n", 2, "has a tab; words are parted by single spaces")
+    refuses(gate, TIMES + "bloom\t1\n", 2, "has a tab; words are separated by single spaces")
     refuses(gate, TIMES + "Bloom 1\n", 2, '"Bloom" is unknown; is it bloom?')
     refuses(gate, TIMES + "bugdet 1\n", 2, '"bugdet" is unknown; is it budget?')
     refuses(gate, TIMES + "zzzzzzzz 1\n", 2, '"zzzzzzzz" is unknown')
@@ -63,29 +64,40 @@ def test_openings(gate):
     refuses(gate, TIMES + "bloom\n", 2, "ends before 0 or 1")
     refuses(gate, TIMES + "bloom 2\n", 2, '"2" is unknown')
     refuses(gate, TIMES + "bloom 1 1\n", 2, '"1" is one word too many')
-    refuses(gate, TIMES + "bloom 1\nbloom 1\n", 3, "says again what was said")
+    refuses(gate, TIMES + "bloom 1\nbloom 1\n", 3, "repeats a setting or a verdict of an earlier line")
     refuses(gate, TIMES + "budget 1000000001\n", 2, '"1000000001" is above 1000000000')
     refuses(gate, TIMES + "limitancestorcount 0\n", 2, "0 is below 1")
     refuses(gate, TIMES + "limitancestorcount 1001\n", 2, '"1001" is above 1000')
     refuses(gate, TIMES + "limitdescendantcount\n", 2, "ends before the most descendants")
-    refuses(gate, TIMES + "limitdescendantcount x\n", 2, '"x" is no number; the most descendants stands here')
+    refuses(gate, TIMES + "limitdescendantcount x\n", 2, '"x" is not a number; expected the most descendants')
     refuses(gate, TIMES + "limitancestorcounts 1\n", 2, '"limitancestorcounts" is unknown; is it limitancestorcount?')
     refuses(gate, TIMES + "mempoolfullrbf 2\n", 2, '"2" is unknown')
-    refuses(gate, TIMES + "budget 01\n", 2, '"01" begins with a zero')
-    refuses(gate, TIMES + "budget 1,000\n", 2, '"1,000" is no number; the budget in virtual bytes stands here')
-    refuses(gate, TIMES + "coin %s 0 0.00100000 1 plain %s\n" % (ID, SCRIPT), 2, '"0.00100000" is no whole number; a value in satoshi stands here')
+    refuses(gate, TIMES + "budget 01\n", 2, '"01" has a leading zero')
+    refuses(gate, TIMES + "budget 1,000\n", 2, '"1,000" is not a number; expected the budget in virtual bytes')
+    refuses(gate, TIMES + "coin %s 0 0.00100000 1 plain %s\n" % (ID, SCRIPT), 2, '"0.00100000" is not a whole number; expected a value in satoshi')
     refuses(gate, TIMES + "coin %s 0 1 1 coinbase %s\n" % (ID, SCRIPT), 2, '"coinbase" is unknown')
-    refuses(gate, TIMES + "coin %s 0 1 1 plain 0x%s\n" % (ID, SCRIPT), 2, '"0x%s.." is no even number of hexadecimal digits' % SCRIPT[:38])
+    refuses(gate, TIMES + "coin %s 0 1 1 plain 0x%s\n" % (ID, SCRIPT), 2, '"0x%s.." is not an even number of hexadecimal digits' % SCRIPT[:38])
     refuses(gate, TIMES + "coin %s 0 1 1 plain\n" % ID, 2, "ends before a script in hexadecimal digits, or -")
-    refuses(gate, TIMES + "coin %s 0 1 1 plain -\n" % ID[:-1], 2, '"%s.." is no id of 64 hexadecimal digits' % ID[:40])
+    refuses(gate, TIMES + "coin %s 0 1 1 plain -\n" % ID[:-1], 2, '"%s.." is not an id of 64 hexadecimal digits' % ID[:40])
     refuses(gate, TIMES + "verdict * maybe\n", 2, '"maybe" is unknown')
     refuses(gate, TIMES.encode() + b"bloom 1\xff\n", 2, "is not UTF-8")
     refuses(gate, TIMES + "> peer 1 leave\n", 2, "a line of a journal, which gate audit reads")
+    refuses(gate, TIMES + "rpcwhitelistdefault 2\n", 2, '"2" is unknown')
+    refuses(gate, TIMES + "rpcwhitelistdefaults 1\n", 2, '"rpcwhitelistdefaults" is unknown; is it rpcwhitelistdefault?')
+    refuses(gate, TIMES + "bloom 1\nbloom 1\nbloom\t1\n", 3, "repeats a setting or a verdict of an earlier line")
+    refuses(gate, TIMES + "from\n", 2, "ends before the height of the first block time")
+    refuses(gate, TIMES + "from x\n", 2, '"x" is not a number; expected the height of the first block time')
+    refuses(gate, TIMES + "from 10000001\n", 2, '"10000001" is above 10000000')
+    refuses(gate, TIMES + "from 1 2\n", 2, '"2" is one word too many')
+    refuses(gate, TIMES + "form 1\n", 2, '"form" is unknown; is it from?')
+    refuses(gate, "from 5\n" + TIMES + "from 5\n", 3, "repeats a setting or a verdict of an earlier line")
+    refuses(gate, TIMES + "chain forget 0\n", 2, "an event in the opening; is the line --- missing?")
+    refuses(gate, TIMES + "chain " + coin(1) + "\n", 2, "an event in the opening; is the line --- missing?")
 
 
 def test_other_faults_of_openings(gate):
     """A fault of an opening that is none of form is told by its sentence."""
-    high = "The height of a coin is above the tip, which is the number of block times less one"
+    high = "The height of a coin is above the tip, which is the height of the first block time, less one and as many as there are times"
     for words in ("run", "lanes", "audit"):
         none = "the opening: no-times: There is no block time; a line `times COUNT FIRST STEP` gives some"
         tells(gate, words, "---\n" + ENTER, [none], "opening 0 no-times\n", 2)
@@ -104,19 +116,120 @@ def test_events(gate):
     explains(gate, "per 1 leave", '"per" is unknown; is it peer?')
     explains(gate, "peer 1 leaves", '"leaves" is unknown; is it leave?')
     explains(gate, "peer 1", "ends before what the peer does")
-    explains(gate, "peer x leave", '"x" is no number; the number of a peer stands here')
+    explains(gate, "peer x leave", '"x" is not a number; expected the number of a peer')
     explains(gate, "peer 9007199254740992 leave", '"9007199254740992" is above 9007199254740991')
     explains(gate, "peer 1 headers 4294967296", '"4294967296" is above 4294967295')
     explains(gate, "peer 1 feefilter", "ends before a feerate in satoshi per 1,000 virtual bytes")
     explains(gate, "peer 1 feefilter 9007199254740992", '"9007199254740992" is above 9007199254740991')
     explains(gate, "peer 1 feefilters 1", '"feefilters" is unknown; is it feefilter?')
     explains(gate, "bloom 1", "a line of an opening behind the line ---")
+    explains(gate, "rpcwhitelistdefault 1", "a line of an opening behind the line ---")
     explains(gate, "> peer 1 leave", "a line of a journal, which gate audit reads")
     explains(gate, "{", '"{" is unknown')
     explains(gate, '"method": "getmempoolinfo"', '""method":" is unknown')
-    explains(gate, 'user a rpc {"method":"getmempoolinfo"}', '"{"method":"getmempoolinfo"}" is no number; the second of the call stands here')
+    explains(gate, 'user a rpc {"method":"getmempoolinfo"}', '"{"method":"getmempoolinfo"}" is not a number; expected the second of the call')
     for address in ("1.2.3.4:8333", "[::1]", "expyuzz4wqqyqhjn.onion"):
-        explains(gate, "peer 2 enter " + address, '"%s" is no address; ports, brackets and names are none' % address)
+        explains(gate, "peer 2 enter " + address, '"%s" is not an IP address; it has no port, no brackets and no host name' % address)
+
+
+def test_events_of_a_living_chain(gate):
+    """Each mistake in a coin, a verdict or a number of blocks, and a coin as an opening has it."""
+    words = "coin %s 0 1 1 plain %s" % (ID, SCRIPT)
+    explains(gate, "chain", "ends before what the chain does")
+    explains(gate, "chain coins " + ID, '"coins" is unknown; is it coin?')
+    explains(gate, "chain Coin " + ID, '"Coin" is unknown; is it coin?')
+    explains(gate, "chain forgot 1", '"forgot" is unknown; is it forget?')
+    explains(gate, "chain connect 1", '"connect" is unknown')
+    explains(gate, "chain coin", "ends before the txid of a coin")
+    explains(gate, "chain coin %s 0 1 1 plain -" % ID[:-2], '"%s.." is not an id of 64 hexadecimal digits' % ID[:40])
+    explains(gate, "chain coin %s 4294967296 1 1 plain -" % ID, '"4294967296" is above 4294967295')
+    explains(gate, "chain coin %s 0 0.5 1 plain -" % ID, '"0.5" is not a whole number; expected a value in satoshi')
+    explains(gate, "chain coin %s 0 9007199254740992 1 plain -" % ID, '"9007199254740992" is above 9007199254740991')
+    explains(gate, "chain coin %s 0 1 4294967296 plain -" % ID, '"4294967296" is above 4294967295')
+    explains(gate, "chain coin %s 0 1 1 coinbase -" % ID, '"coinbase" is unknown')
+    explains(gate, "chain coin %s 0 1 1 plain" % ID, "ends before a script in hexadecimal digits, or -")
+    explains(gate, "chain coin %s 0 1 1 plain 0" % ID, '"0" is not an even number of hexadecimal digits')
+    explains(gate, "chain %s 1" % words, '"1" is one word too many')
+    explains(gate, "chain verdict * ok", '"*" is not an id of 64 hexadecimal digits')
+    explains(gate, "chain verdict %s ok" % ID, '"ok" is not a number; expected the index of an input')
+    explains(gate, "chain verdict %s 0 good" % ID, '"good" is unknown')
+    explains(gate, "chain verdict %s 0 ok ok" % ID, '"ok" is one word too many')
+    explains(gate, "chain forget", "ends before how many blocks are forgotten")
+    explains(gate, "chain forget all", '"all" is not a number; expected how many blocks are forgotten')
+    explains(gate, "chain forget 01", '"01" has a leading zero')
+    explains(gate, "chain forget 9007199254740992", '"9007199254740992" is above 9007199254740991')
+    explains(gate, "chain forget 0 0", '"0" is one word too many')
+    explains(gate, "chain forget\t0", "has a tab; words are separated by single spaces")
+    explains(gate, words, "a line of an opening behind the line ---; the event begins with the word chain")
+    explains(gate, "verdict %s 0 ok" % ID, "a line of an opening behind the line ---; the event begins with the word chain")
+    explains(gate, "from 1", "a line of an opening behind the line ---")
+
+
+def test_the_first_cause_from_the_left(gate):
+    """What stands left of everything else that is wrong is told. A call's JSON, and words of hexadecimal digits, may hold tabs."""
+    explains(gate, 'user a rpc x {"a":\t1}', '"x" is not a number; expected the second of the call')
+    explains(gate, "user a rpc x [1,  2] ", '"x" is not a number; expected the second of the call')
+    explains(gate, "user a rpc x {}\r", '"x" is not a number; expected the second of the call')
+    explains(gate, "user a rpc 5\t {}", "has a tab; words are separated by single spaces")
+    explains(gate, "user a\tb  rpc 5 {}", "has two spaces in a row")
+    explains(gate, "user a\tb rcp 5 {}", '"rcp" is unknown; is it rpc?')
+    explains(gate, "user a rpc 5 ", "ends with a space")
+    explains(gate, "user a rpc 5", "ends before a call in JSON")
+    explains(gate, "peer x  leave", '"x" is not a number; expected the number of a peer')
+    explains(gate, "peer x leave\r", '"x" is not a number; expected the number of a peer')
+    explains(gate, "peer\t1 leave ", "has a tab; words are separated by single spaces")
+    explains(gate, "peer 1 tx 0 0\t0 11", '"11" is one word too many')
+    explains(gate, "chain 0 5 0\t0  00", "has two spaces in a row")
+    explains(gate, "chain 0 5 00 ", "ends with a space")
+    explains(gate, "--- ", "ends with a space")
+    explains(gate, "===\r", "ends with a carriage return")
+    gate.answers([TIMES[:-1], "bloom 1"], [
+        (ENTER[:-1], "entered none"),
+        ("peer 1 tx 0 0\t0", "denied A1 keep tx-decode"),
+        ("chain 0 5 0\t0\r", "refused C1 block-decode"),
+        ('user a rpc 5  {"method":"getmempoolinfo",\t"id":1}\r', 'rpc 200 {"error":null,"id":1,"result":{"bytes":0,"maxmempool":300000000,"mempoolminfee":1000,"minrelaytxfee":1000,"size":0}}'),
+    ])
+
+
+@heavy
+def test_lines_past_their_number(gate):
+    """A line past the 1,000,000th is told as that, and once, whatever it is and whatever the line before it is."""
+    most = OPENED + "# a comment\n" * 999999
+    for before in ("nonsense", "# a comment"):
+        for past in ("\n", "# a comment", "nonsense\n", "peer 1 leave"):
+            done = gate.run("run --explain", most + before + "\n" + past)
+            said = ["gate: line 1000002: " + '"nonsense" is unknown'] * (before == "nonsense") + ["gate: line 1000003: 1,000,000 lines are the most"]
+            told = done.stderr.decode().splitlines()
+            same("of %r behind %r" % (past, before), told[:-1], said)
+            true("the summary: " + told[-1], (", %s refused;" % ("1 line" if before[0] == "#" else "2 lines")) in told[-1])
+            same("status", (done.status, done.stdout.splitlines()[-1]), (0, b"refused L3 too-many-lines"))
+
+
+def test_a_last_line_of_the_most_bytes(gate):
+    """A last line without a newline is told of like any other, if it has as many bytes as a line may have."""
+    for longer in (False, True):
+        text = "nonsense " + "x" * (16777216 - len("nonsense ") + longer)
+        done = gate.run("run --explain", OPENED + text)
+        said = ["gate: line 3: " + ("more than 16,777,216 bytes" if longer else '"nonsense" is unknown')]
+        same("standard error", done.stderr.decode().splitlines()[:-1], said)
+        same("standard output", done.stdout, b"refused L2 line-too-long\n" if longer else b"refused L1 bad-line\n")
+
+
+def test_entries_of_a_journal(gate):
+    """A line that can't stand where it does: a base of another number, or a reply or an event that is missing."""
+    entered, listed = "> peer 1 enter 192.0.2.1\n< entered none\n", "> peer 1 mempool\n< denied P6 close mempool-no-bloom\n"
+    for text, line, cause, wrong in (
+        ("base 1\n", 3, '"1" is not the number of entries before the line, which is 0', 1),
+        (entered + "base 1\n# a comment\n\n" + listed + "base 1\n", 10, '"1" is not the number of entries before the line, which is 2', 3),
+        (entered + "base 01\n", 5, '"01" is not the number of entries before the line, which is 1', 2),
+        (entered + "base \n", 5, '"" is not the number of entries before the line, which is 1', 2),
+        ("> peer 1 enter 192.0.2.1\nbase 0\n", 4, "stands between an event and its reply", 1),
+        ("> peer 1 enter 192.0.2.1\n> peer 1 leave\n", 4, "the reply to the event before it is missing", 1),
+        (entered + "< entered none\n", 5, "a reply with no event before it", 2),
+        ("base\n", 3, 'begins with none of "> ", "< " and "base "', 1),
+    ):
+        tells(gate, "audit --explain", OPENED + text, ["line %d: %s" % (line, cause)], "illegal %d\n" % wrong, 1)
+    tells(gate, "audit --explain", OPENED + "base 0\n" + entered + "base 1\nbase 1\n" + listed, [], "legal 2\n")
 
 
 def test_journals(gate):
@@ -126,7 +239,7 @@ def test_journals(gate):
     said = ["line %d: a line of a journal, which gate audit reads" % number for number, line in enumerate(journal, 1)
             if number > behind + 1 and line[:2] in ("> ", "< ")]
     tells(gate, "run --explain", example("journal.txt"), said, "refused L1 bad-line\n" * len(said))
-    tells(gate, "audit --explain", OPENED + ENTER, ['line 3: begins neither with "> " nor with "< "'], "illegal 1\n", 1)
+    tells(gate, "audit --explain", OPENED + ENTER, ['line 3: begins with none of "> ", "< " and "base "'], "illegal 1\n", 1)
     tells(gate, "audit --explain", OPENED + "> peer 1 enter\n< entered none\n", ["line 3: ends before an address"], "illegal 1\n", 1)
 
 
@@ -149,14 +262,14 @@ def test_lanes_past_their_number(gate):
 def test_checks(gate):
     """A word that is no text of digits."""
     for word in ("0x00", "payment.hex", "0"):
-        tells(gate, "check " + word, "", ['"%s" is no even number of hexadecimal digits; gate check - reads standard input' % word], "denied A1 tx-decode\n", 1)
+        tells(gate, "check " + word, "", ['"%s" is not an even number of hexadecimal digits; gate check - reads standard input' % word], "denied A1 tx-decode\n", 1)
     done = gate.run_words(["check", "01 00"])
-    same("of a space", done.stderr, b'gate: "01 00" is no even number of hexadecimal digits; gate check - reads standard input\n')
+    same("of a space", done.stderr, b'gate: "01 00" is not an even number of hexadecimal digits; gate check - reads standard input\n')
 
 
 def test_lines_with_a_form(gate):
     """Nothing is told of lines that have a form, of comments and of empty lines."""
-    for name in ("first-path.txt", "permissions.txt", "policies.txt", "rpc.txt", "replacement.txt", "reorganisation.txt"):
+    for name in ("first-path.txt", "permissions.txt", "policies.txt", "rpc.txt", "replacement.txt", "reorganisation.txt", "living-chain.txt"):
         done = gate.run("run --explain", example(name))
         said = [line for line in done.stderr.decode().splitlines() if not SUMMARY.match(line) and not DENIED.match(line)]
         same("standard error of " + name, said, [])

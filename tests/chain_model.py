@@ -11,7 +11,8 @@ GREATEST_DEPTH = 100
 GREATEST_HEIGHT = 10000000
 FAULTS = {
     "C1": "block-decode", "C2": "block-coinbase", "C3": "block-inputs", "C4": "block-txid-repeated",
-    "C5": "time-too-old", "C6": "no-undo", "C7": "chain-full",
+    "C5": "time-too-old", "C6": "no-undo", "C7": "chain-full", "C8": "coin-value", "C9": "coin-unspendable",
+    "C10": "coin-above-opening", "C11": "coin-known", "C12": "verdict-known",
 }
 
 
@@ -34,6 +35,20 @@ def made_by(tx, height, is_first):
     return {(hash, index): Coin(output.value, height, is_first) for index, output in enumerate(tx.outputs) if not carries_data(output)}
 
 
+def made_by_block(block, height):
+    """The coins that a block makes, in the order of its transactions and of their outputs."""
+    return {point: coin for place, tx in enumerate(block.txs) for point, coin in made_by(tx, height, place == 0).items()}
+
+
+def spent_by(blocks):
+    """What transactions of blocks spend, but for the coinbases."""
+    return {point for block in blocks for tx in block.txs[1:] for point in outpoints(tx)}
+
+
+def refused(fault):
+    return "refused %s %s" % (fault, FAULTS[fault])
+
+
 class ChainModel(Model):
     def __init__(self, opening):
         self.blocks = []
@@ -45,15 +60,12 @@ class ChainModel(Model):
     def move(self, blocks):
         """The chain with these blocks."""
         self.blocks = blocks
-        self.tip = len(self.opening.times) + len(blocks) - 1
+        self.tip = self.opening.tip() + len(blocks)
         self.coins = dict(self.opening.coins)
-        for height, block in enumerate(blocks, len(self.opening.times)):
-            for place, tx in enumerate(block.txs):
-                self.coins.update(made_by(tx, height, place == 0))
-        for block in blocks:
-            for tx in block.txs[1:]:
-                for point in outpoints(tx):
-                    self.coins.pop(point, None)
+        for height, block in enumerate(blocks, self.opening.tip() + 1):
+            self.coins.update(made_by_block(block, height))
+        for point in spent_by(blocks):
+            self.coins.pop(point, None)
 
     def chain_coins(self):
         return self.coins
@@ -108,7 +120,7 @@ class ChainModel(Model):
         gone = self.blocks[max(0, len(self.blocks) - depth):] if depth else []
         fault = self.switch(depth, blocks)
         if fault:
-            return "refused %s %s" % (fault, FAULTS[fault])
+            return refused(fault)
         before = {entry.hash for entry in self.pool}
         for block in blocks:
             for tx in block.txs:

@@ -34,6 +34,9 @@ POLICY_FLOORS = {
 class Reorganisations(Families):
     """A stream in which blocks come and go."""
 
+    # how often an event is the chain's
+    of_chain = 0.25
+
     def __init__(self, seed, of_policy=False):
         super().__init__(seed, "full", of_policy)
         self.kinds = KINDS
@@ -45,7 +48,7 @@ class Reorganisations(Families):
         self.seen = []
 
     def event(self):
-        if self.random.random() < 0.25:
+        if self.random.random() < self.of_chain:
             return self.chain_event()
         return super().event()
 
@@ -82,7 +85,7 @@ class Reorganisations(Families):
 
     def blocks(self, depth, count):
         """Blocks for the chain as it is when so many are disconnected, most of them without a fault."""
-        model = ChainModel(self.opening)
+        model = ChainModel(self.model.opening)
         model.move(self.model.blocks[:len(self.model.blocks) - depth])
         made = []
         for _ in range(count):
@@ -97,7 +100,7 @@ class Reorganisations(Families):
         """A coinbase, and what can be confirmed of the pool, of blocks before, and of transactions that nobody submitted."""
         self.number += 1
         coins, txs, known = dict(model.chain_coins()), [], model.known()
-        wanted = [entry.tx for entry in self.model.pool if self.random.random() < 0.4]
+        wanted = self.confirmable()
         wanted += self.some(self.seen, 2) + self.strangers(model)
         for tx in wanted:
             points = [(one.hash, one.index) for one in tx.inputs]
@@ -109,6 +112,10 @@ class Reorganisations(Families):
                 coins.update({(tx.hash(), index): None for index in range(len(tx.outputs))})
         block = Block(model.median_time(model.tip) + self.random.choice((1, 1, 600, 600, 1200)), [self.coinbase()] + txs)
         return self.spoiled(block, model) if self.random.random() < 0.12 else block
+
+    def confirmable(self):
+        """What of the pool a block may have, in this order."""
+        return [entry.tx for entry in self.model.pool if self.random.random() < 0.4]
 
     def strangers(self, model):
         """A payment that no peer ever sent, most often of a coin that an entry spends; some have another version."""
@@ -139,10 +146,9 @@ class Reorganisations(Families):
         return block
 
 
-def stream(gate, seed, of_policy=False):
-    """Runs one stream, and counts what it met."""
-    made = Reorganisations(seed, of_policy)
-    events = [made.event() for _ in range(EVENTS)]
+def answered(gate, made, seed, count):
+    """Runs so many events of a stream, and a listing, and counts what it met."""
+    events = [made.event() for _ in range(count)]
     events.append(("peer %d enter 192.0.2.1" % (made.peer + 1), made.model.enter(made.peer + 1)))
     events.append(("peer %d mempool" % (made.peer + 1), made.model.mempool(made.peer + 1)))
     try:
@@ -150,6 +156,10 @@ def stream(gate, seed, of_policy=False):
     except Differs as error:
         raise Differs("seed %d\n%s" % (seed, error))
     return made.met + made.model.gone
+
+
+def stream(gate, seed, of_policy=False):
+    return answered(gate, Reorganisations(seed, of_policy), seed, EVENTS)
 
 
 def test_reorganisations(gate):

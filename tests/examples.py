@@ -1,10 +1,12 @@
-"""The files of examples/ on permissions, policies, RPC, lanes and rounds stand as they are made here, and each event gets the reply that is told."""
+"""The files of examples/ on permissions, policies, RPC, a living chain, lanes and rounds stand as they are made here, and each event gets the reply that is told."""
 
 import os
 
 from bitcoin import Input, Output, Transaction, WITNESS_KEY_HASH, printed
 from callers import json_text
+from chain_model import Block
 from gate import ROOT, lines, same, same_lines, true
+from model import NULL
 
 COIN = b"\x11" * 32
 
@@ -112,6 +114,41 @@ def rpc():
     ]
 
 
+def living_chain():
+    """An opening without coins and verdicts, which are learnt."""
+    opening = [
+        "# a chain that goes on: coins and verdicts are learnt as a node would tell them, and a block is forgotten",
+        "# the first of these block times is that of height 900000",
+        "from 900000",
+        "times 11 1231000000 600",
+    ]
+    other = Transaction([Input(b"\x12" * 32, witness=[b"\x30" * 72, b"\x02" * 33])], [Output(99890)])
+    coinbase = Transaction([Input(NULL[0], NULL[1], b"\x03\xab\xbb\x0d")], [Output(625000220)])
+    block = "chain 0 6000 " + Block(1231007000, [coinbase, PARENT, other]).hex()
+    coin = "chain coin %s 0 100000 %d plain " + WITNESS_KEY_HASH.hex()
+    return opening, [
+        ("a peer", "peer 1 enter 192.0.2.1", "entered none"),
+        ("the coin that it spends isn't known", "peer 1 tx 5000 " + PARENT.hex(), "denied A25 keep bad-txns-inputs-missingorspent"),
+        ("the node knows it: it is learnt", coin % (printed(COIN), 899990), "set"),
+        ("nor is it known whether the script of the input is met", "peer 1 tx 5000 " + PARENT.hex(), "denied A43 keep verdict-missing"),
+        ("the node has run it: the verdict is learnt", "chain verdict %s 0 ok" % PARENT.wtxid(), "set"),
+        ("now it is admitted", "peer 1 tx 5000 " + PARENT.hex(), admitted(PARENT)),
+        ("a block has it, and another payment, of a coin that isn't known", block, "refused C3 block-inputs"),
+        ("so that coin is learnt first", coin % ("12" * 32, 900007), "set"),
+        ("the block is connected, and the payment leaves the pool", block, "chain 900011 removed 1 entered 0"),
+        ("a child of the payment, which the chain has now", "chain verdict %s 0 ok" % CHILD.wtxid(), "set"),
+        ("spends a coin that the block made: nobody has to learn it", "peer 1 tx 6001 " + CHILD.hex(), admitted(CHILD)),
+        ("the block is forgotten; of its three coins the one stays that the child spends, and one verdict goes", "chain forget 1", "forgotten 1 2 1"),
+        ("it can't be disconnected any more", "chain 1 7000", "refused C6 no-undo"),
+        ("its time and its height are known", "peer 1 getblock 900011", "block 900011 1231007000"),
+        ("the payment is known as long as a coin of it is", "peer 1 tx 7000 " + PARENT.hex(), "denied A24 keep txn-already-known"),
+        ("the other one isn't: the coin that it spent is gone", "peer 1 tx 7000 " + other.hex(), "denied A25 keep bad-txns-inputs-missingorspent"),
+        ("a coin of the forgotten block may be learnt again", "chain coin %s 0 99890 900011 plain %s" % (other.txid(), WITNESS_KEY_HASH.hex()), "set"),
+        ("but no coin is learnt twice", "chain coin %s 0 99890 900011 plain %s" % (other.txid(), WITNESS_KEY_HASH.hex()), "refused C11 coin-known"),
+        ("what nobody used since goes with the next forgetting, also without a block", "chain forget 0", "forgotten 0 1 0"),
+    ]
+
+
 def sent(user, value):
     """A user spends the coin, by a transaction that does not say that it may be replaced."""
     tx = Transaction([Input(COIN, sequence=0xFFFFFFFF, witness=[b"\x30" * 72, b"\x02" * 33])], [Output(value)])
@@ -165,6 +202,11 @@ def test_example_of_policies(gate):
 def test_example_of_rpc(gate):
     """examples/rpc.txt."""
     holds(gate, "rpc.txt", rpc())
+
+
+def test_example_of_a_living_chain(gate):
+    """examples/living-chain.txt."""
+    holds(gate, "living-chain.txt", living_chain())
 
 
 def test_example_of_lanes(gate):

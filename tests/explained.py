@@ -7,7 +7,10 @@ import tempfile
 import time
 
 from bitcoin import Input, Output, Transaction, coin, number_hash, padded, payment, printed
+from failing import each_growth
 from gate import ROOT, SECONDS, as_bytes, lines, same, same_lines, true
+from heights import block
+from kinds import heavy
 
 TIMES = "times 101 1000 600"
 OPENING = [TIMES, "verdict * ok", "bloom 1"]
@@ -17,6 +20,7 @@ LONG_CHAIN = (
     "A36 With its ancestors in the pool it would be more transactions than limitancestorcount says (25) or more than 101,000 virtual bytes,"
     " or an ancestor would get more descendants than limitdescendantcount says (25) or more than 101,000 virtual bytes of them"
 )
+FORGETTING = "C6 More blocks are to be disconnected than are connected, or than 100; or more are to be forgotten than are connected"
 
 
 def sent(tx):
@@ -207,19 +211,74 @@ def test_rules_without_figures(gate):
         (sent(tx), "P5 The pool has the transaction already, by its wtxid"),
         ("peer 1 tx 5000 00", "A1 The bytes are not the text of a transaction"),
         ('user a rpc 5000 {"method":"getrawmempool","id":1}', "U1 The user may not call this method"),
-        ("chain 101 5000", "C6 More blocks are to be disconnected than are connected, or than 100"),
+        ("chain 101 5000", FORGETTING),
+    ])
+
+
+def test_learning_and_forgetting(gate):
+    """The sentence of each rule on coins and verdicts that are learnt, and on blocks that are forgotten."""
+    tx = payment(1, 99000)
+    known = "C11 An opening coin has the outpoint, spent or not, or a connected block's transaction or an entry of the pool has the txid"
+    explains(gate, OPENING + [coin(1)], [
+        (ENTER, None),
+        (sent(payment(3, 99000)), "A25 input 0: no coin %s:0" % printed(number_hash(3))),
+        ("chain " + coin(3), None),
+        (sent(payment(3, 99000)), None),
+        ("chain " + coin(2, 2100000000000001), "C8 The value of the coin is above 2,100,000,000,000,000 satoshi"),
+        ("chain " + coin(2, script=b"\x6a"), "C9 The script of the coin begins with 0x6a (OP_RETURN) or has more than 10,000 bytes"),
+        ("chain " + coin(2, height=101), "C10 The height of the coin is above that of the opening's last block; coins of later heights are made by blocks"),
+        ("chain " + coin(1), known),
+        (sent(tx), None),
+        ("chain coin %s 5 1 0 plain -" % tx.txid(), known),
+        ("chain verdict %s 0 soft" % tx.wtxid(), None),
+        ("chain verdict %s 0 ok" % tx.wtxid(), "C12 There is a verdict on this input of the transaction already"),
+        ("chain forget 1", FORGETTING),
+        ("chain forget 0", None),
+        (sent(payment(9, 1000)), "A25 input 0: no coin %s:0" % printed(number_hash(9))),
+    ])
+
+
+def test_a_lock_by_time_below_the_first_height(gate):
+    """A relative lock whose coin asks for a median that isn't known is the rule's sentence, as one that isn't met."""
+    tx = Transaction([Input(number_hash(1), sequence=1 << 22)], [Output(99000)])
+    explains(gate, OPENING + ["from 900000", coin(1, height=900000), coin(2, height=900001)], [
+        (ENTER, None),
+        (sent(tx), "A26 The sequence of an input asks for more blocks or more time than have passed since its coin was made"),
+        (sent(Transaction([Input(number_hash(2), sequence=1 << 22)], [Output(99000)])), None),
     ])
 
 
 def test_calls(gate):
     """What is wrong with a call that is answered by an error."""
     explains(gate, OPENING, [
-        ("user a rpc 0 {", "the call is no JSON"),
+        ("user a rpc 0 {", "the call is not valid JSON"),
         ('user a rpc 0 {"method":1}', "a call is an object with a method and a list of params"),
-        ('user a rpc 0 {"method":"getrawmempol"}', "no method is named so"),
+        ('user a rpc 0 {"method":"getrawmempol"}', "there is no such method"),
         ('user a rpc 0 {"method":"getrawmempool","params":[true]}', "the method does not take these params"),
-        ('user a rpc 0 {"method":"getmempoolentry","params":["%s"]}' % printed(number_hash(1)), "no transaction of the pool has this txid"),
+        ('user a rpc 0 {"method":"getmempoolentry","params":["%s"]}' % printed(number_hash(1)), "no transaction in the pool has this txid"),
     ])
+
+
+@heavy
+def test_the_summary_without_memory(gate):
+    """Whichever growth of memory is refused beside an event, the summary counts the replies that were written."""
+    events = [ENTER, sent(payment(1, 99000)), sent(payment(1, 90000)), sent(payment(9, 1000))]
+    opening = OPENING + [coin(1)]
+    text = lines(opening) + "---\n" + lines(events)
+    refused = 0
+    for at in range(2, len(events) + 1):
+        for growth, done in each_growth(gate.program, "run --explain", text, line=len(opening) + 1 + at):
+            if done.status:
+                continue
+            replies, last = done.stdout.decode().splitlines(), done.stderr.decode().splitlines()[-1]
+            words = {"admitted": "admitted ", "denied": "denied ", "out of memory": "fault memory"}
+            counts = {word: sum(reply.startswith(front) for reply in replies) for word, front in words.items()}
+            replaced = sum(int(reply.split()[-1]) for reply in replies if reply.startswith("admitted "))
+            wanted = "gate: 4 events: %d admitted, %d replaced, %d denied" % (counts["admitted"], replaced, counts["denied"])
+            same("growth %d beside event %d" % (growth, at), re.split(r" \(|, \d+ (?:out|lines)", last)[0], wanted)
+            same("faults at growth %d beside event %d" % (growth, at), ", 1 out of memory" in last, counts["out of memory"] == 1)
+            refused += 1
+    true("%d growths were refused" % refused, refused >= 10)
 
 
 def test_replaced_by_a_call(gate):
@@ -229,7 +288,23 @@ def test_replaced_by_a_call(gate):
     _, last = said_of(gate, OPENING + [coin(1)], [
         call % ("sendrawtransaction", '"%s"' % first.hex()), call % ("testmempoolaccept", '["%s"]' % second.hex()), call % ("sendrawtransaction", '"%s"' % second.hex()),
     ])
-    same("the summary", last, "gate: 3 events: 2 admitted, 1 replaced, 0 denied, 0 refused lines; pool 1 entries, 82 of 300000000 virtual bytes, floor 0")
+    same("the summary", last, "gate: 3 events: 2 admitted, 1 replaced, 0 denied, 0 lines refused; pool: 1 entry, 82 of 300000000 virtual bytes, floor 0")
+
+
+def test_the_summary_of_a_living_chain(gate):
+    """What was learnt and forgotten is counted, if there was any, and what was refused as a denial."""
+    learnt, verdict = "chain " + coin(3), "chain verdict %s 0 ok" % payment(3, 99000).wtxid()
+    for events, wanted in (
+        ([learnt, learnt], "gate: 2 events: 0 admitted, 0 replaced, 1 denied (C11 1), learnt 1 coin and 0 verdicts, forgot 0 blocks, 0 lines refused"),
+        ([verdict, verdict, "chain verdict * ok"], "gate: 2 events: 0 admitted, 0 replaced, 1 denied (C12 1), learnt 0 coins and 1 verdict, forgot 0 blocks, 1 line refused"),
+        ([learnt, "chain " + coin(4), verdict, "chain forget 0"], "gate: 4 events: 0 admitted, 0 replaced, 0 denied, learnt 2 coins and 1 verdict, forgot 0 blocks, 0 lines refused"),
+        (["chain forget 0"], "gate: 1 event: 0 admitted, 0 replaced, 0 denied, 0 lines refused"),
+        (["chain forget 1"], "gate: 1 event: 0 admitted, 0 replaced, 1 denied (C6 1), 0 lines refused"),
+        (["chain 0 5000 " + block(0).hex(), "chain forget 1"], "gate: 2 events: 0 admitted, 0 replaced, 0 denied, learnt 0 coins and 0 verdicts, forgot 1 block, 0 lines refused"),
+        (["chain 0 5000 %s %s" % (block(0).hex(), block(1).hex()), "chain forget 2"], "gate: 2 events: 0 admitted, 0 replaced, 0 denied, learnt 0 coins and 0 verdicts, forgot 2 blocks, 0 lines refused"),
+    ):
+        _, last = said_of(gate, OPENING, events)
+        same("the summary of %r" % events, last, wanted + "; pool: 0 entries, 0 of 300000000 virtual bytes, floor 0")
 
 
 def all_told(terminal):
@@ -245,6 +320,7 @@ def all_told(terminal):
         told += part
 
 
+@heavy
 def test_progress(gate):
     """At a terminal a run that takes more than five seconds says how far it is. It waits here for its replies to be read."""
     ours, theirs = os.openpty()
@@ -269,7 +345,7 @@ def test_the_example(gate):
         done = gate.run("run --explain", file.read())
     same("standard error", done.stderr.decode().splitlines(), [
         "gate: line 14: A42 329 - 220 = 109, needs 110",
-        "gate: 6 events: 3 admitted, 2 replaced, 1 denied (A42 1), 0 refused lines; pool 1 entries, 110 of 300000000 virtual bytes, floor 0",
+        "gate: 6 events: 3 admitted, 2 replaced, 1 denied (A42 1), 0 lines refused; pool: 1 entry, 110 of 300000000 virtual bytes, floor 0",
     ])
 
 
@@ -280,7 +356,11 @@ def test_the_summary(gate):
         ENTER, sent(tx), "nonsense", "# a comment", sent(low), sent(payment(1, 90000)), sent(payment(9, 1000)), sent(payment(8, 1000)),
     ])
     same("what is told of the lines", [event for event, _ in told], ["nonsense", sent(low), sent(payment(9, 1000)), sent(payment(8, 1000))])
-    same("the summary", last, "gate: 6 events: 2 admitted, 1 replaced, 3 denied (A25 2, A35 1), 1 refused lines;"
-         " pool 1 entries, 82 of 300000000 virtual bytes, floor 0")
+    same("the summary", last, "gate: 6 events: 2 admitted, 1 replaced, 3 denied (A25 2, A35 1), 1 line refused;"
+         " pool: 1 entry, 82 of 300000000 virtual bytes, floor 0")
+    _, last = said_of(gate, OPENING + [coin(1), coin(2)], [ENTER, sent(tx), sent(payment(2, 99000)), "x", "y"])
+    same("of several", last, "gate: 3 events: 2 admitted, 0 replaced, 0 denied, 2 lines refused; pool: 2 entries, 164 of 300000000 virtual bytes, floor 0")
+    _, last = said_of(gate, OPENING, [ENTER])
+    same("of one", last, "gate: 1 event: 0 admitted, 0 replaced, 0 denied, 0 lines refused; pool: 0 entries, 0 of 300000000 virtual bytes, floor 0")
     _, last = said_of(gate, OPENING, [])
-    same("of nothing", last, "gate: 0 events: 0 admitted, 0 replaced, 0 denied, 0 refused lines; pool 0 entries, 0 of 300000000 virtual bytes, floor 0")
+    same("of nothing", last, "gate: 0 events: 0 admitted, 0 replaced, 0 denied, 0 lines refused; pool: 0 entries, 0 of 300000000 virtual bytes, floor 0")

@@ -6,7 +6,7 @@ Each transaction is made for what the pool holds at that moment, so that streams
 import random
 from collections import Counter
 
-from bitcoin import Input, Output, Transaction, WITNESS_KEY_HASH, number_hash, printed
+from bitcoin import Input, Output, Transaction, WITNESS_KEY_HASH, number_hash
 from gate import Differs, same, true
 from model import MULTISIG, RETURN, SMALL, TWO_WEEKS, Coin, Limits, Model, Opening, among, carries_data, draw_policy, fee_at, fees_of, policy_lines, rate_of, size_of
 from random_streams import filter_rate
@@ -338,7 +338,8 @@ def opened(budget):
 def opening_lines(opening):
     """The opening as it stands when all transactions are made, since some have a verdict of their own."""
     told = ["times 101 1000 600", "bloom 1", "budget %d" % opening.budget] + policy_lines(opening, bool)
-    told += ["coin %s %d %d %d %s %s" % (printed(hash), index, coin.value, coin.height, "cb" if coin.is_coinbase else "plain", WITNESS_KEY_HASH.hex()) for (hash, index), coin in opening.coins.items()]
+    told += ["from %d" % opening.first] * (opening.first > 0)
+    told += [coin.line(point) for point, coin in opening.coins.items()]
     return told + ["verdict %s %s" % ("*" if pair == "*" else "%s %d" % pair, verdict) for pair, verdict in opening.verdicts.items()]
 
 

@@ -95,6 +95,24 @@ def test_a_reorganisation(gate):
     refused(gate, "reorganisation-returns-a-parent", 5, 40)
 
 
+def test_a_coin_that_is_learnt(gate):
+    refused(gate, "coin-learnt", 1, 1)
+
+
+def test_a_verdict_that_is_learnt(gate):
+    refused(gate, "verdict-learnt", 2, 1)
+
+
+def test_a_block_that_is_forgotten(gate):
+    """Of its coins and the opening's one stays."""
+    refused(gate, "forgetting-a-block", 6, 1)
+
+
+def test_coins_and_rows_that_are_forgotten(gate):
+    """Without a block."""
+    refused(gate, "forgetting-coins-and-rows-alone", 3, 1)
+
+
 def test_a_question_about_an_entry(gate):
     refused(gate, "reorganisation-returns-a-parent", 6, 4)
 
@@ -126,6 +144,7 @@ def events_of_each_kind():
         user % ("getrawmempool", ""), user % ("getmempoolentry", '"%s"' % two.txid()), user % ("getmempoolancestors", '"%s"' % two.txid()),
         user % ("getmempooldescendants", '"%s"' % two.txid()), user % ("getmempoolinfo", ""), user % ("none", ""), "user a rpc 0 {",
         "chain 0 5000 " + Block(70000, [coinbase, two]).hex(), "peer 1 getblock 101", "peer 1 headers 0", "chain 1 5000", "peer 1 mempool",
+        "chain " + coin(3), "chain verdict %s 0 ok" % two.wtxid(), "chain forget 0",
         "operator floor 5000", "operator bloom off", "operator ibd on", "peer 1 leave", "peer 1 leave",
     ]
     return ["whitelist noban@192.0.2.1", "rpcwhitelist b:getmempoolinfo", "rpcwhitelistdefault 0"] + opening(coin(1), coin(2)), events
@@ -184,6 +203,28 @@ def test_each_growth_of_each_row(gate):
             WholeRun(gate, head, events).refuse_each()
             tried += 1
     true("%d rows were tried, of 80 at least" % tried, tried >= 80)
+
+
+def learning_and_forgetting():
+    """An opening, and events of a chain that learns coins and verdicts, connects blocks, forgets some and disconnects others."""
+    made = [payment(number, 99000) for number in range(1, 41)]
+    coinbases = [Transaction([Input(NULL[0], NULL[1], b"\x04abc%d" % number)], [Output(5000000000)]) for number in range(4)]
+    blocks = [Block(70000 + 600 * number, [coinbases[number], *made[10 + 4 * number : 14 + 4 * number]]) for number in range(4)]
+    events = [ENTER[0]] + ["chain " + coin(number) for number in range(3, 41)]
+    events += ["chain verdict %s 0 ok" % tx.wtxid() for tx in made[2:]] + [submitted(tx) for tx in made[:8]]
+    events += ["chain 0 5000 " + " ".join(block.hex() for block in blocks), "chain " + coin(3), "chain verdict %s 0 hard" % made[2].wtxid()]
+    events += ["chain forget 5", "chain forget 2", "chain 1 6000", "peer 1 mempool", submitted(made[10]), "chain " + coin(11), "chain forget 1"]
+    return ["times 101 1000 600", "bloom 1", coin(1), coin(2), "verdict %s 0 ok" % made[0].wtxid()], events
+
+
+def test_each_growth_of_learning_and_forgetting(gate):
+    """A growth that is refused beside a coin, a verdict or blocks to be forgotten is answered by `fault memory`, and nothing
+    has changed: what comes after is answered as if that event had not been there."""
+    run = WholeRun(gate, *learning_and_forgetting())
+    met, ended = run.refuse_each()
+    kinds = {" ".join(run.events[at].split(" ")[:2]) for at in met}
+    same("kinds of events that were never answered by `fault memory`", {"chain coin", "chain verdict", "chain forget"} - kinds, set())
+    true("no refusal ended the run", ended)
 
 
 def laned():
@@ -298,9 +339,11 @@ def attempt(call, *told):
     return ["> " + call, "< " + call, *told]
 
 
-# what the last of the events comes to: how many inputs the last submission has, each of which has a coin; whether the event
-# changes the state; and how many entries the pool has after it
-Last = namedtuple("Last", "inputs changes left")
+# what the last of the events comes to: how many inputs the last submission has; whether the event changes the state; how many
+# entries the pool has after it; and how many of these inputs have a coin before it, all unless it says so
+Last = namedtuple("Last", "inputs changes left coins", defaults=[None])
+# questions to a copy of the state, which tell what is known of coins, verdicts and blocks
+KNOWN = ["chain forget 0", "chain forget 1", "chain forget 1"]
 
 
 class Made:
@@ -309,11 +352,12 @@ class Made:
     def __init__(self, program, made, last):
         head, events, wanted = made
         self.program, self.count = program, len(events)
-        self.text = lines(head) + "---\n" + lines(events) + "---\n" + lines(questions(wanted))
+        self.text = lines(head) + "---\n" + lines(events) + "---\n" + lines(questions(wanted) + KNOWN)
+        coins = last.inputs if last.coins is None else last.coins
         self.told = {
             "step": (wanted[-1], "changed" if last.changes else "unchanged"),
             "enroll": ("pass %d" % self.count, "changed"),
-            "look": ("coins %d of %d" % (last.inputs, last.inputs), "unchanged"),
+            "look": ("coins %d of %d" % (coins, last.inputs), "unchanged"),
             "call": ("%d %s" % (self.count, wanted[-1]), "changed"),
             "settle": ("settled %d" % self.count, "changed"),
             "finish": ("finished %d %d" % (self.count, last.left),),
@@ -379,6 +423,22 @@ def test_calls_of_a_question_about_an_entry(gate):
 
 def test_calls_of_a_listing(gate):
     refuse_calls(gate, listed(), Last(1, False, 50), step=1)
+
+
+def test_calls_of_a_coin_that_is_learnt(gate):
+    """The submission before it has no coin yet."""
+    tx = payment(3, 99000)
+    events, replies = [ENTER[0], submitted(tx), "chain " + coin(3)], [ENTER[1], "denied A25 keep bad-txns-inputs-missingorspent", "set"]
+    refuse_calls(gate, (opening(coin(1), coin(2)), events, replies), Last(1, True, 0, 0), step=1)
+
+
+def test_calls_of_a_verdict_that_is_learnt(gate):
+    refuse_calls(gate, upto("verdict-learnt", 2), Last(1, True, 0), step=1)
+
+
+def test_calls_of_a_block_that_is_forgotten(gate):
+    """The submission before it has spent its coin, which stays."""
+    refuse_calls(gate, upto("forgetting-a-block", 6), Last(1, True, 1), step=1)
 
 
 def test_ids_that_collide(gate):

@@ -6,9 +6,11 @@ import random
 
 import caller_streams
 import chain_streams
+import living_streams
 from callers import CallerModel, address_of
 from chain_model import ChainModel
 from gate import Differs, lines, same, same_lines
+from living_model import LivingModel
 
 STREAMS = 60
 EVENTS = 120
@@ -16,7 +18,7 @@ EXCHANGES = 4
 BAD, WRONG = "refused L1 bad-line", "fault wrong-caller"
 BAD_LINES = ("peer", "x", "peer 1 Leave", "operator", "user a rpc 0", "---\r", " ", "chain", "> peer 1 leave")
 # what the events of the streams ask of a model
-ASKED = ("enter", "leave", "mempool", "headers", "fee_filter", "block", "submit", "switch", "set_floor", "call", "chain")
+ASKED = ("enter", "leave", "mempool", "headers", "fee_filter", "block", "submit", "switch", "set_floor", "call", "chain", "learn_coin", "learn_verdict", "forget")
 
 
 class Recorded:
@@ -73,6 +75,17 @@ class Chains:
         return ChainModel(self.made.opening)
 
 
+class LivingChains(Chains):
+    """The same with coins and verdicts that are learnt, and blocks that are forgotten."""
+
+    def __init__(self, seed):
+        self.made = living_streams.Living(seed)
+        self.model = self.made.model = Recorded(self.made.model)
+
+    def fresh(self):
+        return LivingModel(self.made.opening)
+
+
 def caller_of(line):
     """Who calls: a peer with its number, a user with its name, the chain, the operator."""
     words = line.split(" ")
@@ -95,6 +108,8 @@ def spelled(line, asked):
         words[4] = "-" if values[2] is None else words[4].lower()
     elif name == "chain":
         words[3:] = ["-" if block is None else word.lower() for word, block in zip(words[3:], values[2])]
+    elif name in ("learn_coin", "learn_verdict"):
+        return line.lower()
     return " ".join(words)
 
 
@@ -219,3 +234,9 @@ def test_random_chains_at_once(gate):
     """Peers and the chain: what a peer is told depends on the blocks that came before."""
     met = races(gate, Chains)
     same("replies that no stream met", {"entered", "admitted", "listing", "filter", "set", "denied", "chain", "refused"} - met, set())
+
+
+def test_random_living_chains_at_once(gate):
+    """Peers and a chain that learns and forgets: a journal spells coins and verdicts one way."""
+    met = races(gate, LivingChains)
+    same("replies that no stream met", {"entered", "admitted", "listing", "set", "denied", "chain", "refused", "forgotten"} - met, set())

@@ -1,12 +1,15 @@
 """Calls at their limits, and at sizes that no other test reaches."""
 
+import os
 import resource
+import subprocess
 
 from bitcoin import coin, payment
 from chain_model import Block
-from gate import lines, same, same_lines
+from gate import ROOT, lines, same, same_lines
 from heights import MOST_TIMES, block
 from journals import audited, raced
+from kinds import long
 from sizes import ENTER, admitted, opening, submitted
 from streams import SECONDS, TOO_MANY_LANES, Talk, past
 
@@ -111,6 +114,71 @@ def test_a_pool_of_sixty_thousand(gate):
             (asked % ("getmempooldescendants", '"%s"' % ids[-1]), answer % "[]"),
         ],
     )
+
+
+def test_many_coins_and_verdicts_learnt(gate):
+    """50,000 coins and 20,000 verdicts are learnt above an opening that has none, each known from then on; those that nobody
+    needs are forgotten at once, and may be learnt again."""
+    count, rows, spent = 50000, 20000, (0, 1, 9999, 19998, 19999)
+    made, coins = payments(count)
+    learnt = ["chain " + line for line in coins]
+    judged = ["chain verdict %s 0 %s" % (tx.wtxid(), "soft" if number % 2 else "ok") for number, tx in enumerate(made[:rows])]
+    denied = "denied A44 keep non-mandatory-script-verify-flag"
+    answered = [(submitted(made[number]), denied if number % 2 else granted(made[number])) for number in spent]
+    kept = sum(number % 2 == 0 for number in spent)
+    gate.answers(
+        ["times 101 1000 600"],
+        [ENTER]
+        + [(line, "set") for line in learnt + judged]
+        + [(line, "refused C11 coin-known") for line in learnt[::1000]]
+        + [(line, "refused C12 verdict-known") for line in judged[::1000]]
+        + answered
+        + [("chain forget 0", "forgotten 0 %d %d" % (count - kept, rows - kept)), ("chain forget 0", "forgotten 0 0 0")]
+        + [(line, "refused C11 coin-known" if number in spent and number % 2 == 0 else "set") for number, line in enumerate(learnt[:10])]
+        + [(learnt[-1], "set"), (submitted(made[-1]), "denied A43 keep verdict-missing"), ("chain forget 0", "forgotten 0 10 0")],
+    )
+
+
+def test_coins_of_long_scripts(gate):
+    """A coin's script has at most 10,000 bytes, however long a line may be; numbers of blocks may be as great as any."""
+    front = "chain " + coin(1, script=b"")[:-1]
+    longest = "51" * ((16777216 - len(front)) // 2)
+    gate.answers(
+        ["times 101 1000 600"],
+        [
+            (front + longest, "refused C9 coin-unspendable"),
+            (front + "51" * 10001, "refused C9 coin-unspendable"),
+            (front + "6A" + "51" * 9999, "refused C9 coin-unspendable"),
+            (front + "51" * 10000, "set"),
+            (front + "51" * 10000, "refused C11 coin-known"),
+            ("chain forget 9007199254740991", "refused C6 no-undo"),
+            ("chain forget 9007199254740992", "refused L1 bad-line"),
+            ("chain forget 0", "forgotten 0 1 0"),
+            (front + longest + "51", "refused L2 line-too-long"),
+        ],
+    )
+
+
+def test_a_long_chain_of_forgotten_blocks(gate):
+    """2,000 blocks, of which the last ten are ever connected: what was learnt and made below them is forgotten."""
+    events = []
+    for number in range(2000):
+        tx = payment(number + 1, 99000)
+        one = block(number)
+        events += [("chain " + coin(number + 1), "set"), ("chain 0 5000 " + Block(one.time, one.txs + [tx]).hex(), "chain %d removed 0 entered 0" % (101 + number))]
+        if number >= 19 and number % 10 == 9:
+            # the coinbases and the payments of ten blocks; the coins that they spent were spent
+            events.append(("chain forget 10", "forgotten 10 20 0"))
+    events += [("chain 11 5000", "refused C6 no-undo"), ("chain 10 5000", "chain 2090 removed 0 entered 10"), ("chain forget 1", "refused C6 no-undo")]
+    gate.answers(opening(), events)
+
+
+@long
+def test_memory_of_a_chain_that_goes_on(gate):
+    """2,000 blocks of 100 payments, whose coins are learnt and forgotten, take at most 1.1 times as much memory as 200."""
+    done = subprocess.run([os.path.join(ROOT, "bench", "living"), gate.program], stdin=subprocess.DEVNULL, capture_output=True, text=True, check=False)
+    print(done.stdout.strip())
+    same("standard error and status after %s" % done.stdout, (done.stderr, done.returncode), ("", 0))
 
 
 def test_thirty_thousand_sessions(gate):

@@ -1,8 +1,8 @@
 """A plain model of docs/POLICY.md for transactions that spend version 0 key hashes alone.
 
-Their outputs are these too, or bare multisig of one key, or they carry data. Their inputs have no scripts, so A14 to A16, A31
-and A32 fail nowhere, and sizes stay far below A4. The pool is a list, and families are found by asking all of it again and
-again.
+Their outputs are these too, or bare multisig of one key, or they carry data. Their inputs have no scripts, so A14 to A16
+and A32 fail nowhere, and A31 for a coin without a script alone; sizes stay far below A4. The pool is a list, and families
+are found by asking all of it again and again.
 """
 
 import os
@@ -11,7 +11,7 @@ from collections import Counter
 from dataclasses import dataclass, field
 from fractions import Fraction
 
-from bitcoin import Transaction
+from bitcoin import WITNESS_KEY_HASH, Transaction, printed
 from gate import ROOT
 
 GREATEST_AMOUNT = 2100000000000000
@@ -39,11 +39,18 @@ class Coin:
     value: int
     height: int
     is_coinbase: bool
+    script: bytes = WITNESS_KEY_HASH
+
+    def line(self, point):
+        """The words of its line."""
+        kind = "cb" if self.is_coinbase else "plain"
+        return "coin %s %d %d %d %s %s" % (printed(point[0]), point[1], self.value, self.height, kind, self.script.hex() or "-")
 
 
 @dataclass
 class Opening:
-    """What an opening says: coins by outpoint, verdicts by wtxid and input, `*` for the rest, and what is asked of families."""
+    """What an opening says: times from the first height on, coins by outpoint, verdicts by wtxid and input, `*` for the rest,
+    and what is asked of families."""
 
     times: list
     coins: dict = field(default_factory=dict)
@@ -53,6 +60,11 @@ class Opening:
     ancestors: int = 25
     descendants: int = 25
     full_rbf: bool = False
+    first: int = 0
+
+    def tip(self):
+        """The height of the last time."""
+        return self.first + len(self.times) - 1
 
 
 @dataclass(eq=False)
@@ -144,7 +156,7 @@ def fee_at(rate, size):
 class Model:
     def __init__(self, opening):
         self.opening = opening
-        self.tip = len(opening.times) - 1
+        self.tip = opening.tip()
         self.sessions = {}
         self.rates = {}
         self.pool = []
@@ -304,10 +316,12 @@ class Model:
             if coin.is_coinbase and self.tip + 1 - coin.height < 100:
                 yield "A27"
             total += coin.value
-            if total > GREATEST_AMOUNT:
+            if not 0 <= coin.value <= GREATEST_AMOUNT or total > GREATEST_AMOUNT:
                 yield "A28"
         if self.fee(tx) < 0:
             yield "A29"
+        if not all(self.coin(one).script for one in tx.inputs):
+            yield "A31"
         if cost_of(tx) > 16000:
             yield "A33"
         if self.fee(tx) < fee_at(self.floor, self.size(tx)):
@@ -362,7 +376,7 @@ class Model:
         return self.opening.coins
 
     def times(self):
-        """The times of the chain's blocks, from height 0."""
+        """The times of the chain's blocks, from the first height that has one."""
         return self.opening.times
 
     def size(self, tx):
@@ -422,7 +436,9 @@ class Model:
         return sum(self.coin(one).value for one in tx.inputs) - sum(output.value for output in tx.outputs)
 
     def median_time(self, height):
-        times = sorted(self.times()[max(0, height - 10):height + 1])
+        """Of the times that are known of a height and of the ten before it."""
+        last = height - self.opening.first
+        times = sorted(self.times()[max(0, last - 10):last + 1])
         return times[len(times) // 2]
 
     def is_final(self, tx):
@@ -434,5 +450,6 @@ class Model:
             return True
         height, blocks = self.coin(one).height, one.sequence & 0xFFFF
         if one.sequence >> 22 & 1:
-            return self.median_time(max(0, height - 1)) + 512 * blocks - 1 < self.median_time(self.tip)
+            before = max(0, height - 1)
+            return before >= self.opening.first and self.median_time(before) + 512 * blocks - 1 < self.median_time(self.tip)
         return height + blocks - 1 < self.tip + 1

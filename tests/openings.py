@@ -2,6 +2,7 @@
 
 from bitcoin import coin, number_hash, payment, printed
 from gate import lines, same, true
+from kinds import heavy
 
 LIMIT = 16777216
 TIMES = "times 101 1000 600"
@@ -100,6 +101,39 @@ def test_each_fault(gate):
     opens(gate, [TIMES, coin(1, 2100000000000000, 100), coin(1, index=1), "coin %s 0 1 0 plain %s" % (printed(number_hash(3)), "00" * 10000)])
 
 
+def test_the_first_height(gate):
+    """From 0 to 10,000,000, at most once. The line that leads the tip past 10,000,000 is at fault, whichever it is."""
+    for number in ("0", "1", "900000", "9999900"):
+        opens(gate, ["from " + number, TIMES.replace("101", "1")])
+        opens(gate, [TIMES.replace("101", "1"), "from " + number])
+    for number in ("10000001", "01", "-1", "9007199254740992", "4294967296", "", "1 1", "x"):
+        fails(gate, [TIMES, "from " + number], 2, "bad-line")
+    fails(gate, ["from 5", TIMES, "from 5"], 3, "bad-line")
+    fails(gate, ["from 0", "from 0", TIMES], 2, "bad-line")
+    fails(gate, ["from 5"], 0, "no-times")
+    opens(gate, ["from 9999900", TIMES])
+    opens(gate, [TIMES, "from 9999900"])
+    fails(gate, ["from 9999901", "", TIMES], 3, "times-limit")
+    fails(gate, [TIMES, "", "from 9999901"], 3, "times-limit")
+    fails(gate, ["times 100 1000 600", "from 9999901", "bloom 1", "times 1 1000 0"], 4, "times-limit")
+    fails(gate, ["times 100 1000 600", "from 9999900", "times 1 0 0", "times 1 0 0"], 4, "times-limit")
+    fails(gate, ["from 10000000", TIMES.replace("101", "2")], 2, "times-limit")
+    opens(gate, ["from 10000000", "times 1 5 0", "times 0 0 0"])
+    opens(gate, ["from 9000001", "times 1000000 0 4294"])
+    fails(gate, ["from 9000002", "times 1000000 0 4294"], 2, "times-limit")
+    fails(gate, ["from 9000000", "times 1000001 0 4294"], 2, "times-limit")
+
+
+def test_coins_above_a_first_height(gate):
+    """A coin may have any height up to the tip, and any below the first that has a time."""
+    first = ["from 900000", TIMES]
+    opens(gate, first + [coin(1, height=0), coin(2, height=899999), coin(3, height=900000), coin(4, height=900100)])
+    opens(gate, [coin(4, height=900100)] + first)
+    fails(gate, first + [coin(1, height=900101)], 3, "coin-above-tip")
+    fails(gate, [coin(1, height=101), "from 0", TIMES], 1, "coin-above-tip")
+    opens(gate, [coin(1, height=101), "from 1", TIMES])
+
+
 def test_limits_of_families(gate):
     """From 1 to 1,000, each at most once; full replacement is 0 or 1."""
     for name in ("limitancestorcount", "limitdescendantcount"):
@@ -120,6 +154,7 @@ def test_an_opening_alone(gate):
         same("standard output for %r" % text, (done.stdout, done.status), (b"", 0))
 
 
+@heavy
 def test_a_line_past_the_limit(gate):
     """A line of 16,777,216 bytes is read or skipped; one byte more is `bad-line`, also in a comment and without a newline."""
     head = lines([TIMES]).encode()
@@ -131,6 +166,7 @@ def test_a_line_past_the_limit(gate):
     same("standard output", (done.stdout, done.status), (b"opening 2 bad-line\n", 2))
 
 
+@heavy
 def test_too_many_lines(gate):
     """1,000,000 lines are read; the next is `bad-line`, whatever it is."""
     head = TIMES + "\n" + "\n" * 999998
@@ -141,6 +177,7 @@ def test_too_many_lines(gate):
         same("standard output", (done.stdout, done.status), (b"opening 1000001 bad-line\n", 2))
 
 
+@heavy
 def test_many_coins(gate):
     """An opening of 100,000 coins, of which the last is spent."""
     count = 100000

@@ -2,7 +2,7 @@
 
 import random
 
-from bitcoin import Input, Output, Transaction, WITNESS_KEY_HASH, number_hash, printed
+from bitcoin import Input, Output, Transaction, number_hash
 from gate import Differs, same, same_lines
 from model import GREATEST_AMOUNT, NULL, TOKENS, TWO_WEEKS, Coin, Model, Opening, draw_policy, policy_lines, rate_of
 
@@ -114,7 +114,7 @@ class Stream:
 
     def opening_lines(self):
         """The opening's lines, in any order."""
-        told = [self.coin_line(outpoint, coin) for outpoint, coin in self.opening.coins.items()]
+        told = [coin.line(outpoint) for outpoint, coin in self.opening.coins.items()]
         for pair, verdict in self.opening.verdicts.items():
             told.append("verdict %s %s" % ("*" if pair == "*" else "%s %d" % pair, verdict))
         if self.opening.bloom or self.random.random() < 0.5:
@@ -126,10 +126,6 @@ class Stream:
         self.random.shuffle(told)
         place = self.random.randint(0, len(told))
         return told[:place] + self.time_lines + told[place:]
-
-    def coin_line(self, outpoint, coin):
-        kind = "cb" if coin.is_coinbase else "plain"
-        return "coin %s %d %d %d %s %s" % (printed(outpoint[0]), outpoint[1], coin.value, coin.height, kind, WITNESS_KEY_HASH.hex())
 
     # --- events
 

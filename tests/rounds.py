@@ -5,9 +5,11 @@ import subprocess
 import tempfile
 
 from bitcoin import coin, payment
+from chain_model import Block
 from failing import each_growth
 from gate import lines, same, same_lines, true
 from growths import FAULT, UNKNOWN
+from heights import block
 from kinds import long
 from streams import NO_MEMORY, TOO_MANY, TOO_MANY_LANES, Talk, past
 
@@ -185,6 +187,34 @@ def test_rounds_print_as_they_end(gate):
         talk.process.stdin = None
         talk.hears(lines(["lane 1", UNKNOWN_PEER, "settled 1", "base 1"]))
         true("the second round had ended", talk.process.poll() is None)
+
+
+def test_a_living_chain_in_rounds(gate):
+    """What one round learns the next ones spend, confirm and forget; their journal is legal."""
+    tx = payment(3, 99000)
+    confirmed = Block(block(0).time, block(0).txs + [tx])
+    rounds = [
+        [[("chain " + coin(3), "set"), ("chain verdict %s 0 ok" % tx.wtxid(), "set")]],
+        [[(sends(tx), sent(tx))]],
+        [[("chain " + coin(3), "refused C11 coin-known"), ("chain 0 5000 " + confirmed.hex(), "chain 101 removed 1 entered 0")]],
+        [[("chain forget 1", "forgotten 1 4 1"), ("chain 1 5000", "refused C6 no-undo")]],
+        [[(LISTS, listed()), (sends(tx), 'rpc 500 {"error":{"code":-25,"message":"bad-txns-inputs-missingorspent","rule":"A25"},"id":1,"result":null}')]],
+    ]
+    found = printed_of(rounds, True)
+    prints(gate, input_of(events_of(rounds)), found, "lanes --journal")
+    journal = journal_in(found)
+    same("the audit", audited(gate, journal), ("legal 9\n", 0))
+    wrong = [line.replace("< forgotten 1 4 1", "< forgotten 1 4 0") for line in journal]
+    same("the audit of another count", audited(gate, wrong), ("illegal 6\n", 1))
+
+
+def test_learning_in_the_lane_of_another(gate):
+    """Coins, verdicts and forgetting are the chain's: in the lane of a peer, of a user or of the operator they are not called."""
+    events = ["chain " + coin(3), "chain verdict %s 0 ok" % payment(3, 99000).wtxid(), "chain forget 0"]
+    for first, reply in (("peer 1 leave", UNKNOWN_PEER), (LISTS, listed()), ("operator bloom on", "set")):
+        wanted = ["lane 1", reply] + ["fault wrong-caller"] * 3 + ["settled 1"]
+        prints(gate, OPENING + "---\n" + lines([first] + events), wanted)
+    prints(gate, OPENING + "---\n" + lines(events + ["peer 1 leave"]), ["lane 1", "set", "set", "forgotten 0 3 1", "fault wrong-caller", "settled 3"])
 
 
 def in_rounds(printed):

@@ -15,7 +15,7 @@ UNCHANGED, RUN_ENDS, PROGRAM_ENDS = "Nothing changes.", "The run ends there.", "
 THENS = (KEPT, CLOSED, ALWAYS_CLOSED, RELAYED, UNCHANGED, RUN_ENDS, PROGRAM_ENDS)
 LINE = re.compile(r"(\S+) ([^:]+): (.+)\. (%s)(?: Core: (.+)\.)?" % "|".join(map(re.escape, THENS)))
 
-ORDER = [letter + str(number) for letter, last in (("A", 46), ("P", 10), ("U", 1), ("N", 3), ("C", 7), ("L", 3)) for number in range(1, last + 1)]
+ORDER = [letter + str(number) for letter, last in (("A", 46), ("P", 10), ("U", 1), ("N", 3), ("C", 12), ("L", 3)) for number in range(1, last + 1)]
 OPENINGS = ["bad-line", "times-limit", "no-times", "coin-value", "coin-unspendable", "coin-above-tip", "coin-twice"]
 FAULTS = ["wrong-caller", "pass-full", "audit-full", "history-short", "memory"]
 
@@ -184,12 +184,15 @@ def test_explain(gate):
     known = [("A21", "txn-already-in-mempool"), ("P5", "txn-already-in-mempool")]
     same("txn-already-in-mempool", explained(gate, "txn-already-in-mempool"), (known, "", 0))
     same("bad-line", explained(gate, "bad-line"), ([("L1", "bad-line"), ("opening", "bad-line")], "", 0))
+    same("C8", explained(gate, "C8"), ([("C8", "coin-value")], "", 0))
+    same("coin-value", explained(gate, "coin-value"), ([("C8", "coin-value"), ("opening", "coin-value")], "", 0))
+    same("coin-unspendable", explained(gate, "coin-unspendable"), ([("C9", "coin-unspendable"), ("opening", "coin-unspendable")], "", 0))
     same("opening", explained(gate, "opening"), ([("opening", token) for token in OPENINGS], "", 0))
     same("fault", explained(gate, "fault"), ([("fault", token) for token in FAULTS], "", 0))
 
 
 def test_explain_nothing(gate):
     """A word that names nothing prints nothing, standard error says so, and the status is 1."""
-    for word in ("A47", "a36", "A", "A036", "fee", "", "insufficient  fee"):
+    for word in ("A47", "C13", "a36", "A", "A036", "fee", "", "insufficient  fee"):
         told = 'gate: no rule and no token is named "%s"; gate rules lists them\n' % word
         same("explain %r" % word, explained(gate, word), ([], told, 1))

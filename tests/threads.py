@@ -5,7 +5,7 @@ import subprocess
 import tempfile
 import time
 
-from bitcoin import coin, payment
+from bitcoin import Input, Output, Transaction, coin, number_hash, payment
 from gate import ROOT, SECONDS, Differs, lines, same, true
 from journals import raced
 from streams import TOO_LONG, TOO_MANY, TOO_MANY_LANES, UNREAD, UNWRITTEN, goes_with_its_caller, past
@@ -47,12 +47,12 @@ def test_lanes_take_turns(gate):
     raise Differs("in %d tries one lane was always called after the other" % TRIES)
 
 
-def most_threads(gate, text):
+def most_threads(gate, text, words="lanes"):
     """The greatest number of threads that the program was seen with, and what it printed."""
     with tempfile.TemporaryFile() as file, tempfile.TemporaryFile() as printed:
         file.write(text.encode())
         file.seek(0)
-        process = subprocess.Popen(gate.words("lanes"), stdin=file, stdout=printed, stderr=subprocess.PIPE)
+        process = subprocess.Popen(gate.words(words), stdin=file, stdout=printed, stderr=subprocess.PIPE)
         most, end = 0, time.monotonic() + SECONDS
         while process.poll() is None and time.monotonic() < end:
             try:
@@ -79,6 +79,35 @@ def test_a_thread_for_each_lane(gate):
         same("standard output", printed, wanted)
         most = max(most, seen)
         if most >= 64:
+            return
+    raise Differs("at most %d threads were seen" % most)
+
+
+def test_workers_start_with_two_inputs(gate):
+    """64 lanes that may have 64 workers each, and submit one input at a time, have one thread each beside their own."""
+    low = payment(1, 99999)
+    lane = "peer %d enter 192.0.2.1\n" + "peer %d tx 5000 {}\n".format(low.hex()) * 500
+    replies = ["entered none"] + ["denied A35 keep min relay fee not met"] * 500
+    text = laned(lane.replace("%d", str(peer)) for peer in range(64))
+    wanted = "".join(lines(["lane %d" % number] + replies) for number in range(1, 65)) + "settled %d\n" % (64 * 501)
+    seen, printed = most_threads(gate, text, "lanes --workers 64")
+    same("standard output", printed, wanted)
+    true("%d threads were seen, where each lane has two" % seen, seen <= 129)
+
+
+def test_workers_of_one_lane(gate):
+    """A lane that submits two inputs at a time has its 64 threads, which some try shows, and no more."""
+    low = Transaction([Input(number_hash(1)), Input(number_hash(2))], [Output(199999)])
+    opening = lines(["times 101 1000 600", "verdict * ok", coin(1), coin(2)])
+    text = opening + "---\npeer 1 enter 192.0.2.1\n" + "peer 1 tx 5000 {}\n".format(low.hex()) * 5000
+    wanted = lines(["lane 1", "entered none"] + ["denied A35 keep min relay fee not met"] * 5000 + ["settled 5001"])
+    most = 0
+    for _ in range(TRIES):
+        seen, printed = most_threads(gate, text, "lanes --workers 64")
+        same("standard output", printed, wanted)
+        true("%d threads were seen, where there is one lane" % seen, seen <= 65)
+        most = max(most, seen)
+        if most >= 60:
             return
     raise Differs("at most %d threads were seen" % most)
 

@@ -1,4 +1,4 @@
-use gate_bytes::{Copied, Kept, Text};
+use gate_bytes::{Copied, Counted, Kept, Text};
 use gate_rpc::*;
 use gate_standard::Denial;
 use gate_tx::{Txid, Wtxid};
@@ -22,7 +22,7 @@ fn answer(alloc: Global, json: &str) -> Result<String, Fail> {
     let reply = match command.method() {
         Method::GetRawMempool => RpcReply::Answer {
             id,
-            result: RpcResult::Txids(Kept::from_vec(Vec::new(alloc))),
+            result: RpcResult::Txids(Counted::new(alloc, Kept::from_vec(Vec::new(alloc)))?),
         },
         Method::SendRawTransaction => RpcReply::Failure {
             id,
@@ -376,7 +376,7 @@ fn answers_are_compact(rt: HostRuntime) -> Result<(), Fail> {
     let known = entry(rt.alloc())?;
     assert_line(
         &rt,
-        one_number(7, RpcResult::Entry(known)),
+        one_number(7, RpcResult::Entry(Counted::new(rt.alloc(), known)?)),
         "rpc 200 {\"error\":null,\"id\":7,\"result\":{\"ancestorcount\":1,\"ancestorfees\":20000,\"ancestorsize\":141,\"bip125-replaceable\":true,\"depends\":[],\"descendantcount\":4,\"descendantfees\":23000,\"descendantsize\":539,\"fee\":20000,\"spentby\":[\"1111111111111111111111111111111111111111111111111111111111111111\",\"1212121212121212121212121212121212121212121212121212121212121212\"],\"time\":6000,\"vsize\":141,\"weight\":562,\"wtxid\":\"1313131313131313131313131313131313131313131313131313131313131313\"}}",
     )?;
     Ok(())

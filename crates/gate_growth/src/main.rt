@@ -9,6 +9,7 @@
 #![tactic(auto)]
 
 mod calls;
+mod chain_text;
 mod colliding;
 mod end;
 mod events;

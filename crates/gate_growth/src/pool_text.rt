@@ -1,7 +1,7 @@
 //! What is seen of a pool, as text.
 use crate::colliding::Colliding;
 use gate_bytes::Memory;
-use gate_pool::{Entry, MAX_ENTRIES, Pool, Score, Sums, add_up, ancestors, descendants};
+use gate_pool::{Entry, Pool, Score, Sums, add_up, ancestors, descendants};
 use gate_tx::{Txid, Wtxid};
 use std::alloc::Global;
 
@@ -18,7 +18,7 @@ fn push_ancestors(
     pool: &Pool<Colliding>,
     entry: &Entry,
 ) -> Result<(), Memory> {
-    match ancestors(alloc, pool, entry.transaction().inputs(), MAX_ENTRIES)? {
+    match ancestors(alloc, pool, entry.transaction().inputs(), pool.count())? {
         Some(found) => push_sums(text, "above", &add_up(pool, found.as_slice())),
         None => Ok(()),
     }
@@ -31,7 +31,7 @@ fn push_descendants(
     pool: &Pool<Colliding>,
     entry: &Entry,
 ) -> Result<(), Memory> {
-    match descendants(alloc, pool, &[entry.txid()], MAX_ENTRIES)? {
+    match descendants(alloc, pool, &[entry.txid()], pool.count())? {
         Some(found) => push_sums(text, "below", &add_up(pool, found.as_slice())),
         None => Ok(()),
     }

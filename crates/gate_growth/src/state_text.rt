@@ -1,9 +1,9 @@
 //! What is seen of a state, as text.
+use crate::chain_text::{push_chain, push_named};
 use crate::colliding::Colliding;
 use crate::events::Events;
 use crate::pool_text::push_pool;
 use gate_bytes::Memory;
-use gate_chain::Chain;
 use gate_core::{Session, State, Switches, submission};
 use gate_message::{Caller, Event, Reply};
 use gate_submission::Prepared;
@@ -26,22 +26,6 @@ fn push_limits(text: &mut String, floor: u64, budget: u64) -> Result<(), Memory>
 fn push_switches(text: &mut String, switches: &Switches) -> Result<(), Memory> {
     write!(text, "{switches:?}\n")?;
     Ok(())
-}
-
-/// The height of a tip, its time, and the median time past.
-fn push_tip(
-    text: &mut String,
-    tip: u32,
-    time: Option<u32>,
-    mtp: Option<u32>,
-) -> Result<(), Memory> {
-    write!(text, "tip {tip} {time:?} {mtp:?}\n")?;
-    Ok(())
-}
-
-fn push_chain(text: &mut String, chain: &Chain<Colliding>) -> Result<(), Memory> {
-    let tip = chain.tip();
-    push_tip(text, tip, chain.time(tip), chain.mtp(tip))
 }
 
 fn push_each_coin(text: &mut String, coins: &[Option<Coin>]) -> Result<(), Memory> {
@@ -67,7 +51,8 @@ fn push_session(text: &mut String, session: &Option<Session>) -> Result<(), Memo
     Ok(())
 }
 
-/// The coin of each input of an event's submission, and the session of the peer whose event it is.
+/// The coin of each input of an event's submission, what an event of the chain names, and the session of the peer whose
+/// event it is.
 fn push_event(
     alloc: Global,
     text: &mut String,
@@ -77,6 +62,7 @@ fn push_event(
     if let Some(submission) = submission(event) {
         push_coins(alloc, text, state, submission)?;
     }
+    push_named(text, state, event)?;
     if let Caller::Peer(peer) = event.caller(alloc)? {
         push_session(text, &state.session(peer))?;
     }

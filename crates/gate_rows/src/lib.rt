@@ -10,11 +10,19 @@ mod calls;
 #[cfg(test)]
 mod families;
 #[cfg(test)]
+mod first_heights;
+#[cfg(test)]
+mod forgetting;
+#[cfg(test)]
 mod jobs;
 #[cfg(test)]
 mod lanes;
 #[cfg(test)]
 mod large_families;
+#[cfg(test)]
+mod learning;
+#[cfg(test)]
+mod living_journals;
 #[cfg(test)]
 mod locking;
 #[cfg(test)]

@@ -13,6 +13,15 @@ const ROWS: &[Row] = &[
         status: 2,
     },
     Row {
+        name: "chain-event-in-an-opening",
+        words: "run",
+        input: Input::Short(
+            b"budget 1000000\ntimes 101 1000 600\ncoin <32*11> 0 100000 1 plain 0014<20*22>\ncoin <32*12> 0 100000 1 plain 0014<20*22>\ncoin <32*13> 0 100000 1 plain 0014<20*22>\ncoin <32*14> 0 100000 1 plain 0014<20*22>\nverdict * ok\nchain forget 0\n",
+        ),
+        outputs: &[b"opening 8 bad-line\n"],
+        status: 2,
+    },
+    Row {
         name: "line-too-long",
         words: "run",
         input: Input::Short(

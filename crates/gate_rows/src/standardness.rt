@@ -100,6 +100,17 @@ const ROWS: &[Row] = &[
         status: 0,
     },
     Row {
+        name: "data-of-eighty-four-bytes-by-default",
+        words: "run",
+        input: Input::Short(
+            b"budget 1000000\ntimes 101 1000 600\ncoin <32*11> 0 100000 1 plain 0014<20*22>\ncoin <32*12> 0 100000 1 plain 0014<20*22>\ncoin <32*13> 0 100000 1 plain 0014<20*22>\ncoin <32*14> 0 100000 1 plain 0014<20*22>\nverdict * ok\n---\npeer 1 enter 192.0.2.1\npeer 1 tx 5000 0200000000010<32*11>1<10*0>fdffffff02905f01<10*0>160014<20*22><16*0>546a4c51<81*22>0248<72*30>21<33*02>00000000\npeer 1 tx 5000 0200000000010<32*11>1<10*0>fdffffff02905f01<10*0>160014<20*22><16*0>536a4c50<80*22>0248<72*30>21<33*02>00000000\n",
+        ),
+        outputs: &[
+            b"entered none\ndenied A16 keep scriptpubkey\nadmitted 18387a4d08f1777b0546a106df2ece26bfe0023ea663fcb3c80e3be41d0966dc fee 10000 vsize 202 replaced 0\n",
+        ],
+        status: 0,
+    },
+    Row {
         name: "rules-of-a-transaction-by-itself",
         words: "run",
         input: Input::Short(
@@ -108,6 +119,15 @@ const ROWS: &[Row] = &[
         outputs: &[
             b"entered noban,download\ndenied A3 keep bad-txns-vout-empty\ndenied A5 keep bad-txns-vout-negative\ndenied A6 keep bad-txns-vout-toolarge\ndenied A7 keep bad-txns-txouttotal-toolarge\ndenied A7 keep bad-txns-txouttotal-toolarge\ndenied A8 keep bad-txns-inputs-duplicate\ndenied A9 keep bad-cb-length\ndenied A10 keep bad-txns-prevout-null\ndenied A11 keep coinbase\ndenied A12 keep version\ndenied A12 keep version\ndenied A12 keep version\ndenied A14 keep scriptsig-size\ndenied A15 keep scriptsig-not-pushonly\ndenied A15 keep scriptsig-not-pushonly\ndenied A17 keep dust\ndenied A16 keep scriptpubkey\ndenied A18 keep multi-op-return\ndenied A16 keep scriptpubkey\ndenied A29 keep bad-txns-in-belowout\nadmitted 5ab0eb89aa597c4c79ebb7cd83e361997309eb27e186bc95d794fe37e6453fc2 fee 110 vsize 110 replaced 0\ndenied A22 keep txn-same-nonwitness-data-in-mempool\n",
         ],
+        status: 0,
+    },
+    Row {
+        name: "stripped-size-of-sixty-five-by-default",
+        words: "run",
+        input: Input::Short(
+            b"budget 1000000\ntimes 101 1000 600\ncoin <32*11> 0 100000 1 plain 0014<20*22>\ncoin <32*12> 0 100000 1 plain 0014<20*22>\ncoin <32*13> 0 100000 1 plain 0014<20*22>\ncoin <32*14> 0 100000 1 plain 0014<20*22>\nverdict * ok\n---\npeer 1 enter 192.0.2.1\npeer 1 tx 5000 020000000<32*11>1<10*0>fdffffff01e803<13*0>55203aabbcc00000000\n",
+        ),
+        outputs: &[b"entered none\ndenied A19 keep tx-size-small\n"],
         status: 0,
     },
     Row {

@@ -2,12 +2,13 @@
 use gate_bytes::{Copied, Kept, Memory};
 use gate_inputs::report;
 use gate_tx::{Coin, OutPoint, TxIn, Txid, Witness, Wtxid};
-use gate_verify::{Crew, InputCheck, InputReport, Piece, PolicyCheck, Workers, verify_all};
+use gate_verify::{Crew, InputCheck, InputReport, Piece, PolicyCheck, Workers, serve, verify_all};
 use std::alloc::Global;
 use std::process::Abort;
 use std::sync::Wait;
 use std::sync::atomic::{AtomicU64, Ordering};
 use std::test::Fail;
+use std::thread;
 use std::thread::Threads;
 
 /// An input by its place, with its coin's script, its own script, and what they cost: four for each signature
@@ -181,6 +182,50 @@ fn gives_all_alone<R: Wait, C: InputCheck>(rt: &R, alloc: Global, check: &C) -> 
 fn a_crew_without_workers(rt: HostRuntime) -> Result<(), Fail> {
     assert!(rt; gives_all_alone(&rt, rt.alloc(), &PolicyCheck)?);
     assert!(rt; gives_all_alone(&rt, rt.alloc(), &Forgets)?);
+    Ok(())
+}
+
+/// Whether a crew gives the reports of the pieces each time that it is asked for them.
+fn gives_each_time<R: Wait>(
+    rt: &R,
+    alloc: Global,
+    pieces: &[Piece],
+    crew: Crew,
+    times: usize,
+) -> Result<bool, Fail> {
+    for _ in 0..times {
+        let reports = crew.verify(rt, alloc, &PolicyCheck, pieces)?;
+        if !are_of_three(reports.as_slice()) {
+            return Ok(false);
+        }
+    }
+    Ok(true)
+}
+
+/// The same of a crew that 64 workers serve, which end with it.
+fn gives_beside_workers<R: Threads + Wait + Abort + Sync>(
+    rt: &R,
+    alloc: Global,
+    times: usize,
+) -> Result<bool, Fail> {
+    let pieces = three_pieces(alloc)?;
+    let pieces = pieces.as_slice();
+    let workers = workers(rt, 64);
+    let (crew, post) = Crew::new(alloc)?;
+    let ((), gives) = thread::join(
+        rt,
+        move || serve(rt, alloc, &PolicyCheck, post, workers),
+        move || gives_each_time(rt, alloc, pieces, crew, times),
+    );
+    gives
+}
+
+/// Workers that get no piece end, and others report on one list after another.
+#[test]
+fn a_crew_with_workers(rt: HostRuntime) -> Result<(), Fail> {
+    for times in [0, 1, 200] {
+        assert!(rt; gives_beside_workers(&rt, rt.alloc(), times)?);
+    }
     Ok(())
 }
 

@@ -1,6 +1,6 @@
 //! Lines over readers in memory, with buffers of few bytes, and over one that breaks.
 use gate_lines::{
-    Found, LaneFault, Sink, Source, end_line, has_ended, next_line, next_line_or_send,
+    Found, LaneFault, Lines, Next, Sink, Source, end_line, has_ended, next_line, next_line_or_send,
 };
 use gate_testing::{Drops, Interrupted};
 use std::io::{BufReader, BufWriter};
@@ -53,6 +53,41 @@ fn lines_in_parts(rt: HostRuntime) -> Result<(), Fail> {
     drop(line);
     drop(buffered);
     Ok(read?)
+}
+
+#[test]
+fn last_lines_of_the_greatest_length(rt: HostRuntime) -> Result<(), Fail> {
+    let text: &[u8] = b"four\nlast";
+    let mut reader = BufReader::with_capacity(rt.alloc(), 2, text)?;
+    let mut lines = Lines::new(rt.alloc());
+    assert_eq!(rt; lines.next_within(&mut reader, 4)?, Next::Whole);
+    assert_eq!(rt; lines.next_within(&mut reader, 4)?, Next::Rest);
+    assert_eq!(rt; std::str::from_utf8(lines.line())?, "last");
+    assert_eq!(rt; lines.next_within(&mut reader, 4)?, Next::End);
+    assert_eq!(rt; lines.count(), 2);
+    Ok(())
+}
+
+#[test]
+fn a_buffer_without_room(rt: HostRuntime) -> Result<(), Fail> {
+    let mut reader = BufReader::with_capacity(rt.alloc(), 0, TEXT)?;
+    let mut line = Vec::new(rt.alloc());
+    assert_eq!(rt; next_line(&mut reader, &mut line), Err(LaneFault::Read));
+    assert_eq!(rt; has_ended(&mut reader, &mut line), Err(LaneFault::Read));
+    Ok(())
+}
+
+#[test]
+fn bytes_past_the_last_line(rt: HostRuntime) -> Result<(), Fail> {
+    for past in [b"\n", b"x"] {
+        let mut bytes: &[u8] = past;
+        let mut line = Vec::new(rt.alloc());
+        line.extend_from_slice(b"the line before")?;
+        assert_eq!(rt; has_ended(&mut bytes, &mut line)?, false);
+        assert!(rt; line.is_empty());
+        assert!(rt; bytes.is_empty());
+    }
+    Ok(())
 }
 
 #[test]
