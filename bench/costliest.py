@@ -1,5 +1,7 @@
 """The costliest lines that are known for each rule: `bench/run --hostile` measures them for each byte of the line."""
 
+import leaving
+from leaving import LIMITS
 from workloads import TAPROOT, Stream, WideParent, beside_wide_conflicts, opened, repeated
 from texts import FEE, VALUE, block, call, coin, coins, count_of, hash_of, output, payment, paying, submission, transaction
 
@@ -62,8 +64,9 @@ def many_parents(number):
     return lambda events: (opened(coins(number), (submission(payment(it)) for it in numbers)), repeated(event, events))
 
 
-def many_inputs_of_conflicts(conflicts, inputs, parents):
-    """A41: conflicts of many inputs, and a replacement that spends outputs of so many parents, too."""
+def many_inputs_of_conflicts(conflicts, inputs, parents, last_inputs=None, limits=()):
+    """A41: conflicts of many inputs, and a replacement that spends outputs of so many parents, too. The last of the
+    conflicts spends these as well, and may have other inputs of another number."""
     first = parents + 1
     shares = [VALUE // 2, VALUE // 2 - 1000]
     older = [transaction([it], shares) for it in range(1, parents + 1)]
@@ -71,10 +74,12 @@ def many_inputs_of_conflicts(conflicts, inputs, parents):
     groups = [range(first + at * inputs, first + (at + 1) * inputs) for at in range(conflicts)]
     value = inputs * VALUE - 100000
     wide = [transaction(group, [value], witness=False) for group in groups[:-1]]
-    last = transaction([*outs, *groups[-1]], [value], witness=False)
+    most = groups[-1][:last_inputs]
+    last = transaction([*outs, *most], [len(most) * VALUE - 100000], witness=False)
     digits = transaction([*(group[0] for group in groups), *outs], [1000], witness=False)
     every = [*older, *wide, last]
-    return lambda events: (opened(coins(parents + conflicts * inputs), map(submission, every)), repeated(submission(digits), events))
+    lines = [*limits, *coins(parents + conflicts * inputs)]
+    return lambda events: (opened(lines, map(submission, every)), repeated(submission(digits), events))
 
 
 def trimming_many(pool, padding):
@@ -165,6 +170,8 @@ def streams():
         Stream("A38: a parent of 6,700 outputs, 22 grandparents", wide.another_child, 1, 0, "denied A38"),
         Stream("A39: 2,400 conflicts", many_conflicts(MOST_INPUTS), 2, 0, "denied A39"),
         Stream("A40, then A41: 20 conflicts of 2,300 inputs, 23 parents", many_inputs_of_conflicts(20, 2300, 23), 1, 0, "denied A41"),
+        Stream("A40, then A41: 100 conflicts of 2,300 inputs, 23 parents", many_inputs_of_conflicts(100, 2300, 23), 1, 0, "denied A41"),
+        Stream("A40, then A41: 100 conflicts of 2,300 inputs, 450 parents", many_inputs_of_conflicts(100, 2300, 450, 200, [LIMITS]), 1, 0, "denied A41"),
         Stream("A41: 50 conflicts of 7,000 outputs with a child each", beside_wide_conflicts(50, 7000), 1, 0, "denied A41"),
         Stream("trim: a newcomer for which 600 of 2,000 entries go", trimming_many(2000, 2100), 1, 0, "admitted"),
         Stream("an empty block goes, over 10,000 entries", empty_block_that_goes(10000), 1, 0, "chain"),
@@ -174,6 +181,7 @@ def streams():
         Stream("getmempoolentry of that parent", wide.told, 2, 0, "rpc 200"),
         Stream("a peer's listing of 10,000 entries", listed(10000, "peer 1 mempool\n"), 2, 0, "listing"),
         Stream("getrawmempool of 10,000 entries", listed(10000, call("getrawmempool")), 2, 0, "rpc 200"),
+        *leaving.streams(),
         Stream('JSON: 100,000 times {"":0}', json_beside('{"":0}', 100000), 1, 0, "rpc 404"),
         Stream("JSON: 500,000 times 0", json_beside("0", 500000), 1, 0, "rpc 404"),
         Stream("JSON: a million digits", called('{"method":"none","x":1%s,"id":1}' % ("0" * 300 + "." + "0" * 1000000)), 1, 0, "rpc"),

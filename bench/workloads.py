@@ -2,7 +2,7 @@
 
 from dataclasses import dataclass
 from itertools import chain as joined
-from typing import Callable, Optional
+from typing import Callable, Optional, Union
 
 from texts import (
     BREAK,
@@ -35,6 +35,7 @@ BLOCK = 100
 POOL, LARGER_POOLS = 1000, (20000, 400000)
 FIRST_FILLER = 10000000
 PLENTY = 10000000
+TWO_WEEKS = 336 * 3600
 INDEPENDENT = "an independent submission"
 BY_BYTES = "50 times an independent submission, for each byte of the line"
 TAPROOT = "5120" + "22" * 32
@@ -47,20 +48,22 @@ class Stream:
 
     `make` gives, for a number of events, the lines before them and the text of each. The longer of two copies has
     `counted` events more than the shorter one where instructions are counted, and `timed` more where time is taken.
-    Each event has so many `replies`, which begin with `wanted`. A figure is that of an event, or of each of its `parts`.
+    Each event has so many `replies`, which begin with `wanted`, or with one of these. A figure is that of an event, or of each of its `parts`.
     `above` gives the stream over a pool of another size, where it has one, and `limit` says what the figure is held to.
+    `bytes` are those of earlier lines that count beside the event's own, where a figure is told for each byte.
     """
 
     name: str
     make: Callable
     counted: int
     timed: int
-    wanted: str = ""
+    wanted: Union[str, tuple] = ""
     word: str = "run"
     parts: int = 1
     replies: int = 1
     above: Optional[Callable] = None
     limit: str = ""
+    bytes: int = 0
 
 
 def opened(lines, before=(), budget=BUDGET):
@@ -73,6 +76,10 @@ def above(pool, lines, before=()):
     numbers = range(FIRST_FILLER, FIRST_FILLER + pool)
     small = (submission(transaction([number], [VALUE - FEE], witness=False)) for number in numbers)
     return opened(joined(lines, map(coin, numbers)), joined(small, before))
+
+
+def submission_at(time, digits):
+    return "peer 1 tx %d %s\n" % (time, digits)
 
 
 def payments(numbers):
@@ -249,6 +256,31 @@ def trimming(pool):
     return make
 
 
+def replacements_after(pool):
+    """Replacements in a pool of ten, which once had so many more: these were confirmed."""
+
+    def make(count):
+        few, numbers = 10, range(FIRST_FILLER, FIRST_FILLER + pool)
+        larger = [transaction([number], [VALUE - FEE], witness=False) for number in numbers]
+        whole = ("chain 0 5000 %s\n" % block(at, larger[at : at + 1000]) for at in range(0, pool, 1000))
+        before = joined(map(submission, larger), whole, payments(range(1, few + 1)))
+        events = (submission(payment(1 + number % few, FEE * (2 + number // few))) for number in range(count))
+        return opened(joined(map(coin, numbers), coins(few)), before), events
+
+    return make
+
+
+def expiring(pool):
+    """Entries of one second each; then submissions, for each of which the oldest expires."""
+
+    def make(count):
+        before = (submission_at(number, payment(number)) for number in range(1, pool + 1))
+        events = (submission_at(number + TWO_WEEKS + 1, payment(pool + number)) for number in range(1, count + 1))
+        return opened(coins(pool + count), before), events
+
+    return make
+
+
 # Calls of users and peers
 
 
@@ -312,6 +344,33 @@ def blocks_that_go(pool):
     return make
 
 
+def learnt_coins(pool):
+    """Coins that nobody spends yet."""
+    return lambda count: (above(pool, []), ("chain " + line for line in coins(count)))
+
+
+def learnt_verdicts(pool):
+    return lambda count: (above(pool, []), ("chain verdict %064x 0 ok\n" % number for number in range(1, count + 1)))
+
+
+def forgotten_blocks(pool):
+    """Blocks of a hundred payments, whose coins are learnt before, and of which each is forgotten when ten more are connected."""
+
+    def learnt(number):
+        numbers = range(number * BLOCK + 1, (number + 1) * BLOCK + 1)
+        return "".join("chain " + coin(each) for each in numbers) + confirming(number, numbers[0])
+
+    def make(count):
+        return above(pool, [], map(learnt, range(10))), (learnt(number) + "chain forget 1\n" for number in range(10, 10 + count))
+
+    return make
+
+
+def forgotten_above(coins_kept):
+    """Forgetting, where nothing is to be forgotten and so many coins stay, each of which an entry spends."""
+    return lambda count: (above(coins_kept, []), repeated("chain forget 0\n", count))
+
+
 # Lanes, journals, openings
 
 
@@ -365,6 +424,8 @@ def admissions():
         grown("a child under a chain of 24", last_children, 20, 500, "admitted", "the same in any pool"),
         grown("a replacement", replacements, 200, 5000, "admitted", "the same in any pool"),
         grown("a replacement of a chain of 25", replacements_of_chains, 10, 200, "admitted", "within 1.5 in any pool"),
+        grown("a replacement in a pool of ten, which was once larger", replacements_after, 200, 5000, "admitted", "within 1.2 in any pool"),
+        grown("a submission for which the oldest entry expires", expiring, 50, 500, "admitted", "the same in any pool"),
         Stream("a replacement of 100 entries", replacements_of_many, 5, 50, "admitted"),
         *(trimmed(pool, count) for pool, count in ((1000, 200), (10000, 200), (100000, 1000))),
     ]
@@ -396,6 +457,13 @@ def streams():
         *answers(),
         grown("a block of 100, a transaction", blocks, 3, 30, "chain", "the same in any pool", parts=BLOCK),
         grown("a block of 100 that comes and goes again", blocks_that_go, 2, 10, "chain", replies=2),
+        grown("a coin that is learnt", learnt_coins, 1000, 50000, "set", "the same in any pool"),
+        grown("a verdict that is learnt", learnt_verdicts, 1000, 50000, "set", "the same in any pool"),
+        Stream(
+            "a block of 100 whose coins are learnt, and one forgotten, a transaction",
+            forgotten_blocks(0), 3, 30, ("set", "chain", "forgotten"), parts=BLOCK, replies=BLOCK + 2,
+        ),
+        grown("forgetting nothing, a coin that stays", forgotten_above, 2, 20, "forgotten", "the same in any pool", is_listing=True),
         Stream("a lane's call: an independent submission", submissions(), 1000, 20000, "admitted", word="lanes"),
         Stream("an entry of an audit: an independent submission", journals, 1000, 20000, word="audit", replies=0),
         Stream("a coin of an opening", openings, 2000, 100000, replies=0),
