@@ -1,7 +1,7 @@
 /* gate: the proved admission gate of a Bitcoin node's mempool, as a library. docs/LIBRARY.md says how to embed it.
 
-   Each call answers by a status, and most put a text into a buffer `out` that has room for so many bytes: `*size` then
-   tells the text's size, also where the buffer is too small for it, and 0 where there is no text. No pointer may be null,
+   Each call but gate_close answers by a status, and most put a text into a buffer `out` that has room for `room` bytes:
+   `*size` is then the text's size, also where the buffer is too small for it, and 0 where there is no text. No pointer may be null,
    also where its size is 0, and none may overlap another. */
 #ifndef GATE_H
 #define GATE_H
@@ -15,7 +15,8 @@ extern "C" {
 #endif
 
 /* A handle, which begins as `struct gate gate = GATE_CLOSED;`. Only the calls below read or write it. It serves one call at
-   a time; any thread may make it, if a lock or the like orders the calls. A copy of an open handle is not a second one. */
+   a time; any thread may make it, if a lock or the like orders the calls. A copy of an open handle is not a second one: so a handle is
+   moved by a copy, after which the old one begins again as GATE_CLOSED. */
 struct gate {
     struct {
         void *session;
@@ -58,7 +59,7 @@ uint32_t gate_reply(struct gate *gate, uint8_t *out, size_t room, size_t *size);
 /* Closes a handle and frees what it holds. A closed one stays closed. */
 void gate_close(struct gate *gate);
 
-/* Checks the transaction that a text of hexadecimal spells by itself, as `gate check -` does. */
+/* Checks by itself the transaction that a text of hexadecimal has, as `gate check -` does. */
 uint32_t gate_check(const uint8_t *input, size_t input_size, uint8_t *out, size_t room, size_t *size);
 
 /* Gives the version of the gate, without a newline. */

@@ -1,25 +1,244 @@
-// gate for C++: a handle that closes itself, and exceptions for statuses. It stands on gate.h alone.
+// gate for C++17: a handle that closes itself, exceptions for statuses, replies in their parts. It stands on gate.h alone.
 #ifndef GATE_HPP
 #define GATE_HPP
 
 #include "gate.h"
 
+#include <algorithm>
+#include <charconv>
 #include <cstdint>
 #include <new>
+#include <optional>
+#include <random>
 #include <stdexcept>
 #include <string>
 #include <string_view>
+#include <utility>
+#include <vector>
 
 namespace gate_c {
 
-// What a call failed by, beside std::bad_alloc.
+// What a call failed by, beside std::bad_alloc, after which nothing has changed.
 class Error : public std::runtime_error {
 public:
-    Error(uint32_t status, const std::string &what) : std::runtime_error(what), status(status) {}
-    const uint32_t status;
+    Error(uint32_t code, const std::string &about) : std::runtime_error(about), status(code) {}
+    uint32_t status;
+};
+
+// The handle is closed: nothing opened it, or it was closed or moved from.
+class NotOpen : public Error {
+public:
+    NotOpen() : Error(GATE_NOT_OPEN, "the gate is closed") {}
+};
+
+// The line has more than 16,777,216 bytes, and nothing has changed.
+class LineTooLong : public Error {
+public:
+    LineTooLong() : Error(GATE_LINE_TOO_LONG, "the line is too long") {}
+};
+
+// The opening has a fault, which is at this line of it and has this token; what() is `opening LINE TOKEN`.
+class OpeningRefused : public Error {
+public:
+    OpeningRefused(const std::string &about, uint64_t at, const std::string &reason)
+        : Error(GATE_OPENING_REFUSED, about), line(at), token(reason) {}
+    uint64_t line;
+    std::string token;
+};
+
+// The line is answered, and memory ran out in the text of its reply, which Gate::reply gives.
+class ReplyKept : public std::bad_alloc {
+public:
+    const char *what() const noexcept override { return "out of memory in the text of a reply"; }
+};
+
+// The text is no reply line.
+class NotAReply : public std::invalid_argument {
+public:
+    explicit NotAReply(std::string_view text) : std::invalid_argument("no reply line: " + std::string(text.substr(0, 80))) {}
+};
+
+// What a reply says, by the first word of its line.
+enum class Kind { entered, left, admitted, listing, block, headers, filter, rpc, chain, set, forgotten, denied, refused, fault };
+
+// What follows a denial for the session of the peer: it stays; it is closed; it stays, and the transaction is to be relayed
+// once more.
+enum class Then { keep, close, relay };
+
+// A reply line in its parts. A part that a line of this kind doesn't have is empty, or 0. Txids are hexadecimal as Bitcoin
+// prints them, amounts in satoshi, sizes in virtual bytes, feerates in satoshi per 1,000 virtual bytes.
+struct Reply {
+    Kind kind = Kind::set;
+    std::string rule;                // of denied, refused, and an rpc that is denied: as "A35"
+    std::string token;               // of these and fault: the reason, as "min relay fee not met"
+    Then then = Then::keep;          // of denied
+    std::string txid;                // of admitted, with the next three
+    uint64_t fee = 0;
+    uint64_t vsize = 0;
+    uint64_t replaced = 0;           // how many entries the transaction replaced
+    std::vector<std::string> flags;  // of entered: what the peer is permitted
+    std::vector<std::string> txids;  // of listing
+    uint64_t height = 0;             // of block; of headers that of the first header
+    uint64_t time = 0;               // of block
+    uint64_t count = 0;              // of headers; of listing: how many txids
+    uint64_t rate = 0;               // of filter: the fee filter that is then in force
+    uint64_t status = 0;             // of rpc: the HTTP status
+    std::string body;                // of rpc: the answer's JSON; empty if the user may not call the method, as rule then says
+    uint64_t tip = 0;                // of chain: the height after the event
+    uint64_t removed = 0;            // of chain: how many txids left the pool
+    uint64_t entered = 0;            // of chain: how many txids came into the pool
+    uint64_t blocks = 0;             // of forgotten: how many blocks became part of the opening
+    uint64_t coins = 0;              // of forgotten: how many coins are no longer known
+    uint64_t rows = 0;               // of forgotten: how many verdicts are no longer known
+
+    // Reads a reply line, with its newline or without it. Throws NotAReply if it is none.
+    static Reply parse(std::string_view line);
 };
 
 namespace detail {
+
+constexpr uint64_t greatest_number = 9007199254740991;
+
+constexpr std::pair<std::string_view, Kind> kinds[] = {
+    {"entered", Kind::entered}, {"left", Kind::left},       {"admitted", Kind::admitted},   {"listing", Kind::listing},
+    {"block", Kind::block},     {"headers", Kind::headers}, {"filter", Kind::filter},       {"rpc", Kind::rpc},
+    {"chain", Kind::chain},     {"set", Kind::set},         {"forgotten", Kind::forgotten}, {"denied", Kind::denied},
+    {"refused", Kind::refused}, {"fault", Kind::fault},
+};
+
+constexpr std::pair<std::string_view, Then> thens[] = {{"keep", Then::keep}, {"close", Then::close}, {"relay", Then::relay}};
+
+constexpr bool is_digit(char it) { return it >= '0' && it <= '9'; }
+constexpr bool is_lower(char it) { return it >= 'a' && it <= 'z'; }
+constexpr bool is_hex(char it) { return is_digit(it) || (it >= 'a' && it <= 'f'); }
+
+// What is left of a line, whose words are separated by single spaces; nothing behind the last. Each call takes what it names
+// from the front, and says whether it is there.
+class Words {
+public:
+    explicit Words(std::string_view text) : left(text) {}
+
+    bool is_over() const { return !left; }
+
+    bool rest(std::string_view &found) {
+        if (!left) return false;
+        found = *left;
+        left.reset();
+        return true;
+    }
+
+    bool word(std::string_view &found, char end = ' ') {
+        if (!left) return false;
+        const size_t at = left->find(end);
+        found = left->substr(0, at);
+        if (at == std::string_view::npos) left.reset();
+        else left->remove_prefix(at + 1);
+        return true;
+    }
+
+    template <size_t size, typename Value>
+    bool named(const std::pair<std::string_view, Value> (&names)[size], Value &value) {
+        std::string_view found;
+        if (!word(found)) return false;
+        for (const auto &it : names) {
+            if (it.first != found) continue;
+            value = it.second;
+            return true;
+        }
+        return false;
+    }
+
+    bool is(std::string_view wanted) {
+        std::string_view found;
+        return word(found) && found == wanted;
+    }
+
+    bool number(uint64_t &value) {
+        std::string_view found;
+        if (!word(found) || found.empty() || (found[0] == '0' && found.size() > 1)) return false;
+        const auto ended = std::from_chars(found.data(), found.data() + found.size(), value);
+        return ended.ec == std::errc() && ended.ptr == found.data() + found.size() && value <= greatest_number;
+    }
+
+    bool number_behind(std::string_view name, uint64_t &value) { return is(name) && number(value); }
+
+    bool txid(std::string &value) {
+        std::string_view found;
+        if (!word(found) || found.size() != 64 || !std::all_of(found.begin(), found.end(), is_hex)) return false;
+        value = found;
+        return true;
+    }
+
+    bool txids(uint64_t count, std::vector<std::string> &values) {
+        for (std::string value; left; values.push_back(value))
+            if (!txid(value)) return false;
+        return values.size() == count;
+    }
+
+    bool flags(std::vector<std::string> &values) {
+        std::string_view found, flag;
+        if (!word(found)) return false;
+        for (Words names(found); names.word(flag, ','); values.emplace_back(flag))
+            if (flag.empty() || !std::all_of(flag.begin(), flag.end(), is_lower)) return false;
+        if (found == "none") values.clear();
+        return true;
+    }
+
+    bool rule(std::string &value) {
+        std::string_view found;
+        uint64_t number = 0;
+        if (!word(found) || found.size() < 2 || found[0] < 'A' || found[0] > 'Z') return false;
+        if (!Words(found.substr(1)).number(number) || number < 1 || number > 99) return false;
+        value = found;
+        return true;
+    }
+
+    bool token(std::string &value) {
+        std::string_view found, word;
+        if (!rest(found)) return false;
+        for (Words words(found); words.word(word);)
+            if (word.empty()) return false;
+        value = found;
+        return true;
+    }
+
+    bool answer(Reply &reply) {
+        std::string_view found;
+        if (!left) return false;
+        if (left->substr(0, 1) != "{") return is("denied") && rule(reply.rule) && token(reply.token);
+        if (!rest(found)) return false;
+        reply.body = found;
+        return true;
+    }
+
+private:
+    std::optional<std::string_view> left;
+};
+
+// Whether the words behind the first are those of this kind.
+inline bool read(Words &words, Reply &reply) {
+    switch (reply.kind) {
+    case Kind::entered: return words.flags(reply.flags);
+    case Kind::left: return true;
+    case Kind::admitted:
+        return words.txid(reply.txid) && words.number_behind("fee", reply.fee) && words.number_behind("vsize", reply.vsize)
+            && words.number_behind("replaced", reply.replaced);
+    case Kind::listing: return words.number(reply.count) && words.txids(reply.count, reply.txids);
+    case Kind::block: return words.number(reply.height) && words.number(reply.time);
+    case Kind::headers: return words.number(reply.height) && words.number(reply.count);
+    case Kind::filter: return words.number(reply.rate);
+    case Kind::rpc: return words.number(reply.status) && words.answer(reply);
+    case Kind::chain:
+        return words.number(reply.tip) && words.number_behind("removed", reply.removed)
+            && words.number_behind("entered", reply.entered);
+    case Kind::set: return true;
+    case Kind::forgotten: return words.number(reply.blocks) && words.number(reply.coins) && words.number(reply.rows);
+    case Kind::denied: return words.rule(reply.rule) && words.named(thens, reply.then) && words.token(reply.token);
+    case Kind::refused: return words.rule(reply.rule) && words.token(reply.token);
+    case Kind::fault: return words.token(reply.token);
+    }
+    return false;
+}
 
 inline const uint8_t *bytes(std::string_view text) {
     // no pointer may be null, also where the size is 0
@@ -28,58 +247,135 @@ inline const uint8_t *bytes(std::string_view text) {
 
 inline uint8_t *bytes(std::string &text) { return reinterpret_cast<uint8_t *>(&text[0]); }
 
-constexpr size_t room = 256;
+constexpr size_t first_room = 256;
+
+// The text of a call, and of the one that repeats it in a greater buffer where the text has no room.
+template <typename Call, typename Again>
+uint32_t fill(std::string &out, Call call, Again again) {
+    size_t size = 0;
+    out.assign(first_room, '\0');
+    uint32_t status = call(bytes(out), out.size(), &size);
+    if (status == GATE_BUFFER_TOO_SMALL) {
+        out.assign(size, '\0');
+        status = again(bytes(out), out.size(), &size);
+    }
+    out.resize(size);
+    return status;
+}
+
+[[noreturn]] inline void raise(uint32_t status) {
+    switch (status) {
+    case GATE_OUT_OF_MEMORY: throw std::bad_alloc();
+    case GATE_REPLY_KEPT: throw ReplyKept();
+    case GATE_NOT_OPEN: throw NotOpen();
+    case GATE_LINE_TOO_LONG: throw LineTooLong();
+    default: throw Error(status, "status " + std::to_string(status));
+    }
+}
+
+// The fault that the line `opening LINE TOKEN` names.
+[[noreturn]] inline void raise_refusal(std::string_view text) {
+    if (!text.empty() && text.back() == '\n') text.remove_suffix(1);
+    Words words(text);
+    uint64_t line = 0;
+    std::string token;
+    if (!words.number_behind("opening", line) || !words.token(token)) throw NotAReply(text);
+    throw OpeningRefused(std::string(text), line, token);
+}
 
 }  // namespace detail
 
-// A gate from its opening on. It serves one call at a time: threads that share it lock a mutex of theirs.
+inline Reply Reply::parse(std::string_view line) {
+    Reply reply;
+    std::string_view text = line;
+    if (!text.empty() && text.back() == '\n') text.remove_suffix(1);
+    detail::Words words(text);
+    const bool is_one_line = text.find('\n') == std::string_view::npos;
+    if (!is_one_line || !words.named(detail::kinds, reply.kind) || !detail::read(words, reply) || !words.is_over()) throw NotAReply(text);
+    return reply;
+}
+
+// Keys that nobody knows.
+inline gate_keys random_keys() {
+    std::random_device device;
+    std::uniform_int_distribution<uint64_t> number;
+    return {number(device), number(device)};
+}
+
+// A gate from its opening on. It serves one call at a time: threads that share it lock a mutex of theirs. It can be moved: the
+// gate that it was moved from is closed.
 class Gate {
 public:
+    // A closed gate.
+    Gate() = default;
+
+    // Throws OpeningRefused if the opening has a fault.
     Gate(const gate_keys &keys, std::string_view opening) {
-        std::string out(detail::room, '\0');
-        size_t size = 0;
-        const uint32_t status =
-            gate_open(&handle, &keys, detail::bytes(opening), opening.size(), detail::bytes(out), out.size(), &size);
-        if (status == GATE_OUT_OF_MEMORY) throw std::bad_alloc();
-        if (status != GATE_DONE) throw Error(status, out.substr(0, size));
+        std::string out;
+        const auto open = [&](uint8_t *to, size_t room, size_t *size) {
+            return gate_open(&handle, &keys, detail::bytes(opening), opening.size(), to, room, size);
+        };
+        const uint32_t status = detail::fill(out, open, open);
+        if (status == GATE_OPENING_REFUSED) detail::raise_refusal(out);
+        if (status != GATE_DONE) detail::raise(status);
     }
+
+    explicit Gate(std::string_view opening) : Gate(random_keys(), opening) {}
 
     Gate(const Gate &) = delete;
     Gate &operator=(const Gate &) = delete;
+    Gate(Gate &&other) noexcept { swap(other); }
+    Gate &operator=(Gate &&other) noexcept {
+        Gate moved(std::move(other));
+        swap(moved);
+        return *this;
+    }
     ~Gate() { gate_close(&handle); }
 
-    // The reply to a line, with its newline; nothing where the line asks for nothing. After std::bad_alloc either nothing
-    // has changed, or the line is answered and reply() gives the reply: is_answered() says which.
+    void swap(Gate &other) noexcept {
+        std::swap(handle, other.handle);
+        std::swap(answered, other.answered);
+    }
+    friend void swap(Gate &one, Gate &other) noexcept { one.swap(other); }
+
+    bool is_open() const { return handle.is_open; }
+
+    void close() { gate_close(&handle); }
+
+    // The reply to a line, in its parts; nothing where the line asks for nothing.
+    std::optional<Reply> ask(std::string_view line) {
+        const std::string text = answer(line);
+        if (text.empty()) return std::nullopt;
+        return Reply::parse(text);
+    }
+
+    // The reply to a line as text, with its newline; nothing where the line asks for nothing. The line is given without one.
+    // After std::bad_alloc either nothing has changed, or the line is answered and reply() gives the reply: is_answered() says
+    // which.
     std::string answer(std::string_view line) {
         answered = false;
-        std::string out(detail::room, '\0');
-        size_t size = 0;
-        const uint32_t status =
-            gate_answer(&handle, detail::bytes(line), line.size(), detail::bytes(out), out.size(), &size);
-        answered = status == GATE_DONE || status == GATE_BUFFER_TOO_SMALL || status == GATE_REPLY_KEPT;
-        return finished(status, out, size);
+        const auto call = [&](uint8_t *to, size_t room, size_t *size) {
+            const uint32_t status = gate_answer(&handle, detail::bytes(line), line.size(), to, room, size);
+            answered = status == GATE_DONE || status == GATE_BUFFER_TOO_SMALL || status == GATE_REPLY_KEPT;
+            return status;
+        };
+        return text_of(call);
     }
 
     // The reply to the last line once more.
     std::string reply() {
-        std::string out(detail::room, '\0');
-        size_t size = 0;
-        const uint32_t status = gate_reply(&handle, detail::bytes(out), out.size(), &size);
-        return finished(status, out, size);
+        return text_of([this](uint8_t *to, size_t room, size_t *size) { return gate_reply(&handle, to, room, size); });
     }
 
     bool is_answered() const { return answered; }
 
 private:
-    std::string finished(uint32_t status, std::string &out, size_t size) {
-        if (status == GATE_BUFFER_TOO_SMALL) {
-            out.resize(size);
-            status = gate_reply(&handle, detail::bytes(out), out.size(), &size);
-        }
-        if (status == GATE_OUT_OF_MEMORY || status == GATE_REPLY_KEPT) throw std::bad_alloc();
-        if (status == GATE_LINE_TOO_LONG) throw Error(status, "the line is too long");
-        if (status != GATE_DONE) throw Error(status, "status " + std::to_string(status));
-        out.resize(size);
+    template <typename Call>
+    std::string text_of(Call call) {
+        std::string out;
+        const auto again = [this](uint8_t *to, size_t room, size_t *size) { return gate_reply(&handle, to, room, size); };
+        const uint32_t status = detail::fill(out, call, again);
+        if (status != GATE_DONE) detail::raise(status);
         return out;
     }
 
@@ -94,23 +390,19 @@ struct Check {
 };
 
 inline Check check(std::string_view digits) {
-    std::string out(detail::room, '\0');
-    size_t size = 0;
-    uint32_t status = gate_check(detail::bytes(digits), digits.size(), detail::bytes(out), out.size(), &size);
-    if (status == GATE_BUFFER_TOO_SMALL) {
-        out.resize(size);
-        status = gate_check(detail::bytes(digits), digits.size(), detail::bytes(out), out.size(), &size);
-    }
-    if (status == GATE_OUT_OF_MEMORY) throw std::bad_alloc();
-    out.resize(size);
+    std::string out;
+    const auto call = [&](uint8_t *to, size_t room, size_t *size) {
+        return gate_check(detail::bytes(digits), digits.size(), to, room, size);
+    };
+    const uint32_t status = detail::fill(out, call, call);
+    if (status != GATE_DONE && status != GATE_DENIED) detail::raise(status);
     return {status == GATE_DONE, out};
 }
 
 inline std::string version() {
-    std::string out(detail::room, '\0');
-    size_t size = 0;
-    if (gate_version(detail::bytes(out), out.size(), &size) != GATE_DONE) throw Error(GATE_BUFFER_TOO_SMALL, "version");
-    out.resize(size);
+    std::string out;
+    const uint32_t status = detail::fill(out, gate_version, gate_version);
+    if (status != GATE_DONE) detail::raise(status);
     return out;
 }
 

@@ -14,17 +14,18 @@ import sys
 import tempfile
 
 from gate import ROOT, Differs, Gate, NotTried, same, true
+from kinds import long
 
 LIBRARY = os.path.join(ROOT, "crates", "gate_c", "out", "library")
 HOSTS = os.path.join(ROOT, "tests", "hosts")
 ARCHIVE = os.path.join(LIBRARY, "lib", "libgate_c.a")
-SHARED = os.path.join(LIBRARY, "lib", "libgate_c.so")
+SHARED = os.path.join(LIBRARY, "lib", "libgate_c.so.0")
 SECONDS = 600
 WARNINGS = ["-O1", "-Wall", "-Wextra", "-Werror"]
 C = ["-std=c11", "-D_POSIX_C_SOURCE=200809L"]
 WRAPPED = ["-Wl,--wrap=" + it for it in ("malloc", "realloc", "free")]
-EXAMPLES = ("first-path.txt", "permissions.txt", "policies.txt", "replacement.txt", "reorganisation.txt", "rpc.txt")
-STREAMS = ("family_streams", "caller_streams", "chain_streams", "permissions", "calls", "heights", "openings", "json_texts", "decoding")
+EXAMPLES = ("first-path.txt", "permissions.txt", "policies.txt", "replacement.txt", "reorganisation.txt", "rpc.txt", "living-chain.txt")
+STREAMS = ("family_streams", "caller_streams", "chain_streams", "living_streams", "permissions", "calls", "heights", "openings", "json_texts", "decoding")
 
 
 def done_by(words, **more):
@@ -112,12 +113,41 @@ def in_cpp():
     return made("run-cpp", "run.cpp", [cpp_compiler(), *WARNINGS, "-std=c++17", "-I", os.path.join(LIBRARY, "include")], archive)
 
 
+def cargos():
+    """The cargo on the path, and the system's own."""
+    found = []
+    for it in filter(None, (shutil.which("cargo"), "/usr/bin/cargo")):
+        if os.path.exists(it) and it not in found:
+            found.append(it)
+    if not found:
+        raise NotTried("there is no cargo")
+    return found
+
+
+def run_cargo(cargo, at, *words, **more):
+    """Runs a cargo on a package in a folder; warnings are errors, and what it makes lies in `target` there."""
+    beside = {name.upper(): os.path.join(os.path.dirname(cargo), name) for name in ("rustc", "rustdoc")}
+    surroundings = dict(os.environ, **beside, RUSTFLAGS="-D warnings", CARGO_TARGET_DIR=os.path.join(at, "target"))
+    surroundings.pop("GATE_LIB_DIR", None)
+    return done_by([cargo, *words, "--offline", "--quiet"], cwd=at, env={**surroundings, **more})
+
+
+def package_of(at, crate, **programs):
+    """A package of Rust whose programs use the crate for Rust; of each its name and its source."""
+    os.makedirs(at)
+    with open(os.path.join(at, "Cargo.toml"), "w", encoding="utf-8") as file:
+        file.write('[package]\nname = "hosts"\nversion = "0.0.0"\nedition = "2021"\n\n[dependencies]\ngate = { path = "%s" }\n' % crate)
+        for name, source in programs.items():
+            file.write('\n[[bin]]\nname = "%s"\npath = "%s"\n' % (name, source))
+
+
 def in_rust():
     library()
-    if not shutil.which("rustc"):
-        raise NotTried("there is no rustc")
-    words = ["rustc", "--edition", "2021", "-D", "warnings", "-O", "-L", os.path.join(LIBRARY, "lib"), "-l", "static=gate_c", "-l", "gcc"]
-    return made("run-rs", "run.rs", words)
+    at = os.path.join(folder().name, "rust")
+    if not os.path.exists(at):
+        package_of(at, os.path.join(ROOT, "lib", "rust"), run=os.path.join(HOSTS, "run.rs"))
+        run_cargo(cargos()[0], at, "build", "--release", GATE_LIB_DIR=os.path.join(LIBRARY, "lib"))
+    return os.path.join(at, "target", "release", "run")
 
 
 def in_python():
@@ -243,33 +273,92 @@ def test_nothing_is_left(gate):
             same(name, (found.returncode, found.stdout, found.stderr), (0, gate.run("run", file).stdout, b""))
 
 
+@long
+def test_a_million_events(gate):
+    """A million events by the shared library, which learn and forget, leave its memory as it was after the first tenth."""
+    library()
+    print(done_by([os.path.join(ROOT, "bench", "living"), "--library", SHARED]))
+
+
 def test_ends_in_python(gate):
-    """The exceptions of the module for Python, and what the shared library shows."""
+    """The exceptions of the package for Python, and what the shared library shows."""
     library()
     same("what isn't so", done_by([sys.executable, os.path.join(HOSTS, "ends.py")], env=surroundings(gate)), "")
 
 
+def install_to(gate, library_folder, to):
+    """`make install` puts the library in its places below /opt in a folder."""
+    words = ["make", "--silent", "PROGRAM=" + gate.program, "LIBRARY=" + library_folder, "DESTDIR=" + to, "PREFIX=/opt"]
+    done_by([*words, "install"], cwd=ROOT)
+    return [*words, "uninstall"]
+
+
+def is_installed(prefix, version):
+    """Each file is in its place, and the package for Python finds the library from there."""
+    headers = ["include/gate.h", "include/gate.hpp", "lib/pkgconfig/gate.pc", "lib/cmake/gate/gate-config.cmake", "lib/cmake/gate/gate-config-version.cmake"]
+    libraries = ["lib/libgate_c.a", "lib/libgate_c.so", "lib/libgate_c.so.0"]
+    package = ["share/gate/python/" + it for it in ("pyproject.toml", "setup.py", "gate/__init__.py", "gate/library.py", "gate/replies.py", "gate/py.typed")]
+    crate = ["share/gate/rust/" + it for it in ("Cargo.toml", "build.rs", "src/lib.rs", "src/calls.rs", "src/reply.rs")]
+    for it in headers + libraries + package + crate:
+        true(it + " is not installed", os.path.isfile(os.path.join(prefix, it)))
+    same("the link", os.readlink(os.path.join(prefix, "lib", "libgate_c.so")), "libgate_c.so.0")
+    alone = {name: it for name, it in os.environ.items() if name != "GATE_LIBRARY"}
+    surroundings = dict(alone, PYTHONPATH=os.path.join(prefix, "share", "gate", "python"), PYTHONDONTWRITEBYTECODE="1")
+    same("the package for Python", done_by([sys.executable, "-c", "import gate; print(gate.version())"], env=surroundings), version + "\n")
+
+
+def with_pkg_config(prefix, host, source, compiler_words):
+    """A program that is compiled with the flags that pkg-config gives, and finds the shared library."""
+    if not shutil.which("pkg-config"):
+        raise NotTried("there is no pkg-config")
+    asked = dict(os.environ, PKG_CONFIG_PATH=os.path.join(prefix, "lib", "pkgconfig"))
+    flags = done_by(["pkg-config", "--cflags", "--libs", "gate"], env=asked).split()
+    done_by([*compiler_words, "-o", host, source, *flags, "-Wl,-rpath," + os.path.join(prefix, "lib")])
+    return host
+
+
+CMAKE = """cmake_minimum_required(VERSION 3.5)
+project(host LANGUAGES C CXX)
+set(CMAKE_CXX_STANDARD 17)
+find_package(gate %s REQUIRED)
+foreach(library gate archive)
+  add_executable(host-${library} "%s")
+  target_link_libraries(host-${library} gate::${library})
+endforeach()
+"""
+
+
+def with_cmake(prefix, at, source, version):
+    """Two programs that CMake makes with what find_package finds: with the shared library, and with the archive."""
+    if not shutil.which("cmake"):
+        raise NotTried("there is no cmake")
+    os.makedirs(at)
+    with open(os.path.join(at, "CMakeLists.txt"), "w", encoding="utf-8") as file:
+        file.write(CMAKE % (version, source))
+    done_by(["cmake", "-S", at, "-B", at, "-DCMAKE_PREFIX_PATH=" + prefix])
+    done_by(["cmake", "--build", at])
+    return [os.path.join(at, "host-" + it) for it in ("gate", "archive")]
+
+
 def test_installing_the_library(gate):
-    """`make install` puts the library in its places, and `make uninstall` takes it away."""
+    """`make install` puts the library in its places, where it works, and `make uninstall` takes it away."""
     library()
-    installed = ("include/gate.h", "include/gate.hpp", "lib/libgate_c.a", "lib/libgate_c.so", "lib/pkgconfig/gate.pc", "share/gate/gate.py", "share/gate/gate.rs")
     with tempfile.TemporaryDirectory() as to:
-        words = ["make", "--silent", "PROGRAM=" + gate.program, "DESTDIR=" + to, "PREFIX=/opt"]
-        done_by([*words, "install"], cwd=ROOT)
-        for it in installed:
-            true(it + " is not installed", os.path.isfile(os.path.join(to, "opt", it)))
-        done_by([*words, "uninstall"], cwd=ROOT)
+        uninstall = install_to(gate, LIBRARY, to)
+        is_installed(os.path.join(to, "opt"), gate.run("--version").stdout.decode().split()[1])
+        done_by(uninstall, cwd=ROOT)
         same("what is left", [name for _, _, names in os.walk(to) for name in names], [])
 
 
 def test_the_file_of_pkg_config(gate):
-    """A host is compiled with what pkg-config tells, and runs with the shared library."""
+    """A host is compiled with the flags that pkg-config gives, and runs with the shared library."""
     library()
-    if not shutil.which("pkg-config"):
-        raise NotTried("there is no pkg-config")
-    libraries = os.path.join(LIBRARY, "lib")
-    asked = dict(os.environ, PKG_CONFIG_PATH=os.path.join(libraries, "pkgconfig"))
-    flags = done_by(["pkg-config", "--cflags", "--libs", "gate"], env=asked).split()
-    host = os.path.join(folder().name, "shared")
-    done_by([c_compiler(), *C, "-o", host, os.path.join(HOSTS, "misused.c"), *flags, "-Wl,-rpath," + libraries])
+    host = with_pkg_config(LIBRARY, os.path.join(folder().name, "shared"), os.path.join(HOSTS, "misused.c"), [c_compiler(), *C])
     same("what isn't so", done_by([host]), "")
+
+
+def test_the_package_of_cmake(gate):
+    """Hosts that find_package makes with the shared library and with the archive."""
+    library()
+    for host in with_cmake(LIBRARY, os.path.join(folder().name, "cmake"), os.path.join(HOSTS, "misused.c"), "0.1"):
+        same("what isn't so", done_by([host]), "")

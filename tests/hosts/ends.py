@@ -1,5 +1,5 @@
 #!/usr/bin/env python3
-"""The ends of the module for Python: its exceptions, a gate that is closed, and what the shared library shows."""
+"""The ends of the package for Python: its exceptions, a gate that is closed, and what the shared library shows."""
 
 import ctypes
 import os
@@ -7,7 +7,7 @@ import sys
 from concurrent.futures import ThreadPoolExecutor
 
 sys.dont_write_bytecode = True
-sys.path.insert(0, os.path.join(os.path.dirname(os.path.abspath(__file__)), "..", "..", "lib"))
+sys.path.insert(0, os.path.join(os.path.dirname(os.path.abspath(__file__)), "..", "..", "lib", "python"))
 
 import gate
 
@@ -26,11 +26,16 @@ def raised(kind, call, *given):
 def main():
     refused = raised(gate.OpeningRefused, gate.Gate, "nonsense\n")
     assert str(refused) == "opening 1 bad-line" and refused.status == gate.Status.OPENING_REFUSED
+    assert (refused.line, refused.token) == (1, "bad-line")
     with gate.Gate(OPENING.encode(), keys=(1, 2)) as one, gate.Gate(OPENING) as other:
         assert one.is_open and one.reply() == ""
         assert one.answer("peer 1 enter 192.0.2.1") == "entered none\n"
         assert one.answer("") == "" and one.answer("# a comment") == "" and one.reply() == ""
         assert one.answer(b"\xff") == "refused L1 bad-line\n"
+        assert one.answer("peer 1 enter 192.0.2.1") == "denied P3 keep peer-known\n"
+        denied = one.ask("peer 1 mempool extra")
+        assert (denied.kind, denied.rule, denied.token) == (gate.Kind.REFUSED, "L1", "bad-line")
+        assert one.ask("peer 1 mempool").kind is gate.Kind.LISTING and one.ask("# a comment") is None
         assert one.answer("peer 1 enter 192.0.2.1") == "denied P3 keep peer-known\n"
         assert raised(gate.LineTooLong, one.answer, "x" * (LIMIT + 1)).status == gate.Status.LINE_TOO_LONG
         assert one.reply() == "denied P3 keep peer-known\n"

@@ -32,15 +32,14 @@ static int run() {
             const size_t stop = std::min(text.find('\n', at), text.size());
             const std::string reply = gate.answer(std::string_view(text).substr(at, stop - at));
             if (!gate.is_answered() || gate.reply() != reply) return 92;
+            if (!reply.empty()) gate_c::Reply::parse(reply);
             std::cout << reply;
             at = stop + 1;
         }
-    } catch (const gate_c::Error &error) {
-        if (error.status == GATE_OPENING_REFUSED) {
-            std::cout << error.what();
-            return 2;
-        }
-        if (error.status != GATE_LINE_TOO_LONG) return 91;
+    } catch (const gate_c::OpeningRefused &fault) {
+        std::cout << "opening " << fault.line << " " << fault.token << "\n";
+        return 2;
+    } catch (const gate_c::LineTooLong &) {
         std::cout << "refused L2 line-too-long\n";
     }
     return 0;

@@ -1,5 +1,5 @@
 #!/usr/bin/env python3
-"""`gate run`, `gate check -` and `gate --version`, as `version`, by the module for Python. Other words go to the program that
+"""`gate run`, `gate check -` and `gate --version`, as `version`, by the package for Python. Other words go to the program that
 the variable GATE names.
 """
 
@@ -7,7 +7,7 @@ import os
 import sys
 
 sys.dont_write_bytecode = True
-sys.path.insert(0, os.path.join(os.path.dirname(os.path.abspath(__file__)), "..", "..", "lib"))
+sys.path.insert(0, os.path.join(os.path.dirname(os.path.abspath(__file__)), "..", "..", "lib", "python"))
 
 import gate
 
@@ -33,6 +33,7 @@ def run(out):
                     break
                 reply = opened.answer(line)
                 assert opened.reply() == reply
+                assert not reply or gate.Reply.parse(reply).line + "\n" == reply
                 out.write(reply.encode())
         assert not opened.is_open
     except gate.OpeningRefused as refused:

@@ -1,13 +1,10 @@
-//! `gate run`, `gate check -` and `gate --version`, as `version`, by the module for Rust. Other words go to the program that
+//! `gate run`, `gate check -` and `gate --version`, as `version`, by the crate for Rust. Other words go to the program that
 //! the variable GATE names.
 
-#[path = "../../lib/gate.rs"]
-mod gate;
-
-use gate::{Error, Gate, Keys};
-use std::io::{BufWriter, Read, Write, stdin, stdout};
+use gate::{Error, Gate, Keys, Reply};
+use std::io::{stdin, stdout, BufWriter, Read, Write};
 use std::os::unix::process::CommandExt;
-use std::process::{Command, exit};
+use std::process::{exit, Command};
 
 const LINES: usize = 1_000_000;
 
@@ -35,8 +32,8 @@ fn run() -> i32 {
     let mut out = BufWriter::new(stdout());
     let gate = match Gate::open(Keys { first: 5, second: text.len() as u64 }, opening) {
         Ok(gate) => gate,
-        Err(Error::OpeningRefused(line)) => {
-            out.write_all(&line).expect("an output");
+        Err(refused @ Error::OpeningRefused { .. }) => {
+            writeln!(out, "{}", refused).expect("an output");
             return 2;
         }
         Err(_) => return 90,
@@ -54,7 +51,8 @@ fn answer_all(mut gate: Gate, events: &[u8], out: &mut impl Write) -> i32 {
         match gate.answer(line.strip_suffix(b"\n").unwrap_or(line)) {
             Ok(reply) => {
                 assert_eq!(gate.reply().as_ref(), Ok(&reply));
-                out.write_all(&reply).expect("an output");
+                assert!(reply.is_empty() || reply.parse::<Reply>().map(|parts| parts.to_string() + "\n").as_ref() == Ok(&reply));
+                out.write_all(reply.as_bytes()).expect("an output");
             }
             Err(Error::LineTooLong) => {
                 out.write_all(b"refused L2 line-too-long\n").expect("an output");
@@ -71,12 +69,12 @@ fn main() {
     let status = match words.iter().map(String::as_str).collect::<Vec<_>>().as_slice() {
         ["run"] => run(),
         ["check", "-"] => {
-            let (is_standard, lines) = gate::check(&everything()).expect("memory");
-            stdout().write_all(&lines).expect("an output");
-            i32::from(!is_standard)
+            let checked = gate::check(everything()).expect("memory");
+            stdout().write_all(checked.lines.as_bytes()).expect("an output");
+            i32::from(!checked.is_standard)
         }
         ["version"] => {
-            println!("gate {}", gate::version());
+            println!("gate {}", gate::version().expect("memory"));
             0
         }
         _ => {

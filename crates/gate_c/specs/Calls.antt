@@ -11,7 +11,7 @@ use Rattle.gate_c.specs.declared.session.Session.{Session}
 use Rattle.gate_c.specs.declared.status.Status.TheVariants as statuses
 use Rattle.gate_c.specs.Answers.{answer_lines, Answered}
 use Rattle.gate_c.specs.Outputs.{NothingPut, OutOfMemory, TextPut}
-use Rattle.gate_c.specs.Sessions.{AnswerKept, IsOpened}
+use Rattle.gate_c.specs.Sessions.{AnswerKept, IsOpened, OpeningKept}
 use Rattle.gate_c.specs.Statuses.{code_of, done}
 
 -- ---- a check
@@ -30,10 +30,10 @@ AnswerPut answer before after size status =
     TextPut done (unlines (answer_lines answer)) before after size status
     ⊎ NothingPut (code_of statuses.ReplyKept) before after size status
 
--- a line within the limits is answered, and its answer is kept; or nothing has changed
+-- a line within the limits is answered, and its answer is kept; or nothing has changed; the opening is the same after every call
 abbrev pub LineCalled : Session → List ℕ → Session → List ℕ → List ℕ → ℕ → ℕ → Type 0
 LineCalled old line new before after size status =
-    ((length line ≤ line_limit) × Answered old.state line new.answer new.state × AnswerPut new.answer before after size status)
+    ((length line ≤ line_limit) × Answered old.state line new.answer new.state × OpeningKept old new × AnswerPut new.answer before after size status)
     ⊎ (AnswerKept old new × OutOfMemory before after size status)
     ⊎ (AnswerKept old new × (line_limit < length line) × NothingPut (code_of statuses.LineTooLong) before after size status)
 

@@ -85,6 +85,16 @@ fn refuse_opening(
     }
 }
 
+/// A value in a box of its own.
+fn boxed<T: Drop>(alloc: Global, value: T) -> Result<Box<T, Global>, Status>
+    ensures { MatchResult result (λ made. made.value ≡ value) (λ status. status ≡ Status.OutOfMemory) }
+{
+    match Box::new(alloc, value) {
+        Ok(made) => Ok(made),
+        Err(_) => Err(Status::OutOfMemory),
+    }
+}
+
 /// Opens a session, or puts the line of the opening's fault into the buffer.
 pub fn open_session(
     alloc: Global,
@@ -98,10 +108,7 @@ pub fn open_session(
 {
     *size = 0;
     match Session::open(alloc, keys, opening) {
-        Ok(session) => match Box::new(alloc, session) {
-            Ok(session) => Ok(session),
-            Err(_) => Err(Status::OutOfMemory),
-        },
+        Ok(session) => boxed(alloc, session),
         Err(OpeningFault::Line(line, token)) => {
             Err(refuse_opening(alloc, line, token, out, size))
         }

@@ -1,7 +1,8 @@
-//! What an open handle leads to: a state, and the answer to the last line.
+//! What an open handle leads to: a state, the one that its opening gave, and the answer to the last line.
 ghost use Rattle.std.specs.Prelude.{◌≡◌, ◌≢◌, IfOk, IfErr, OnOk, OnErr, Ok, Err, ℕ, string_bytes};
 ghost use Rattle.gate_core.specs.Good.{IsGoodWorld, StepGives};
 ghost use Rattle.gate_core.specs.Steps.{step_of};
+ghost use Rattle.gate_core.specs.World.{World};
 ghost use Rattle.gate_lines.specs.Lines.{unlines};
 ghost use Rattle.gate_opening.specs.Said.{spelled};
 ghost use Rattle.gate_c.specs.Answers.{answer_lines, Answered, EventAnswered};
@@ -17,17 +18,20 @@ use gate_message::{Event, Reply};
 use gate_opening::{OpeningFault, OpeningToken, read_opening};
 use std::alloc::Global;
 use std::hash::RandomState;
+use std::snapshot::Snapshot;
 
 /// A gate that was opened, and has answered lines.
 #[derive(Drop)]
 pub struct Session {
     pub state: State<RandomState>,
+    /// The state that the opening gave. It is there for clauses alone, and takes no memory.
+    pub opened: Snapshot<State<RandomState>>,
     /// The answer to the last line.
     pub answer: Answer,
     /// The memory in which the text of the last answer is made.
     pub text: String,
-    // The state is the end of a run from an opening, whatever lines were answered.
-    ghost reached: { IsReached state },
+    // The state is the end of a run from the one that the opening gave, whatever lines were answered.
+    ghost reached: { IsReached opened.value state },
 }
 
 /// The state that an opening spells.
@@ -38,7 +42,7 @@ fn read_state(
 ) -> Result<State<RandomState>, OpeningFault>
     ensures opened { IfOk result (λ state. spelled opening.now ≡ Ok state) }
     ensures good { IfOk result IsGoodWorld }
-    ensures reached { IfOk result IsReached }
+    ensures reached { IfOk result (λ state. IsReached state state) }
     ensures fault { (line : ℕ) (token : OpeningToken) → result ≡ Err (OpeningFault.Line line token) →
         spelled opening.now ≡ Err (OpeningFault.Line line token) }
     ensures read { IfErr result (λ fault. fault ≢ OpeningFault.Read) }
@@ -51,7 +55,7 @@ fn read_state(
 fn step(alloc: Global, state: &mut State<RandomState>, event: &Event) -> Result<Reply, Memory>
     ensures made { IfOk result (λ reply. (reply, state.new) ≡ step_of state.old event.now) }
     ensures good { IfOk result (λ reply. StepGives state.old event.now reply state.new) }
-    ensures reached { IsReached state.old → IsReached state.new }
+    ensures reached { (opened : World) → IsReached opened state.old → IsReached opened state.new }
     ensures err { OnErr result (state.new ≡ state.old) }
 {
     match state.step(alloc, event) {
@@ -67,7 +71,7 @@ fn answer_read(
     event: &Option<Event>,
 ) -> Result<Answer, Memory>
     ensures ok { IfOk result (λ answer. EventAnswered state.old event.now answer state.new) }
-    ensures reached { IsReached state.old → IsReached state.new }
+    ensures reached { (opened : World) → IsReached opened state.old → IsReached opened state.new }
     ensures err { OnErr result (state.new ≡ state.old) }
 {
     match event {
@@ -79,7 +83,7 @@ fn answer_read(
 /// The answer to a line within the limits. If memory runs out, the state is unchanged.
 fn answer_to(alloc: Global, state: &mut State<RandomState>, line: &[u8]) -> Result<Answer, Memory>
     ensures ok { IfOk result (λ answer. Answered state.old line.now answer state.new) }
-    ensures reached { IsReached state.old → IsReached state.new }
+    ensures reached { (opened : World) → IsReached opened state.old → IsReached opened state.new }
     ensures err { OnErr result (state.new ≡ state.old) }
 {
     if asks_nothing(line) {
@@ -92,7 +96,7 @@ fn answer_to(alloc: Global, state: &mut State<RandomState>, line: &[u8]) -> Resu
 }
 
 impl Session {
-    ghost use Rattle.gate_c.specs.Sessions.{AnswerKept, IsOpened};
+    ghost use Rattle.gate_c.specs.Sessions.{AnswerKept, IsOpened, OpeningKept};
 
     /// Opens the session of the state that an opening spells.
     pub fn open(alloc: Global, keys: &Keys, opening: &[u8]) -> Result<Session, OpeningFault>
@@ -105,8 +109,10 @@ impl Session {
             return Err(OpeningFault::Memory);
         };
         let state = read_state(alloc, hasher, opening)?;
+        let opened = Snapshot::of(&state);
         Ok(Session {
             state,
+            opened,
             answer: Answer::Nothing,
             text: String::new(alloc),
         })
@@ -115,6 +121,7 @@ impl Session {
     /// Answers a line within the limits. If memory runs out, nothing is changed.
     pub fn answer(&mut self, alloc: Global, line: &[u8]) -> Result<(), Memory>
         ensures ok { OnOk result (Answered self.old.state line.now self.new.answer self.new.state) }
+        ensures opened { OpeningKept self.old self.new }
         ensures err { OnErr result (AnswerKept self.old self.new) }
     {
         let answer = answer_to(alloc, &mut self.state, line)?;

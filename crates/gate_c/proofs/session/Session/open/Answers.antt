@@ -1,0 +1,7 @@
+use Rattle.std.proofs.Common.{subst, sym}
+use Rattle.gate_core.specs.World.{World}
+use Rattle.gate_c.specs.Reached.{IsReached}
+use Rattle.gate_c.proofs.session.Session.open.Goals as goal
+
+pub invariant_of-result : goal.invariant_of-result
+invariant_of-result c = record { reached = subst (λ (w : World). IsReached w c.in_ok-state.state) (sym c.of-opened.ensures) c.in_ok-state.ensures.reached }

@@ -1,0 +1,110 @@
+// The class for C++ on the library of fake_library.c: moves and swaps, exceptions, replies in their parts. Prints what isn't so.
+#include "gate.hpp"
+
+#include <iostream>
+#include <type_traits>
+
+extern "C" size_t fake_open_handles(void);
+
+static int failed;
+
+#define HOLDS(what) do { if (!(what)) { std::cout << "line " << __LINE__ << ": not so: " << #what << "\n"; failed = 1; } } while (0)
+
+using gate_c::Gate;
+
+// The status of what a call throws; 99 for out of memory, 98 for a reply that is kept, 97 for a text that is no reply, 0 for nothing.
+template <typename Call>
+static uint32_t fault_of(Call call) {
+    try {
+        call();
+    } catch (const gate_c::Error &error) {
+        return error.status;
+    } catch (const gate_c::ReplyKept &) {
+        return 98;
+    } catch (const std::bad_alloc &) {
+        return 99;
+    } catch (const gate_c::NotAReply &) {
+        return 97;
+    }
+    return 0;
+}
+
+static void moves() {
+    static_assert(!std::is_copy_constructible_v<Gate> && !std::is_copy_assignable_v<Gate>);
+    static_assert(std::is_nothrow_move_constructible_v<Gate> && std::is_nothrow_move_assignable_v<Gate> && std::is_nothrow_swappable_v<Gate>);
+    Gate one("");
+    HOLDS(one.is_open() && fake_open_handles() == 1 && one.answer("left") == "left\n" && one.is_answered());
+    Gate two(std::move(one));
+    HOLDS(!one.is_open() && !one.is_answered() && two.is_open() && two.is_answered() && two.reply() == "left\n" && fake_open_handles() == 1);
+    HOLDS(fault_of([&] { one.answer("left"); }) == GATE_NOT_OPEN);
+    try {
+        one.reply();
+        HOLDS(false);
+    } catch (const gate_c::NotOpen &) {
+    }
+    one = std::move(two);
+    HOLDS(one.reply() == "left\n" && !two.is_open() && fake_open_handles() == 1);
+    two = Gate({1, 2}, "");
+    HOLDS(two.answer("set") == "set\n" && fake_open_handles() == 2);
+    swap(one, two);
+    HOLDS(one.reply() == "set\n" && two.reply() == "left\n" && fake_open_handles() == 2);
+    std::swap(one, two);
+    HOLDS(one.reply() == "left\n" && two.reply() == "set\n" && fake_open_handles() == 2);
+    two = std::move(one);
+    HOLDS(two.reply() == "left\n" && fake_open_handles() == 1);
+    Gate &same = two;
+    two = std::move(same);
+    HOLDS(two.reply() == "left\n" && fake_open_handles() == 1);
+    two.close();
+    HOLDS(!two.is_open() && fake_open_handles() == 0);
+    std::vector<Gate> many(1);
+    for (int at = 0; at < 20; at++) many.emplace_back("");
+    HOLDS(!many.front().is_open() && many.back().answer("set") == "set\n" && fake_open_handles() == 20);
+    const std::optional<Gate> maybe = std::move(many.back());
+    HOLDS(maybe->is_open());
+    many.clear();
+    HOLDS(fake_open_handles() == 1);
+}
+
+static void faults() {
+    Gate gate("");
+    HOLDS(gate.answer("").empty() && gate.answer("# a comment").empty() && !gate.ask("# a comment"));
+    HOLDS(gate.answer("set") == "set\n");
+    HOLDS(fault_of([&] { gate.answer("end 3"); }) == 99 && !gate.is_answered() && gate.reply() == "set\n");
+    HOLDS(fault_of([&] { gate.answer("end 7"); }) == GATE_LINE_TOO_LONG && !gate.is_answered());
+    HOLDS(fault_of([&] { gate.answer("end 77"); }) == 77);
+    HOLDS(fault_of([&] { gate.answer("keep left"); }) == 98 && gate.is_answered() && gate.reply() == "left\n");
+    HOLDS(fault_of([&] { gate.ask("no such reply"); }) == 97 && gate.is_answered());
+    for (const char *text : {"", "\n", "set\n\n", "set\nset", "denied A1 keep two\nlines", "rpc 200 {\n}"}) {
+        HOLDS(fault_of([&] { gate_c::Reply::parse(text); }) == 97);
+    }
+    const std::string longest(1000, 'x');
+    HOLDS(gate.answer(longest) == longest + "\n" && gate.reply() == longest + "\n");
+    HOLDS(fault_of([] { Gate refused("refuse"); }) == GATE_OPENING_REFUSED);
+    HOLDS(fault_of([] { Gate opened("end 3"); }) == 99);
+    try {
+        Gate refused("refuse");
+    } catch (const gate_c::OpeningRefused &fault) {
+        HOLDS(fault.line == 1 && fault.token == "bad-line" && std::string(fault.what()) == "opening 1 bad-line");
+    }
+    HOLDS(fake_open_handles() == 1);
+}
+
+static void calls() {
+    Gate gate("");
+    const std::optional<gate_c::Reply> reply = gate.ask("denied A7 close bad-txns-txouttotal-toolarge");
+    HOLDS(reply && reply->kind == gate_c::Kind::denied && reply->rule == "A7" && reply->then == gate_c::Then::close);
+    HOLDS(reply && reply->token == "bad-txns-txouttotal-toolarge" && reply->txid.empty() && reply->fee == 0);
+    const gate_c::Check standard = gate_c::check("00" + std::string(1000, 'x')), denied = gate_c::check("zz");
+    HOLDS(standard.is_standard && standard.lines.size() == 1002 && !denied.is_standard && denied.lines == "denied A1 tx-decode\n");
+    HOLDS(fault_of([] { gate_c::check("end 3"); }) == 99);
+    HOLDS(gate_c::version() == "0.0.0");
+}
+
+int main() {
+    moves();
+    faults();
+    calls();
+    HOLDS(fake_open_handles() == 0);
+    return failed;
+}

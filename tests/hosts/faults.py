@@ -1,0 +1,57 @@
+#!/usr/bin/env python3
+"""The package for Python on the library of fake_library.c: exceptions, replies in their parts, gates that are closed."""
+
+import ctypes
+import os
+import sys
+
+sys.dont_write_bytecode = True
+
+import gate
+
+
+def fault_of(kind, call, *given):
+    try:
+        call(*given)
+    except kind as error:
+        return error
+    raise AssertionError("%s was not raised" % kind.__name__)
+
+
+def main():
+    open_handles = ctypes.CDLL(os.environ["GATE_LIBRARY"]).fake_open_handles
+    open_handles.restype = ctypes.c_size_t
+    with gate.Gate("") as one:
+        assert one.is_open and open_handles() == 1
+        assert one.answer("") == "" and one.ask("# a comment") is None
+        assert one.answer(b"set") == "set\n"
+        assert isinstance(fault_of(gate.OutOfMemory, one.answer, "end 3"), MemoryError)
+        assert fault_of(gate.LineTooLong, one.answer, "end 7").status == gate.Status.LINE_TOO_LONG
+        assert fault_of(gate.GateError, one.answer, "end 5").status == gate.Status.ALREADY_OPEN
+        assert fault_of(gate.GateError, one.answer, "end 77").status == 77
+        assert one.reply() == "set\n"
+        assert isinstance(fault_of(gate.ReplyKept, one.answer, "keep left"), MemoryError) and one.reply() == "left\n"
+        assert isinstance(fault_of(gate.NotAReply, one.ask, "no such reply"), ValueError)
+        for text in ("", "\n", "set\n\n", "set\nset", "denied A1 keep two\nlines", "rpc 200 {\n}", b"\xff"):
+            fault_of(gate.NotAReply, gate.Reply.parse, text)
+        assert one.answer("x" * 1000) == one.reply() == "x" * 1000 + "\n"
+        denied = one.ask("denied A7 close bad-txns-txouttotal-toolarge")
+        assert (denied.kind, denied.rule, denied.then) == (gate.Kind.DENIED, "A7", gate.Then.CLOSE)
+        assert denied.token == "bad-txns-txouttotal-toolarge" and denied.txid == "" and denied.fee == 0
+        refused = fault_of(gate.OpeningRefused, gate.Gate, "refuse")
+        assert (str(refused), refused.line, refused.token) == ("opening 1 bad-line", 1, "bad-line")
+        assert fault_of(gate.OutOfMemory, gate.Gate, "end 3").status == gate.Status.OUT_OF_MEMORY
+        assert open_handles() == 1
+    assert not one.is_open and open_handles() == 0
+    assert fault_of(gate.NotOpen, one.answer, "set").status == gate.Status.NOT_OPEN
+    one.close()
+    gate.Gate("")
+    assert open_handles() == 0, "a gate that nobody names is closed"
+    assert gate.check("00" + "x" * 1000) == gate.Check(True, "00" + "x" * 1000)
+    assert gate.check("zz") == gate.Check(False, "denied A1 tx-decode\n")
+    fault_of(gate.OutOfMemory, gate.check, "end 3")
+    assert gate.version() == "0.0.0"
+
+
+if __name__ == "__main__":
+    main()

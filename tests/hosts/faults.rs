@@ -1,0 +1,71 @@
+//! The crate on the library of fake_library.c: errors, replies in their parts, gates that are dropped.
+
+use gate::{check, version, Check, Error, Gate, Keys, NotAReply, Reply, Rule, Then};
+
+extern "C" {
+    fn fake_open_handles() -> usize;
+}
+
+fn open_handles() -> usize {
+    unsafe { fake_open_handles() }
+}
+
+fn open_gate() -> Gate {
+    Gate::open(Keys::random(), "").expect("an opening")
+}
+
+fn moves() {
+    let one = open_gate();
+    assert_eq!(open_handles(), 1);
+    let many: Vec<Gate> = (0..20).map(|_| open_gate()).chain([one]).collect();
+    assert_eq!(open_handles(), 21);
+    // a gate may go to another thread
+    std::thread::spawn(move || drop(many)).join().expect("no panic");
+    assert_eq!(open_handles(), 0);
+}
+
+fn faults() {
+    let mut gate = open_gate();
+    assert_eq!(gate.answer(""), Ok(String::new()));
+    assert_eq!(gate.ask("# a comment"), Ok(None));
+    assert_eq!(gate.answer(b"set"), Ok("set\n".to_string()));
+    assert_eq!(gate.answer("end 3"), Err(Error::OutOfMemory));
+    assert_eq!(gate.answer("end 7"), Err(Error::LineTooLong));
+    assert_eq!(gate.answer("end 77"), Err(Error::UnknownStatus(77)));
+    assert_eq!(gate.answer("end 5"), Err(Error::UnknownStatus(5)));
+    assert_eq!(gate.reply().as_deref(), Ok("set\n"));
+    assert_eq!(gate.answer("keep left"), Err(Error::ReplyKept));
+    assert_eq!(gate.reply().as_deref(), Ok("left\n"));
+    assert_eq!(gate.ask("no such reply"), Err(Error::UnknownReply(NotAReply("no such reply".to_string()))));
+    for text in ["", "\n", "set\n\n", "set\nset", "denied A1 keep two\nlines", "rpc 200 {\n}"] {
+        assert!(text.parse::<Reply>().is_err(), "{:?}", text);
+    }
+    let longest = "x".repeat(1000);
+    assert_eq!(gate.answer(&longest), Ok(longest.clone() + "\n"));
+    assert_eq!(gate.reply(), Ok(longest + "\n"));
+    let keys = Keys { first: 1, second: 2 };
+    assert_eq!(format!("{:?} {:?}", gate, keys), "Gate { .. } Keys { .. }");
+    let refused = Gate::open(keys, "refuse").unwrap_err();
+    assert_eq!(refused, Error::OpeningRefused { line: 1, token: "bad-line".to_string() });
+    assert_eq!(refused.to_string(), "opening 1 bad-line");
+    assert_eq!(Gate::open(Keys::random(), "end 3").err(), Some(Error::OutOfMemory));
+    assert_eq!(open_handles(), 1);
+}
+
+fn calls() {
+    let reply = open_gate().ask("denied A7 close bad-txns-txouttotal-toolarge").expect("a reply").expect("a reply");
+    let rule = Rule { letter: 'A', number: 7 };
+    assert_eq!(reply, Reply::Denied { rule, then: Then::Close, token: "bad-txns-txouttotal-toolarge".to_string() });
+    let long = "00".to_string() + &"x".repeat(1000);
+    assert_eq!(check(&long), Ok(Check { is_standard: true, lines: long }));
+    assert_eq!(check("zz"), Ok(Check { is_standard: false, lines: "denied A1 tx-decode\n".to_string() }));
+    assert_eq!(check("end 3"), Err(Error::OutOfMemory));
+    assert_eq!(version().as_deref(), Ok("0.0.0"));
+}
+
+fn main() {
+    moves();
+    faults();
+    calls();
+    assert_eq!(open_handles(), 0);
+}
