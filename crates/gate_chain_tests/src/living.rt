@@ -90,9 +90,9 @@ fn assert_denials(
         ),
         ((point(1, 0), 1, 100, &SCRIPT), Some(ChainDenial::CoinKnown)),
     ];
-    for (row, wanted) in cases {
-        let found = learn_denial(rt.alloc(), chain, row)?;
-        assert!(rt; found == wanted);
+    for ((outpoint, value, height, script), wanted) in &cases {
+        let found = learn_denial(rt.alloc(), chain, (*outpoint, *value, *height, script))?;
+        assert!(rt; found == *wanted);
     }
     assert!(rt; value_at(chain, &point(5, 0)) == Some(100_000));
     assert!(rt; value_at(chain, &point(6, 0)).is_none());
