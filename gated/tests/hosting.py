@@ -1,0 +1,184 @@
+"""gated as a process, and what a client asks it."""
+
+import base64
+import http.client
+import json
+import os
+import re
+import signal
+import socket
+import subprocess
+import sys
+import tempfile
+import time
+
+from gate import Differs, same
+
+HERE = os.path.dirname(os.path.abspath(__file__))
+ROOT = os.path.dirname(os.path.dirname(HERE))
+SECONDS = 120
+# a journal is synced before each answer, which takes long on a disk that others write to; what is tested here is not the disk
+MEMORY = "/dev/shm"
+if os.access(MEMORY, os.W_OK) and "TMPDIR" not in os.environ:
+    tempfile.tempdir = MEMORY
+
+
+class RpcFailed(Exception):
+    """An error of the gate or of gated."""
+
+    def __init__(self, status, error):
+        super().__init__("%s %s" % (status, error))
+        self.status, self.error = status, error
+
+
+def free_port():
+    with socket.socket() as it:
+        it.bind(("127.0.0.1", 0))
+        return it.getsockname()[1]
+
+
+def until(what, holds, seconds=SECONDS):
+    """Waits until something holds, and gives what it gives."""
+    end = time.monotonic() + seconds
+    while True:
+        found = holds()
+        if found:
+            return found
+        if time.monotonic() > end:
+            raise Differs("waited %d seconds, and still not: %s" % (seconds, what))
+        time.sleep(0.05)
+
+
+class Gated:
+    """A gated beside a node, whose files lie in a folder."""
+
+    def __init__(self, gate, folder, node_url, node_cookie, *words):
+        self.program, self.folder = gate.program, folder
+        self.port, self.metrics_port = free_port(), free_port()
+        self.cookie, self.journal = os.path.join(folder, "gated.cookie"), os.path.join(folder, "journal")
+        self.words = [
+            "--node", node_url, "--cookie", node_cookie, "--listen", "127.0.0.1:%d" % self.port, "--rpccookiefile", self.cookie,
+            "--journal", self.journal, "--metrics", "127.0.0.1:%d" % self.metrics_port, "--gate", self.program, "--child",
+            "--shadow", "--check", "0.5", "--poll", "0.1", *words,
+        ]  # fmt: skip
+        self.log = os.path.join(folder, "gated.log")
+        self.process = None
+
+    def __enter__(self):
+        self.start()
+        return self
+
+    def __exit__(self, *failed):
+        self.end()
+        if failed[0] is not None:
+            print("the last lines of gated's log:\n%s" % "".join(self.lines()[-30:]), file=sys.stderr)
+
+    def start(self, **variables):
+        environment = dict(os.environ, PYTHONPATH=os.path.dirname(HERE), **variables)
+        with open(self.log, "a") as log:
+            words = [sys.executable, "-m", "gated", *self.words]
+            self.process = subprocess.Popen(words, env=environment, stdin=subprocess.DEVNULL, stdout=log, stderr=log)
+        try:
+            until("gated has opened the gate", self.is_open)
+        except BaseException:
+            self.process.kill()
+            self.process.wait()
+            raise
+
+    def is_open(self):
+        if self.process.poll() is not None:
+            raise Differs("gated ended with status %d: %s" % (self.process.returncode, "".join(self.lines()[-5:])))
+        try:
+            return self.rpc("getmempoolinfo")
+        except (OSError, RpcFailed, http.client.HTTPException):
+            return None
+
+    def end(self, number=signal.SIGTERM):
+        """Ends it by a signal, and gives its status."""
+        if self.process is None:
+            return None
+        self.process.send_signal(number)
+        try:
+            status = self.process.wait(SECONDS)
+        except subprocess.TimeoutExpired:
+            self.process.kill()
+            raise Differs("gated doesn't end: it had to be killed") from None
+        finally:
+            self.process.wait()
+            self.process = None
+        return status
+
+    def lines(self):
+        with open(self.log) as lines:
+            return list(lines)
+
+    # questions
+
+    def authorization(self):
+        with open(self.cookie, "rb") as file:
+            return "Basic " + base64.b64encode(file.read()).decode()
+
+    def post(self, body, authorization=None, headers=(), connection=None):
+        """The status, the headers and the text of an answer."""
+        own = connection or http.client.HTTPConnection("127.0.0.1", self.port, timeout=SECONDS)
+        try:
+            given = {"Authorization": self.authorization() if authorization is None else authorization, "Content-Type": "application/json"}
+            own.request("POST", "/", body, {**given, **dict(headers)})
+            answer = own.getresponse()
+            return answer.status, answer.headers, answer.read()
+        finally:
+            if connection is None:
+                own.close()
+
+    def raw(self, value, **more):
+        """The status and the text of the answer to a value."""
+        status, _, text = self.post(json.dumps(value), **more)
+        return status, text.decode()
+
+    def rpc(self, method, *params, **named):
+        status, text = self.raw({"method": method, "params": named or list(params), "id": 1})
+        if not text.startswith("{"):
+            raise RpcFailed(status, text)
+        told = json.loads(text)
+        if told["error"] is not None:
+            raise RpcFailed(status, told["error"])
+        return told["result"]
+
+    def listing(self):
+        """The txids of the gate's pool; nothing while it is not open."""
+        try:
+            return set(self.rpc("getrawmempool"))
+        except RpcFailed:
+            return None
+
+    def page(self, path):
+        connection = http.client.HTTPConnection("127.0.0.1", self.metrics_port, timeout=SECONDS)
+        try:
+            connection.request("GET", path)
+            return connection.getresponse().read().decode()
+        finally:
+            connection.close()
+
+    def metric(self, name):
+        """The number of a counter or a gauge, with its labels as they are printed; 0 if it isn't there."""
+        found = re.search(r"^%s (\S+)$" % re.escape(name), self.page("/metrics"), re.MULTILINE)
+        return float(found[1]) if found else 0.0
+
+    def differences(self):
+        """What differs so far, by rule."""
+        return {rule: int(float(count)) for rule, count in re.findall(r'^gate_differences_total\{rule="([^"]+)"\} (\S+)$', self.page("/metrics"), re.MULTILINE)}
+
+    def audit(self):
+        """What `gated audit` says, and its status."""
+        words = [sys.executable, "-m", "gated", "audit", self.journal, "--gate", self.program]
+        done = subprocess.run(words, env=dict(os.environ, PYTHONPATH=os.path.dirname(HERE)), capture_output=True, text=True, timeout=600, check=False)
+        return done.stdout.splitlines(), done.returncode
+
+    def is_legal(self, segments):
+        """The journal has so many segments (None for any number), and each is legal and whole; gives their entries."""
+        lines, status = self.audit()
+        found = [re.fullmatch(r"gate-\d{6}\.journal legal (\d+)", it) for it in lines]
+        same("status of the audit of %s" % lines, status, 0)
+        same("segments of %s" % lines, len(found), segments or len(found))
+        same("lines of the audit", [line for line, it in zip(lines, found) if not it], [])
+        return [int(it[1]) for it in found]
