@@ -2,10 +2,12 @@
 
 import json
 import os
+import signal
 import subprocess
 import sys
 import tempfile
 
+from bitcoin import Input, Output, Transaction, WITNESS_KEY_HASH, number_hash
 from gate import ROOT, same, same_lines
 
 sys.path.insert(0, os.path.join(ROOT, "tools"))
@@ -79,16 +81,87 @@ def test_pools_and_trials(gate):
     same("standard error and status", (said, status), ("", 0))
 
 
+def opened_from(recorded):
+    """The lines that tools/opening makes of a recording."""
+    with tempfile.TemporaryDirectory() as folder:
+        lines, said, status = ran("opening", "--from", written(folder, recorded))
+    same("standard error and status", (said, status), ("", 0))
+    return lines
+
+
 def test_full_replacement_is_told(gate):
-    """A node that replaces whatever pays more is followed in it, and no other is."""
+    """A node that replaces whatever pays more is followed in it, and no other is. One that doesn't say it does so by its
+    release: Bitcoin Core 28.0 was the first."""
     recorded = calls(NODES[0])
-    told = result_of(recorded, "getmempoolinfo")
-    for is_on, wanted in ((True, ["mempoolfullrbf 1"]), (False, [])):
-        told["fullrbf"] = is_on
-        with tempfile.TemporaryDirectory() as folder:
-            lines, said, status = ran("opening", "--from", written(folder, recorded))
-        same("standard error and status", (said, status), ("", 0))
+    for is_on, release, wanted in (
+        (True, 240000, ["mempoolfullrbf 1"]),
+        (False, 280000, []),
+        (None, 280000, ["mempoolfullrbf 1"]),
+        (None, 310000, ["mempoolfullrbf 1"]),
+        (None, 220000, []),
+        (None, 270200, []),
+    ):
+        result_of(recorded, "getnetworkinfo")["version"] = release
+        told = result_of(recorded, "getmempoolinfo")
+        told.pop("fullrbf", None)
+        if is_on is not None:
+            told["fullrbf"] = is_on
+        lines = opened_from(recorded)
         same_lines([it for it in lines[: lines.index("---")] if it.startswith("mempoolfullrbf")], wanted)
+
+
+def test_the_floor(gate):
+    """The floor of the node's pool is set if it is above the node's relay minimum or the gate's."""
+    recorded = calls(NODES[1])
+    told = result_of(recorded, "getmempoolinfo")
+    for minimum, floor, wanted in (  # the last is too low for any transaction that is tried
+        ("0.00001000", "0.00001000", []),
+        ("0.00001000", "0.00001001", ["operator floor 1001"]),
+        ("0.00005000", "0.00005000", ["operator floor 5000"]),
+        ("0.00000100", "0.00000100", []),
+        ("0.00000100", "0.00000500", ["operator floor 500"]),
+        ("0.00000001", "0.00000002", ["operator floor 2"]),
+    ):
+        told["minrelaytxfee"], told["mempoolminfee"] = float(minimum), float(floor)
+        same_lines([it for it in opened_from(recorded) if it.startswith("operator")], wanted)
+    found, said, status = compared_with(gate, recorded, NODES[1])
+    same("the last line, standard error, status", (found[-1], said, status), ("71 compared: 71 alike, 0 known differences, 0 others", "", 0))
+
+
+class MovingNode(node.OneByOne):
+    """A recorded node whose tip is another one from the second question for it on."""
+
+    def __init__(self, path):
+        self.node, self.tips = node.RecordedNode(path), 0
+
+    def ask(self, method, *params):
+        answer = self.node.ask(method, *params)
+        if method == "getblockchaininfo":
+            self.tips += 1
+            return dict(answer, bestblockhash="%064x" % self.tips) if self.tips > 1 else answer
+        return answer
+
+
+def test_a_block_behind_the_listing(gate):
+    """A block that comes while a node is asked is noticed, also if no coin is asked behind it."""
+    moving = node.View(MovingNode(recording(NODES[1])))
+    try:
+        found = list(node.opening(moving, [], []))
+    except node.Unusable as error:
+        found = str(error)
+    same("what is said", found, "a block came while the node was asked: start again")
+    same_lines(list(node.opening(node.View(node.RecordedNode(recording(NODES[1]))), [], []))[-2:], ["---", "peer 1 enter 127.0.0.1"])
+
+
+def test_a_reader_that_has_enough(gate):
+    """Behind a closed pipe nothing is said."""
+    for words in (["opening"], ["compare", gate.program]):
+        read, write = os.pipe()
+        os.close(read)
+        words[1:1] = ["--from", recording(NODES[1])]
+        done = subprocess.run([os.path.join(ROOT, "tools", words[0]), *words[1:]], stdout=write, stderr=subprocess.PIPE, check=False)
+        os.close(write)
+        same("standard error and status", (done.stderr, done.returncode), (b"", 128 + signal.SIGPIPE))
 
 
 def test_a_running_node(gate):
@@ -168,10 +241,12 @@ def test_children_of_what_is_denied(gate):
 
 
 def test_an_opening_and_its_pool(gate):
-    """The opening is taken, and every event behind it is granted."""
+    """The opening is taken, at the node's heights and with the times that it gave, and every event behind it is granted."""
     for name in NODES:
         lines, said, status = ran("opening", "--from", recording(name))
         same("standard error and status", (said, status), ("", 0))
+        given = [call["result"]["time"] for call in calls(name) if call["method"] == "getblockheader"]
+        same_lines([line for line in lines if line.startswith(("from", "times"))], ["from 132"] + ["times 1 %d 0" % it for it in given])
         done = gate.run("run", "".join(line + "\n" for line in lines))
         words = [line.split(" ")[0] for line in done.stdout.decode().splitlines()]
         same("replies", words, ["entered"] + ["admitted"] * 51)
@@ -183,18 +258,80 @@ class FakeView:
     def __init__(self, tip):
         self.tip = tip
 
-    def time(self, height):
-        return 1000 * height
+    def times(self, heights):
+        return [1000 * it for it in heights]
+
+
+def times(first, last):
+    """The lines of the times of such a chain."""
+    return ["from %d" % first] * (first > 0) + ["times 1 %d 0" % (1000 * it) for it in range(first, last + 1)]
 
 
 def test_times(gate):
-    """The last eleven, and the eleven before each height under a lock of time; what is between has the time above it."""
-    same_lines(node.times_of(FakeView(3), set()), ["times 1 %d 0" % (1000 * it) for it in range(4)])
-    same_lines(node.times_of(FakeView(100), set()), ["times 91 90000 0"] + ["times 1 %d000 0" % it for it in range(91, 101)])
-    wanted = ["times 20 19000 0"] + ["times 1 %d000 0" % it for it in range(20, 30)]
-    wanted += ["times 61 90000 0"] + ["times 1 %d000 0" % it for it in range(91, 101)]
-    same_lines(node.times_of(FakeView(100), {30}), wanted)
-    same_lines(node.times_of(FakeView(20), {0, 1}), ["times 1 0 0", "times 10 10000 0"] + ["times 1 %d000 0" % it for it in range(11, 21)])
+    """The last eleven, and all from the eleventh before the lowest height under a lock of time on; none is made up."""
+    same_lines(node.times_of(FakeView(3), set()), times(0, 3))
+    same_lines(node.times_of(FakeView(10), set()), times(0, 10))
+    same_lines(node.times_of(FakeView(11), set()), times(1, 11))
+    same_lines(node.times_of(FakeView(100), set()), times(90, 100))
+    same_lines(node.times_of(FakeView(100), {30}), times(19, 100))
+    same_lines(node.times_of(FakeView(100), {60, 30, 100}), times(19, 100))
+    same_lines(node.times_of(FakeView(100), {100}), times(89, 100))
+    for lowest in (0, 1, 11):
+        same_lines(node.times_of(FakeView(20), {lowest, 20}), times(0, 20))
+    same_lines(node.times_of(FakeView(20), {12}), times(1, 20))
+
+
+def test_too_many_times(gate):
+    """A lock that asks for more than an opening has is told, and no time is asked for."""
+    try:
+        found = node.times_of(FakeView(1000010), {11})
+    except node.Unusable as error:
+        found = str(error)
+    same("what is said", found, "a relative lock asks for 1000011 block times, and an opening has at most 1000000")
+    same("the most", node.first_height(FakeView(1000010), {22}), 11)
+
+
+class LockedNode(node.OneByOne):
+    """A node on a chain of ten minutes a block, with one transaction in its pool, which spends a coin of an old block under a
+    relative lock by time."""
+
+    tip, height, first_time = 900060, 900030, 1700000000
+
+    def __init__(self, lock):
+        self.transaction = Transaction([Input(number_hash(1), sequence=1 << 22 | lock)], [Output(99000)])
+
+    def ask(self, method, *params):
+        txid = self.transaction.txid()
+        coin = {
+            "bestblock": "%064x" % self.tip, "confirmations": self.tip - self.height + 1, "coinbase": False, "value": "0.001",
+            "scriptPubKey": {"hex": WITNESS_KEY_HASH.hex()},
+        }
+        return {
+            "getblockchaininfo": lambda: {"chain": "regtest", "blocks": self.tip, "bestblockhash": "%064x" % self.tip},
+            "getnetworkinfo": lambda: {"version": 220000},
+            "getmempoolinfo": lambda: {"maxmempool": 300000000, "mempoolminfee": "0.00001", "minrelaytxfee": "0.00001"},
+            "getrawmempool": lambda *_: {txid: {"time": self.first_time, "ancestorcount": 1, "depends": [], "fees": {"base": "0.00001"}, "vsize": 82}},
+            "getrawtransaction": lambda _: self.transaction.hex(),
+            "gettxout": lambda *_: coin,
+            "getblockhash": lambda height: "%064x" % height,
+            "getblockheader": lambda hash: {"time": self.first_time + 600 * int(hash, 16)},
+        }[method](*params)
+
+
+def test_a_lock_by_time(gate):
+    """A pool's transaction under a relative lock by time is admitted above the times that the tool asks for, and with one
+    time less, or a lock that isn't met, it isn't. The heights are the node's."""
+    # between the median times past of the coin's height less 1 and of the tip are 31 blocks of 600 seconds
+    for lock, first, reply in ((36, None, "admitted"), (36, 900020, "denied A26"), (37, None, "denied A26")):
+        view = node.View(LockedNode(lock))
+        lines = list(node.opening(view, view.entries(), []))
+        same_lines([line for line in lines if line.startswith("from")], ["from 900019"])
+        same("times", len([line for line in lines if line.startswith("times")]), 42)
+        if first:
+            lines[lines.index("from 900019")] = "from %d" % first
+            lines.remove(next(line for line in lines if line.startswith("times")))
+        done = gate.run("run", "".join(line + "\n" for line in lines))
+        same("replies", [line[: len(reply)] for line in done.stdout.decode().splitlines()[1:]], [reply])
 
 
 def test_parents_come_first(gate):

@@ -68,9 +68,9 @@ def each(suite):
             yield it
 
 
-def all_tests():
-    """The tests of all files. A file that can't be read is a test that fails."""
-    return list(each(Loader().discover(HERE, pattern="*.py", top_level_dir=HERE)))
+def all_tests(folder=HERE, pattern="*.py"):
+    """The tests of all files of a folder. A file that can't be read is a test that fails."""
+    return list(each(Loader().discover(folder, pattern=pattern, top_level_dir=folder)))
 
 
 def named(tests, name):

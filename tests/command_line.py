@@ -7,6 +7,7 @@ import tempfile
 
 from bitcoin import Input, Output, Transaction, WITNESS_KEY_HASH, padded, payment, printed
 from gate import ROOT, lines, same, true
+from kinds import heavy
 
 # the transaction of the genesis block
 GENESIS = (
@@ -111,6 +112,7 @@ def test_examples_in_the_help(gate):
         "gate run < examples/permissions.txt": 0,
         "gate run < examples/policies.txt": 0,
         "gate run < examples/rpc.txt": 0,
+        "gate run < examples/living-chain.txt": 0,
         "gate check - < examples/payment.hex": 0,
         "gate check 01000000000000000000": 1,
         "gate lanes --journal < examples/lanes.txt": 0,
@@ -131,12 +133,14 @@ def test_examples_in_the_help(gate):
         same("examples of gate " + word, sorted(found), sorted(own))
         for page in ("docs/FORMATS.md", "docs/POLICY.md"):
             true("the help of gate %s does not name %s" % (word, page), page in help_of(gate, (word + " --help").strip()))
-    path = dict(os.environ, PATH=os.path.dirname(gate.program) + os.pathsep + os.environ["PATH"])
-    for command in wanted:
-        done = subprocess.run(["sh", "-c", command], cwd=ROOT, env=path, capture_output=True)
-        same("status of " + command, done.returncode, wanted[command])
-        same("standard error of " + command, done.stderr, b"")
-        true("nothing is printed by " + command, done.stdout)
+    with tempfile.TemporaryDirectory() as folder:
+        os.symlink(gate.program, os.path.join(folder, "gate"))
+        path = dict(os.environ, PATH=folder + os.pathsep + os.environ["PATH"])
+        for command in wanted:
+            done = subprocess.run(["sh", "-c", command], cwd=ROOT, env=path, capture_output=True)
+            same("status of " + command, done.returncode, wanted[command])
+            same("standard error of " + command, done.stderr, b"")
+            true("nothing is printed by " + command, done.stdout)
 
 
 def spending(hash, value):
@@ -179,7 +183,7 @@ def test_check_of_other_digits(gate):
         ends(gate, "check " + word, b"", 1, UNDECODABLE)
     for word in ("0x" + GENESIS, GENESIS[:-1], GENESIS + "g", "0", "zz", "\u00e9", "examples/payment.hex"):
         shown = word if len(word.encode()) <= 40 else word[:40] + ".."
-        told = 'gate: "%s" is no even number of hexadecimal digits; gate check - reads standard input\n' % shown
+        told = 'gate: "%s" is not an even number of hexadecimal digits; gate check - reads standard input\n' % shown
         ends(gate, "check " + word, b"", 1, UNDECODABLE, told.encode())
 
 
@@ -211,6 +215,7 @@ def test_check_of_a_long_input(gate):
     ends(gate, "check -", more.hex() + "\n", 1, "%s %s 400004\ndenied A13 tx-size\n" % (more.txid(), more.wtxid()))
 
 
+@heavy
 def test_check_of_too_many_bytes(gate):
     """The greatest text of a transaction has 33,554,432 bytes."""
     ends(gate, "check -", "00" * 33554433, 1, UNDECODABLE)
@@ -225,22 +230,3 @@ def test_check_reads_no_further_than_it_says(gate):
         os.close(folder)
     same("standard output", done.stdout, GENESIS_CHECK.encode())
     same("standard error", done.stderr, b"")
-
-
-def files_below(folder):
-    return sorted(os.path.relpath(os.path.join(at, name), folder) for at, _, names in os.walk(folder) for name in names)
-
-
-def test_installing(gate):
-    """`make install` puts the program and the examples below PREFIX, and `make uninstall` takes these away and nothing else."""
-    with tempfile.TemporaryDirectory() as folder:
-        made = ["make", "--silent", "PROGRAM=" + gate.program, "LIBRARY=" + os.path.join(folder, "none"), "DESTDIR=" + folder, "PREFIX=/opt"]
-        other = os.path.join(folder, "opt", "bin", "other")
-        subprocess.run(made + ["install"], cwd=ROOT, check=True, stdout=subprocess.DEVNULL)
-        examples = ["opt/share/gate/examples/" + name for name in sorted(os.listdir(os.path.join(ROOT, "examples")))]
-        same("what is installed", files_below(folder), ["opt/bin/gate"] + examples)
-        done = subprocess.run([os.path.join(folder, "opt/bin/gate"), "--version"], capture_output=True, check=False)
-        same("the installed program", (done.stdout, done.returncode), (b"gate 0.1.0\n", 0))
-        open(other, "w").close()
-        subprocess.run(made + ["uninstall"], cwd=ROOT, check=True, stdout=subprocess.DEVNULL)
-        same("what is left", files_below(folder), ["opt/bin/other"])

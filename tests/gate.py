@@ -26,8 +26,8 @@ class Gate:
     A host of the library in its place says nothing on standard error.
     """
 
-    def __init__(self, program, calls=None, says_causes=True):
-        self.program, self.calls, self.says_causes = program, calls, says_causes
+    def __init__(self, program, calls=None, says_causes=True, seconds=SECONDS):
+        self.program, self.calls, self.says_causes, self.seconds = program, calls, says_causes, seconds
 
     def words(self, words):
         return [self.program] + words.split()
@@ -35,12 +35,12 @@ class Gate:
     def run(self, words, stdin=b"", stdout=subprocess.PIPE, **more):
         """Runs it on an input, text, bytes or an open file, to its end."""
         given = {"input": as_bytes(stdin)} if isinstance(stdin, (str, bytes)) else {"stdin": stdin}
-        done = subprocess.run(self.words(words), stdout=stdout, stderr=subprocess.PIPE, timeout=SECONDS, **given, **more)
+        done = subprocess.run(self.words(words), stdout=stdout, stderr=subprocess.PIPE, timeout=self.seconds, **given, **more)
         return Done(done.returncode, done.stdout, done.stderr)
 
     def run_words(self, words):
         """Runs it on words that may hold spaces, without input."""
-        done = subprocess.run([self.program] + words, stdin=subprocess.DEVNULL, capture_output=True, timeout=SECONDS, check=False)
+        done = subprocess.run([self.program] + words, stdin=subprocess.DEVNULL, capture_output=True, timeout=self.seconds, check=False)
         return Done(done.returncode, done.stdout, done.stderr)
 
     def replies(self, opening, events):

@@ -42,6 +42,21 @@ def folder(crate):
     return os.path.join(ROOT, "crates", crate)
 
 
+def is_new(built, parts=("src", "specs", "proofs")):
+    """Whether what was built is there, and newer than all that it is made of: these folders of each crate."""
+    if not os.access(built, os.R_OK):
+        return False
+    files = [os.path.join(ROOT, "crates.txt")]
+    for crate in uses():
+        files += (os.path.join(at, name) for part in parts for at, _, names in os.walk(os.path.join(folder(crate), part)) for name in names)
+    return max(map(os.path.getmtime, files)) < os.path.getmtime(built)
+
+
+def unproved(program):
+    """Where the program without its proofs lies, beside the proved one."""
+    return program + "-unproved"
+
+
 def is_product(crate):
     """Whether the crate is part of the product, or one of its tests."""
     return not crate.endswith("_tests") and crate not in ("gate_rows", "gate_growth", "gate_testing")

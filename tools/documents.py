@@ -5,8 +5,11 @@
 - Each file that a README.md or a page of docs/ names is there, and each name that follows a file in a
   table of docs/READING.md stands in that file.
 - The tokens at the end of docs/POLICY.md are those of the rules in its tables.
-- The numbers of edits, rows and tests in docs/TESTING.md are those of the repository.
-- Each link of a README.md or of a page of docs/ leads to a file.
+- The numbers of edits, rows and tests in docs/TESTING.md are those of the repository, and so are how many rows stand as tests,
+  and how many of the program's own tests run only when asked for.
+- No page and no file of the tools names a place of one machine.
+- Each link of a page leads to a file, and to a heading if it names one.
+- docs/rooms.svg has each crate of the product once, in a row above those of the crates that it uses.
 """
 
 import glob
@@ -18,6 +21,10 @@ import crates
 NAME = re.compile(r"`(\w+(?:::\w+)?)`")
 FILE = re.compile(r"`([\w./-]+/[\w./-]*\.\w+)`")
 FUNCTION = re.compile(r'^\s+(pub )?(?:const )?fn (\w+)', re.MULTILINE)
+# a folder of one machine, in which nobody else finds anything
+MACHINE = re.compile(r"(?<![\w.$}~-])/(?:work|root|home|var/tmp)/\w+")
+# files of the program's own tests that need the built library
+WITH_LIBRARY = ("library.py", "library_samples.py")
 
 
 def text_of(*path):
@@ -124,8 +131,8 @@ def token_faults():
 
 
 def pages_of_all():
-    """The README.md and the pages of docs/."""
-    return ["README.md"] + ["docs/" + it for it in sorted(os.listdir(os.path.join(crates.ROOT, "docs")))]
+    """The pages at the top, and those of docs/."""
+    return [page for home in ("", "docs/") for page in sorted(home + it for it in os.listdir(os.path.join(crates.ROOT, home)) if it.endswith(".md"))]
 
 
 def path_faults():
@@ -137,14 +144,48 @@ def path_faults():
                     yield "%s: there is no %s" % (page, file)
 
 
+def machine_faults():
+    """Places of one machine that a page, a tool or a file beside them names."""
+    homes = ("*.md", "Makefile", "NOTICE", "docs/*.md", "crates/*/README.md", "gated/README.md", "tools/*", "share/*", "lib/*", "bench/*", "examples/*", "tests/*.py")
+    for file in sorted(it for home in homes for it in glob.glob(os.path.join(crates.ROOT, home)) if os.path.isfile(it)):
+        path = os.path.relpath(file, crates.ROOT)
+        for place in MACHINE.findall(text_of(path)):
+            yield "%s names a place of one machine: %s" % (path, place)
+
+
+def headings(text):
+    """What the headings of a page are called in links: of several that are equal, the later ones have a number."""
+    found = []
+    for heading in re.findall(r"^#+ (.*)$", text, re.MULTILINE):
+        name = re.sub(r"[^\w -]", "", heading.lower()).replace(" ", "-")
+        found.append("%s-%d" % (name, found.count(name)) if name in found else name)
+    return found
+
+
 def link_faults():
     """Links that lead nowhere."""
     pages = pages_of_all()
-    for page in pages + ["crates/%s/README.md" % it for it in crates.uses()]:
+    for page in pages + ["gated/README.md"] + ["crates/%s/README.md" % it for it in crates.uses()]:
         if os.path.isfile(os.path.join(crates.ROOT, page)):
-            for target in re.findall(r"\]\(([^)#:]+)(?:#[^)]*)?\)", text_of(page)):
-                if not os.path.exists(os.path.join(crates.ROOT, os.path.dirname(page), target)):
+            for target, heading in re.findall(r"\]\(([^)#:]*)(?:#([^)]*))?\)", text_of(page)):
+                path = os.path.normpath(os.path.join(os.path.dirname(page), target)) if target else page
+                if not os.path.exists(os.path.join(crates.ROOT, path)):
                     yield "%s: there is no %s" % (page, target)
+                elif heading and heading not in headings(text_of(path)):
+                    yield "%s: %s has no heading %s" % (page, path, heading)
+
+
+def picture_faults():
+    """Where docs/rooms.svg is not crates.txt."""
+    page = "docs/rooms.svg"
+    drawn = [("gate" if name == "gate" else "gate_" + name, int(row)) for row, name in re.findall(r'<text class="room" x="\d+" y="(\d+)">(\w+)</text>', text_of(page))]
+    rows = dict(drawn)
+    if sorted(crate for crate, _ in drawn) != sorted(filter(crates.is_product, crates.uses())):
+        yield "%s has other crates than crates.txt" % page
+    for crate, used in crates.uses().items():
+        for lower in used:
+            if crate in rows and lower in rows and rows[lower] <= rows[crate]:
+                yield "%s: %s stands on %s, which is not drawn below it" % (page, crate, lower)
 
 
 def counted(pattern):
@@ -153,22 +194,40 @@ def counted(pattern):
     return len(files), len({os.path.dirname(it) for it in files})
 
 
+def tests_of_the_program():
+    """How many of the program's own tests run by `make prove`, and how many only when asked for (LONG=1, LIB=1)."""
+    always = asked_for = 0
+    for file in glob.glob(os.path.join(crates.ROOT, "tests", "*.py")):
+        name = os.path.basename(file)
+        marks = re.findall(r"^((?:@\w+\n)*)def test_", text_of("tests", name), re.MULTILINE)
+        rare = len(marks) if name in WITH_LIBRARY else sum("@long" in it for it in marks)
+        always, asked_for = always + len(marks) - rare, asked_for + rare
+    return "%d, and %d more when asked for" % (always, asked_for)
+
+
+def rows_as_tests():
+    """How many rows stand in the tables that tools/row-tests writes."""
+    return sum(text.count("    Row {") for text in sources("gate_rows"))
+
+
 def count_faults():
     """Numbers of docs/TESTING.md that are not those of the repository."""
     tests = sum(text.count("#[test]") for crate in crates.uses() for text in sources(crate))
-    program = sum(len(re.findall("^def test_", text_of("tests", os.path.basename(it)), re.MULTILINE)) for it in glob.glob(os.path.join(crates.ROOT, "tests", "*.py")))
     wanted = {
         "Must-fail edits": "%d, in %d crates" % counted("crates/*/must-fail/*.edit"),
         "Mutants": "%d, in %d crates" % counted("mutants/*/*.edit"),
         "Rows": str(counted("rows/*/about")[0]),
         "Tests in crates": str(tests),
+        "The program's own tests": tests_of_the_program(),
     }
-    for line in text_of("docs", "TESTING.md").split("\n"):
+    text = text_of("docs", "TESTING.md")
+    told = re.findall(r"(\d+) of them stand as tests too", text)
+    if told != [str(rows_as_tests())]:
+        yield "docs/TESTING.md: the rows that stand as tests are %d, and not %s" % (rows_as_tests(), told)
+    for line in text.split("\n"):
         row = cells(line) if line.startswith("|") else []
         if row and row[0] in wanted and row[1] != wanted[row[0]]:
             yield "docs/TESTING.md: %s are %s, and not %s" % (row[0], wanted[row[0]], row[1])
-        if row and row[0] == "The program's own tests" and sum(map(int, re.findall(r"\d+", row[1]))) != program:
-            yield "docs/TESTING.md: the program's own tests are %d, and not %s" % (program, row[1])
 
 
 def faults():
@@ -180,3 +239,5 @@ def faults():
     yield from count_faults()
     yield from path_faults()
     yield from link_faults()
+    yield from picture_faults()
+    yield from machine_faults()

@@ -9,6 +9,7 @@ import hashlib
 import json
 import os
 import shlex
+import signal
 import subprocess
 import sys
 from dataclasses import dataclass
@@ -17,10 +18,15 @@ from typing import Optional
 SATOSHI = 100000000
 MEDIAN_OF = 11
 MOST_BUDGET = 1000000000
+MOST_TIMES = 1000000
+# the gate's own relay minimum, in satoshi for 1,000 virtual bytes
 RELAY_MINIMUM = 1000
+# the first release of Bitcoin Core that replaces whatever pays less unless it is set otherwise; one that has no field for it does
+FULL_REPLACEMENT_SINCE = 280000
 TEXTS = ("getblockhash", "getbestblockhash", "getrawtransaction")
 SHOWN_EACH = 1000
 UNREADABLE = "TX decode failed"
+BLOCK_CAME = "a block came while the node was asked: start again"
 # how a node names a script that fails, and the verdict that stands for it
 SCRIPT_REASONS = {
     "mandatory-script-verify-flag-failed": "hard",
@@ -34,7 +40,9 @@ class Unusable(Exception):
 
 
 class Refused(Exception):
-    """The node answered by an error."""
+    """The node answered by an error, whose code is known if the node was asked by RPC."""
+
+    code = None
 
 
 def read_json(text):
@@ -42,7 +50,22 @@ def read_json(text):
     return json.loads(text, parse_float=decimal.Decimal)
 
 
-class RunningNode:
+class OneByOne:
+    """A node that takes one question at a time."""
+
+    def ask_all(self, method, each):
+        """The answer to each of these parameters, or the Refused in its place."""
+        found = []
+        for params in each:
+            progress(method, len(found), len(each))
+            try:
+                found.append(self.ask(method, *params))
+            except Refused as error:
+                found.append(error)
+        return found
+
+
+class RunningNode(OneByOne):
     """A node that is asked by a command. Parameters go by standard input, since a transaction may be too long for a word."""
 
     def __init__(self, command):
@@ -64,7 +87,7 @@ class RunningNode:
         return answer if method in TEXTS else read_json(answer)
 
 
-class RecordedNode:
+class RecordedNode(OneByOne):
     """A node whose answers stand in a file, or in the files of a folder."""
 
     def __init__(self, path):
@@ -89,7 +112,7 @@ def key_of(method, params):
     return json.dumps([method, *params])
 
 
-class Recorder:
+class Recorder(OneByOne):
     """A node whose answers are written down as they come, for a recording."""
 
     def __init__(self, node, path):
@@ -185,6 +208,22 @@ def read_transaction(digits):
     return Transaction(digits, version, inputs, printed_hash(stripped), printed_hash(text))
 
 
+@dataclass(frozen=True)
+class Coin:
+    """An unspent output of the chain."""
+
+    txid: str
+    index: int
+    value: int
+    height: int
+    is_coinbase: bool
+    script: str
+
+    def line(self):
+        kind = "cb" if self.is_coinbase else "plain"
+        return "coin %s %d %d %d %s %s" % (self.txid, self.index, self.value, self.height, kind, self.script or "-")
+
+
 @dataclass
 class Entry:
     """A transaction of the node's pool, with what the node says of it."""
@@ -208,10 +247,13 @@ class Candidate:
 
 def satoshi(amount):
     """A node's amount in whole satoshi."""
-    scaled = decimal.Decimal(amount) * SATOSHI
-    if scaled != scaled.to_integral_value():
-        raise Unusable("%s is no whole number of satoshi" % amount)
-    return int(scaled)
+    try:
+        scaled = decimal.Decimal(amount) * SATOSHI
+        if scaled == scaled.to_integral_value():
+            return int(scaled)
+    except (decimal.InvalidOperation, TypeError):
+        pass
+    raise Unusable("%s is no whole number of satoshi" % amount)
 
 
 def progress(what, count, whole):
@@ -230,27 +272,24 @@ class View:
         self.release = node.ask("getnetworkinfo")["version"]
         pool = node.ask("getmempoolinfo")
         self.budget = min(pool["maxmempool"], MOST_BUDGET)
-        self.floor, self.relay_minimum = satoshi(pool["mempoolminfee"]), satoshi(pool["minrelaytxfee"])
-        self.replaces_all = bool(pool.get("fullrbf"))
+        self.floor, self.relay_minimum = floor_of(pool), satoshi(pool["minrelaytxfee"])
+        self.replaces_all = bool(pool.get("fullrbf", self.release >= FULL_REPLACEMENT_SINCE))
+        # what the node says of each transaction of its pool, once its entries are asked for
+        self.listed = {}
+
+    def has_to_stand(self):
+        """The tip is still the one that was asked first."""
+        if self.node.ask("getblockchaininfo")["bestblockhash"] != self.best:
+            raise Unusable(BLOCK_CAME)
 
     def entries(self):
         """The pool's transactions, as they came, and none before one that it spends from."""
-        told = self.node.ask("getrawmempool", True)
+        told = self.listed = self.node.ask("getrawmempool", True)
         order = sorted(told, key=lambda txid: (told[txid]["time"], told[txid]["ancestorcount"], txid))
-        found = {}
-        for number, txid in enumerate(parents_first(order, {it: told[it]["depends"] for it in told})):
-            progress("transactions of the pool", number, len(told))
-            found[txid] = self.entry(txid, told[txid])
-        return [it for it in found.values() if it]
-
-    def entry(self, txid, told):
-        """One of them, or None if it has left the pool meanwhile."""
-        try:
-            digits = self.node.ask("getrawtransaction", txid)
-        except Refused:
-            return None
-        fee = told["fees"]["base"] if "fees" in told else told["fee"]
-        return Entry(read_transaction(digits), told["time"], satoshi(fee), told["vsize"])
+        order = parents_first(order, {it: told[it]["depends"] for it in told})
+        texts = self.node.ask_all("getrawtransaction", [(txid,) for txid in order])
+        # one that is refused has left the pool meanwhile
+        return [entry_of(digits, told[txid]) for txid, digits in zip(order, texts) if not isinstance(digits, Refused)]
 
     def candidate(self, digits):
         """What the node says of a transaction by itself, whatever it pays at the most."""
@@ -266,20 +305,49 @@ class View:
             return Candidate(digits, transaction, told["reject-reason"])
         return Candidate(digits, transaction, None, satoshi(told["fees"]["base"]), told["vsize"])
 
-    def coin(self, txid, index):
-        """The line of an unspent coin of the chain with its height, or None if there is none."""
-        told = self.node.ask("gettxout", txid, index, False)
-        if told is None:
-            return None
-        if told["bestblock"] != self.best:
-            raise Unusable("a block came while the node was asked: start again")
-        height = self.tip - told["confirmations"] + 1
-        kind = "cb" if told["coinbase"] else "plain"
-        script = told["scriptPubKey"]["hex"] or "-"
-        return "coin %s %d %d %d %s %s" % (txid, index, satoshi(told["value"]), height, kind, script), height
+    def coins(self, outpoints):
+        """By outpoint, the unspent coins of the chain."""
+        found = {}
+        for outpoint, told in zip(outpoints, self.node.ask_all("gettxout", [(*it, False) for it in outpoints])):
+            if isinstance(told, Refused):
+                raise told
+            if told is None:
+                continue
+            if told["bestblock"] != self.best:
+                raise Unusable(BLOCK_CAME)
+            found[outpoint] = coin_of(*outpoint, told, self.tip)
+        return found
 
-    def time(self, height):
-        return self.node.ask("getblockheader", self.node.ask("getblockhash", height))["time"]
+    def times(self, heights):
+        """The time of each of these blocks."""
+        hashes = self.answers("getblockhash", heights)
+        return [it["time"] for it in self.answers("getblockheader", hashes)]
+
+    def answers(self, method, each):
+        """What the node answers to each of these, none of which it may refuse."""
+        found = self.node.ask_all(method, [(it,) for it in each])
+        for it in found:
+            if isinstance(it, Refused):
+                raise it
+        return found
+
+
+def floor_of(pool):
+    """What the pool asks for above the node's relay minimum, or the gate's, by `getmempoolinfo`; 0 if nothing."""
+    floor = satoshi(pool["mempoolminfee"])
+    return floor if floor > min(satoshi(pool["minrelaytxfee"]), RELAY_MINIMUM) else 0
+
+
+def entry_of(digits, told):
+    """An entry from its text, and from what the node says of it."""
+    fee = told["fees"]["base"] if "fees" in told else told["fee"]
+    return Entry(read_transaction(digits), told["time"], satoshi(fee), told["vsize"])
+
+
+def coin_of(txid, index, told, tip):
+    """A coin from the node's answer to gettxout at the tip of this height."""
+    script = told["scriptPubKey"]["hex"]
+    return Coin(txid, index, satoshi(told["value"]), tip - told["confirmations"] + 1, told["coinbase"], script)
 
 
 def parents_first(order, depends):
@@ -300,17 +368,14 @@ def coins_of(view, transactions):
     """The lines of the coins that transactions spend from the chain, and the heights of those under a lock of time."""
     made, lines, heights = {it.txid for it in transactions}, {}, set()
     spent = {(it.txid, it.index): None for one in transactions for it in one.spent if it.txid not in made}
-    found = {}
-    for number, outpoint in enumerate(spent):
-        progress("coins", number, len(spent))
-        found[outpoint] = view.coin(*outpoint)
+    found = view.coins(list(spent))
     for one in transactions:
         for it in one.spent:
             coin = found.get((it.txid, it.index))
             if coin:
-                lines[coin[0]] = None
+                lines[coin.line()] = None
                 if one.version >= 2 and is_lock_of_time(it.sequence):
-                    heights.add(coin[1])
+                    heights.add(coin.height)
     return list(lines), heights
 
 
@@ -319,17 +384,19 @@ def is_lock_of_time(sequence):
     return sequence & 0x80000000 == 0 and sequence & 0x00400000 != 0
 
 
+def first_height(view, heights):
+    """The lowest height whose time decides: of the last eleven blocks, and of the eleven before each of these heights."""
+    return max(0, min({view.tip + 1, *heights}) - MEDIAN_OF)
+
+
 def times_of(view, heights):
-    """The lines of block times. Those that decide are the node's: of the last eleven blocks, and of the eleven before each
-    of these heights. Any other height has the time of the next one above it that does."""
-    ends = {view.tip} | {max(it - 1, 0) for it in heights}
-    known = sorted({height for end in ends for height in range(max(0, end - MEDIAN_OF + 1), end + 1)})
-    lines, below = [], 0
-    for number, height in enumerate(known):
-        progress("block times", number, len(known))
-        time = view.time(height)
-        lines.append("times %d %d 0" % (height - below + 1, time))
-        below = height + 1
+    """The line of the first height that has a time, if it isn't 0, and the lines of the node's times from there to its tip."""
+    first = first_height(view, heights)
+    count = view.tip + 1 - first
+    if count > MOST_TIMES:
+        raise Unusable("a relative lock asks for %d block times, and an opening has at most %d" % (count, MOST_TIMES))
+    lines = ["from %d" % first] if first else []
+    lines += ["times 1 %d 0" % time for time in view.times(range(first, view.tip + 1))]
     return lines
 
 
@@ -346,12 +413,14 @@ def opening(view, entries, candidates):
     candidate a call of testmempoolaccept."""
     transactions = [it.transaction for it in entries] + [it.transaction for it in candidates if it.transaction]
     coins, heights = coins_of(view, {it.wtxid: it for it in transactions}.values())
+    times = times_of(view, heights)
+    view.has_to_stand()
     yield "# from a node: chain %s, tip %d, %d transactions of its pool" % (view.chain, view.tip, len(entries))
     yield "# scripts are not run: what the node took is taken to be right"
     yield "budget %d" % view.budget
     if view.replaces_all:
         yield "mempoolfullrbf 1"
-    yield from times_of(view, heights)
+    yield from times
     yield from dict.fromkeys(verdicts_of(candidates))
     yield "verdict * ok"
     yield "whitelist noban@127.0.0.1"
@@ -360,7 +429,7 @@ def opening(view, entries, candidates):
     yield "peer 1 enter 127.0.0.1"
     for it in entries:
         yield "peer 1 tx %d %s" % (it.time, it.transaction.digits)
-    if view.floor > RELAY_MINIMUM:
+    if view.floor:
         yield "operator floor %d" % view.floor
     now = max([it.time for it in entries], default=0)
     for number, it in enumerate(candidates, 1):
@@ -394,9 +463,15 @@ def candidates_of(view, digits):
 
 
 def run(name, tool, words):
-    """What a tool makes of its words, or one line that says what a node answered wrongly."""
+    """What a tool makes of its words, or one line that says what a node answered wrongly. A reader that has enough, as head,
+    ends it without a word."""
     try:
-        return tool(words.parse_args())
+        status = tool(words.parse_args())
+        sys.stdout.flush()
+        return status
+    except BrokenPipeError:
+        os.dup2(os.open(os.devnull, os.O_WRONLY), sys.stdout.fileno())
+        return sys.exit(128 + signal.SIGPIPE)
     except (Unusable, Refused, OSError) as error:
         return sys.exit("%s: %s" % (name, error))
     except KeyError as error:

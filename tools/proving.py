@@ -36,18 +36,30 @@ def at_work(tree):
 class Progress(threading.Thread):
     """Says what is at work, each time that it is something else."""
 
-    def __init__(self, tree, count):
+    def __init__(self, tree, crate):
         super().__init__(daemon=True)
-        self.tree, self.count, self.done, self.ended = tree, count, 0, threading.Event()
+        self.tree, self.crate, self.count = tree, crate, len(crates.below(crate, crates.uses()))
+        # how many crates have ended; None while nothing tells
+        self.done, self.ended = None, threading.Event()
 
     def run(self):
         said = None
         while not self.ended.wait(SECONDS_BETWEEN):
             names = at_work(self.tree)
-            if names and names != said:
-                about = (", ".join(names), self.count - self.done, self.count)
-                print("at work: %s; %d of %d crates left" % about, file=sys.stderr, flush=True)
-                said = names
+            about = names and self.about(names)
+            if names and about != said:
+                print(about, file=sys.stderr, flush=True)
+                said = about
+
+    def about(self, names):
+        """What is said of the crates at work."""
+        if self.done is None:
+            return "building %s; at work: %s" % (self.crate, ", ".join(names))
+        left = self.count - self.done
+        # it stands on all others: so before they are proved its sources are only read, and theirs with them
+        if names == [self.crate] and left > 1:
+            return "reading the sources of %d crates" % self.count
+        return "at work: %s; %d of %d crates left" % (", ".join(names), left, self.count)
 
 
 class Proving:
@@ -60,7 +72,7 @@ class Proving:
         os.chdir(crates.ROOT)
         os.makedirs(os.path.dirname(self.path), exist_ok=True)
         self.log = open(self.path, "w", encoding="utf-8")
-        self.progress = Progress(tree, len(crates.below(crate, crates.uses())))
+        self.progress = Progress(tree, crate)
 
     def __enter__(self):
         self.progress.start()
@@ -69,9 +81,6 @@ class Proving:
     def __exit__(self, *_):
         self.progress.ended.set()
         self.log.close()
-
-    def _counted(self, line):
-        self.progress.done += line.startswith("== gate")
 
     def ran(self, *words):
         """Whether a command succeeds."""
@@ -86,12 +95,16 @@ class Proving:
         )
         for line in run.stdout:
             self.log.write(line)
-            self._counted(line)
+            if self.progress.done is not None and line.startswith("== gate"):
+                self.progress.done += 1
         return run.wait() == 0
 
     def proved(self):
-        """Whether the crate and all that it stands on are proved."""
-        return self.ran("rt", "all", "check", "--jobs", str(places()))
+        """Whether the crate and all that it stands on are proved. Each of them has a line in the output as it ends."""
+        self.progress.done = 0
+        is_proved = self.ran("rt", "all", "check", "--jobs", str(places()))
+        self.progress.done = None
+        return is_proved
 
     def said(self, is_built, what):
         """Says how long it took, or ends if nothing was built."""

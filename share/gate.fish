@@ -1,0 +1,16 @@
+# Completions of gate for fish.
+complete -c gate -f
+complete -c gate -n __fish_use_subcommand -a check -d 'one transaction by itself'
+complete -c gate -n __fish_use_subcommand -a run -d 'answers events, one after another'
+complete -c gate -n __fish_use_subcommand -a lanes -d 'answers lanes of events at once'
+complete -c gate -n __fish_use_subcommand -a audit -d 'whether a journal is that of a run'
+complete -c gate -n __fish_use_subcommand -a rules -d 'every rule and word'
+complete -c gate -n __fish_use_subcommand -a explain -d 'what a rule or a word means'
+complete -c gate -n __fish_use_subcommand -a help -d 'the help of a command'
+complete -c gate -n __fish_use_subcommand -s V -l version -d 'print version'
+complete -c gate -s h -l help -d 'print help'
+complete -c gate -n '__fish_seen_subcommand_from run lanes audit' -l explain -d 'say why on standard error'
+complete -c gate -n '__fish_seen_subcommand_from lanes' -l journal -d 'print the journal too'
+complete -c gate -n '__fish_seen_subcommand_from lanes' -l workers -x -a '1 2 4 8 16 32 64' -d 'threads for the inputs of a transaction'
+complete -c gate -n '__fish_seen_subcommand_from check' -a '-' -d 'standard input'
+complete -c gate -n '__fish_seen_subcommand_from help' -a 'check run lanes audit rules explain'
