@@ -1,6 +1,6 @@
 /* gate: the proved admission gate of a Bitcoin node's mempool, as a library. docs/LIBRARY.md says how to embed it.
 
-   Each call but gate_close answers by a status, and most put a text into a buffer `out` that has room for `room` bytes:
+   Each call but those that close answers by a status, and most put a text into a buffer `out` that has room for `room` bytes:
    `*size` is then the text's size, also where the buffer is too small for it, and 0 where there is no text. No pointer may be null,
    also where its size is 0, and none may overlap another. */
 #ifndef GATE_H
@@ -24,6 +24,15 @@ struct gate {
     bool is_open;
 };
 
+/* What a line asks for, which begins as `struct gate_event event = GATE_CLOSED;`. It belongs to no handle. Only the calls below
+   read or write it, one at a time, on any thread, and it is moved as a handle is. */
+struct gate_event {
+    struct {
+        void *reading;
+    } slot;
+    bool is_open;
+};
+
 #define GATE_CLOSED { { NULL }, false }
 
 /* The keys of the handle's hash tables. Draw both at random where peers choose transactions: with keys that they don't know
@@ -38,7 +47,7 @@ enum gate_status {
     GATE_DENIED = 1,            /* of gate_check: the transaction is denied, and `out` has its lines */
     GATE_BUFFER_TOO_SMALL = 2,  /* `out` is as it was, and `*size` is the size of the text */
     GATE_OUT_OF_MEMORY = 3,     /* nothing has changed */
-    GATE_NOT_OPEN = 4,          /* the handle is closed */
+    GATE_NOT_OPEN = 4,          /* the handle is closed, or the event is */
     GATE_ALREADY_OPEN = 5,      /* the handle is open */
     GATE_OPENING_REFUSED = 6,   /* the opening has a fault, and `out` has its line */
     GATE_LINE_TOO_LONG = 7,     /* the line has more than 16,777,216 bytes; nothing has changed */
@@ -58,6 +67,22 @@ uint32_t gate_reply(struct gate *gate, uint8_t *out, size_t room, size_t *size);
 
 /* Closes a handle and frees what it holds. A closed one stays closed. */
 void gate_close(struct gate *gate);
+
+/* Opens a second handle, which is closed, with a copy of what the first one holds: the same state and the same last reply. Both answer
+   alike from then on, and neither knows what the other is asked. It takes time and memory as the state is large; only
+   transactions, which never change, are shared. */
+uint32_t gate_copy(struct gate *gate, struct gate *copy);
+
+/* Reads a line, which is given without its newline, into an event, in the place of what that holds. A transaction is decoded
+   and hashed, and the rules on it alone are tested. This needs no handle, so threads may read at the same time. */
+uint32_t gate_read(struct gate_event *event, const uint8_t *line, size_t line_size);
+
+/* Answers an event as gate_answer answers the line that it was read from. The event stays open, so that it can be answered by
+   another handle too. */
+uint32_t gate_answer_event(struct gate *gate, struct gate_event *event, uint8_t *out, size_t room, size_t *size);
+
+/* Closes an event and frees what it holds. A closed one stays closed. */
+void gate_event_close(struct gate_event *event);
 
 /* Checks by itself the transaction that a text of hexadecimal has, as `gate check -` does. */
 uint32_t gate_check(const uint8_t *input, size_t input_size, uint8_t *out, size_t room, size_t *size);

@@ -25,10 +25,10 @@ public:
     uint32_t status;
 };
 
-// The handle is closed: nothing opened it, or it was closed or moved from.
+// The handle or the event is closed: nothing opened it, or it was closed or moved from.
 class NotOpen : public Error {
 public:
-    NotOpen() : Error(GATE_NOT_OPEN, "the gate is closed") {}
+    NotOpen() : Error(GATE_NOT_OPEN, "the gate or the event is closed") {}
 };
 
 // The line has more than 16,777,216 bytes, and nothing has changed.
@@ -302,6 +302,46 @@ inline gate_keys random_keys() {
     return {number(device), number(device)};
 }
 
+// What a line asks for, read before a gate is asked: a transaction in it is decoded and hashed, and the rules on it alone are
+// tested. Threads may read at the same time, without a lock. An event can be answered by several gates, one call at a time. It can be
+// moved: the event that it was moved from is closed.
+class Event {
+public:
+    // A closed event.
+    Event() = default;
+
+    // The line is given without its newline.
+    explicit Event(std::string_view line) { read(line); }
+
+    Event(const Event &) = delete;
+    Event &operator=(const Event &) = delete;
+    Event(Event &&other) noexcept { swap(other); }
+    Event &operator=(Event &&other) noexcept {
+        Event moved(std::move(other));
+        swap(moved);
+        return *this;
+    }
+    ~Event() { gate_event_close(&handle); }
+
+    void swap(Event &other) noexcept { std::swap(handle, other.handle); }
+    friend void swap(Event &one, Event &other) noexcept { one.swap(other); }
+
+    bool is_open() const { return handle.is_open; }
+
+    void close() { gate_event_close(&handle); }
+
+    // Reads a line in the place of what the event holds, which stays if this throws.
+    void read(std::string_view line) {
+        const uint32_t status = gate_read(&handle, detail::bytes(line), line.size());
+        if (status != GATE_DONE) detail::raise(status);
+    }
+
+private:
+    friend class Gate;
+
+    ::gate_event handle = GATE_CLOSED;
+};
+
 // A gate from its opening on. It serves one call at a time: threads that share it lock a mutex of theirs. It can be moved: the
 // gate that it was moved from is closed.
 class Gate {
@@ -342,24 +382,34 @@ public:
 
     void close() { gate_close(&handle); }
 
-    // The reply to a line, in its parts; nothing where the line asks for nothing.
-    std::optional<Reply> ask(std::string_view line) {
-        const std::string text = answer(line);
-        if (text.empty()) return std::nullopt;
-        return Reply::parse(text);
+    // A second gate with the same state and the same last reply. Both answer alike from then on, and neither knows what the
+    // other is asked.
+    Gate copy() {
+        Gate made;
+        const uint32_t status = gate_copy(&handle, &made.handle);
+        if (status != GATE_DONE) detail::raise(status);
+        made.answered = answered;
+        return made;
     }
+
+    // The reply to a line, in its parts; nothing where the line asks for nothing.
+    std::optional<Reply> ask(std::string_view line) { return parsed(answer(line)); }
+
+    // The same for a line that was read beforehand.
+    std::optional<Reply> ask(Event &event) { return parsed(answer(event)); }
 
     // The reply to a line as text, with its newline; nothing where the line asks for nothing. The line is given without one.
     // After std::bad_alloc either nothing has changed, or the line is answered and reply() gives the reply: is_answered() says
     // which.
     std::string answer(std::string_view line) {
-        answered = false;
-        const auto call = [&](uint8_t *to, size_t room, size_t *size) {
-            const uint32_t status = gate_answer(&handle, detail::bytes(line), line.size(), to, room, size);
-            answered = status == GATE_DONE || status == GATE_BUFFER_TOO_SMALL || status == GATE_REPLY_KEPT;
-            return status;
-        };
-        return text_of(call);
+        return answer_by([&](uint8_t *to, size_t room, size_t *size) {
+            return gate_answer(&handle, detail::bytes(line), line.size(), to, room, size);
+        });
+    }
+
+    // The same for a line that was read beforehand.
+    std::string answer(Event &event) {
+        return answer_by([&](uint8_t *to, size_t room, size_t *size) { return gate_answer_event(&handle, &event.handle, to, room, size); });
     }
 
     // The reply to the last line once more.
@@ -370,6 +420,21 @@ public:
     bool is_answered() const { return answered; }
 
 private:
+    static std::optional<Reply> parsed(const std::string &text) {
+        if (text.empty()) return std::nullopt;
+        return Reply::parse(text);
+    }
+
+    template <typename Call>
+    std::string answer_by(Call call) {
+        answered = false;
+        return text_of([&](uint8_t *to, size_t room, size_t *size) {
+            const uint32_t status = call(to, room, size);
+            answered = status == GATE_DONE || status == GATE_BUFFER_TOO_SMALL || status == GATE_REPLY_KEPT;
+            return status;
+        });
+    }
+
     template <typename Call>
     std::string text_of(Call call) {
         std::string out;

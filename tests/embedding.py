@@ -119,6 +119,7 @@ def calls_in_c():
 def test_the_table_in_c(gate):
     """gate.h has the calls and the statuses of crates/gate_c, and none besides."""
     layout = '_Static_assert(sizeof(struct gate) == 16 && offsetof(struct gate, is_open) == 8 && sizeof(struct gate_keys) == 16, "");\n'
+    layout += '_Static_assert(sizeof(struct gate_event) == 16 && offsetof(struct gate_event, is_open) == 8, "");\n'
     text = '#include "gate.h"\n' + layout + statuses_in_c("_Static_assert") + "\n".join(calls_in_c()) + "\n"
     compile_text(c_compiler(), "table.c", text, *C, "-Wswitch-enum")
     compile_text(cpp_compiler(), "table.cpp", text.replace("_Static_assert", "static_assert").replace("<stddef.h>", "<cstddef>"), "-std=c++17", "-Wswitch-enum")
@@ -128,7 +129,7 @@ def test_the_table_in_rust(gate):
     """The crate has them too."""
     if not shutil.which("rustc"):
         raise NotTried("there is no rustc")
-    lines = ['#![allow(dead_code)]\n#[path = "%s"]\nmod calls;\nuse calls::{Handle, Keys, Status};' % os.path.join(LIB, "rust", "src", "calls.rs")]
+    lines = ['#![allow(dead_code)]\n#[path = "%s"]\nmod calls;\nuse calls::{EventHandle, Handle, Keys, Status};' % os.path.join(LIB, "rust", "src", "calls.rs")]
     for name, parameters, has_status in interface.calls():
         kind = 'unsafe extern "C" fn(%s)%s' % (interface.in_language(parameters, 1), " -> u32" if has_status else "")
         lines.append("const OF_%s: %s = calls::%s;" % (name.upper(), kind, name))
@@ -137,6 +138,7 @@ def test_the_table_in_rust(gate):
     lines.append("fn number_of(status: Status) -> u32 {\n    match status {")
     lines += ["        Status::%s => %d," % it for it in interface.statuses().items()]
     lines.append("    }\n}\nfn main() {\n    assert_eq!((std::mem::size_of::<Handle>(), std::mem::size_of::<Keys>()), (16, 16));")
+    lines.append("    assert_eq!(std::mem::size_of::<EventHandle>(), 16);")
     lines.append("    for code in 0..100 {\n        assert_eq!(Status::of(code).map(number_of), (code < %d).then(|| code));\n    }\n}\n" % len(interface.statuses()))
     path = os.path.join(folder().name, "table.rs")
     with open(path, "w", encoding="utf-8") as file:
@@ -148,9 +150,9 @@ def test_the_table_in_rust(gate):
 
 PYTHON_TABLE = """
 import ctypes
-from gate.library import Handle, Keys, Status, library
+from gate.library import EventHandle, Handle, Keys, Status, library
 print({it.name: it.value for it in Status})
-print(ctypes.sizeof(Handle), Handle.is_open.offset, ctypes.sizeof(Keys))
+print(ctypes.sizeof(Handle), Handle.is_open.offset, ctypes.sizeof(Keys), ctypes.sizeof(EventHandle), EventHandle.is_open.offset)
 for name in %r:
     call = getattr(library(), name)
     print(name, [it.__name__ for it in call.argtypes], getattr(call.restype, "__name__", None))
@@ -158,6 +160,7 @@ for name in %r:
 # a parameter in Python, by the names of its types
 CTYPES = {
     "&mut Gate": ["LP_Handle"],
+    "&mut GateEvent": ["LP_EventHandle"],
     "&Keys": ["LP_Keys"],
     "&[u8]": ["c_char_p", "c_ulong"],
     "&mut [u8]": ["c_char_p", "c_ulong"],
@@ -176,11 +179,11 @@ def test_the_table_in_python(gate):
     """And so has the package."""
     lines = in_python("-c", PYTHON_TABLE % [name for name, _, _ in interface.calls()]).splitlines()
     same("statuses", lines[0], str({interface.screaming(name): number for name, number in interface.statuses().items()}))
-    same("sizes", lines[1], "16 8 16")
+    same("sizes", lines[1], "16 8 16 16 8")
     for line, (name, parameters, has_status) in zip(lines[2:], interface.calls()):
         types = [it for _, kind in parameters for it in CTYPES[kind]]
         same(name, line, "%s %s %s" % (name, types, "c_uint" if has_status else None))
-    same("how many calls", len(lines), 8)
+    same("how many calls", len(lines), 12)
 
 
 def test_faults_in_cpp(gate):

@@ -108,6 +108,10 @@ def in_c():
     return with_c("run-c", "run.c")
 
 
+def with_threads():
+    return with_c("threads-c", "threads.c", "-pthread")
+
+
 def in_cpp():
     archive = library()
     return made("run-cpp", "run.cpp", [cpp_compiler(), *WARNINGS, "-std=c++17", "-I", os.path.join(LIBRARY, "include")], archive)
@@ -254,6 +258,13 @@ def test_failing_allocations(gate):
         true("few allocations: " + told, int(told.split()[0]) > 20)
 
 
+def test_threads(gate):
+    """Lines that threads read before they are answered have the replies that the program gives, and those of the model."""
+    for threads in ("1", "4"):
+        does_examples(gate, with_threads(), THREADS=threads)
+    does_tests(gate, with_threads(), ("random_streams",))
+
+
 def test_misuse(gate):
     """Each status where it is due, with nothing changed there: closed, open already, too little room, a line too long."""
     same("what isn't so", done_by([with_c("misused", "misused.c")]), "")
@@ -261,16 +272,18 @@ def test_misuse(gate):
 
 def test_nothing_is_left(gate):
     """Valgrind finds neither an error nor memory that is left."""
-    hosts = [with_c("misused", "misused.c")], [in_c(), "run"]
+    hosts = [with_c("misused", "misused.c")], [in_c(), "run"], [with_threads(), "run"]
     if not shutil.which("valgrind"):
         raise NotTried("there is no valgrind")
     watched = ["valgrind", "--quiet", "--error-exitcode=99", "--leak-check=full", "--show-leak-kinds=all", "--errors-for-leak-kinds=all"]
     same("misuse", done_by([*watched, *hosts[0]]), "")
     for name in EXAMPLES:
         with open(os.path.join(ROOT, "examples", name), "rb") as file:
-            found = subprocess.run([*watched, *hosts[1]], stdin=file, capture_output=True, timeout=SECONDS, check=False)
-        with open(os.path.join(ROOT, "examples", name), "rb") as file:
-            same(name, (found.returncode, found.stdout, found.stderr), (0, gate.run("run", file).stdout, b""))
+            text = file.read()
+        wanted = (0, gate.run("run", text).stdout, b"")
+        for host in hosts[1:]:
+            found = subprocess.run([*watched, *host], input=text, capture_output=True, timeout=SECONDS, check=False)
+            same(name, (found.returncode, found.stdout, found.stderr), wanted)
 
 
 @long

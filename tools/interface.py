@@ -1,4 +1,4 @@
-"""Whether what embeds the library declares what crates/gate_c defines: the six calls with their parameters, and the statuses.
+"""Whether what embeds the library declares what crates/gate_c defines: the ten calls with their parameters, and the statuses.
 
 One table of both is read from crates/gate_c/src (`calls`, `statuses`): lib.rt has the calls, status.rt the statuses. The texts
 of lib/gate.h, lib/rust and lib/python are compared with it here, in each language's own types; tests/embedding.py has the
@@ -17,11 +17,14 @@ RUST, PYTHON = "lib/rust/src/calls.rs", "lib/python/gate/library.py"
 # a parameter of the library: in C, in Rust and in Python; {} is its name
 PARAMETERS = {
     "&mut Gate": ("struct gate *{0}", "{0}: *mut Handle", "handle"),
+    "&mut GateEvent": ("struct gate_event *{0}", "{0}: *mut EventHandle", "event"),
     "&Keys": ("const struct gate_keys *{0}", "{0}: *const Keys", "ctypes.POINTER(Keys)"),
     "&[u8]": ("const uint8_t *{0}, size_t {0}_size", "{0}: *const u8, {0}_size: usize", "text, count"),
     "&mut [u8]": ("uint8_t *{0}, size_t room", "{0}: *mut u8, room: usize", "text, count"),
     "&mut usize": ("size_t *{0}", "{0}: *mut usize", "ctypes.POINTER(count)"),
 }
+# what a call that gives no status is given in Python
+CLOSED = {"handle": "ctypes.POINTER(Handle)", "event": "ctypes.POINTER(EventHandle)"}
 
 
 def text_of(*path):
@@ -91,14 +94,15 @@ def in_python():
     """What the package for Python lacks, or has otherwise."""
     text = plain(text_of(PYTHON))
     tables = {name: plain(given) for name, given in re.findall(r'\("(gate_\w+)", \[(.*?)\]\)', text)}
-    if "call.argtypes = [*given, ctypes.c_char_p, ctypes.c_size_t, ctypes.POINTER(ctypes.c_size_t)]" not in text:
-        yield "%s: the parameters behind those of each call are not out, room and size" % PYTHON
+    if "buffer = [text, count, ctypes.POINTER(count)]" not in text:
+        yield "%s: a buffer is not given as out, room and size" % PYTHON
     for name, parameters, has_status in calls():
+        given = [it for it in parameters if it[0] not in ("out", "size")]
+        wanted = ", ".join(filter(None, (in_language(given, 2), "*buffer" if given != parameters else "")))
         if has_status:
-            wanted = in_language([it for it in parameters if it[0] not in ("out", "size")], 2)
             if tables.get(name) != wanted:
                 yield "%s: the parameters of %s are not %s" % (PYTHON, name, wanted)
-        elif "loaded.%s.argtypes, loaded.%s.restype = [ctypes.POINTER(Handle)], None" % (name, name) not in text:
+        elif "loaded.%s.argtypes, loaded.%s.restype = [%s], None" % (name, name, CLOSED[wanted]) not in text:
             yield "%s does not declare %s" % (PYTHON, name)
     yield from others(PYTHON, re.findall(r"\b(gate_\w+)\b", text))
     body = re.search(r"class Status\(enum.IntEnum\):(.*?)class ", text)[1]
@@ -109,7 +113,7 @@ def in_python():
 def faults():
     """All that is amiss."""
     names = {name for name, _, _ in calls()}
-    if len(names) != 6 or not statuses():
+    if len(names) != 10 or not statuses():
         yield "%s has %d calls and %d statuses, which is not what tools/interface.py reads" % (SOURCES, len(names), len(statuses()))
         return
     yield from in_c()

@@ -1,4 +1,5 @@
-/* Fails each allocation in turn, in the opening and in the lines of a file: the call says so, nothing is lost, and asked
+/* Fails each allocation in turn, in the opening, in the lines of a file, of which each second one is read before it is answered, and in
+   a copy of the handle: the call says so, nothing is lost, and asked
    again it gives what it gives undisturbed. Linked with --wrap of malloc, realloc and free. */
 #define _GNU_SOURCE
 #include "gate.h"
@@ -34,14 +35,20 @@ void __wrap_free(void *block) {
 
 static uint8_t text[1 << 20], out[1 << 20], wanted[1 << 20];
 static size_t ends[10000];
-static long opened, unmade, kept;
+static long opened, unread, unmade, kept, uncopied;
+
+/* Answers a line, or an event in its place. */
+static uint32_t answer(struct gate *gate, struct gate_event *event, int is_read, const uint8_t *line, size_t length, size_t *size) {
+    return is_read ? gate_answer_event(gate, event, out, sizeof out, size) : gate_answer(gate, line, length, out, sizeof out, size);
+}
 
 #define HOLDS(what) do { if (!(what)) { printf("allocation %ld: not so: %s\n", number, #what); return 0; } } while (0)
 
 /* Whether all is well where this allocation fails, or none where the number is 0. */
 static int holds(long number, uint8_t *events, uint8_t *end) {
     const struct gate_keys keys = {1, 2};
-    struct gate gate = GATE_CLOSED;
+    struct gate gate = GATE_CLOSED, copy = GATE_CLOSED;
+    struct gate_event event = GATE_CLOSED;
     size_t size = 0, from = 0;
     long line = 0;
     blocks = 0;
@@ -56,11 +63,22 @@ static int holds(long number, uint8_t *events, uint8_t *end) {
     for (uint8_t *at = events, *stop; at < end; at = stop + 1) {
         stop = memchr(at, '\n', (size_t)(end - at));
         if (stop == NULL) stop = end;
-        status = gate_answer(&gate, at, (size_t)(stop - at), out, sizeof out, &size);
+        const int is_read = line % 2 == 1;
+        if (is_read) {
+            const bool was_open = event.is_open;
+            status = gate_read(&event, at, (size_t)(stop - at));
+            if (status == GATE_OUT_OF_MEMORY) {
+                unread++;
+                HOLDS(event.is_open == was_open);
+                status = gate_read(&event, at, (size_t)(stop - at));
+            }
+            HOLDS(status == GATE_DONE && event.is_open);
+        }
+        status = answer(&gate, &event, is_read, at, (size_t)(stop - at), &size);
         if (status == GATE_OUT_OF_MEMORY) {
             unmade++;
-            HOLDS(gate.is_open && size == 0);
-            status = gate_answer(&gate, at, (size_t)(stop - at), out, sizeof out, &size);
+            HOLDS(gate.is_open && size == 0 && (!is_read || event.is_open));
+            status = answer(&gate, &event, is_read, at, (size_t)(stop - at), &size);
         } else if (status == GATE_REPLY_KEPT) {
             kept++;
             HOLDS(gate.is_open && size == 0);
@@ -74,8 +92,21 @@ static int holds(long number, uint8_t *events, uint8_t *end) {
         HOLDS(ends[line] - from == size && memcmp(wanted + from, out, size) == 0);
         from = ends[line++];
     }
+    status = gate_copy(&gate, &copy);
+    if (status == GATE_OUT_OF_MEMORY) {
+        uncopied++;
+        HOLDS(gate.is_open && !copy.is_open);
+        status = gate_copy(&gate, &copy);
+    }
+    HOLDS(status == GATE_DONE && gate.is_open && copy.is_open);
+    gate_event_close(&event);
     gate_close(&gate);
-    HOLDS(!gate.is_open && blocks == 0);
+    status = gate_reply(&copy, out, sizeof out, &size);
+    if (status == GATE_REPLY_KEPT) status = gate_reply(&copy, out, sizeof out, &size);
+    from = line > 1 ? ends[line - 2] : 0;
+    HOLDS(status == GATE_DONE && (line == 0 || (ends[line - 1] - from == size && memcmp(wanted + from, out, size) == 0)));
+    gate_close(&copy);
+    HOLDS(!gate.is_open && !event.is_open && !copy.is_open && blocks == 0);
     return 1;
 }
 
@@ -91,6 +122,6 @@ int main(int count, char **words) {
     for (until = 0; until == 0; number++)
         if (!holds(number, events, end)) return 1;
     /* the last one was not met */
-    printf("%ld allocations: %ld in the opening, %ld before a step, %ld behind one\n", number - 2, opened, unmade, kept);
-    return opened + unmade + kept > 0 ? 0 : 1;
+    printf("%ld allocations: %ld in the opening, %ld in reading, %ld before a step, %ld behind one, %ld in a copy\n", number - 2, opened, unread, unmade, kept, uncopied);
+    return opened > 0 && unread > 0 && unmade > 0 && uncopied > 0 ? 0 : 1;
 }

@@ -1,7 +1,8 @@
 /* The calls of gate.h without a gate, for tests of what embeds them: a line is its own reply.
 
    `end S` ends with status S, and nothing changes. `keep TEXT` is answered by TEXT, which only gate_reply gives. A line that is
-   empty or begins with # asks for nothing. The opening `refuse` is refused, and `end S` ends with status S too. */
+   empty or begins with # asks for nothing. The opening `refuse` is refused, and `end S` ends with status S too. So does reading
+   `fail S` into an event, and copying a handle whose last reply is `fail S`. */
 #include "gate.h"
 
 #include <stdlib.h>
@@ -14,7 +15,7 @@ struct session {
 
 static size_t open_handles;
 
-/* How many handles are open. */
+/* How many handles and events are open. */
 size_t fake_open_handles(void) { return open_handles; }
 
 static uint32_t put(uint32_t status, const void *text, size_t length, uint8_t *out, size_t room, size_t *size) {
@@ -32,10 +33,10 @@ static int begins(const uint8_t *line, size_t size, const char *word) {
     return size >= strlen(word) && memcmp(line, word, strlen(word)) == 0;
 }
 
-/* The status behind the word `end`, which is one of one digit or two. */
+/* The status behind the word `end` or `fail`, which is one of one digit or two. */
 static uint32_t status_behind(const uint8_t *line, size_t size) {
     uint32_t status = 0;
-    for (size_t at = strlen("end "); at < size && line[at] >= '0' && line[at] <= '9'; at++) status = 10 * status + (uint32_t)(line[at] - '0');
+    for (size_t at = begins(line, size, "fail ") ? strlen("fail ") : strlen("end "); at < size && line[at] >= '0' && line[at] <= '9'; at++) status = 10 * status + (uint32_t)(line[at] - '0');
     return status;
 }
 
@@ -83,6 +84,50 @@ void gate_close(struct gate *gate) {
     free(session);
     *gate = (struct gate)GATE_CLOSED;
     open_handles--;
+}
+
+uint32_t gate_copy(struct gate *gate, struct gate *copy) {
+    if (copy->is_open) return GATE_ALREADY_OPEN;
+    if (!gate->is_open) return GATE_NOT_OPEN;
+    const struct session *session = gate->slot.session;
+    if (begins(session->reply, session->size, "fail ")) return status_behind(session->reply, session->size);
+    struct session *made = calloc(1, sizeof *made);
+    made->size = session->size;
+    made->reply = malloc(session->size + 1);
+    if (session->size) memcpy(made->reply, session->reply, session->size);
+    copy->slot.session = made;
+    copy->is_open = true;
+    open_handles++;
+    return GATE_DONE;
+}
+
+void gate_event_close(struct gate_event *event) {
+    if (!event->is_open) return;
+    struct session *line = event->slot.reading;
+    free(line->reply);
+    free(line);
+    *event = (struct gate_event)GATE_CLOSED;
+    open_handles--;
+}
+
+uint32_t gate_read(struct gate_event *event, const uint8_t *line, size_t line_size) {
+    if (begins(line, line_size, "fail ")) return status_behind(line, line_size);
+    gate_event_close(event);
+    struct session *held = calloc(1, sizeof *held);
+    held->size = line_size;
+    held->reply = malloc(line_size + 1);
+    memcpy(held->reply, line, line_size);
+    event->slot.reading = held;
+    event->is_open = true;
+    open_handles++;
+    return GATE_DONE;
+}
+
+uint32_t gate_answer_event(struct gate *gate, struct gate_event *event, uint8_t *out, size_t room, size_t *size) {
+    *size = 0;
+    if (!event->is_open) return GATE_NOT_OPEN;
+    const struct session *line = event->slot.reading;
+    return gate_answer(gate, line->reply, line->size, out, room, size);
 }
 
 uint32_t gate_check(const uint8_t *input, size_t input_size, uint8_t *out, size_t room, size_t *size) {

@@ -90,6 +90,31 @@ static void faults() {
     HOLDS(fake_open_handles() == 1);
 }
 
+static void events() {
+    static_assert(!std::is_copy_constructible_v<gate_c::Event> && std::is_nothrow_move_constructible_v<gate_c::Event>);
+    Gate gate("");
+    gate_c::Event event("set"), closed;
+    HOLDS(fake_open_handles() == 2 && event.is_open() && !closed.is_open());
+    HOLDS(gate.answer(event) == "set\n" && gate.is_answered() && gate.ask(event)->kind == gate_c::Kind::set);
+    HOLDS(fault_of([&] { gate.answer(closed); }) == GATE_NOT_OPEN && !gate.is_answered() && gate.reply() == "set\n");
+    HOLDS(fault_of([&] { event.read("fail 7"); }) == GATE_LINE_TOO_LONG && gate.answer(event) == "set\n");
+    HOLDS(fault_of([] { gate_c::Event unread("fail 3"); }) == 99);
+    closed = std::move(event);
+    HOLDS(!event.is_open() && closed.is_open() && fake_open_handles() == 2);
+    closed.read("left");
+    const std::string longest(1000, 'x');
+    event.read(longest);
+    HOLDS(gate.answer(closed) == "left\n" && gate.answer(event) == longest + "\n" && fake_open_handles() == 3);
+    event.close();
+    event.read("# a comment");
+    HOLDS(!gate.ask(event) && gate.answer(closed) == "left\n");
+    Gate copy = gate.copy();
+    HOLDS(copy.is_answered() && copy.reply() == "left\n" && copy.answer("set") == "set\n" && gate.reply() == "left\n");
+    HOLDS(gate.answer("fail 3") == "fail 3\n" && fault_of([&] { gate.copy(); }) == 99);
+    HOLDS(fault_of([] { Gate().copy(); }) == GATE_NOT_OPEN);
+    HOLDS(fake_open_handles() == 4);
+}
+
 static void calls() {
     Gate gate("");
     const std::optional<gate_c::Reply> reply = gate.ask("denied A7 close bad-txns-txouttotal-toolarge");
@@ -104,6 +129,7 @@ static void calls() {
 int main() {
     moves();
     faults();
+    events();
     calls();
     HOLDS(fake_open_handles() == 0);
     return failed;

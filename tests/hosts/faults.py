@@ -42,7 +42,19 @@ def main():
         assert (str(refused), refused.line, refused.token) == ("opening 1 bad-line", 1, "bad-line")
         assert fault_of(gate.OutOfMemory, gate.Gate, "end 3").status == gate.Status.OUT_OF_MEMORY
         assert open_handles() == 1
+        event = gate.Event("left")
+        assert one.answer(event) == "left\n" and one.ask(event).kind is gate.Kind.LEFT and open_handles() == 2
+        assert one.ask(gate.Event(b"# a comment")) is None and open_handles() == 2
+        assert fault_of(gate.LineTooLong, gate.Event, "fail 7").status == gate.Status.LINE_TOO_LONG
+        assert isinstance(fault_of(gate.OutOfMemory, gate.Event, "fail 3"), MemoryError)
+        assert one.answer(event) == "left\n"
+        with one.copy() as copy:
+            assert copy.reply() == "left\n" and copy.answer("set") == "set\n" and open_handles() == 3
+        assert one.reply() == "left\n" and one.answer("fail 3") == "fail 3\n"
+        assert isinstance(fault_of(gate.OutOfMemory, one.copy), MemoryError)
+        del event
     assert not one.is_open and open_handles() == 0
+    assert isinstance(fault_of(gate.NotOpen, one.copy), gate.GateError)
     assert fault_of(gate.NotOpen, one.answer, "set").status == gate.Status.NOT_OPEN
     one.close()
     gate.Gate("")

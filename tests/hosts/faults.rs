@@ -1,6 +1,6 @@
 //! The crate on the library of fake_library.c: errors, replies in their parts, gates that are dropped.
 
-use gate::{check, version, Check, Error, Gate, Keys, NotAReply, Reply, Rule, Then};
+use gate::{check, version, Check, Error, Event, Gate, Keys, NotAReply, Reply, Rule, Then};
 
 extern "C" {
     fn fake_open_handles() -> usize;
@@ -52,6 +52,30 @@ fn faults() {
     assert_eq!(open_handles(), 1);
 }
 
+fn events() {
+    let mut gate = open_gate();
+    // lines are read by other threads
+    let lines = ["set", "left", "# a comment"];
+    let readers = lines.map(|line| std::thread::spawn(move || Event::read(line).expect("an event")));
+    let mut events = readers.map(|reader| reader.join().expect("no panic"));
+    assert_eq!(open_handles(), 4);
+    assert_eq!(format!("{:?}", events[0]), "Event { .. }");
+    for _ in 0..2 {
+        assert_eq!(gate.answer_event(&mut events[0]).as_deref(), Ok("set\n"));
+    }
+    assert_eq!(gate.ask_event(&mut events[2]), Ok(None));
+    assert_eq!(gate.ask_event(&mut events[1]), Ok(Some(Reply::Left)));
+    assert_eq!(Event::read("fail 7").err(), Some(Error::LineTooLong));
+    assert_eq!(Event::read("fail 3").err(), Some(Error::OutOfMemory));
+    let mut copy = gate.copy().expect("a copy");
+    assert_eq!(copy.reply().as_deref(), Ok("left\n"));
+    assert_eq!(copy.answer_event(&mut events[0]).as_deref(), Ok("set\n"));
+    assert_eq!(gate.reply().as_deref(), Ok("left\n"));
+    assert_eq!(gate.answer("fail 3").as_deref(), Ok("fail 3\n"));
+    assert_eq!(gate.copy().err(), Some(Error::OutOfMemory));
+    assert_eq!(open_handles(), 5);
+}
+
 fn calls() {
     let reply = open_gate().ask("denied A7 close bad-txns-txouttotal-toolarge").expect("a reply").expect("a reply");
     let rule = Rule { letter: 'A', number: 7 };
@@ -66,6 +90,7 @@ fn calls() {
 fn main() {
     moves();
     faults();
+    events();
     calls();
     assert_eq!(open_handles(), 0);
 }

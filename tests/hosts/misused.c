@@ -99,6 +99,47 @@ int main(void) {
     HOLDS(answer(&other, "peer 1 enter 192.0.2.1", ROOM) == GATE_DONE && is_text("entered none\n"));
     gate_close(&other);
 
+    /* copies: the same last reply and the same state, and each by itself from then on */
+    struct gate copy = GATE_CLOSED, none = GATE_CLOSED;
+    HOLDS(gate_copy(&none, &copy) == GATE_NOT_OPEN && !none.is_open && !copy.is_open);
+    HOLDS(answer(&gate, "peer 7 enter 192.0.2.7", ROOM) == GATE_DONE && is_text("entered none\n"));
+    HOLDS(gate_copy(&gate, &copy) == GATE_DONE && gate.is_open && copy.is_open);
+    HOLDS(gate_copy(&gate, &copy) == GATE_ALREADY_OPEN && gate_copy(&none, &copy) == GATE_ALREADY_OPEN);
+    mark();
+    HOLDS(gate_reply(&copy, out, ROOM, &size) == GATE_DONE && is_text("entered none\n"));
+    HOLDS(answer(&copy, "peer 7 enter 192.0.2.7", ROOM) == GATE_DONE && is_text("denied P3 keep peer-known\n"));
+    HOLDS(answer(&copy, "peer 8 enter 192.0.2.8", ROOM) == GATE_DONE && is_text("entered none\n"));
+    mark();
+    HOLDS(gate_reply(&gate, out, ROOM, &size) == GATE_DONE && is_text("entered none\n"));
+    HOLDS(answer(&gate, "peer 8 enter 192.0.2.8", ROOM) == GATE_DONE && is_text("entered none\n"));
+
+    /* events: closed, read, answered by two handles, read again, and a line that is too long */
+    struct gate_event event = GATE_CLOSED;
+    mark();
+    HOLDS(gate_answer_event(&gate, &event, out, ROOM, &size) == GATE_NOT_OPEN && is_untouched() && size == 0);
+    gate_event_close(&event);
+    HOLDS(gate_read(&event, bytes("peer 9 enter 192.0.2.9"), 22) == GATE_DONE && event.is_open);
+    mark();
+    HOLDS(gate_answer_event(&none, &event, out, ROOM, &size) == GATE_NOT_OPEN && is_untouched() && size == 0 && event.is_open);
+    HOLDS(gate_answer_event(&copy, &event, out, ROOM, &size) == GATE_DONE && is_text("entered none\n") && event.is_open);
+    mark();
+    HOLDS(gate_answer_event(&gate, &event, out, 12, &size) == GATE_BUFFER_TOO_SMALL && is_untouched() && size == 13);
+    HOLDS(gate_answer_event(&gate, &event, out, ROOM, &size) == GATE_DONE && is_text("denied P3 keep peer-known\n"));
+    HOLDS(gate_read(&event, bytes("# a comment"), 11) == GATE_DONE);
+    mark();
+    HOLDS(gate_answer_event(&gate, &event, out, ROOM, &size) == GATE_DONE && is_untouched() && size == 0);
+    HOLDS(gate_read(&event, bytes("nonsense"), 8) == GATE_DONE);
+    HOLDS(gate_answer_event(&gate, &event, out, ROOM, &size) == GATE_DONE && is_text("refused L1 bad-line\n"));
+    char *long_line = malloc(LIMIT + 1);
+    memset(long_line, 'x', LIMIT + 1);
+    HOLDS(gate_read(&event, bytes(long_line), LIMIT + 1) == GATE_LINE_TOO_LONG && event.is_open);
+    HOLDS(gate_answer_event(&gate, &event, out, ROOM, &size) == GATE_DONE && is_text("refused L1 bad-line\n"));
+    free(long_line);
+    gate_event_close(&event);
+    HOLDS(!event.is_open);
+    gate_event_close(&event);
+    gate_close(&copy);
+
     /* closed twice, and opened again */
     gate_close(&gate);
     HOLDS(!gate.is_open && answer(&gate, "peer 1 mempool", ROOM) == GATE_NOT_OPEN);

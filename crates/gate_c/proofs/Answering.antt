@@ -1,6 +1,5 @@
 -- What answers a line.
-use Rattle.std.proofs.Common.{◌≡◌, ℕ, List, [], ◌∷◌, Bool, false, Option, Some, None, MatchBool, subst, sym, refl}
-use Rattle.std.specs.Prelude.{Result, Ok, Err, IfOk}
+use Rattle.std.proofs.Common.{◌≡◌, ℕ, List, [], ◌∷◌, Bool, false, Option, Some, None, MatchBool, inl, subst, sym, refl, ◌∙◌}
 use Rattle.gate_core.specs.World.{World}
 use Rattle.gate_events.specs.EventLines.{line_event}
 use Rattle.gate_lane.specs.Lanes.{LineAnswered}
@@ -10,7 +9,13 @@ use Rattle.gate_lines.specs.Refused.{bad_line}
 use Rattle.gate_message.specs.Texts.{reply_text}
 use Rattle.gate_message.specs.declared.event.Event.{Event}
 use Rattle.gate_c.specs.declared.answer.Answer.{Answer}
+use Rattle.gate_c.specs.declared.reading.Reading.{Reading}
+use Rattle.gate_c.specs.declared.reading.Reading.TheVariants as readings
 use Rattle.gate_c.specs.Answers.{Answered, EventAnswered, Steps}
+use Rattle.gate_c.specs.declared.session.Session.{Session}
+use Rattle.gate_c.specs.Calls.{AnswerPut, AnswerRepeated, LineCalled}
+use Rattle.gate_c.specs.Readings.{IsRead, ReadingAnswered, Reads}
+use Rattle.gate_c.specs.Sessions.{OpeningKept}
 
 one_line : (old new : World) (line reply : List ℕ) (event : Option Event) → is_skipped line ≡ false → line_event line ≡ event
     → lane.EventAnswered Steps old event reply new → LineAnswered Steps old line (reply ∷ []) new
@@ -19,7 +24,7 @@ one_line old new line reply event asks is answered =
     (subst (λ (o : Option Event). lane.EventAnswered Steps old o reply new) (sym is) answered)
 
 -- what answers the event that a line spells answers the line
-pub line_answered : (old new : World) (line : List ℕ) (event : Option Event) (answer : Answer) → is_skipped line ≡ false → line_event line ≡ event
+line_answered : (old new : World) (line : List ℕ) (event : Option Event) (answer : Answer) → is_skipped line ≡ false → line_event line ≡ event
     → EventAnswered old event answer new → Answered old line answer new
 line_answered old new line None answer asks is answered =
     subst (λ (a : Answer). Answered old line a new) (sym answered.0) (one_line old new line bad_line None asks is (refl, answered.1))
@@ -27,8 +32,24 @@ line_answered old new line (Some event) answer asks is answered =
     subst (λ (a : Answer). Answered old line a new) (sym answered.1)
     (one_line old new line (reply_text answered.0) (Some event) asks is (answered.0, refl, answered.2, answered.3))
 
--- so it does where memory may have run out
-pub result_answered : {E : Type 0} (result : Result Answer E) (old new : World) (line : List ℕ) (event : Option Event) → is_skipped line ≡ false → line_event line ≡ event
-    → IfOk result (λ answer. EventAnswered old event answer new) → IfOk result (λ answer. Answered old line answer new)
-result_answered (Ok answer) old new line event asks is answered = line_answered old new line event answer asks is answered
-result_answered (Err fault) old new line event asks is answered = answered
+-- what answers what a line asks for answers the line
+pub reading_answered : (old new : World) (line : List ℕ) (reading : Reading) (answer : Answer) → Reads line reading
+    → ReadingAnswered old reading answer new → Answered old line answer new
+reading_answered old new line readings.Nothing answer skips answered = subst (λ (a : Answer). Answered old line a new) (sym answered.0) (skips, answered.1)
+reading_answered old new line readings.BadLine answer reads answered = line_answered old new line None answer reads.0 reads.1 answered
+reading_answered old new line (readings.Event event) answer reads answered = line_answered old new line (Some event) answer reads.0 reads.1 answered
+
+-- an answer to what a line asks for, which is then put, is one to the line
+pub line_called : (old mid new : Session) (line : List ℕ) (reading : Reading) (before after : List ℕ) (size status : ℕ) → IsRead line reading
+    → ReadingAnswered old.state reading mid.answer mid.state → OpeningKept old mid → AnswerRepeated mid new before after size status
+    → LineCalled old line new before after size status
+line_called old mid new line reading before after size status read answered kept repeated =
+    let state : new.state ≡ mid.state = repeated.0.1 in
+    let answer : new.answer ≡ mid.answer = repeated.0.2 in
+    let there : Answered old.state line mid.answer mid.state = reading_answered old.state mid.state line reading mid.answer read.1 answered in
+    inl (
+      read.0,
+      subst (λ (a : Answer). Answered old.state line a new.state) (sym answer) (subst (λ (w : World). Answered old.state line mid.answer w) (sym state) there),
+      repeated.0.0 ∙ kept,
+      subst (λ (a : Answer). AnswerPut a before after size status) (sym answer) repeated.1,
+    )

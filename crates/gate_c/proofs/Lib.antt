@@ -1,4 +1,5 @@
 mod AsBox
+mod EventAsBox
 mod Answering
 mod Reaching
 mod Checking

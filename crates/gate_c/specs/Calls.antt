@@ -7,10 +7,12 @@ use Rattle.gate_opening.specs.Said.{spelled}
 use Rattle.gate_prog.specs.Checks.{check_lines, check_status, input_spells}
 use Rattle.gate_prog.specs.Jobs.{opening_line}
 use Rattle.gate_c.specs.declared.answer.Answer.{Answer}
+use Rattle.gate_c.specs.declared.reading.Reading.{Reading}
 use Rattle.gate_c.specs.declared.session.Session.{Session}
 use Rattle.gate_c.specs.declared.status.Status.TheVariants as statuses
 use Rattle.gate_c.specs.Answers.{answer_lines, Answered}
 use Rattle.gate_c.specs.Outputs.{NothingPut, OutOfMemory, TextPut}
+use Rattle.gate_c.specs.Readings.{IsRead, ReadingAnswered}
 use Rattle.gate_c.specs.Sessions.{AnswerKept, IsOpened, OpeningKept}
 use Rattle.gate_c.specs.Statuses.{code_of, done}
 
@@ -51,6 +53,51 @@ abbrev pub ReplyCalled : Option Session → Option Session → List ℕ → List
 ReplyCalled None new before after size status = (new ≡ None) × NothingPut (code_of statuses.NotOpen) before after size status
 ReplyCalled (Some old) None before after size status = ⊥
 ReplyCalled (Some old) (Some new) before after size status = AnswerRepeated old new before after size status
+
+-- ---- a line that is read before it is answered
+
+-- the line can't be read: memory ran out, or it is too long
+abbrev pub Unread : List ℕ → ℕ → Type 0
+Unread line status = (status ≡ code_of statuses.OutOfMemory) ⊎ ((line_limit < length line) × (status ≡ code_of statuses.LineTooLong))
+
+-- the event is what this line asks for
+abbrev pub HoldsLine : List ℕ → Option Reading → Type 0
+HoldsLine line None = ⊥
+HoldsLine line (Some reading) = IsRead line reading
+
+-- the event is then what the line asks for, or is as before
+abbrev pub ReadCalled : Option Reading → List ℕ → Option Reading → ℕ → Type 0
+ReadCalled old line new status = ((status ≡ done) × HoldsLine line new) ⊎ ((new ≡ old) × Unread line status)
+
+-- what a line asks for is answered, and its answer is kept; or nothing has changed; the opening is the same after every call
+abbrev pub ReadingCalled : Session → Reading → Session → List ℕ → List ℕ → ℕ → ℕ → Type 0
+ReadingCalled old reading new before after size status =
+    (ReadingAnswered old.state reading new.answer new.state × OpeningKept old new × AnswerPut new.answer before after size status)
+    ⊎ (AnswerKept old new × OutOfMemory before after size status)
+
+-- what a line asks for is answered by a handle that is open
+abbrev pub OpenCalledBy : Option Session → Reading → Option Session → List ℕ → List ℕ → ℕ → ℕ → Type 0
+OpenCalledBy None reading new before after size status = (new ≡ None) × NothingPut (code_of statuses.NotOpen) before after size status
+OpenCalledBy (Some old) reading None before after size status = ⊥
+OpenCalledBy (Some old) reading (Some new) before after size status = ReadingCalled old reading new before after size status
+
+-- the event is answered, or one of the two handles is closed, and nothing has changed
+abbrev pub EventCalled : Option Session → Option Reading → Option Session → List ℕ → List ℕ → ℕ → ℕ → Type 0
+EventCalled old None new before after size status = (new ≡ old) × NothingPut (code_of statuses.NotOpen) before after size status
+EventCalled old (Some reading) new before after size status = OpenCalledBy old reading new before after size status
+
+-- ---- a copy
+
+-- the second handle holds a session with the same opening, the same state and the same last answer; or memory ran out
+abbrev pub CopyMade : Session → Option Session → ℕ → Type 0
+CopyMade old None status = status ≡ code_of statuses.OutOfMemory
+CopyMade old (Some copy) status = (status ≡ done) × AnswerKept old copy
+
+-- the first handle is as before; so is the second one, unless a copy is made
+abbrev pub CopyCalled : Option Session → Option Session → Option Session → Option Session → ℕ → Type 0
+CopyCalled old (Some held) new copy status = (new ≡ old) × (copy ≡ Some held) × (status ≡ code_of statuses.AlreadyOpen)
+CopyCalled None None new copy status = (new ≡ None) × (copy ≡ None) × (status ≡ code_of statuses.NotOpen)
+CopyCalled (Some old) None new copy status = (new ≡ Some old) × CopyMade old copy status
 
 -- ---- an opening
 

@@ -1,7 +1,9 @@
 pub mod Statuses
 pub mod Answers
+pub mod Readings
 pub mod Reached
 pub mod Sessions
 pub mod Slots
+pub mod EventSlots
 pub mod Outputs
 pub mod Calls

@@ -1,8 +1,8 @@
 //! The answer to a line.
-ghost use Rattle.std.specs.Prelude.{◌≡◌, OnOk, string_bytes};
+ghost use Rattle.std.specs.Prelude.{◌≡◌, IfOk, OnOk, string_bytes};
 ghost use Rattle.gate_lines.specs.Lines.{unlines};
 
-use gate_bytes::Memory;
+use gate_bytes::{Copied, Memory};
 use gate_message::Reply;
 use std::alloc::Global;
 
@@ -18,6 +18,16 @@ pub enum Answer {
 
 impl Answer {
     ghost use Rattle.gate_c.specs.Answers.{answer_lines};
+
+    pub fn copy(&self, alloc: Global) -> Result<Answer, Memory>
+        ensures { IfOk result (λ copy. copy ≡ self.now) }
+    {
+        match self {
+            Answer::Nothing => Ok(Answer::Nothing),
+            Answer::BadLine => Ok(Answer::BadLine),
+            Answer::Reply(reply) => Ok(Answer::Reply(reply.copy(alloc)?)),
+        }
+    }
 
     /// Replaces what `text` holds with the line of the answer and its newline.
     pub fn write(&self, alloc: Global, text: &mut String) -> Result<(), Memory>

@@ -1,16 +1,29 @@
 //! What a call does behind its handle.
-ghost use Rattle.std.specs.Prelude.{◌≡◌, ◌≤◌, MatchResult};
-ghost use Rattle.gate_c.specs.Calls.{AnswerRepeated, CheckCalled, LineCalled, Opened, RefusalPut, Unopened};
+ghost use Rattle.std.specs.Prelude.{◌≡◌, ◌≤◌, List, ℕ, MatchResult};
+ghost use Rattle.gate_c.specs.Calls.{AnswerRepeated, CheckCalled, LineCalled, Opened, ReadingCalled, RefusalPut, Unopened, Unread};
+ghost use Rattle.gate_c.specs.Readings.{IsRead};
+ghost use Rattle.gate_c.specs.Sessions.{AnswerKept};
 ghost use Rattle.gate_c.specs.Statuses.{code_of};
 
 use crate::keys::Keys;
 use crate::output::{put_nothing, put_text};
+use crate::reading::Reading;
 use crate::session::Session;
 use crate::status::Status;
 use gate_lines::MAX_LINE;
 use gate_opening::{OpeningFault, OpeningToken};
 use gate_prog::run_check_input;
 use std::alloc::Global;
+
+/// Puts a value into a box.
+fn boxed<T: Drop>(alloc: Global, value: T) -> Result<Box<T, Global>, Status>
+    ensures { MatchResult result (λ made. made.value ≡ value) (λ status. status ≡ Status.OutOfMemory) }
+{
+    match Box::new(alloc, value) {
+        Ok(made) => Ok(made),
+        Err(_) => Err(Status::OutOfMemory),
+    }
+}
 
 /// The status of a check that was made.
 fn check_status(status: u8) -> Status
@@ -50,6 +63,45 @@ pub fn repeat_answer(
     }
 }
 
+/// Reads a line, unless it is too long.
+pub fn read_line(alloc: Global, line: &[u8]) -> Result<Reading, Status>
+    ensures { MatchResult result (λ reading. IsRead line.now reading) (λ status. Unread line.now (code_of status)) }
+{
+    if line.len() > MAX_LINE {
+        return Err(Status::LineTooLong);
+    }
+    match Reading::of(alloc, line) {
+        Ok(reading) => Ok(reading),
+        Err(_) => Err(Status::OutOfMemory),
+    }
+}
+
+/// Reads a line into a box.
+pub fn read_event(alloc: Global, line: &[u8]) -> Result<Box<Reading, Global>, Status>
+    ensures { MatchResult result (λ reading. IsRead line.now reading.value) (λ status. Unread line.now (code_of status)) }
+{
+    let reading = read_line(alloc, line)?;
+    boxed(alloc, reading)
+}
+
+/// Answers what a line asks for, and puts the answer into the buffer.
+pub fn answer_reading(
+    alloc: Global,
+    session: &mut Session,
+    reading: &Reading,
+    out: &mut [u8],
+    size: &mut usize,
+) -> Status
+    ensures answered { ReadingCalled session.old reading.now session.new out.old out.new size.new (code_of result) }
+    ensures as_line { (line : List ℕ) → IsRead line reading.now →
+        LineCalled session.old line session.new out.old out.new size.new (code_of result) }
+{
+    match session.answer(alloc, reading) {
+        Ok(()) => repeat_answer(alloc, session, out, size),
+        Err(_) => put_nothing(Status::OutOfMemory, size),
+    }
+}
+
 /// Answers a line, and puts the answer into the buffer.
 pub fn answer_line(
     alloc: Global,
@@ -60,12 +112,19 @@ pub fn answer_line(
 ) -> Status
     ensures { LineCalled session.old line.now session.new out.old out.new size.new (code_of result) }
 {
-    if line.len() > MAX_LINE {
-        return put_nothing(Status::LineTooLong, size);
+    match read_line(alloc, line) {
+        Ok(reading) => answer_reading(alloc, session, &reading, out, size),
+        Err(status) => put_nothing(status, size),
     }
-    match session.answer(alloc, line) {
-        Ok(()) => repeat_answer(alloc, session, out, size),
-        Err(_) => put_nothing(Status::OutOfMemory, size),
+}
+
+/// A copy of a session.
+pub fn copy_session(alloc: Global, session: &Session) -> Result<Box<Session, Global>, Status>
+    ensures { MatchResult result (λ copy. AnswerKept session.now copy.value) (λ status. status ≡ Status.OutOfMemory) }
+{
+    match session.copy(alloc) {
+        Ok(copy) => boxed(alloc, copy),
+        Err(_) => Err(Status::OutOfMemory),
     }
 }
 
@@ -82,16 +141,6 @@ fn refuse_opening(
     match format!(in alloc; "opening {line} {token}\n") {
         Ok(text) => put_text(Status::OpeningRefused, text.as_bytes(), out, size),
         Err(_) => put_nothing(Status::OutOfMemory, size),
-    }
-}
-
-/// A value in a box of its own.
-fn boxed<T: Drop>(alloc: Global, value: T) -> Result<Box<T, Global>, Status>
-    ensures { MatchResult result (λ made. made.value ≡ value) (λ status. status ≡ Status.OutOfMemory) }
-{
-    match Box::new(alloc, value) {
-        Ok(made) => Ok(made),
-        Err(_) => Err(Status::OutOfMemory),
     }
 }
 

@@ -1,10 +1,14 @@
 //! The handle that C holds: a slot for a session, and whether it is full.
 ghost use Rattle.std.specs.Prelude.{◌≡◌, Some, None, MatchOption, is_some};
 
+mod event;
+mod event_slot;
 mod parts;
 mod slot;
 
 use crate::session::Session;
+pub use event::GateEvent;
+pub use event_slot::EventSlot;
 use parts::Parts;
 pub use slot::Slot;
 use std::alloc::Global;

@@ -4,24 +4,30 @@
 //! line that the line has in the handle's state, and the handle then holds the state after it.
 #![tactic(auto)]
 
-ghost use Rattle.std.specs.Prelude.{◌≡◌, None, codes};
-ghost use Rattle.gate_c.specs.Calls.{AnswerCalled, CheckCalled, OpenCalled, ReplyCalled};
+ghost use Rattle.std.specs.Prelude.{◌≡◌, List, ℕ, None, codes};
+ghost use Rattle.gate_c.specs.Calls.{AnswerCalled, CheckCalled, CopyCalled, EventCalled, HoldsLine, OpenCalled, OpenCalledBy, ReadCalled, ReplyCalled};
 ghost use Rattle.gate_c.specs.Outputs.{TextPut};
-ghost use Rattle.gate_c.specs.Statuses.{done};
+ghost use Rattle.gate_c.specs.Readings.{IsRead};
+ghost use Rattle.gate_c.specs.Statuses.{code_of, done};
 
 mod answer;
 mod calls;
 mod handle;
 mod keys;
 mod output;
+mod reading;
+mod remembered;
 mod session;
 mod status;
 
-use calls::{answer_line, check_input, open_session, repeat_answer};
+use calls::{
+    answer_line, answer_reading, check_input, copy_session, open_session, read_event, repeat_answer,
+};
 use gate_prog::VERSION;
-use handle::Gate;
+use handle::{Gate, GateEvent};
 use keys::Keys;
 use output::{put_nothing, put_text};
+use reading::Reading;
 use status::Status;
 use std::alloc::Global;
 
@@ -98,6 +104,100 @@ pub extern "C" fn gate_close(alloc: Global, gate: &mut Gate)
     ensures { gate.new.slot.session ≡ None }
 {
     drop(gate.take(alloc));
+}
+
+/// Opens a second handle, which is closed, with a copy of what the first one holds: the same state and the same last reply. Only
+/// transactions, which never change, are shared.
+#[unsafe(no_mangle)]
+pub extern "C" fn gate_copy(alloc: Global, gate: &mut Gate, copy: &mut Gate) -> u32
+    ensures { CopyCalled gate.old.slot.session copy.old.slot.session gate.new.slot.session copy.new.slot.session result }
+{
+    if copy.is_open {
+        return Status::AlreadyOpen.code();
+    }
+    match gate.take(alloc) {
+        Some(session) => {
+            let copied = copy_session(alloc, &session);
+            gate.put(session);
+            match copied {
+                Ok(session) => {
+                    copy.put(session);
+                    Status::Done.code()
+                }
+                Err(status) => status.code(),
+            }
+        }
+        None => Status::NotOpen.code(),
+    }
+}
+
+/// Reads a line, given without its newline, into an event, in the place of what that holds. It needs no gate: a
+/// transaction is decoded and hashed, and the rules on it alone are tested.
+#[unsafe(no_mangle)]
+pub extern "C" fn gate_read(alloc: Global, event: &mut GateEvent, line: &[u8]) -> u32
+    ensures { ReadCalled event.old.slot.reading line.now event.new.slot.reading result }
+{
+    match read_event(alloc, line) {
+        Ok(reading) => {
+            event.put(reading);
+            Status::Done.code()
+        }
+        Err(status) => status.code(),
+    }
+}
+
+/// Answers what a line asks for by a handle, and puts its reply line into the buffer.
+fn answer_by(
+    alloc: Global,
+    gate: &mut Gate,
+    reading: &Reading,
+    out: &mut [u8],
+    size: &mut usize,
+) -> Status
+    ensures answered { OpenCalledBy gate.old.slot.session reading.now gate.new.slot.session out.old out.new size.new (code_of result) }
+    ensures as_line { (line : List ℕ) → IsRead line reading.now →
+        AnswerCalled gate.old.slot.session line gate.new.slot.session out.old out.new size.new (code_of result) }
+{
+    match gate.take(alloc) {
+        Some(mut session) => {
+            let status = answer_reading(alloc, &mut session, reading, out, size);
+            gate.put(session);
+            status
+        }
+        None => put_nothing(Status::NotOpen, size),
+    }
+}
+
+/// Answers an event as [`gate_answer`] answers the line that it was read from. The event stays open.
+#[unsafe(no_mangle)]
+pub extern "C" fn gate_answer_event(
+    alloc: Global,
+    gate: &mut Gate,
+    event: &mut GateEvent,
+    out: &mut [u8],
+    size: &mut usize,
+) -> u32
+    ensures answered { EventCalled gate.old.slot.session event.old.slot.reading gate.new.slot.session out.old out.new size.new result }
+    ensures as_line { (line : List ℕ) → HoldsLine line event.old.slot.reading →
+        AnswerCalled gate.old.slot.session line gate.new.slot.session out.old out.new size.new result }
+    ensures kept { event.new.slot.reading ≡ event.old.slot.reading }
+{
+    match event.take(alloc) {
+        Some(reading) => {
+            let status = answer_by(alloc, gate, &reading, out, size);
+            event.put(reading);
+            status.code()
+        }
+        None => put_nothing(Status::NotOpen, size).code(),
+    }
+}
+
+/// Closes an event, and frees what it holds. A closed event stays closed.
+#[unsafe(no_mangle)]
+pub extern "C" fn gate_event_close(alloc: Global, event: &mut GateEvent)
+    ensures { event.new.slot.reading ≡ None }
+{
+    drop(event.take(alloc));
 }
 
 /// Checks by itself the transaction that the digits of an input spell, and puts the lines of the check into the buffer.

@@ -16,11 +16,12 @@ import secrets
 import threading
 from typing import Any, Callable, NamedTuple, Optional, Union
 
-from .library import Handle, Keys, Status, library
+from .library import EventHandle, Handle, Keys, Status, library
 from .replies import Kind, NotAReply, Reply, Then
 
 __all__ = [
     "Check",
+    "Event",
     "Gate",
     "GateError",
     "Kind",
@@ -51,7 +52,7 @@ class GateError(Exception):
 
 
 class NotOpen(GateError):
-    """The gate is closed."""
+    """The gate is closed, or the event is."""
 
 
 class OpeningRefused(GateError):
@@ -87,7 +88,7 @@ class Check(NamedTuple):
 
 _FAULTS: dict[int, tuple[type[GateError], str]] = {
     Status.OUT_OF_MEMORY: (OutOfMemory, "out of memory"),
-    Status.NOT_OPEN: (NotOpen, "the gate is closed"),
+    Status.NOT_OPEN: (NotOpen, "the gate or the event is closed"),
     Status.LINE_TOO_LONG: (LineTooLong, "the line is too long"),
     Status.REPLY_KEPT: (ReplyKept, "out of memory in the text of a reply"),
 }
@@ -117,12 +118,33 @@ def _bytes(text: Text) -> bytes:
     return text.encode() if isinstance(text, str) else bytes(text)
 
 
+def _fault_of(status: int) -> GateError:
+    fault, what = _FAULTS.get(status, (GateError, "status %d" % status))
+    return fault(status, what)
+
+
 def _text_of(status: int, text: bytes, is_done: bool) -> str:
     """The text, if the call gave one."""
     if is_done:
         return text.decode()
-    fault, what = _FAULTS.get(status, (GateError, "status %d" % status))
-    raise fault(status, what)
+    raise _fault_of(status)
+
+
+class Event:
+    """What a line asks for, read before a gate is asked: a transaction in it is decoded and hashed, and the rules on it alone
+    are tested. Threads read at the same time. Any number of gates may be asked by one event, which stays as it is."""
+
+    def __init__(self, line: Text) -> None:
+        self._library = library()
+        self._handle, self._lock = EventHandle(), threading.Lock()
+        text = _bytes(line)
+        status = self._library.gate_read(ctypes.byref(self._handle), text, len(text))
+        if status != Status.DONE:
+            raise _fault_of(status)
+
+    def __del__(self) -> None:
+        if hasattr(self, "_lock"):
+            self._library.gate_event_close(ctypes.byref(self._handle))
 
 
 class Gate:
@@ -140,18 +162,36 @@ class Gate:
             raise OpeningRefused(status, line.decode().rstrip("\n"))
         _text_of(status, line, status == Status.DONE)
 
-    def ask(self, line: Text) -> Optional[Reply]:
-        """The reply to a line, in its parts; None where the line asks for nothing."""
+    def ask(self, line: Union[Text, Event]) -> Optional[Reply]:
+        """The reply to a line, in its parts; None where the line asks for nothing. The line may have been read beforehand."""
         text = self.answer(line)
         return Reply.parse(text) if text else None
 
-    def answer(self, line: Text) -> str:
+    def answer(self, line: Union[Text, Event]) -> str:
         """The reply to a line as text, with its newline; nothing where the line asks for nothing."""
-        text, handle = _bytes(line), ctypes.byref(self._handle)
-        again = (self._library.gate_reply, handle)
+        if isinstance(line, Event):
+            with line._lock:
+                return self._answer(self._library.gate_answer_event, ctypes.byref(line._handle))
+        text = _bytes(line)
+        return self._answer(self._library.gate_answer, text, len(text))
+
+    def _answer(self, call: Callable[..., int], *given: Any) -> str:
+        handle = ctypes.byref(self._handle)
         with self._lock:
-            status, reply = self._buffer.fill(self._library.gate_answer, handle, text, len(text), again=again)
+            status, reply = self._buffer.fill(call, handle, *given, again=(self._library.gate_reply, handle))
         return _text_of(status, reply, status == Status.DONE)
+
+    def copy(self) -> Gate:
+        """A second gate with the same state and the same last reply. Both answer alike from then on, and neither knows what the
+        other is asked."""
+        made = Gate.__new__(Gate)
+        made._library = self._library
+        made._handle, made._buffer, made._lock = Handle(), _Buffer(), threading.Lock()
+        with self._lock:
+            status = self._library.gate_copy(ctypes.byref(self._handle), ctypes.byref(made._handle))
+        if status != Status.DONE:
+            raise _fault_of(status)
+        return made
 
     def reply(self) -> str:
         """The reply to the last line once more."""

@@ -29,6 +29,10 @@ class Handle(ctypes.Structure):
     _fields_ = [("session", ctypes.c_void_p), ("is_open", ctypes.c_bool)]
 
 
+class EventHandle(ctypes.Structure):
+    _fields_ = [("reading", ctypes.c_void_p), ("is_open", ctypes.c_bool)]
+
+
 class Keys(ctypes.Structure):
     _fields_ = [("first", ctypes.c_uint64), ("second", ctypes.c_uint64)]
 
@@ -44,14 +48,18 @@ def _path() -> str:
 
 
 def _parameters() -> list[tuple[str, list[Any]]]:
-    """The calls that give a text, each with what it is given before the buffer, its room and the size of the text."""
-    handle, text, count = ctypes.POINTER(Handle), ctypes.c_char_p, ctypes.c_size_t
+    """The calls that give a status, each with what it is given; a text is put into a buffer, which has room, with its size."""
+    handle, event, text, count = ctypes.POINTER(Handle), ctypes.POINTER(EventHandle), ctypes.c_char_p, ctypes.c_size_t
+    buffer = [text, count, ctypes.POINTER(count)]
     return [
-        ("gate_open", [handle, ctypes.POINTER(Keys), text, count]),
-        ("gate_answer", [handle, text, count]),
-        ("gate_reply", [handle]),
-        ("gate_check", [text, count]),
-        ("gate_version", []),
+        ("gate_open", [handle, ctypes.POINTER(Keys), text, count, *buffer]),
+        ("gate_answer", [handle, text, count, *buffer]),
+        ("gate_reply", [handle, *buffer]),
+        ("gate_copy", [handle, handle]),
+        ("gate_read", [event, text, count]),
+        ("gate_answer_event", [handle, event, *buffer]),
+        ("gate_check", [text, count, *buffer]),
+        ("gate_version", [*buffer]),
     ]
 
 
@@ -61,7 +69,7 @@ def library() -> ctypes.CDLL:
     loaded = ctypes.CDLL(_path())
     for name, given in _parameters():
         call = getattr(loaded, name)
-        call.argtypes = [*given, ctypes.c_char_p, ctypes.c_size_t, ctypes.POINTER(ctypes.c_size_t)]
-        call.restype = ctypes.c_uint32
+        call.argtypes, call.restype = given, ctypes.c_uint32
     loaded.gate_close.argtypes, loaded.gate_close.restype = [ctypes.POINTER(Handle)], None
+    loaded.gate_event_close.argtypes, loaded.gate_event_close.restype = [ctypes.POINTER(EventHandle)], None
     return loaded

@@ -13,6 +13,17 @@ pub struct Handle {
     pub is_open: bool,
 }
 
+#[repr(C)]
+pub struct EventSlot {
+    pub reading: *mut c_void,
+}
+
+#[repr(C)]
+pub struct EventHandle {
+    pub slot: EventSlot,
+    pub is_open: bool,
+}
+
 /// The keys of a gate's hash tables. No reply depends on them, and peers must not know them: with them they could make ids
 /// collide.
 #[repr(C)]
@@ -37,6 +48,10 @@ extern "C" {
     pub fn gate_answer(gate: *mut Handle, line: *const u8, line_size: usize, out: *mut u8, room: usize, size: *mut usize) -> u32;
     pub fn gate_reply(gate: *mut Handle, out: *mut u8, room: usize, size: *mut usize) -> u32;
     pub fn gate_close(gate: *mut Handle);
+    pub fn gate_copy(gate: *mut Handle, copy: *mut Handle) -> u32;
+    pub fn gate_read(event: *mut EventHandle, line: *const u8, line_size: usize) -> u32;
+    pub fn gate_answer_event(gate: *mut Handle, event: *mut EventHandle, out: *mut u8, room: usize, size: *mut usize) -> u32;
+    pub fn gate_event_close(event: *mut EventHandle);
     pub fn gate_check(input: *const u8, input_size: usize, out: *mut u8, room: usize, size: *mut usize) -> u32;
     pub fn gate_version(out: *mut u8, room: usize, size: *mut usize) -> u32;
 }

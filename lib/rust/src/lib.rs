@@ -19,7 +19,8 @@ mod reply;
 pub use calls::Keys;
 pub use reply::{NotAReply, Reply, Rule, Then, Txid};
 
-use calls::{gate_answer, gate_check, gate_close, gate_open, gate_reply, gate_version, Handle, Slot, Status};
+use calls::{gate_answer, gate_answer_event, gate_check, gate_close, gate_copy, gate_event_close, gate_open, gate_read, gate_reply, gate_version};
+use calls::{EventHandle, EventSlot, Handle, Slot, Status};
 use std::collections::hash_map::RandomState;
 use std::fmt;
 use std::hash::{BuildHasher, Hasher};
@@ -116,6 +117,23 @@ fn reply_of((status, text): (Status, String)) -> Result<String, Error> {
     }
 }
 
+/// Whether a call that gives no text is done.
+fn done(code: u32) -> Result<(), Error> {
+    match Status::of(code) {
+        Some(Status::Done) => Ok(()),
+        Some(status) => Err(fault_of(status)),
+        None => Err(Error::UnknownStatus(code)),
+    }
+}
+
+/// A reply line in its parts; `None` where there is none.
+fn parts_of(text: String) -> Result<Option<Reply>, Error> {
+    match text.as_str() {
+        "" => Ok(None),
+        reply => Ok(Some(reply.parse()?)),
+    }
+}
+
 /// The fault that the line `opening LINE TOKEN` names.
 fn refusal_of(text: &str) -> Error {
     let mut words = text.trim_end().splitn(3, ' ').skip(1);
@@ -126,6 +144,35 @@ fn refusal_of(text: &str) -> Error {
     }
 }
 
+/// What a line asks for, read before a gate is asked: a transaction in it is decoded and hashed, and the rules on it alone are
+/// tested. Threads may read at the same time, without a lock, and an event may go to another thread.
+pub struct Event(EventHandle);
+
+// The library proves of what an event owns that it may go to another thread. An event isn't `Sync`: it serves one call at a time.
+unsafe impl Send for Event {}
+
+impl Event {
+    /// Reads a line, which is given without its newline.
+    pub fn read(line: impl AsRef<[u8]>) -> Result<Event, Error> {
+        let mut event = Event(EventHandle { slot: EventSlot { reading: std::ptr::null_mut() }, is_open: false });
+        let line = line.as_ref();
+        done(unsafe { gate_read(&mut event.0, line.as_ptr(), line.len()) })?;
+        Ok(event)
+    }
+}
+
+impl fmt::Debug for Event {
+    fn fmt(&self, f: &mut fmt::Formatter<'_>) -> fmt::Result {
+        f.debug_struct("Event").finish_non_exhaustive()
+    }
+}
+
+impl Drop for Event {
+    fn drop(&mut self) {
+        unsafe { gate_event_close(&mut self.0) }
+    }
+}
+
 /// An open gate. It may go to another thread; threads that share it lock a `Mutex` round it.
 pub struct Gate(Handle);
 
@@ -133,15 +180,19 @@ pub struct Gate(Handle);
 unsafe impl Send for Gate {}
 
 impl Gate {
+    fn closed() -> Gate {
+        Gate(Handle { slot: Slot { session: std::ptr::null_mut() }, is_open: false })
+    }
+
     /// Opens a gate from the lines of an opening.
     pub fn open(keys: Keys, opening: impl AsRef<[u8]>) -> Result<Gate, Error> {
-        let mut handle = Handle { slot: Slot { session: std::ptr::null_mut() }, is_open: false };
-        let (handle_at, opening): (*mut Handle, _) = (&mut handle, opening.as_ref());
+        let mut gate = Gate::closed();
+        let (handle, opening): (*mut Handle, _) = (&mut gate.0, opening.as_ref());
         let call = |out: &mut [u8], size: &mut usize| unsafe {
-            gate_open(handle_at, &keys, opening.as_ptr(), opening.len(), out.as_mut_ptr(), out.len(), size)
+            gate_open(handle, &keys, opening.as_ptr(), opening.len(), out.as_mut_ptr(), out.len(), size)
         };
         match text_of(call, call)? {
-            (Status::Done, _) => Ok(Gate(handle)),
+            (Status::Done, _) => Ok(gate),
             (Status::OpeningRefused, line) => Err(refusal_of(&line)),
             (status, _) => Err(fault_of(status)),
         }
@@ -149,10 +200,12 @@ impl Gate {
 
     /// The reply to a line, in its parts; `None` where the line asks for nothing.
     pub fn ask(&mut self, line: impl AsRef<[u8]>) -> Result<Option<Reply>, Error> {
-        match self.answer(line)?.as_str() {
-            "" => Ok(None),
-            reply => Ok(Some(reply.parse()?)),
-        }
+        parts_of(self.answer(line)?)
+    }
+
+    /// The same for a line that was read beforehand.
+    pub fn ask_event(&mut self, event: &mut Event) -> Result<Option<Reply>, Error> {
+        parts_of(self.answer_event(event)?)
     }
 
     /// The reply to a line as text, with its newline; nothing where the line asks for nothing. The line is given without one.
@@ -162,6 +215,23 @@ impl Gate {
             |out, size| unsafe { gate_answer(gate, line.as_ptr(), line.len(), out.as_mut_ptr(), out.len(), size) },
             |out, size| unsafe { gate_reply(gate, out.as_mut_ptr(), out.len(), size) },
         )?)
+    }
+
+    /// The same for a line that was read beforehand.
+    pub fn answer_event(&mut self, event: &mut Event) -> Result<String, Error> {
+        let (gate, event): (*mut Handle, *mut EventHandle) = (&mut self.0, &mut event.0);
+        reply_of(text_of(
+            |out, size| unsafe { gate_answer_event(gate, event, out.as_mut_ptr(), out.len(), size) },
+            |out, size| unsafe { gate_reply(gate, out.as_mut_ptr(), out.len(), size) },
+        )?)
+    }
+
+    /// A second gate with the same state and the same last reply. Both answer alike from then on, and neither knows what the
+    /// other is asked.
+    pub fn copy(&mut self) -> Result<Gate, Error> {
+        let mut copy = Gate::closed();
+        done(unsafe { gate_copy(&mut self.0, &mut copy.0) })?;
+        Ok(copy)
     }
 
     /// The reply to the last line once more.

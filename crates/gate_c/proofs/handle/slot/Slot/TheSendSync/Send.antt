@@ -12,7 +12,6 @@ use mir.Raw.{raw}
 use Rattle.std.proofs.Crossing as heap
 use Rattle.std.proofs.random_state.RandomState.TheSendSync as random
 use Rattle.std.specs.Global.{Global}
-use Rattle.std.specs.contracts.snapshot.Snapshot as Snapshot
 use Rattle.std_alloc.proofs.SendSync.{lies, quiet}
 use Rattle.std_alloc.proofs.string.String.TheSendSync as string
 use Rattle.std_heap.proofs.Global.TheSendSync as handle
@@ -21,14 +20,15 @@ use Rattle.gate_core.proofs.state.State.TheSendSync as state
 use Rattle.gate_c.proofs.answer.Answer.TheSendSync as answer
 use Rattle.gate_c.specs.Slots.{slot_owns}
 use Rattle.gate_c.specs.contracts.handle.slot.Slot.{the_row, the_type}
+use Rattle.gate_c.specs.contracts.remembered.Remembered as Remembered
 use Rattle.gate_c.specs.contracts.session.Session as Session
 
--- a snapshot owns nothing
-snapshot : (R : RattleType) → IsSend (Snapshot.the_row R)
-snapshot R = record { owned = λ d vs. ((λ vss. (tt, ((λ uss. (tt, tt)), tt))), tt); leaving = λ k f vs. tt }
+-- what is remembered owns nothing
+remembered : (R : RattleType) → IsSend (Remembered.the_row R)
+remembered R = record { owned = λ d vs. ((λ vss. (tt, ((λ uss. (tt, tt)), tt))), tt); leaving = λ k f vs. tt }
 
 session : IsSend Session.the_row
-session = declared_send Session.the_type (search (sendable, as_row_send, snapshot, state.the_send, random.the_send, answer.the_send, string.the_send, handle.the_send, allocator.the_frees) depth 20)
+session = declared_send Session.the_type (search (sendable, as_row_send, remembered, state.the_send, random.the_send, answer.the_send, string.the_send, handle.the_send, allocator.the_frees) depth 20)
 
 owned : (alloc : Global) (at : Ptr) (s : Option Session.the_row.Denot) → Keyless (slot_owns alloc at s)
 owned alloc at None = tt

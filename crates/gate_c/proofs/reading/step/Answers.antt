@@ -1,7 +1,7 @@
 use Rattle.std.proofs.Common.{subst, sym}
 use Rattle.gate_c.specs.Reached.{IsReached}
 use Rattle.gate_c.proofs.Reaching.{step_reached}
-use Rattle.gate_c.proofs.session.step.Goals as goal
+use Rattle.gate_c.proofs.reading.step.Goals as goal
 
 pub returns-in-Ok-clause-reached : goal.returns-in-Ok-clause-reached
 returns-in-Ok-clause-reached c = λ opened. step_reached opened c.args.state.now c.step.new.self c.args.event.now c.in-Ok.reply c.in-Ok.ensures.exact

@@ -1,0 +1,68 @@
+//! What a line asks for, before it meets a state.
+ghost use Rattle.std.specs.Prelude.{◌≡◌, IfOk, OnErr};
+ghost use Rattle.gate_core.specs.Good.{StepGives};
+ghost use Rattle.gate_core.specs.Steps.{step_of};
+ghost use Rattle.gate_core.specs.World.{World};
+ghost use Rattle.gate_c.specs.Reached.{IsReached};
+
+use crate::answer::Answer;
+use gate_bytes::Memory;
+use gate_core::{State, StepFault};
+use gate_events::event_on;
+use gate_lines::asks_nothing;
+use gate_message::{Event, Reply};
+use std::alloc::Global;
+use std::hash::RandomState;
+
+/// What a line within the limits asks for. A transaction in it is decoded and hashed, and the rules on it alone are tested.
+#[derive(Debug, Drop)]
+pub enum Reading {
+    /// The line asks for nothing.
+    Nothing,
+    /// The line has no form.
+    BadLine,
+    Event(Event),
+}
+
+/// The step of an event.
+fn step(alloc: Global, state: &mut State<RandomState>, event: &Event) -> Result<Reply, Memory>
+    ensures made { IfOk result (λ reply. (reply, state.new) ≡ step_of state.old event.now) }
+    ensures good { IfOk result (λ reply. StepGives state.old event.now reply state.new) }
+    ensures reached { (opened : World) → IsReached opened state.old → IsReached opened state.new }
+    ensures err { OnErr result (state.new ≡ state.old) }
+{
+    match state.step(alloc, event) {
+        Ok(reply) => Ok(reply),
+        Err(StepFault::Memory) => Err(Memory),
+    }
+}
+
+impl Reading {
+    ghost use Rattle.gate_c.specs.Readings.{ReadingAnswered, Reads};
+
+    /// Reads a line.
+    pub fn of(alloc: Global, line: &[u8]) -> Result<Reading, Memory>
+        ensures { IfOk result (Reads line.now) }
+    {
+        if asks_nothing(line) {
+            return Ok(Reading::Nothing);
+        }
+        match event_on(alloc, line)? {
+            Some(event) => Ok(Reading::Event(event)),
+            None => Ok(Reading::BadLine),
+        }
+    }
+
+    /// The answer to what the line asks for. If memory runs out, the state is unchanged.
+    pub fn answer(&self, alloc: Global, state: &mut State<RandomState>) -> Result<Answer, Memory>
+        ensures ok { IfOk result (λ answer. ReadingAnswered state.old self.now answer state.new) }
+        ensures reached { (opened : World) → IsReached opened state.old → IsReached opened state.new }
+        ensures err { OnErr result (state.new ≡ state.old) }
+    {
+        match self {
+            Reading::Nothing => Ok(Answer::Nothing),
+            Reading::BadLine => Ok(Answer::BadLine),
+            Reading::Event(event) => Ok(Answer::Reply(step(alloc, state, event)?)),
+        }
+    }
+}
