@@ -281,7 +281,7 @@ def test_the_library(gate):
         status, said = with_library(path, "-c", ASKS_LIBRARY)
     wanted = [
         "'a line\\n'", "''", "''", "'%s'" % ("x" * 20), "'a reply\\n'", "Unanswered the line is too long", "Unanswered out of memory",
-        "Ended the library fails: the gate is closed", "'and on\\n'", "OpeningRefused the gate refuses the opening: opening 1 bad-line: refuse",
+        "Ended the library fails: the gate or the event is closed", "'and on\\n'", "OpeningRefused the gate refuses the opening: opening 1 bad-line: refuse",
     ]  # fmt: skip
     same("what is said", (status, said.splitlines()), (0, wanted))
 
