@@ -424,7 +424,7 @@ def admissions():
         grown("a child under a chain of 24", last_children, 20, 500, "admitted", "the same in any pool"),
         grown("a replacement", replacements, 200, 5000, "admitted", "the same in any pool"),
         grown("a replacement of a chain of 25", replacements_of_chains, 10, 200, "admitted", "within 1.5 in any pool"),
-        grown("a replacement in a pool of ten, which was once larger", replacements_after, 200, 5000, "admitted", "within 1.2 in any pool"),
+        grown("a replacement in a pool of ten, which was once larger", replacements_after, 200, 2000, "admitted", "within 1.2 in any pool"),
         grown("a submission for which the oldest entry expires", expiring, 50, 500, "admitted", "the same in any pool"),
         Stream("a replacement of 100 entries", replacements_of_many, 5, 50, "admitted"),
         *(trimmed(pool, count) for pool, count in ((1000, 200), (10000, 200), (100000, 1000))),
