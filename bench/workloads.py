@@ -2,6 +2,7 @@
 
 from dataclasses import dataclass
 from itertools import chain as joined
+from itertools import islice
 from typing import Callable, Optional, Union
 
 from texts import (
@@ -31,6 +32,7 @@ CHAIN = 25
 CHILDREN = 24
 CONFLICTS = 100
 BLOCK = 100
+PAYOUT = 2000
 # the entries of a pool below the events that are measured, and of larger ones
 POOL, LARGER_POOLS = 1000, (20000, 400000)
 FIRST_FILLER = 10000000
@@ -191,6 +193,15 @@ def beside_conflicts(count):
 
 def submissions(pool=0):
     return lambda count: (above(pool, coins(count)), payments(range(1, count + 1)))
+
+
+def submissions_of_mined(count):
+    """Each spends an output of a payout that a block made: its coin is looked up among those of the opening first."""
+    numbers = range(1, count // PAYOUT + 2)
+    paid = [VALUE] * PAYOUT
+    made = ("chain 0 5000 %s\n" % block(number, [transaction([number], paid, witness=False)]) for number in numbers)
+    points = islice(((hash_of([number], paid), index) for number in numbers for index in range(PAYOUT)), count)
+    return opened(coins(len(numbers), PAYOUT * VALUE), made), (paying([point], [VALUE - FEE]) for point in points)
 
 
 def whole_chains(count):
@@ -419,6 +430,7 @@ def denials():
 def admissions():
     return [
         grown(INDEPENDENT, submissions, 500, 10000, "admitted", "the same in any pool"),
+        Stream("a submission that spends what a block made", submissions_of_mined, 500, 10000, "admitted", limit="1.05 times an independent one"),
         Stream("a submission in chains of 25", whole_chains, 500, 10000, "admitted", limit="1.3 times an independent one"),
         Stream("a submission in parents with 24 children", whole_families, 500, 10000, "admitted", limit="1.3 times an independent one"),
         grown("a child under a chain of 24", last_children, 20, 500, "admitted", "the same in any pool"),
