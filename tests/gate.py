@@ -8,6 +8,8 @@ from collections import namedtuple
 ROOT = os.path.join(os.path.dirname(os.path.abspath(__file__)), "..")
 SECONDS = 120
 SHOWN = 20
+# how many workers read the lines of `gate run` where a test names no number: none, and the program chooses
+workers = None
 
 Done = namedtuple("Done", "status stdout stderr")
 
@@ -30,7 +32,7 @@ class Gate:
         self.program, self.calls, self.says_causes, self.seconds = program, calls, says_causes, seconds
 
     def words(self, words):
-        return [self.program] + words.split()
+        return [self.program] + (with_workers(words) if self.says_causes else words.split())
 
     def run(self, words, stdin=b"", stdout=subprocess.PIPE, **more):
         """Runs it on an input, text, bytes or an open file, to its end."""
@@ -53,6 +55,12 @@ class Gate:
     def answers(self, opening, events):
         """Runs events, each with the reply line that it has to get."""
         same_lines(self.replies(opening, [event for event, _ in events]), [reply for _, reply in events])
+
+
+def with_workers(words):
+    """The words of a command, which name the number of workers if it is `gate run` and they are asked for."""
+    first, *rest = words.split() or [""]
+    return [first, "--workers", str(workers), *rest] if first == "run" and workers and "--workers" not in rest else words.split()
 
 
 def as_bytes(text):

@@ -5,7 +5,7 @@
 
 use gate_causes::{Behind, Heard, Limit, Place, Watched, digits_told, refusal_told};
 use gate_explain::{Telling, run_gate_explained};
-use gate_prog::{ArgsFault, Job, LaneFault, read_args, run_job};
+use gate_prog::{ArgsFault, Asked, Job, LaneFault, Workers, read_args, run_job};
 use std::alloc::{AllocError, AllocFailed, Global};
 use std::fs::Files;
 use std::hash::RandomState;
@@ -16,7 +16,7 @@ use std::rt::Env;
 use std::sync::Wait;
 use std::thread::Threads;
 use std::time::Clock;
-use std::{env, fs, io};
+use std::{env, fs, io, thread};
 use thiserror::Error;
 
 /// Why the program stops.
@@ -146,11 +146,25 @@ fn input_length(files: &impl Files) -> Option<u64> {
     }
 }
 
+/// The most workers that read the lines of `gate run` if the words name no number.
+const MOST_WORKERS: usize = 8;
+
+/// The workers that read the lines of `gate run` if the words name no number: as many as there are processors, and one if
+/// that is not known.
+fn workers_here(rt: &impl Threads) -> Option<Workers> {
+    match thread::available_parallelism(rt) {
+        Ok(processors) => Workers::new(processors.get().min(MOST_WORKERS)),
+        Err(_) => Workers::new(1),
+    }
+}
+
 /// Runs a job over the standard streams, and gives its status.
 fn run<
     R: AllocGlobal + Files + Clock + Input + Print + Eprint + RandomSource + Threads + Wait + Sync,
->(rt: &R, job: &Job, terminals: Terminals) -> Result<u8, Fault> {
+>(rt: &R, asked: &Asked, terminals: Terminals) -> Result<u8, Fault> {
     let alloc = rt.alloc();
+    let job = &asked.job;
+    let workers = asked.workers.or_else(|| workers_here(rt)).unwrap_or_default();
     // Peers choose txids and outpoints: since they can't know the keys, they can't make the hashes collide.
     let Ok(hasher) = RandomState::new(rt) else {
         return Err(Fault::Random);
@@ -173,7 +187,7 @@ fn run<
             };
             run_gate_explained(rt, alloc, hasher, telling, &mut watched, &mut heard)
         }
-        _ => run_job(rt, alloc, hasher, job, &mut watched, &mut heard),
+        _ => run_job(rt, alloc, hasher, workers, job, &mut watched, &mut heard),
     };
     if let (Some(refusal), Some(last)) = (heard.first(), watched.last()) {
         tell_refusal(rt, refusal, &place, last);
@@ -206,11 +220,12 @@ fn tell_digits<R: AllocGlobal + Eprint>(rt: &R, word: &str) {
 /// and what is wrong with a word.
 fn run_told<
     R: AllocGlobal + Files + Clock + Input + Print + Eprint + RandomSource + Threads + Wait + Sync,
->(rt: &R, job: &Job, terminals: Terminals) -> Result<u8, Fault> {
+>(rt: &R, asked: &Asked, terminals: Terminals) -> Result<u8, Fault> {
+    let job = &asked.job;
     if terminals.input && reads_input(job) {
         let _written = eprintln!(rt; "gate: reads standard input, to its end");
     }
-    let status = run(rt, job, terminals)?;
+    let status = run(rt, asked, terminals)?;
     match job {
         Job::Explain(word) if status != 0 => {
             let word = word.as_str();
@@ -224,10 +239,10 @@ fn run_told<
     Ok(status)
 }
 
-/// The job that these words ask for.
+/// What these words ask for.
 // If it were inlined, what it takes of the stack would lie below each job.
 #[inline(never)]
-fn job_of<'a>(alloc: Global, words: &'a [&'a str]) -> Result<Job, ArgsFault> {
+fn asked_of<'a>(alloc: Global, words: &'a [&'a str]) -> Result<Asked, ArgsFault> {
     read_args(alloc, words)
 }
 
@@ -243,8 +258,8 @@ fn answer<
     if asks_for_help(args) {
         words.truncate(1);
     }
-    match job_of(alloc, words.as_slice()) {
-        Ok(job) => run_told(rt, &job, terminals),
+    match asked_of(alloc, words.as_slice()) {
+        Ok(asked) => run_told(rt, &asked, terminals),
         Err(ArgsFault::Help(text)) => printed(rt.print(text), 0),
         Err(ArgsFault::Usage(text)) => printed(rt.eprint(text), 2),
         Err(ArgsFault::Memory) => Err(Fault::Lane(LaneFault::Memory)),

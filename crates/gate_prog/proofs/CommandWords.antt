@@ -15,16 +15,6 @@ is_other x h = grind (arith, nat_tests)
 
 -- ---- commands without a word
 
-pub run_named : (explain : Bool) → named_of (subcommand_of gate_app (run_words explain)) ≡ Some (codes "run", words None None None (Some (switch_text explain)))
-unfolding clap_on_literals
-run_named true = refl
-run_named false = refl
-
-pub run_taken : (explain : Bool) → takes gate_app (run_words explain) ≡ true
-unfolding clap_on_literals
-run_taken true = refl
-run_taken false = refl
-
 pub audit_named : (explain : Bool) → named_of (subcommand_of gate_app (audit_words explain)) ≡ Some (codes "audit", words None None None (Some (switch_text explain)))
 unfolding clap_on_literals
 audit_named true = refl
@@ -156,3 +146,47 @@ pub lanes_taken : (workers : Option Text) (journal explain : Bool) → ArePlainW
 lanes_taken None journal explain h = two_taken journal explain
 lanes_taken (Some []) journal explain h = no_number_taken journal explain
 lanes_taken (Some (x ∷ xs)) journal explain h = number_taken x xs journal explain (is_other x h)
+
+-- ---- runs
+
+free_run_named : (explain : Bool) → named_of (subcommand_of gate_app (run_words None explain)) ≡ Some (codes "run", words None None None (Some (switch_text explain)))
+unfolding clap_on_literals
+free_run_named true = refl
+free_run_named false = refl
+
+free_run_taken : (explain : Bool) → takes gate_app (run_words None explain) ≡ true
+unfolding clap_on_literals
+free_run_taken true = refl
+free_run_taken false = refl
+
+no_workers_named : (explain : Bool) → named_of (subcommand_of gate_app (run_words (Some []) explain)) ≡ Some (codes "run", words None (Some []) None (Some (switch_text explain)))
+unfolding clap_on_literals
+no_workers_named true = refl
+no_workers_named false = refl
+
+no_workers_taken : (explain : Bool) → takes gate_app (run_words (Some []) explain) ≡ true
+unfolding clap_on_literals
+no_workers_taken true = refl
+no_workers_taken false = refl
+
+workers_named : (x : ℕ) (xs : List ℕ) (explain : Bool) → (x == 45) ≡ false
+    → named_of (subcommand_of gate_app (run_words (Some (x ∷ xs)) explain)) ≡ Some (codes "run", words None (Some (x ∷ xs)) None (Some (switch_text explain)))
+unfolding clap_on_literals
+workers_named x xs true e = rw (e, e)
+workers_named x xs false e = rw (e, e)
+
+workers_taken : (x : ℕ) (xs : List ℕ) (explain : Bool) → (x == 45) ≡ false → takes gate_app (run_words (Some (x ∷ xs)) explain) ≡ true
+unfolding clap_on_literals
+workers_taken x xs true e = rw (e, e)
+workers_taken x xs false e = rw (e, e)
+
+pub run_named : (workers : Option Text) (explain : Bool) → ArePlainWorkers workers
+    → named_of (subcommand_of gate_app (run_words workers explain)) ≡ Some (codes "run", words None workers None (Some (switch_text explain)))
+run_named None explain h = free_run_named explain
+run_named (Some []) explain h = no_workers_named explain
+run_named (Some (x ∷ xs)) explain h = workers_named x xs explain (is_other x h)
+
+pub run_taken : (workers : Option Text) (explain : Bool) → ArePlainWorkers workers → takes gate_app (run_words workers explain) ≡ true
+run_taken None explain h = free_run_taken explain
+run_taken (Some []) explain h = no_workers_taken explain
+run_taken (Some (x ∷ xs)) explain h = workers_taken x xs explain (is_other x h)

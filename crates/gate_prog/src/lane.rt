@@ -7,8 +7,10 @@ use gate_core::State;
 use gate_lane::{Answers, set_answer, set_text};
 use gate_lines::{LaneFault, Sink, Source};
 use gate_message::Event;
+use gate_verify::Workers;
 use std::alloc::Global;
 use std::hash::BuildHasher;
+use std::thread::Threads;
 
 /// The way to answer events by steps of a state.
 #[derive(Drop)]
@@ -59,4 +61,41 @@ pub fn run_lane<S: BuildHasher + Copy + Drop, R: Source, W: Sink>(
     ensures steady_writer { W.steady ≡ true → IfErr result (λ fault. fault ≢ LaneFault.Write) }
 {
     gate_lane::run_lane(alloc, &Stepping { alloc }, state, reader, writer)
+}
+
+/// Runs a lane as [`run_lane`] does, and finds what its lines spell on as many threads as there are workers: lines that wait
+/// in the reader's memory are read ahead. One worker reads none ahead.
+pub fn run_lane_on<T: Threads + Sync, S: BuildHasher + Copy + Drop, R: Source, W: Sink>(
+    rt: &T,
+    alloc: Global,
+    workers: Workers,
+    state: &mut State<S>,
+    reader: &mut R,
+    writer: &mut W,
+) -> Result<u64, LaneFault>
+    ensures done { IfOk result (λ count.
+        LaneDone (R.remaining reader.old) (W.contents writer.old) (W.contents writer.new) state.old state.new count) }
+    ensures sent { OnOk result (W.held writer.new ≡ []) }
+    ensures unread { IsErrOf result LaneFault.Read →
+        LaneUnread (R.remaining reader.old) (R.remaining reader.new) (W.contents writer.old) (W.contents writer.new) state.old state.new }
+    ensures unwritten { IsErrOf result LaneFault.Write →
+        StoppedBy LaneFault.Write 0 (R.remaining reader.old) (W.contents writer.old) (W.contents writer.new) state.old state.new }
+    ensures memory { IsErrOf result LaneFault.Memory →
+        StoppedBy LaneFault.Memory 0 (R.remaining reader.old) (W.contents writer.old) (W.contents writer.new) state.old state.new }
+    ensures steady_reader { R.steady ≡ true → IfErr result (λ fault. fault ≢ LaneFault.Read) }
+    ensures steady_writer { W.steady ≡ true → IfErr result (λ fault. fault ≢ LaneFault.Write) }
+{
+    let threads = workers.count();
+    if threads == 1 {
+        return run_lane(alloc, state, reader, writer);
+    }
+    gate_lane::run_lane_ahead(
+        rt,
+        alloc,
+        &Stepping { alloc },
+        state,
+        reader,
+        writer,
+        threads,
+    )
 }
