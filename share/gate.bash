@@ -8,7 +8,8 @@ _gate() {
         words="1 2 4 8 16 32 64"
     else
         case ${COMP_WORDS[1]} in
-            run | audit) words="--explain --help" ;;
+            run) words="--workers --explain --help" ;;
+            audit) words="--explain --help" ;;
             lanes) words="--workers --journal --explain --help" ;;
             check) words="- --help" ;;
             rules | explain) words="--help" ;;

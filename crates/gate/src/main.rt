@@ -164,7 +164,10 @@ fn run<
 >(rt: &R, asked: &Asked, terminals: Terminals) -> Result<u8, Fault> {
     let alloc = rt.alloc();
     let job = &asked.job;
-    let workers = asked.workers.or_else(|| workers_here(rt)).unwrap_or_default();
+    let workers = asked
+        .workers
+        .or_else(|| workers_here(rt))
+        .unwrap_or_default();
     // Peers choose txids and outpoints: since they can't know the keys, they can't make the hashes collide.
     let Ok(hasher) = RandomState::new(rt) else {
         return Err(Fault::Random);

@@ -1,6 +1,6 @@
 //! Openings and lanes over readers and writers in memory, and over some that break.
 use gate_prog::{
-    ArgsFault, Job, LaneFault, LanesOptions, OpeningFault, OpeningToken, Workers, read_args,
+    ArgsFault, Asked, Job, LaneFault, LanesOptions, OpeningFault, OpeningToken, Workers, read_args,
     read_opening, run_audit, run_check, run_gate, run_lanes_job,
 };
 use gate_testing::{Drops, Interrupted};
@@ -50,12 +50,27 @@ fn hasher() -> BuildHasherDefault<FoldHasher> {
     BuildHasherDefault::new()
 }
 
-/// Whether `gate run` reads an input to its end, writes this and has this status.
-fn runs(alloc: Global, input: &[u8], status: u8, text: &str) -> Result<bool, LaneFault> {
-    let mut reader = input;
-    let mut written = Vec::new(alloc);
-    let found = run_gate(alloc, hasher(), &mut reader, &mut written)?;
-    Ok(found == status && written.as_slice() == text.as_bytes())
+/// One worker, two and eight.
+fn some_workers() -> [Workers; 3] {
+    [1, 2, 8].map(|count| Workers::new(count).unwrap_or_default())
+}
+
+/// Whether `gate run` reads an input to its end, writes this and has this status, whatever the number of workers.
+fn runs<R: AllocGlobal + Threads + Sync>(
+    rt: &R,
+    input: &[u8],
+    status: u8,
+    text: &str,
+) -> Result<bool, LaneFault> {
+    for workers in some_workers() {
+        let mut reader = input;
+        let mut written = Vec::new(rt.alloc());
+        let found = run_gate(rt, rt.alloc(), hasher(), workers, &mut reader, &mut written)?;
+        if found != status || written.as_slice() != text.as_bytes() {
+            return Ok(false);
+        }
+    }
+    Ok(true)
 }
 
 /// One submission that spends a coin, and one listing.
@@ -76,7 +91,7 @@ fn the_first_path(rt: HostRuntime) -> Result<(), Fail> {
 admitted 5ab0eb89aa597c4c79ebb7cd83e361997309eb27e186bc95d794fe37e6453fc2 fee 110 vsize 110 replaced 0
 listing 1 5ab0eb89aa597c4c79ebb7cd83e361997309eb27e186bc95d794fe37e6453fc2
 ";
-    assert!(rt; runs(rt.alloc(), FIRST_PATH, 0, replies)?);
+    assert!(rt; runs(&rt, FIRST_PATH, 0, replies)?);
     Ok(())
 }
 
@@ -92,7 +107,7 @@ refused L1 bad-line
 denied P1 keep peer-unknown
 denied P1 keep peer-unknown
 ";
-    assert!(rt; runs(rt.alloc(), input, 0, replies)?);
+    assert!(rt; runs(&rt, input, 0, replies)?);
     Ok(())
 }
 
@@ -107,7 +122,7 @@ fn faults_of_openings(rt: HostRuntime) -> Result<(), Fail> {
         ("times 1 0 0\n===", "opening 2 bad-line\n"),
     ];
     for (input, line) in cases {
-        assert!(rt; runs(rt.alloc(), input.as_bytes(), 2, line)?, "{input}");
+        assert!(rt; runs(&rt, input.as_bytes(), 2, line)?, "{input}");
     }
     Ok(())
 }
@@ -118,7 +133,7 @@ fn a_coin_stands_once(rt: HostRuntime) -> Result<(), Fail> {
     let coin =
         "coin 1111111111111111111111111111111111111111111111111111111111111111 0 1 0 plain -";
     let twice = format!(in rt.alloc(); "times 1 0 0\n{coin}\n# again\n{coin}\n")?;
-    assert!(rt; runs(rt.alloc(), twice.as_bytes(), 2, "opening 4 coin-twice\n")?);
+    assert!(rt; runs(&rt, twice.as_bytes(), 2, "opening 4 coin-twice\n")?);
     Ok(())
 }
 
@@ -128,7 +143,7 @@ fn a_verdict_stands_once(rt: HostRuntime) -> Result<(), Fail> {
     let rows = format!(in rt.alloc();
         "verdict {wtxid} 0 ok\nverdict {wtxid} 1 ok\nverdict {wtxid} 0 hard\n"
     )?;
-    assert!(rt; runs(rt.alloc(), rows.as_bytes(), 2, "opening 3 bad-line\n")?);
+    assert!(rt; runs(&rt, rows.as_bytes(), 2, "opening 3 bad-line\n")?);
     Ok(())
 }
 
@@ -160,55 +175,73 @@ fn an_opening_without_lines(rt: HostRuntime) {
 
 #[test]
 fn a_reader_that_breaks(rt: HostRuntime) -> Result<(), Fail> {
-    let input = Interrupted(b"times 1 0 0\n---\npeer 1 leave\npeer 1 leave");
-    let mut reader = BufReader::new(rt.alloc(), input)?;
-    let mut written = Vec::new(rt.alloc());
-    let end = run_gate(rt.alloc(), hasher(), &mut reader, &mut written);
-    assert!(rt; end == Err(LaneFault::Read));
-    assert!(rt; written.as_slice() == b"denied P1 keep peer-unknown\n".as_slice());
+    for workers in some_workers() {
+        let input = Interrupted(b"times 1 0 0\n---\npeer 1 leave\npeer 1 leave");
+        let mut reader = BufReader::new(rt.alloc(), input)?;
+        let mut written = Vec::new(rt.alloc());
+        let end = run_gate(
+            &rt,
+            rt.alloc(),
+            hasher(),
+            workers,
+            &mut reader,
+            &mut written,
+        );
+        assert!(rt; end == Err(LaneFault::Read));
+        assert!(rt; written.as_slice() == b"denied P1 keep peer-unknown\n".as_slice());
+    }
     Ok(())
 }
 
 /// Runs the gate on input that comes in two parts.
-fn run_halves(
-    alloc: Global,
+fn run_halves<R: AllocGlobal + Threads + Sync>(
+    rt: &R,
+    workers: Workers,
     halves: Halves<'_>,
     writer: &mut BufWriter<Writes>,
 ) -> Result<u8, Fail> {
-    let mut reader = BufReader::new(alloc, halves)?;
-    Ok(run_gate(alloc, hasher(), &mut reader, writer)?)
+    let mut reader = BufReader::new(rt.alloc(), halves)?;
+    Ok(run_gate(rt, rt.alloc(), hasher(), workers, &mut reader, writer)?)
 }
 
 /// The replies to the first part go out in one write before the second is read, and no reply is left in the buffer.
 #[test]
 fn replies_before_a_wait(rt: HostRuntime) -> Result<(), Fail> {
-    let halves = Halves(
-        b"times 1 0 0\n---\npeer 1 leave\npeer 1 leave\npeer 1",
-        b" leave\n",
-    );
-    let kept = Writes {
-        bytes: Vec::new(rt.alloc()),
-        count: 0,
-    };
-    let mut writer = BufWriter::new(rt.alloc(), kept)?;
-    assert!(rt; run_halves(rt.alloc(), halves, &mut writer)? == 0);
-    assert!(rt; writer.buffer().is_empty());
-    assert!(rt; writer.get_ref().count == 2 && writer.get_ref().bytes.len() == 84);
+    for workers in some_workers() {
+        let halves = Halves(
+            b"times 1 0 0\n---\npeer 1 leave\npeer 1 leave\npeer 1",
+            b" leave\n",
+        );
+        let kept = Writes {
+            bytes: Vec::new(rt.alloc()),
+            count: 0,
+        };
+        let mut writer = BufWriter::new(rt.alloc(), kept)?;
+        assert!(rt; run_halves(&rt, workers, halves, &mut writer)? == 0);
+        assert!(rt; writer.buffer().is_empty());
+        assert!(rt; writer.get_ref().count == 2 && writer.get_ref().bytes.len() == 84);
+    }
     Ok(())
 }
 
 /// How a run of three events ends if the writer takes `left` bytes, one at a time, and how much is left to read.
-fn run_into(alloc: Global, left: usize) -> Result<(Result<u8, LaneFault>, usize), Fail> {
+fn run_into<R: AllocGlobal + Threads + Sync>(
+    rt: &R,
+    workers: Workers,
+    left: usize,
+) -> Result<(Result<u8, LaneFault>, usize), Fail> {
     let mut reader: &[u8] = b"times 1 0 0\n---\npeer 1 leave\npeer 1 leave\npeer 1 leave\n";
-    let mut writer = BufWriter::with_capacity(alloc, 0, Drops { left })?;
-    let end = run_gate(alloc, hasher(), &mut reader, &mut writer);
+    let mut writer = BufWriter::with_capacity(rt.alloc(), 0, Drops { left })?;
+    let end = run_gate(rt, rt.alloc(), hasher(), workers, &mut reader, &mut writer);
     Ok((end, reader.len()))
 }
 
 #[test]
 fn a_writer_of_single_bytes(rt: HostRuntime) -> Result<(), Fail> {
-    assert!(rt; run_into(rt.alloc(), 56)? == (Err(LaneFault::Write), 0));
-    assert!(rt; run_into(rt.alloc(), 84)? == (Ok(0), 0));
+    for workers in some_workers() {
+        assert!(rt; run_into(&rt, workers, 56)? == (Err(LaneFault::Write), 0));
+        assert!(rt; run_into(&rt, workers, 84)? == (Ok(0), 0));
+    }
     Ok(())
 }
 
@@ -248,16 +281,70 @@ fn words_of_lanes(rt: HostRuntime) -> Result<(), Fail> {
         assert!(rt; is_usage_fault(rt.alloc(), &["lanes", "--workers", number]));
     }
     assert!(rt; is_usage_fault(rt.alloc(), &["lanes", "--workers"]));
-    assert!(rt; is_usage_fault(rt.alloc(), &["run", "--workers", "2"]));
+    assert!(rt; is_usage_fault(rt.alloc(), &["audit", "--workers", "2"]));
+    Ok(())
+}
+
+/// Whether words ask for this job, and for so many workers if it is a run.
+fn asks_for(
+    alloc: Global,
+    words: &[&str],
+    job: Job,
+    workers: Option<Workers>,
+) -> Result<bool, ArgsFault> {
+    let asked = read_args(alloc, words)?;
+    Ok(asked == Asked { job, workers })
+}
+
+#[test]
+fn words_of_a_run(rt: HostRuntime) -> Result<(), Fail> {
+    for (number, workers) in ["1", "2", "8"].into_iter().zip(some_workers()) {
+        let (job, explained) = (Job::Run { explain: false }, Job::Run { explain: true });
+        assert!(rt;
+            asks_for(
+                rt.alloc(),
+                &["run", "--workers", number],
+                job,
+                Some(workers)
+            )?
+        );
+        assert!(rt;
+            asks_for(
+                rt.alloc(),
+                &["run", "--explain", "--workers", number],
+                explained,
+                Some(workers)
+            )?
+        );
+    }
+    for number in ["0", "65", "01", "+2", "-1", "two", "18446744073709551617"] {
+        assert!(rt; is_usage_fault(rt.alloc(), &["run", "--workers", number]));
+    }
+    assert!(rt; is_usage_fault(rt.alloc(), &["run", "--workers"]));
+    assert!(rt; is_usage_fault(rt.alloc(), &["run", "--workers", "2", "--workers", "2"]));
     Ok(())
 }
 
 #[test]
 fn words_of_the_command_line(rt: HostRuntime) -> Result<(), Fail> {
-    assert!(rt; read_args(rt.alloc(), &["run"])? == Job::Run { explain: false });
-    assert!(rt; read_args(rt.alloc(), &["run", "--explain"])? == Job::Run { explain: true });
-    assert!(rt; read_args(rt.alloc(), &["audit"])? == Job::Audit { explain: false });
-    assert!(rt; read_args(rt.alloc(), &["audit", "--explain"])? == Job::Audit { explain: true });
+    assert!(rt; asks_for(rt.alloc(), &["run"], Job::Run { explain: false }, None)?);
+    assert!(rt;
+        asks_for(
+            rt.alloc(),
+            &["run", "--explain"],
+            Job::Run { explain: true },
+            None
+        )?
+    );
+    assert!(rt; asks_for(rt.alloc(), &["audit"], Job::Audit { explain: false }, None)?);
+    assert!(rt;
+        asks_for(
+            rt.alloc(),
+            &["audit", "--explain"],
+            Job::Audit { explain: true },
+            None
+        )?
+    );
     assert!(rt; asks_for_help(rt.alloc(), &["--help"]));
     assert!(rt; asks_for_help(rt.alloc(), &["help", "run"]));
     assert!(rt; is_usage_fault(rt.alloc(), &["run", "more"]));

@@ -6,7 +6,8 @@ use std::sync::Wait;
 use std::thread::Threads;
 
 /// What the program writes to standard output for these words, parted by spaces, and this input, and its status. A call
-/// for help writes the help; a fault of usage writes nothing here and has status 2.
+/// for help writes the help; a fault of usage writes nothing here and has status 2. Two workers read the lines of a run
+/// that names no number.
 pub fn outcome<R: AllocGlobal + Threads + Wait + Sync>(
     rt: &R,
     words: &str,
@@ -20,8 +21,8 @@ pub fn outcome<R: AllocGlobal + Threads + Wait + Sync>(
         parts.push(word)?;
     }
     let mut written = Vec::new(alloc);
-    let job = match read_args(alloc, parts.as_slice()) {
-        Ok(job) => job,
+    let asked = match read_args(alloc, parts.as_slice()) {
+        Ok(asked) => asked,
         Err(ArgsFault::Help(text)) => {
             written.extend_from_slice(text.as_bytes())?;
             return Ok((0, written));
@@ -31,6 +32,15 @@ pub fn outcome<R: AllocGlobal + Threads + Wait + Sync>(
     };
     let mut reader = input;
     let hasher: BuildHasherDefault<FoldHasher> = BuildHasherDefault::new();
-    let status = run_job(rt, alloc, hasher, &job, &mut reader, &mut written)?;
+    let workers = asked.workers.unwrap_or_default();
+    let status = run_job(
+        rt,
+        alloc,
+        hasher,
+        workers,
+        &asked.job,
+        &mut reader,
+        &mut written,
+    )?;
     Ok((status, written))
 }
