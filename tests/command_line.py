@@ -68,7 +68,8 @@ def test_words_that_ask_for_nothing(gate):
     """Unknown commands, missing words, words too many and unknown options are faults of usage."""
     for words in ("check", "check 00 00", "check - -", "run -", "run x", "run run", "admit", "--nothing", "run --nothing", "check --nothing", "RUN",
                   "lanes x", "lanes -", "lanes --workers 0", "lanes --workers 65", "lanes --workers 02", "lanes --workers +2", "lanes --workers -1", "lanes --workers two",
-                  "lanes --workers 2 --workers 2", "run --workers 2", "--workers 2 lanes", "lanes --journal x", "lanes --journal=1", "lanes --journal --journal", "lanes -j",
+                  "lanes --workers 2 --workers 2", "run --workers 0", "run --workers 65", "run --workers 02", "run --workers -1", "run --workers two --explain",
+                  "run --workers 2 --workers 2", "audit --workers 2", "--workers 2 lanes", "--workers 2 run", "lanes --journal x", "lanes --journal=1", "lanes --journal --journal", "lanes -j",
                   "run --journal", "--journal lanes", "audit x", "audit -", "audit --journal", "audit lanes", "rules x", "rules A1", "explain", "explain A1 A2",
                   "explain -x", "--explain run", "run --explain --explain", "run --explain x", "audit --explain=1", "rules --explain", "check --explain 00"):
         is_usage(gate, words)
@@ -76,7 +77,7 @@ def test_words_that_ask_for_nothing(gate):
 
 def test_workers_without_a_number(gate):
     """Standard error names what is missing."""
-    for words in ("lanes --workers", "lanes --journal --workers"):
+    for words in ("lanes --workers", "lanes --journal --workers", "run --workers", "run --explain --workers"):
         done = gate.run(words)
         same("standard output of gate " + words, done.stdout, b"")
         true("standard error of gate %s: %r" % (words, done.stderr), b"'--workers <N>'" in done.stderr)
@@ -109,10 +110,12 @@ def test_examples_in_the_help(gate):
     """The help of each command has an example, which works as it stands at the top of the repository."""
     wanted = {
         "gate run < examples/first-path.txt": 0,
+        "gate run < examples/replacement.txt": 0,
         "gate run < examples/permissions.txt": 0,
         "gate run < examples/policies.txt": 0,
         "gate run < examples/rpc.txt": 0,
         "gate run < examples/living-chain.txt": 0,
+        "gate run --workers 4 < examples/policies.txt": 0,
         "gate check - < examples/payment.hex": 0,
         "gate check 01000000000000000000": 1,
         "gate lanes --journal < examples/lanes.txt": 0,

@@ -141,6 +141,7 @@ def test_completing_in_a_shell(gate):
         for words, wanted in (
             (["gate", "l"], ["lanes"]),
             (["gate", "lanes", "--"], ["--explain", "--help", "--journal", "--workers"]),
+            (["gate", "run", "--"], ["--explain", "--help", "--workers"]),
             (["gate", "run", "--e"], ["--explain"]),
             (["gate", "lanes", "--workers", "6"], ["64"]),
             (["gate", "help", "e"], ["explain"]),
