@@ -298,24 +298,13 @@ fn asks_for(
 
 #[test]
 fn words_of_a_run(rt: HostRuntime) -> Result<(), Fail> {
-    for (number, workers) in ["1", "2", "8"].into_iter().zip(some_workers()) {
-        let (job, explained) = (Job::Run { explain: false }, Job::Run { explain: true });
-        assert!(rt;
-            asks_for(
-                rt.alloc(),
-                &["run", "--workers", number],
-                job,
-                Some(workers)
-            )?
-        );
-        assert!(rt;
-            asks_for(
-                rt.alloc(),
-                &["run", "--explain", "--workers", number],
-                explained,
-                Some(workers)
-            )?
-        );
+    for (number, count) in [("1", 1), ("2", 2), ("8", 8)] {
+        let workers = Workers::new(count);
+        assert!(rt; workers.is_some());
+        let words = ["run", "--workers", number];
+        assert!(rt; asks_for(rt.alloc(), &words, Job::Run { explain: false }, workers)?);
+        let words = ["run", "--explain", "--workers", number];
+        assert!(rt; asks_for(rt.alloc(), &words, Job::Run { explain: true }, workers)?);
     }
     for number in ["0", "65", "01", "+2", "-1", "two", "18446744073709551617"] {
         assert!(rt; is_usage_fault(rt.alloc(), &["run", "--workers", number]));
