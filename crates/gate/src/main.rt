@@ -16,7 +16,7 @@ use std::rt::Env;
 use std::sync::Wait;
 use std::thread::Threads;
 use std::time::Clock;
-use std::{env, fs, io, thread};
+use std::{env, fs, io};
 use thiserror::Error;
 
 /// Why the program stops.
@@ -146,28 +146,14 @@ fn input_length(files: &impl Files) -> Option<u64> {
     }
 }
 
-/// The most workers that read the lines of `gate run` if the words name no number.
-const MOST_WORKERS: usize = 8;
-
-/// The workers that read the lines of `gate run` if the words name no number: as many as there are processors, and one if
-/// that is not known.
-fn workers_here(rt: &impl Threads) -> Option<Workers> {
-    match thread::available_parallelism(rt) {
-        Ok(processors) => Workers::new(processors.get().min(MOST_WORKERS)),
-        Err(_) => Workers::new(1),
-    }
-}
-
 /// Runs a job over the standard streams, and gives its status.
 fn run<
     R: AllocGlobal + Files + Clock + Input + Print + Eprint + RandomSource + Threads + Wait + Sync,
 >(rt: &R, asked: &Asked, terminals: Terminals) -> Result<u8, Fault> {
     let alloc = rt.alloc();
     let job = &asked.job;
-    let workers = asked
-        .workers
-        .or_else(|| workers_here(rt))
-        .unwrap_or_default();
+    // One worker, which reads no line ahead, is the usual.
+    let workers = asked.workers.or(Workers::new(1)).unwrap_or_default();
     // Peers choose txids and outpoints: since they can't know the keys, they can't make the hashes collide.
     let Ok(hasher) = RandomState::new(rt) else {
         return Err(Fault::Random);
