@@ -1,12 +1,11 @@
 -- Lists of lines that were read ahead.
-use Rattle.std.proofs.Common.{◌≡◌, ℕ, ◌+◌, ◌<◌, ◌≤◌, List, [], ◌∷◌, ◌++◌, length, refl, sym, ap, subst, ◌∙◌, arith, append_assoc, length-append, slice_index_or}
+use Rattle.std.proofs.Common.{◌≡◌, ℕ, ◌+◌, ◌<◌, List, [], ◌∷◌, ◌++◌, length, sym, ap, subst, ◌∙◌, arith, length-append, slice_index_or}
 use Rattle.std.proofs.lemmas.List.{ext_get_or}
 use Rattle.std.specs.Io.KnownBytes.{Consumes}
 use Rattle.std.proofs.KnownBytes.{Consumes-trans}
 use Rattle.gate_lines.specs.Lines.{unlines}
 use Rattle.gate_lines.proofs.LineLists.{unlines-append}
 use Rattle.gate_lane.specs.Lanes.{Known}
-use Rattle.gate_lane.specs.Queues.{OneTaken, ahead_limit}
 
 -- lists of lines that agree at each place
 pub same_lines : (new old : List (List ℕ)) → length new ≡ length old → ((i : ℕ) → i < length old → slice_index_or new i [] ≡ slice_index_or old i []) → new ≡ old

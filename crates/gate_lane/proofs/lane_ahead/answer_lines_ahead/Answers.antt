@@ -1,9 +1,8 @@
-use Rattle.std.proofs.Common.{◌∙◌, [], Err, ap, sym, subst, arith}
+use Rattle.std.proofs.Common.{Err, ap}
 use Rattle.std.proofs.lemmas.Result.{err_from_is_err_and}
-use Rattle.gate_lines.specs.Counting.{LastLine}
 use Rattle.gate_lane.specs.Queues.{left_with}
-use Rattle.gate_lane.proofs.LeftLines.{fault_left, left_none}
-use Rattle.gate_lane.proofs.SoFar.{SoFar, SoFar-start, SoFar-went, SoFar-ended, SoFar-fault}
+use Rattle.gate_lane.proofs.LeftLines.{fault_left}
+use Rattle.gate_lane.proofs.SoFar.{SoFar-went, SoFar-ended, SoFar-fault}
 use Rattle.gate_lane.proofs.lane_ahead.answer_lines_ahead.Goals as goal
 
 pub returns-in_err-replies-clause-came : goal.returns-in_err-replies-clause-came

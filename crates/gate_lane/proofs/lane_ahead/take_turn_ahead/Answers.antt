@@ -1,6 +1,6 @@
 use Rattle.std.proofs.Common.{ap, length, arith}
 use Rattle.std.proofs.lemmas.Result.{err_from_is_err_and}
-use Rattle.gate_lane.proofs.LeftLines.{queued_stopped, queued_turn, alone_turn}
+use Rattle.gate_lane.proofs.LeftLines.{queued_stopped}
 use Rattle.gate_lane.proofs.lane_ahead.take_turn_ahead.Goals as goal
 
 pub returns-in_err-responded-in-Some-clause-taken : goal.returns-in_err-responded-in-Some-clause-taken

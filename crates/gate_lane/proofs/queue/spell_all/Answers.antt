@@ -1,4 +1,4 @@
-use Rattle.std.proofs.Common.{◌∙◌, sym, [], arith}
+use Rattle.std.proofs.Common.{[], arith}
 use Rattle.gate_lane.proofs.Queued.{same_lines}
 use Rattle.gate_lane.proofs.queue.spell_all.Goals as goal
 
