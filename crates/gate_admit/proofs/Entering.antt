@@ -1,5 +1,5 @@
 -- A granted transaction that enters keeps entries sound over their chain.
-use Rattle.std.proofs.Common.{◌≡◌, ◌≢◌, ◌≤◌, ◌||◌, ◌&&◌, ℕ, Bool, true, false, not, List, [], ◌∷◌, ◌++◌, get_or, Option, Some, None, refl, sym, ap, ◌∙◌, subst, append-nil}
+use Rattle.std.proofs.Common.{◌≡◌, ◌≢◌, ◌≤◌, ◌||◌, ◌&&◌, ℕ, Bool, true, false, not, List, [], ◌∷◌, ◌++◌, get_or, Option, Some, None, refl, sym, ap, ◌∙◌, subst, append-nil, arith}
 use Rattle.std.specs.Option.{option_to_list}
 use Rattle.std.specs.Prelude.{Contains, IsSome, IfSome}
 use Rattle.std.specs.List.{All, AllPairs, list_any}
@@ -25,7 +25,7 @@ use Rattle.gate_admit.specs.declared.attempt.Attempt.TheVariants.{First}
 use Rattle.gate_admit.specs.Coins.{view_coin}
 use Rattle.gate_admit.specs.Good.{IsSound, IsLimited, IsSettled, IsUnconnected, AreApart, connected_transactions}
 use Rattle.gate_admit.specs.Granting.{IsGrantable}
-use Rattle.gate_admit.specs.Policies.{Policy}
+use Rattle.gate_admit.specs.Policies.{Policy, IsPolicy}
 use Rattle.gate_admit.specs.Limits.{limit_rules}
 use Rattle.gate_admit.specs.Rules.{admission_rules, grant_of}
 use Rattle.gate_admit.specs.Standing.{Standing}
@@ -109,7 +109,7 @@ module _ (over : Standing) (e : Admitted) (good : IsSound over.policy over.chain
       limited_old childless_grant (txid_of a.tx) (new a m) (All-contains (λ (x : Admitted). IsLimited over.policy over.entries (txid_of x.tx)) over.entries a good.limited m)
       (λ r. room_at over.policy over.entries e room parents a
       (Contains-filter (λ (x : Admitted). list_any (λ (i : TxIn). reaches (steps over.entries) (txid_of x.tx) i.prevout.txid) e.tx.inputs) over.entries a m (above_new childless_grant a m r))))
-      (All-one (λ (a : Admitted). IsLimited over.policy (entered over.entries e) (txid_of a.tx)) e (limited_new childless_grant (room_above over.policy over.entries e small room)))
+      (All-one (λ (a : Admitted). IsLimited over.policy (entered over.entries e) (txid_of a.tx)) e (limited_new (omega (arith, small, good.bounds.descendants_size)) childless_grant (room_above over.policy over.entries e good.bounds small room)))
 
   -- the entries after it entered
   pub granted_sound : e.vsize ≤ 100000 → NoneFails (limit_rules First over.policy over.entries e.tx e.vsize) → (list_any (is_conflict e.tx) over.entries ≡ true → list_any (adds_parent over.entries (conflicts_of over.entries e.tx)) e.tx.inputs ≡ false)
@@ -120,6 +120,7 @@ module _ (over : Standing) (e : Admitted) (good : IsSound over.policy over.chain
       let stays : Admitted → Bool = λ a. not (is_below_some (is_conflict e.tx) over.entries a) in
       let h : IsSound over.policy chain kept = below_sound over.policy chain (is_conflict e.tx) over.entries good in
       record {
+        bounds = h.bounds;
         txids = AllPairs-append DifferByTxid kept (e ∷ []) h.txids (AllPairs-one DifferByTxid e)
             (λ n d l. All-one (λ (b : Admitted). txid_of (get_or kept n d).tx ≢ txid_of b.tx) e (All-filter stays (λ (a : Admitted). txid_of a.tx ≢ txid_of e.tx) over.entries k.txid n d l));
         wtxids = AllPairs-append DifferByWtxid kept (e ∷ []) h.wtxids (AllPairs-one DifferByWtxid e)
@@ -138,7 +139,7 @@ unfolding grant_of
 room_granted over tx p = p.limits
 
 parents_granted : (over : Standing) (tx : Tx) → Passes First over tx → list_any (is_conflict tx) over.entries ≡ true → list_any (adds_parent over.entries (conflicts_of over.entries tx)) tx.inputs ≡ false
-parents_granted over tx p conflicts = no_parent_added over.entries tx (conflicts_of over.entries tx) _ (grant_of over tx).fee (grant_of over tx).vsize (beside_conflict First over tx p conflicts)
+parents_granted over tx p conflicts = no_parent_added over.policy.incremental_rate over.entries tx (conflicts_of over.entries tx) _ (grant_of over tx).fee (grant_of over tx).vsize (beside_conflict First over tx p conflicts)
 
 -- what is granted over sound entries is in no connected block
 abbrev pub StaysUnconnected : Standing → Option Tx → Type 0
@@ -149,7 +150,7 @@ StaysUnconnected over (Some tx) =
 entered_sound : (over : Standing) (tx : Tx) (now : ℕ) → (IsGrantable over tx × Passes First over tx × IsUnconnected over.chain (Some tx)) → IsSound over.policy over.chain over.entries
     → IsSound over.policy over.chain (entered over.entries (admitted tx (grant_of over tx) now))
 entered_sound over tx now all h =
-    granted_sound over (admitted tx (grant_of over tx) now) h all.0 (unknown over.chain (txid_of tx) all.0.fresh all.2) (small First over tx all.1) (room_granted over tx all.1) (parents_granted over tx all.1)
+    granted_sound over (admitted tx (grant_of over tx) now) h all.0 (unknown over.chain (txid_of tx) all.0.fresh all.2) (small First over tx h.bounds all.1) (room_granted over tx all.1) (parents_granted over tx all.1)
 
 -- a granted transaction enters a sound list
 pub grant_sound : (over : Standing) (tx : Tx) (now : ℕ) → StaysUnconnected over (Some tx) → IsSound over.policy over.chain over.entries → first_failing (admission_rules First over tx) ≡ None
@@ -167,9 +168,10 @@ stays_if_apart over None settled is_tx apart = tt
 stays_if_apart over (Some tx) settled is_tx apart = λ fresh. unconnected First over tx settled fresh is_tx apart
 
 -- no entries are sound
-pub empty_sound : (policy : Policy) (chain : History) → IsSound policy chain []
-empty_sound policy chain =
+pub empty_sound : (policy : Policy) (chain : History) → IsPolicy policy → IsSound policy chain []
+empty_sound policy chain bounds =
     record {
+      bounds = bounds;
       txids = AllPairs-nil DifferByTxid;
       wtxids = AllPairs-nil DifferByWtxid;
       spends = AllPairs-nil Differ;

@@ -16,7 +16,7 @@ use Rattle.gate_pool.specs.Pool.{Admitted}
 use Rattle.gate_admit.specs.Verdicts.{VerdictTable, verdict_of}
 use Rattle.gate_admit.specs.Coins.{coins_of}
 use Rattle.gate_admit.specs.Reports.{vsize_of, rules_of_verdict, verdict_rules}
-use Rattle.gate_admit.specs.Policies.{policy, usual_policy}
+use Rattle.gate_admit.specs.Policies.{usual_policy, with_full_rbf}
 use Rattle.gate_admit.specs.Rules.{pool_rules, is_immature, coin_value_rules, fee_rules}
 
 -- a script of version 0 with a key hash
@@ -40,20 +40,20 @@ paying amount = record {
 }
 
 -- 110 virtual bytes, which 110 satoshi pay and 109 don't
-size_of_one : vsize_of 0 (paying 99890) ≡ 110
+size_of_one : vsize_of 20 0 (paying 99890) ≡ 110
 unfolding weight_of
 size_of_one = refl
 
 -- a cost of 81 weighs more than its bytes
-size_by_cost : vsize_of 81 (paying 99890) ≡ 405
+size_by_cost : vsize_of 20 81 (paying 99890) ≡ 405
 unfolding weight_of
 size_by_cost = refl
 
-paid : first_failing (fee_rules 0 110 110) ≡ None
+paid : first_failing (fee_rules 1000 0 110 110) ≡ None
 unfolding fee_rules required_fee
 paid = refl
 
-underpaid : first_failing (fee_rules 0 109 110) ≡ Some MinRelayFee
+underpaid : first_failing (fee_rules 1000 0 109 110) ≡ Some MinRelayFee
 unfolding fee_rules required_fee
 underpaid = refl
 
@@ -86,7 +86,7 @@ unfolding pool_rules
 spent_twice h k = rw (h, k) refl
 
 -- under full replacement it is not asked
-taken : bytes_eq (wtxid_of final) (wtxid_of (paying 98890)) ≡ false → bytes_eq (txid_of final) (txid_of (paying 98890)) ≡ false → first_failing (pool_rules (policy 25 25 true) (firm_entry ∷ []) (paying 98890)) ≡ None
+taken : bytes_eq (wtxid_of final) (wtxid_of (paying 98890)) ≡ false → bytes_eq (txid_of final) (txid_of (paying 98890)) ≡ false → first_failing (pool_rules (with_full_rbf usual_policy true) (firm_entry ∷ []) (paying 98890)) ≡ None
 unfolding pool_rules
 taken h k = rw (h, k) refl
 

@@ -23,7 +23,7 @@ use Rattle.gate_tx.specs.Tx.{Tx}
 use Rattle.gate_standard.specs.declared.Denial.{Denial}
 use Rattle.gate_standard.specs.declared.Denial.TheVariants.{Decode}
 use Rattle.gate_standard.specs.Amounts.{required_fee}
-use Rattle.gate_standard.specs.Rules.{transaction_rules, standard_rules, output_value_rules, spends_twice, rules_of_input, rules_of_output}
+use Rattle.gate_standard.specs.Rules.{transaction_rules, form_rules, output_rules, output_value_rules, spends_twice, rules_of_input, rules_of_output}
 use Rattle.gate_chain.specs.Times.{tip_of}
 use Rattle.gate_pool.specs.Pool.{Admitted, spends_of, spent_by, entry_by_txid, entry_by_wtxid}
 use Rattle.gate_pool.specs.Family.{is_conflict, conflicts_of, without_below, ancestors_above}
@@ -37,8 +37,11 @@ use Rattle.gate_admit.specs.Granting.{IsGrantable, Conserves, PaysItsSize}
 use Rattle.gate_admit.specs.Policies.{Policy}
 use Rattle.gate_admit.specs.Limits.{limit_rules}
 use Rattle.gate_admit.specs.Reports.{reported, report_rules, sigop_cost, vsize_of}
-use Rattle.gate_admit.specs.Rules.{final_rules, pool_rules, coin_rules, lock_rules, is_immature, rules_of_coin, coin_value_rules, balance_rules, fee_rules, payment_rules, admission_rules, grant_of, denied_or, decision_of, coins_value, outputs_value, min_relay_rate}
-use Rattle.gate_submission.specs.Alone.{alone_rules}
+use Rattle.gate_admit.specs.Rules.{final_rules, pool_rules, coin_rules, lock_rules, is_immature, rules_of_coin, coin_value_rules, balance_rules, fee_rules, payment_rules, admission_rules, grant_of, denied_or, decision_of, coins_value, outputs_value}
+use Rattle.gate_standard.specs.declared.Standards.{Standards}
+use Rattle.gate_admit.specs.Policies.{IsPolicy}
+use Rattle.gate_admit.proofs.Weighing.{positive, counted}
+use Rattle.gate_submission.specs.Alone.{alone_rules, own_rules}
 use Rattle.gate_admit.specs.Standing.{Standing}
 use Rattle.gate_rbf.proofs.Conflicting.{is_some-find}
 use Rattle.gate_admit.proofs.Lists.{none_pass, AllPairs-nil}
@@ -109,10 +112,10 @@ true_from_not : (b : Bool) → not b ≡ false → b ≡ true
 true_from_not true h = refl
 true_from_not false h = sym h
 
-each_once : (tx : Tx) → NoneFails (alone_rules tx) → spends_twice tx.inputs ≡ false
-unfolding alone_rules transaction_rules
-each_once tx h =
-    let every = (none_fails-append (transaction_rules tx) (standard_rules tx) h).0 in
+each_once : (standards : Standards) (tx : Tx) → NoneFails (alone_rules standards tx) → spends_twice tx.inputs ≡ false
+unfolding alone_rules own_rules transaction_rules
+each_once standards tx h =
+    let every = (none_fails-append (transaction_rules tx) (form_rules tx) (none_fails-append (own_rules tx) (output_rules standards tx) h).0).0 in
     (none_fails-append (output_value_rules 0 tx.outputs) _ every.1.1.1).1.0
 
 each_mature : (next_height sum : ℕ) (coins : List Coin) → NoneFails (coin_value_rules next_height sum coins) → All (λ (c : Coin). is_immature next_height c ≡ false) coins
@@ -150,7 +153,7 @@ live attempt over tx p =
       beside = none_pass (is_conflict tx) (ancestors_above over.entries tx.inputs) p.limits.1.0;
       unspent = no_conflicts tx (without_below (is_conflict tx) over.entries)
           (λ k d l. stays_apart (is_conflict tx) over.entries _ (Contains-get_or (without_below (is_conflict tx) over.entries) k d l));
-      single = spends_once tx.inputs (each_once tx p.alone);
+      single = spends_once tx.inputs (each_once over.policy.standards tx p.alone);
       coins = All-map (λ (q : OutPoint). IsSome (view_coin over.chain over.entries q)) (λ (i : TxIn). i.prevout) tx.inputs
           (λ k d l. some_from_not_none _ (none_pass (λ (i : TxIn). is_none (view_coin over.chain over.entries i.prevout)) tx.inputs p.coin.1.0 k d l));
       mature = each_mature (tip_of over.chain + 1) 0 (coins_of over.chain over.entries tx.inputs) p.value;
@@ -178,48 +181,48 @@ conserved attempt over tx p =
     let both = balanced (coins_value (coins_of over.chain over.entries tx.inputs)) (outputs_value tx) p.balance in
     record { balanced = both.0; money = both.1 }
 
-paid : (floor fee vsize : ℕ) → NoneFails (payment_rules First floor fee vsize) → (required_fee floor vsize ≤ fee) × (required_fee min_relay_rate vsize ≤ fee)
+paid : (relay floor fee vsize : ℕ) → NoneFails (payment_rules First relay floor fee vsize) → (required_fee floor vsize ≤ fee) × (required_fee relay vsize ≤ fee)
 unfolding fee_rules
-paid floor fee vsize h = (ltb-false _ _ h.0, ltb-false _ _ h.1.0)
+paid relay floor fee vsize h = (ltb-false _ _ h.0, ltb-false _ _ h.1.0)
 
-pays : (over : Standing) (tx : Tx) → Passes First over tx → PaysItsSize over.floor (grant_of over tx)
+pays : (over : Standing) (tx : Tx) → Passes First over tx → PaysItsSize over (grant_of over tx)
 unfolding grant_of
-pays over tx p = let both = paid over.floor _ _ p.payment in record { relay = both.1; pool = both.0 }
+pays over tx p = let both = paid over.policy.relay_rate over.floor _ _ p.payment in record { relay = both.1; pool = both.0 }
 
 -- ---- sizes
 
-quarter : (weight cost : ℕ) → 1 ≤ weight → weight ≤ 400000 → cost ≤ 16000 → (1 ≤ (max weight (20 * cost) + 3) / 4) × ((max weight (20 * cost) + 3) / 4 ≤ 10000000)
-quarter weight cost some few low = (omega arith, omega arith)
+quarter : (weight counts : ℕ) → 1 ≤ weight → weight ≤ 400000 → counts ≤ 400000 → (1 ≤ (max weight counts + 3) / 4) × ((max weight counts + 3) / 4 ≤ 10000000)
+quarter weight counts some few low = (omega arith, omega arith)
 
-hundred : (weight cost : ℕ) → weight ≤ 400000 → cost ≤ 16000 → (max weight (20 * cost) + 3) / 4 ≤ 100000
-hundred weight cost few low = omega arith
+hundred : (weight counts : ℕ) → weight ≤ 400000 → counts ≤ 400000 → (max weight counts + 3) / 4 ≤ 100000
+hundred weight counts few low = omega arith
 
-weighs : (tx : Tx) → 82 ≤ stripped_size_of tx → 1 ≤ weight_of tx
-unfolding weight_of stripped_size_of
-weighs tx h = omega arith
-
-pub sized : (tx : Tx) → NoneFails (alone_rules tx) → (1 ≤ weight_of tx) × (weight_of tx ≤ 400000)
-unfolding alone_rules standard_rules
-sized tx h =
-    let policy = (none_fails-append (transaction_rules tx) _ h).1 in
-    let whole = (none_fails-append (flat_map rules_of_output tx.outputs) _ (none_fails-append (flat_map rules_of_input tx.inputs) _ policy.1.1).1).1 in
-    (weighs tx (ltb-false _ _ whole.1.0), ltb-false _ _ policy.1.0)
+pub sized : (standards : Standards) (tx : Tx) → NoneFails (alone_rules standards tx) → (1 ≤ weight_of tx) × (weight_of tx ≤ 400000)
+unfolding alone_rules own_rules form_rules
+sized standards tx h =
+    let form = (none_fails-append (transaction_rules tx) (form_rules tx) (none_fails-append (own_rules tx) (output_rules standards tx) h).0).1 in
+    (positive tx, ltb-false _ _ form.1.0)
 
 cheap : (attempt : Attempt) (over : Standing) (tx : Tx) → Passes attempt over tx → sigop_cost (reported tx.inputs (coins_of over.chain over.entries tx.inputs)) tx.outputs ≤ 16000
 unfolding report_rules
 cheap attempt over tx p = ltb-false _ _ p.report.1.1.0
 
-held : (attempt : Attempt) (over : Standing) (tx : Tx) → Passes attempt over tx → FitsEntry (grant_of over tx).fee (grant_of over tx).vsize
+-- what its signature operations count for
+counts : (attempt : Attempt) (over : Standing) (tx : Tx) → IsPolicy over.policy → Passes attempt over tx → over.policy.sigop_size * sigop_cost (reported tx.inputs (coins_of over.chain over.entries tx.inputs)) tx.outputs ≤ 400000
+counts attempt over tx bounds p = counted over.policy.sigop_size (sigop_cost (reported tx.inputs (coins_of over.chain over.entries tx.inputs)) tx.outputs) bounds.sigop_size_most (cheap attempt over tx p)
+
+held : (attempt : Attempt) (over : Standing) (tx : Tx) → IsPolicy over.policy → Passes attempt over tx → FitsEntry (grant_of over tx).fee (grant_of over tx).vsize
 unfolding grant_of
-held attempt over tx p =
-    let size = sized tx p.alone in
-    let both = quarter (weight_of tx) (sigop_cost (reported tx.inputs (coins_of over.chain over.entries tx.inputs)) tx.outputs) size.0 size.1 (cheap attempt over tx p) in
+held attempt over tx bounds p =
+    let size = sized over.policy.standards tx p.alone in
+    let both = quarter (weight_of tx) (over.policy.sigop_size * sigop_cost (reported tx.inputs (coins_of over.chain over.entries tx.inputs)) tx.outputs) size.0 size.1 (counts attempt over tx bounds p) in
     record { fee_in_range = (balanced (coins_value (coins_of over.chain over.entries tx.inputs)) (outputs_value tx) p.balance).1; some = both.0; few = both.1 }
 
 -- a quarter of the weight, or of what the cost weighs
-pub small : (attempt : Attempt) (over : Standing) (tx : Tx) → Passes attempt over tx → (grant_of over tx).vsize ≤ 100000
+pub small : (attempt : Attempt) (over : Standing) (tx : Tx) → IsPolicy over.policy → Passes attempt over tx → (grant_of over tx).vsize ≤ 100000
 unfolding grant_of
-small attempt over tx p = hundred (weight_of tx) (sigop_cost (reported tx.inputs (coins_of over.chain over.entries tx.inputs)) tx.outputs) (sized tx p.alone).1 (cheap attempt over tx p)
+small attempt over tx bounds p =
+    hundred (weight_of tx) (over.policy.sigop_size * sigop_cost (reported tx.inputs (coins_of over.chain over.entries tx.inputs)) tx.outputs) (sized over.policy.standards tx p.alone).1 (counts attempt over tx bounds p)
 
 fits_by : (found : Option Denial) (grant : Grant) → (found ≡ None → FitsEntry grant.fee grant.vsize) → FitsAnEntry (denied_or found grant)
 fits_by None grant h = h refl
@@ -237,16 +240,16 @@ decided_conserve attempt over tx grant h =
     let both = granted (first_failing (admission_rules attempt over tx)) (grant_of over tx) grant h in
     subst (Conserves over tx) both.1 (conserved attempt over tx (passes attempt over tx both.0))
 
-pub decided_pay : (over : Standing) (tx : Tx) (grant : Grant) → decision_of First over (Some tx) ≡ Ok grant → PaysItsSize over.floor grant
+pub decided_pay : (over : Standing) (tx : Tx) (grant : Grant) → decision_of First over (Some tx) ≡ Ok grant → PaysItsSize over grant
 unfolding decision_of
 decided_pay over tx grant h =
     let both = granted (first_failing (admission_rules First over tx)) (grant_of over tx) grant h in
-    subst (PaysItsSize over.floor) both.1 (pays over tx (passes First over tx both.0))
+    subst (PaysItsSize over) both.1 (pays over tx (passes First over tx both.0))
 
-pub decided_fit : (attempt : Attempt) (over : Standing) (tx : Option Tx) → FitsAnEntry (decision_of attempt over tx)
+pub decided_fit : (attempt : Attempt) (over : Standing) (tx : Option Tx) → IsPolicy over.policy → FitsAnEntry (decision_of attempt over tx)
 unfolding decision_of
-decided_fit attempt over None = tt
-decided_fit attempt over (Some tx) = fits_by (first_failing (admission_rules attempt over tx)) (grant_of over tx) (λ h. held attempt over tx (passes attempt over tx h))
+decided_fit attempt over None bounds = tt
+decided_fit attempt over (Some tx) bounds = fits_by (first_failing (admission_rules attempt over tx)) (grant_of over tx) (λ h. held attempt over tx bounds (passes attempt over tx h))
 
 -- ---- of what a call answers
 
@@ -255,8 +258,8 @@ found_live attempt over None (Ok grant) h = tt
 found_live attempt over (Some tx) (Ok grant) h = decided_live attempt over tx grant (sym h)
 found_live attempt over tx (Err denial) h = tt
 
-pub found_fit : (attempt : Attempt) (over : Standing) (tx : Option Tx) (decision : Result Grant Denial) → decision ≡ decision_of attempt over tx → FitsAnEntry decision
-found_fit attempt over tx decision h = subst FitsAnEntry (sym h) (decided_fit attempt over tx)
+pub found_fit : (attempt : Attempt) (over : Standing) (tx : Option Tx) → IsPolicy over.policy → (decision : Result Grant Denial) → decision ≡ decision_of attempt over tx → FitsAnEntry decision
+found_fit attempt over tx bounds decision h = subst FitsAnEntry (sym h) (decided_fit attempt over tx bounds)
 
 -- no entry has one of the ids of what is granted
 none_found : {X : Type 0} (o : Option X) → is_some o ≡ false → o ≡ None
@@ -277,8 +280,10 @@ unpooled_id policy entries tx h =
     none_found (entry_by_txid entries (txid_of tx)) none.1.0
 
 -- where the rules on it alone pass, it is no larger than an entry may be
-pub fits_in : (tx : Tx) (cost : ℕ) → cost ≤ 16000 → first_failing (alone_rules tx) ≡ None → vsize_of cost tx ≤ 10000000
-fits_in tx cost low h = let size = sized tx (none_fails (alone_rules tx) h) in (quarter (weight_of tx) cost size.0 size.1 low).1
+pub fits_in : (standards : Standards) (tx : Tx) (sigop_size cost : ℕ) → sigop_size ≤ 25 → cost ≤ 16000 → first_failing (alone_rules standards tx) ≡ None → vsize_of sigop_size cost tx ≤ 10000000
+fits_in standards tx sigop_size cost few low h =
+    let size = sized standards tx (none_fails (alone_rules standards tx) h) in
+    (quarter (weight_of tx) (sigop_size * cost) size.0 size.1 (counted sigop_size cost few low)).1
 
 -- where nothing was read
 pub undecoded : (attempt : Attempt) (over : Standing) (tx : Option Tx) → tx ≡ None → Err Decode ≡ decision_of attempt over tx
@@ -289,6 +294,6 @@ pub answers_live : (attempt : Attempt) (over : Standing) (tx : Option Tx) (r : R
 answers_live attempt over tx (Ok decision) h = found_live attempt over tx decision h
 answers_live attempt over tx (Err e) h = tt
 
-pub answers_fit : (attempt : Attempt) (over : Standing) (tx : Option Tx) (r : Result (Result Grant Denial) Memory) → IfOk r (λ decision. decision ≡ decision_of attempt over tx) → IfOk r FitsAnEntry
-answers_fit attempt over tx (Ok decision) h = found_fit attempt over tx decision h
-answers_fit attempt over tx (Err e) h = tt
+pub answers_fit : (attempt : Attempt) (over : Standing) (tx : Option Tx) → IsPolicy over.policy → (r : Result (Result Grant Denial) Memory) → IfOk r (λ decision. decision ≡ decision_of attempt over tx) → IfOk r FitsAnEntry
+answers_fit attempt over tx bounds (Ok decision) h = found_fit attempt over tx bounds decision h
+answers_fit attempt over tx bounds (Err e) h = tt

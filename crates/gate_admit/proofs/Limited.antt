@@ -8,7 +8,7 @@ use Rattle.gate_pool.specs.Pool.{Admitted, size_of}
 use Rattle.gate_pool.specs.Family.{steps, is_below_some, is_conflict, ancestors_of, descendants_of, ancestors_above, entered}
 use Rattle.gate_pool.proofs.Entries.{Id}
 use Rattle.gate_admit.specs.Good.{IsLimited}
-use Rattle.gate_admit.specs.Policies.{Policy, most_ancestors}
+use Rattle.gate_admit.specs.Policies.{Policy, most_ancestors, most_descendants_size}
 use Rattle.gate_admit.proofs.Childless.{IsChildless, sum_above_new, sum_below_new, sum_above_old, sum_below_old, sum_below_apart}
 use Rattle.gate_admit.proofs.Filtering.{length_ones}
 
@@ -18,22 +18,22 @@ pub record HasRoom (policy : Policy) (entries : List Admitted) (e : Admitted) (b
   pub under : (a : Admitted) → Contains entries a → gone a ≡ true → reaches (steps entries) b (txid_of a.tx) ≡ true
   pub goes : (a : Admitted) → Contains entries a → gone a ≡ true → is_below_some (is_conflict e.tx) entries a ≡ true
   pub count : length (descendants_of entries b) ≤ policy.descendants + length (filter gone entries)
-  pub size : size_of (descendants_of entries b) + e.vsize ≤ 111000 + size_of (filter gone entries)
+  pub size : size_of (descendants_of entries b) + e.vsize ≤ most_descendants_size policy + size_of (filter gone entries)
 
 -- above a transaction there is room for it
 pub record HasRoomAbove (policy : Policy) (entries : List Admitted) (e : Admitted) : Type 0 where
   pub count : length (ancestors_above entries e.tx.inputs) + 1 ≤ most_ancestors policy
-  pub size : size_of (ancestors_above entries e.tx.inputs) + e.vsize ≤ 101000
+  pub size : size_of (ancestors_above entries e.tx.inputs) + e.vsize ≤ policy.ancestors_size
 
 -- the family of what enters
-pub limited_new : {policy : Policy} {entries : List Admitted} {e : Admitted} → IsChildless entries e → HasRoomAbove policy entries e → IsLimited policy (entered entries e) (txid_of e.tx)
-limited_new {policy} {entries} {e} h room =
+pub limited_new : {policy : Policy} {entries : List Admitted} {e : Admitted} → e.vsize ≤ policy.descendants_size → IsChildless entries e → HasRoomAbove policy entries e → IsLimited policy (entered entries e) (txid_of e.tx)
+limited_new {policy} {entries} {e} light h room =
     let after = entered entries e in
     record {
       ancestors = omega (arith, room.count, sum_above_new h (λ (a : Admitted). 1), length_ones (ancestors_of after (txid_of e.tx)), length_ones (ancestors_above entries e.tx.inputs));
       ancestors_size = omega (arith, room.size, sum_above_new h (λ (a : Admitted). a.vsize));
       descendants = omega (arith, sum_below_new h (λ (a : Admitted). 1), length_ones (descendants_of after (txid_of e.tx)));
-      descendants_size = omega (arith, room.size, sum_below_new h (λ (a : Admitted). a.vsize));
+      descendants_size = omega (arith, light, sum_below_new h (λ (a : Admitted). a.vsize));
     }
 
 -- the families of what stays
@@ -42,7 +42,7 @@ pub limited_old : {policy : Policy} {entries : List Admitted} {e : Admitted} →
 limited_old {policy} {entries} {e} h b ne old room =
     let after = entered entries e in
     let above_count : length (ancestors_of after b) ≤ most_ancestors policy = omega (arith, old.ancestors, sum_above_old h (λ (a : Admitted). 1) b ne, length_ones (ancestors_of after b), length_ones (ancestors_of entries b)) in
-    let above_size : size_of (ancestors_of after b) ≤ 101000 = omega (arith, old.ancestors_size, sum_above_old h (λ (a : Admitted). a.vsize) b ne) in
+    let above_size : size_of (ancestors_of after b) ≤ policy.ancestors_size = omega (arith, old.ancestors_size, sum_above_old h (λ (a : Admitted). a.vsize) b ne) in
     ⊎_elim
     (λ (r : reaches (steps after) b (txid_of e.tx) ≡ true).
     let w = room r in

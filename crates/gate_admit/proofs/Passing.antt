@@ -17,7 +17,7 @@ use Rattle.gate_admit.specs.Standing.{Standing}
 
 -- no rule fails, group by group
 pub record Passes (attempt : Attempt) (over : Standing) (tx : Tx) : Type 0 where
-  pub alone : NoneFails (alone_rules tx)
+  pub alone : NoneFails (alone_rules over.policy.standards tx)
   pub final : NoneFails (final_rules over.chain tx)
   pub pool : NoneFails (pool_rules over.policy over.entries tx)
   pub coin : NoneFails (coin_rules over.chain over.entries tx)
@@ -25,9 +25,9 @@ pub record Passes (attempt : Attempt) (over : Standing) (tx : Tx) : Type 0 where
   pub value : NoneFails (coin_value_rules (tip_of over.chain + 1) 0 (coins_of over.chain over.entries tx.inputs))
   pub balance : NoneFails (balance_rules (coins_value (coins_of over.chain over.entries tx.inputs)) (outputs_value tx))
   pub report : NoneFails (report_rules (reported tx.inputs (coins_of over.chain over.entries tx.inputs)) tx)
-  pub payment : NoneFails (payment_rules attempt over.floor (coins_value (coins_of over.chain over.entries tx.inputs) - outputs_value tx) (vsize_of (sigop_cost (reported tx.inputs (coins_of over.chain over.entries tx.inputs)) tx.outputs) tx))
-  pub limits : NoneFails (limit_rules attempt over.policy over.entries tx (vsize_of (sigop_cost (reported tx.inputs (coins_of over.chain over.entries tx.inputs)) tx.outputs) tx))
-  pub replacement : NoneFails (replacement_rules over.entries tx (coins_value (coins_of over.chain over.entries tx.inputs) - outputs_value tx) (vsize_of (sigop_cost (reported tx.inputs (coins_of over.chain over.entries tx.inputs)) tx.outputs) tx))
+  pub payment : NoneFails (payment_rules attempt over.policy.relay_rate over.floor (coins_value (coins_of over.chain over.entries tx.inputs) - outputs_value tx) (vsize_of over.policy.sigop_size (sigop_cost (reported tx.inputs (coins_of over.chain over.entries tx.inputs)) tx.outputs) tx))
+  pub limits : NoneFails (limit_rules attempt over.policy over.entries tx (vsize_of over.policy.sigop_size (sigop_cost (reported tx.inputs (coins_of over.chain over.entries tx.inputs)) tx.outputs) tx))
+  pub replacement : NoneFails (replacement_rules over.policy.incremental_rate over.entries tx (coins_value (coins_of over.chain over.entries tx.inputs) - outputs_value tx) (vsize_of over.policy.sigop_size (sigop_cost (reported tx.inputs (coins_of over.chain over.entries tx.inputs)) tx.outputs) tx))
 
 pub passes : (attempt : Attempt) (over : Standing) (tx : Tx) → first_failing (admission_rules attempt over tx) ≡ None → Passes attempt over tx
 unfolding admission_rules
@@ -35,8 +35,8 @@ passes attempt over tx h =
     let coins = coins_of over.chain over.entries tx.inputs in
     let answers = reported tx.inputs coins in
     let fee = coins_value coins - outputs_value tx in
-    let vsize = vsize_of (sigop_cost answers tx.outputs) tx in
-    let alone = none_fails-append (alone_rules tx) _ (none_fails _ h) in
+    let vsize = vsize_of over.policy.sigop_size (sigop_cost answers tx.outputs) tx in
+    let alone = none_fails-append (alone_rules over.policy.standards tx) _ (none_fails _ h) in
     let final = none_fails-append (final_rules over.chain tx) _ alone.1 in
     let pool = none_fails-append (pool_rules over.policy over.entries tx) _ final.1 in
     let coin = none_fails-append (coin_rules over.chain over.entries tx) _ pool.1 in
@@ -44,9 +44,9 @@ passes attempt over tx h =
     let value = none_fails-append (coin_value_rules (tip_of over.chain + 1) 0 coins) _ lock.1 in
     let balance = none_fails-append (balance_rules (coins_value coins) (outputs_value tx)) _ value.1 in
     let report = none_fails-append (report_rules answers tx) _ balance.1 in
-    let payment = none_fails-append (payment_rules attempt over.floor fee vsize) _ report.1 in
+    let payment = none_fails-append (payment_rules attempt over.policy.relay_rate over.floor fee vsize) _ report.1 in
     let limits = none_fails-append (limit_rules attempt over.policy over.entries tx vsize) _ payment.1 in
-    let replacement = none_fails-append (replacement_rules over.entries tx fee vsize) (verdict_rules over.verdicts (wtxid_of tx) 0 tx.inputs) limits.1 in
+    let replacement = none_fails-append (replacement_rules over.policy.incremental_rate over.entries tx fee vsize) (verdict_rules over.verdicts (wtxid_of tx) 0 tx.inputs) limits.1 in
     record {
       alone = alone.0;
       final = final.0;

@@ -17,7 +17,7 @@ use Rattle.gate_pool.proofs.Walking.{Contains-filter}
 use Rattle.gate_admit.specs.declared.attempt.Attempt.TheVariants.{Again}
 use Rattle.gate_admit.specs.declared.grant.Grant.{Grant}
 use Rattle.gate_admit.specs.Good.{IsLimited}
-use Rattle.gate_admit.specs.Policies.{Policy, most_ancestors, most_descendants}
+use Rattle.gate_admit.specs.Policies.{Policy, most_ancestors, most_descendants, most_descendants_size}
 use Rattle.gate_admit.specs.Limits.{is_limited, fits_again, limit_rules}
 use Rattle.gate_admit.specs.Rules.{admission_rules, decision_of, grant_of}
 use Rattle.gate_admit.specs.Standing.{Standing}
@@ -177,8 +177,8 @@ beside_limited policy entries n b above below h =
 told_limited : (policy : Policy) (entries : List Admitted) (b : Id) → is_limited policy entries b ≡ true → IsLimited policy entries b
 told_limited policy entries b h =
     let first = and_parts (nat_le (length (ancestors_of entries b)) (most_ancestors policy)) _ h in
-    let second = and_parts (nat_le (size_of (ancestors_of entries b)) 101000) _ first.1 in
-    let third = and_parts (nat_le (length (descendants_of entries b)) (most_descendants policy)) (nat_le (size_of (descendants_of entries b)) 111000) second.1 in
+    let second = and_parts (nat_le (size_of (ancestors_of entries b)) policy.ancestors_size) _ first.1 in
+    let third = and_parts (nat_le (length (descendants_of entries b)) (most_descendants policy)) (nat_le (size_of (descendants_of entries b)) (most_descendants_size policy)) second.1 in
     record { ancestors = leb-true _ _ first.0; ancestors_size = leb-true _ _ second.0; descendants = leb-true _ _ third.0; descendants_size = leb-true _ _ third.1 }
 
 -- each entry is limited with the newcomer, and so is the newcomer

@@ -104,6 +104,7 @@ module _ (chain : History) (D : Id → Bool) (entries : List Admitted) (closed :
   kept_sound policy h =
       let k : Admitted → Bool = λ a. not (D (txid_of a.tx)) in
       record {
+        bounds = h.bounds;
         txids = AllPairs-filter DifferByTxid k entries h.txids;
         wtxids = AllPairs-filter DifferByWtxid k entries h.wtxids;
         spends = AllPairs-flat_map_filter (λ (e : Admitted). spends_of e.tx) Differ k entries h.spends;

@@ -20,7 +20,7 @@ use Rattle.gate_rbf.specs.Replacing.{adds_parent, rules_beside}
 use Rattle.gate_rbf.proofs.Conflicting.{is_some-find}
 use Rattle.gate_admit.specs.declared.attempt.Attempt.TheVariants.{First}
 use Rattle.gate_admit.specs.declared.limits.FamilyLimits.{FamilyLimits}
-use Rattle.gate_admit.specs.Policies.{Policy}
+use Rattle.gate_admit.specs.Policies.{Policy, IsPolicy}
 use Rattle.gate_admit.specs.Limits.{grown, usual_limits, carved_out, has_room_below, is_within, limit_rules}
 use Rattle.gate_admit.proofs.Filtering.{list_all_of}
 use Rattle.gate_admit.proofs.Limited.{HasRoom, HasRoomAbove}
@@ -64,7 +64,7 @@ tried policy entries tx vsize h =
 
 -- ---- above
 
-grown_above : (policy : Policy) (entries conflicts : List Admitted) → ((grown entries conflicts (usual_limits policy)).ancestors ≡ policy.ancestors) × ((grown entries conflicts (usual_limits policy)).ancestors_size ≡ 101000)
+grown_above : (policy : Policy) (entries conflicts : List Admitted) → ((grown entries conflicts (usual_limits policy)).ancestors ≡ policy.ancestors) × ((grown entries conflicts (usual_limits policy)).ancestors_size ≡ policy.ancestors_size)
 grown_above policy entries [] = (refl, refl)
 grown_above policy entries (c ∷ []) = (refl, refl)
 grown_above policy entries (c ∷ d ∷ rest) = (refl, refl)
@@ -73,19 +73,20 @@ nothing_above : (above : List Admitted) → length above ≡ 0 → size_of above
 nothing_above [] h = refl
 nothing_above (a ∷ above) h = absurd (omega (arith, h))
 
-small_above : (above : List Admitted) (vsize limit : ℕ) → limit ≤ 101000 → vsize ≤ 100000 → (length above ≡ 0) ⊎ (size_of above + vsize ≤ limit) → size_of above + vsize ≤ 101000
-small_above above vsize limit low small h =
+small_above : (above : List Admitted) (vsize limit most : ℕ) → limit ≤ most → vsize ≤ most → (length above ≡ 0) ⊎ (size_of above + vsize ≤ limit) → size_of above + vsize ≤ most
+small_above above vsize limit most low small h =
     ⊎_elim (λ (e : length above ≡ 0). omega (arith, nothing_above above e, small)) (λ (k : size_of above + vsize ≤ limit). omega (arith, k, low)) h
 
 -- the ancestors of a transaction are few and small
-pub room_above : (policy : Policy) (entries : List Admitted) (e : Admitted) → e.vsize ≤ 100000 → NoneFails (limit_rules First policy entries e.tx e.vsize) → HasRoomAbove policy entries e
-room_above policy entries e small h =
+pub room_above : (policy : Policy) (entries : List Admitted) (e : Admitted) → IsPolicy policy → e.vsize ≤ 100000 → NoneFails (limit_rules First policy entries e.tx e.vsize) → HasRoomAbove policy entries e
+room_above policy entries e bounds small h =
+    let fits : e.vsize ≤ policy.ancestors_size = omega (arith, small, bounds.ancestors_size) in
     let above = ancestors_above entries e.tx.inputs in
     let limits = grown entries (conflicts_of entries e.tx) (usual_limits policy) in
     let same = grown_above policy entries (conflicts_of entries e.tx) in
     ⊎_elim
-    (λ (w : IsWithin limits entries above e.vsize). record { count = omega (arith, w.count, same.0); size = small_above above e.vsize limits.ancestors_size (omega (arith, same.1)) small w.size })
-    (λ (w : IsWithin (carved_out limits) entries above e.vsize). record { count = omega (arith, w.count); size = small_above above e.vsize 101000 (omega arith) small w.size })
+    (λ (w : IsWithin limits entries above e.vsize). record { count = omega (arith, w.count, same.0); size = small_above above e.vsize limits.ancestors_size policy.ancestors_size (omega (arith, same.1)) fits w.size })
+    (λ (w : IsWithin (carved_out limits) entries above e.vsize). record { count = omega (arith, w.count); size = small_above above e.vsize limits.ancestors_size policy.ancestors_size (omega (arith, same.1)) fits w.size })
     (tried policy entries e.tx e.vsize h)
 
 -- ---- below each of them
@@ -121,9 +122,9 @@ shared_parent true false h e = sym h
 shared_parent false named h e = absurd (true≢false (sym e))
 
 -- A40, where a transaction conflicts with entries
-pub no_parent_added : (entries : List Admitted) (tx : Tx) (direct : List Admitted) (paid fee vsize : ℕ) → NoneFails (rules_beside entries direct paid tx fee vsize) → list_any (adds_parent entries direct) tx.inputs ≡ false
+pub no_parent_added : (rate : ℕ) (entries : List Admitted) (tx : Tx) (direct : List Admitted) (paid fee vsize : ℕ) → NoneFails (rules_beside rate entries direct paid tx fee vsize) → list_any (adds_parent entries direct) tx.inputs ≡ false
 unfolding rules_beside
-no_parent_added entries tx direct paid fee vsize h = h.1.1.0
+no_parent_added rate entries tx direct paid fee vsize h = h.1.1.0
 
 -- an ancestor of a transaction that conflicts with one entry alone is an ancestor of this
 above_conflict : (entries : List Admitted) (tx : Tx) (c a : Admitted) → conflicts_of entries tx ≡ c ∷ [] → list_any (adds_parent entries (conflicts_of entries tx)) tx.inputs ≡ false
@@ -144,7 +145,7 @@ some_member : {X : Type 0} (xs : List X) (x : X) → Contains xs x → 1 ≤ len
 some_member xs x m = let l = m.1 in omega arith
 
 -- beside no conflict, or several, the usual limits hold
-room_usual : (policy : Policy) (entries : List Admitted) (e : Admitted) (b : Id) → length (descendants_of entries b) ≤ policy.descendants → size_of (descendants_of entries b) + e.vsize ≤ 101000 + 10000 → HasRoom policy entries e b
+room_usual : (policy : Policy) (entries : List Admitted) (e : Admitted) (b : Id) → length (descendants_of entries b) ≤ policy.descendants → size_of (descendants_of entries b) + e.vsize ≤ policy.descendants_size + 10000 → HasRoom policy entries e b
 room_usual policy entries e b count size = record {
   gone = λ a. false;
   under = λ a m t. absurd (true≢false (sym t));
@@ -155,7 +156,7 @@ room_usual policy entries e b count size = record {
 
 -- beside one conflict they grow, and it goes with its descendants
 room_grown : (policy : Policy) (entries : List Admitted) (e c : Admitted) (b : Id) → Contains entries c → is_conflict e.tx c ≡ true → reaches (steps entries) b (txid_of c.tx) ≡ true
-    → length (descendants_of entries b) ≤ policy.descendants + 1 → size_of (descendants_of entries b) + e.vsize ≤ (101000 + size_of (descendants_of entries (txid_of c.tx))) + 10000 → HasRoom policy entries e b
+    → length (descendants_of entries b) ≤ policy.descendants + 1 → size_of (descendants_of entries b) + e.vsize ≤ (policy.descendants_size + size_of (descendants_of entries (txid_of c.tx))) + 10000 → HasRoom policy entries e b
 room_grown policy entries e c b m conflicts above count size =
     let itself = some_member (descendants_of entries (txid_of c.tx)) c (Contains-filter (λ (a : Admitted). reaches (steps entries) (txid_of c.tx) (txid_of a.tx)) entries c m (reaches-same (steps entries) (txid_of c.tx))) in
     record {

@@ -23,6 +23,7 @@ use Rattle.gate_admit.specs.declared.attempt.Attempt.TheVariants.{First}
 use Rattle.gate_admit.specs.declared.grant.Grant.{Grant}
 use Rattle.gate_admit.specs.Good.{AreApart, IsGood, IsSettled, IsSound, IsUnconnected, Limits, connected_transactions, limits_for}
 use Rattle.gate_admit.specs.Rules.{admission_rules, decision_of, denied_or, grant_of}
+use Rattle.gate_admit.specs.Policies.{Policy, IsPolicy}
 use Rattle.gate_admit.specs.Standing.{Standing}
 use Rattle.gate_admit.specs.Submission.{Submitted, admitted, entry_of, holds, submitted_by, submit_of}
 use Rattle.gate_admit.proofs.Entering.{StaysUnconnected, empty_sound, grant_sound, stays_if_apart, stays_if_unconnected}
@@ -32,37 +33,37 @@ use Rattle.gate_admit.proofs.Staying.{stays_within}
 -- ---- entries
 
 -- what enters a sound list leaves a good pool
-entry_good : (limits : Limits) (chain : History) (entries : List Admitted) (floor : ℕ) (e : Admitted) → IsSound limits.policy chain (entered entries e) → IsGood limits chain (entry_of limits.budget entries floor e).entries
+entry_good : (limits : Limits) (chain : History) (entries : List Admitted) (floor : ℕ) (e : Admitted) → IsSound limits.policy chain (entered entries e) → IsGood limits chain (entry_of limits.policy limits.budget entries floor e).entries
 unfolding entry_of
 entry_good limits chain entries floor e h =
     record {
-      sound = trim_keeps (IsSound limits.policy chain) (family_sound limits.policy chain) limits.budget (expired e.time (entered entries e)) floor (below_sound limits.policy chain (is_stale e.time) (entered entries e) h);
-      size = trim_within limits.budget (expired e.time (entered entries e)) floor;
+      sound = trim_keeps (IsSound limits.policy chain) (family_sound limits.policy chain) limits.policy.incremental_rate limits.budget (expired limits.policy.stay e.time (entered entries e)) floor (below_sound limits.policy chain (is_stale limits.policy.stay e.time) (entered entries e) h);
+      size = trim_within limits.policy.incremental_rate limits.budget (expired limits.policy.stay e.time (entered entries e)) floor;
     }
 
 -- no entry is left that came too long ago
-abbrev pub AreYoung : ℕ → List Admitted → Type 0
-AreYoung now entries = All (IsYoung now) entries
+abbrev pub AreYoung : ℕ → ℕ → List Admitted → Type 0
+AreYoung stay now entries = All (IsYoung stay now) entries
 
-expired_young : (now : ℕ) (entries : List Admitted) → AreYoung now (expired now entries)
-expired_young now entries k d l = one_young now entries _ (Contains-get_or (expired now entries) k d l)
+expired_young : (stay now : ℕ) (entries : List Admitted) → AreYoung stay now (expired stay now entries)
+expired_young stay now entries k d l = one_young stay now entries _ (Contains-get_or (expired stay now entries) k d l)
 
-entry_young : (budget : ℕ) (entries : List Admitted) (floor : ℕ) (e : Admitted) → AreYoung e.time (entry_of budget entries floor e).entries
+entry_young : (policy : Policy) (budget : ℕ) (entries : List Admitted) (floor : ℕ) (e : Admitted) → AreYoung policy.stay e.time (entry_of policy budget entries floor e).entries
 unfolding entry_of
-entry_young budget entries floor e =
-    trim_keeps (AreYoung e.time) (λ l txid. All-filter (λ (a : Admitted). not (reaches (steps l) txid (txid_of a.tx))) (IsYoung e.time) l)
-    budget (expired e.time (entered entries e)) floor (expired_young e.time (entered entries e))
+entry_young policy budget entries floor e =
+    trim_keeps (AreYoung policy.stay e.time) (λ l txid. All-filter (λ (a : Admitted). not (reaches (steps l) txid (txid_of a.tx))) (IsYoung policy.stay e.time) l)
+    policy.incremental_rate budget (expired policy.stay e.time (entered entries e)) floor (expired_young policy.stay e.time (entered entries e))
 
-entry_floor : (budget : ℕ) (entries : List Admitted) (floor : ℕ) (e : Admitted) → floor ≤ (entry_of budget entries floor e).floor
+entry_floor : (policy : Policy) (budget : ℕ) (entries : List Admitted) (floor : ℕ) (e : Admitted) → floor ≤ (entry_of policy budget entries floor e).floor
 unfolding entry_of
-entry_floor budget entries floor e = trim_rises budget (expired e.time (entered entries e)) floor
+entry_floor policy budget entries floor e = trim_rises policy.incremental_rate budget (expired policy.stay e.time (entered entries e)) floor
 
 -- what is left was there, or came
-pub entry_within : (budget : ℕ) (entries : List Admitted) (floor : ℕ) (e a : Admitted) → Contains (entry_of budget entries floor e).entries a → Contains (entered entries e) a
+pub entry_within : (policy : Policy) (budget : ℕ) (entries : List Admitted) (floor : ℕ) (e a : Admitted) → Contains (entry_of policy budget entries floor e).entries a → Contains (entered entries e) a
 unfolding entry_of
-entry_within budget entries floor e =
+entry_within policy budget entries floor e =
     trim_keeps (λ l. (a : Admitted) → Contains l a → Contains (entered entries e) a) (λ l txid h a m. h a (Contains-from_filter (λ (x : Admitted). not (reaches (steps l) txid (txid_of x.tx))) l a m))
-    budget (expired e.time (entered entries e)) floor (λ a m. stays_within (is_stale e.time) (entered entries e) a m)
+    policy.incremental_rate budget (expired policy.stay e.time (entered entries e)) floor (λ a m. stays_within (is_stale policy.stay e.time) (entered entries e) a m)
 
 -- ---- submissions
 
@@ -92,8 +93,8 @@ kept_good over tx now budget after is settled is_tx apart good =
     subst (λ (s : Submitted). IsGood (limits_for over.policy budget) over.chain s.entries) is (submission_good over tx now budget (stays_if_apart over tx settled is_tx apart) good)
 
 -- a pool without entries is good
-pub empty_good : (limits : Limits) (chain : History) → IsGood limits chain []
-empty_good limits chain = record { sound = empty_sound limits.policy chain; size = omega arith }
+pub empty_good : (limits : Limits) (chain : History) → IsPolicy limits.policy → IsGood limits chain []
+empty_good limits chain bounds = record { sound = empty_sound limits.policy chain bounds; size = omega arith }
 
 -- ---- what a grant says
 
@@ -111,22 +112,22 @@ granted_held over tx now budget grant h = go (decision_of First over (Some tx)) 
   where
     go : (decision : Result Grant Denial) → (submitted_by over (Some tx) now budget decision).decision ≡ Ok grant → holds (submitted_by over (Some tx) now budget decision).entries (txid_of tx) ≡ true
     go (Err denial) k = cc
-    go (Ok made) k = granted_here (holds (entry_of budget over.entries over.floor (admitted tx made now)).entries (txid_of tx)) made grant k
+    go (Ok made) k = granted_here (holds (entry_of over.policy budget over.entries over.floor (admitted tx made now)).entries (txid_of tx)) made grant k
 
-pub granted_young : (over : Standing) (tx : Tx) (now budget : ℕ) (grant : Grant) → (submit_of over (Some tx) now budget).decision ≡ Ok grant → AreYoung now (submit_of over (Some tx) now budget).entries
+pub granted_young : (over : Standing) (tx : Tx) (now budget : ℕ) (grant : Grant) → (submit_of over (Some tx) now budget).decision ≡ Ok grant → AreYoung over.policy.stay now (submit_of over (Some tx) now budget).entries
 unfolding submit_of
 granted_young over tx now budget grant h = go (decision_of First over (Some tx)) h
   where
-    go : (decision : Result Grant Denial) → (submitted_by over (Some tx) now budget decision).decision ≡ Ok grant → AreYoung now (submitted_by over (Some tx) now budget decision).entries
+    go : (decision : Result Grant Denial) → (submitted_by over (Some tx) now budget decision).decision ≡ Ok grant → AreYoung over.policy.stay now (submitted_by over (Some tx) now budget decision).entries
     go (Err denial) k = cc
-    go (Ok made) k = entry_young budget over.entries over.floor (admitted tx made now)
+    go (Ok made) k = entry_young over.policy budget over.entries over.floor (admitted tx made now)
 
 pub full_gone : (over : Standing) (tx : Tx) (now budget : ℕ) (grant : Grant) → decision_of First over (Some tx) ≡ Ok grant → (submit_of over (Some tx) now budget).decision ≡ Err MempoolFull
     → holds (submit_of over (Some tx) now budget).entries (txid_of tx) ≡ false
 unfolding submit_of
 full_gone over tx now budget grant d h =
     ap (λ x. holds (submitted_by over (Some tx) now budget x).entries (txid_of tx)) d
-    ∙ denied_here (holds (entry_of budget over.entries over.floor (admitted tx grant now)).entries (txid_of tx)) grant (sym (ap (λ x. (submitted_by over (Some tx) now budget x).decision) d) ∙ h)
+    ∙ denied_here (holds (entry_of over.policy budget over.entries over.floor (admitted tx grant now)).entries (txid_of tx)) grant (sym (ap (λ x. (submitted_by over (Some tx) now budget x).decision) d) ∙ h)
 
 -- ---- the floor
 
@@ -137,4 +138,4 @@ submission_floor over tx now budget = go tx (decision_of First over tx)
     go : (tx : Option Tx) (decision : Result Grant Denial) → over.floor ≤ (submitted_by over tx now budget decision).floor
     go tx (Err denial) = omega arith
     go None (Ok grant) = omega arith
-    go (Some tx) (Ok grant) = entry_floor budget over.entries over.floor (admitted tx grant now)
+    go (Some tx) (Ok grant) = entry_floor over.policy budget over.entries over.floor (admitted tx grant now)

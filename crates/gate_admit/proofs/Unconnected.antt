@@ -19,7 +19,7 @@ use Rattle.gate_tx.specs.Laws.{prevouts}
 use Rattle.gate_tx.specs.Text.{IsTx, stripped}
 use Rattle.gate_tx.specs.Tx.{Tx}
 use Rattle.gate_tx.proofs.Stripped.{stripped_forms_spend_the_same}
-use Rattle.gate_standard.specs.Rules.{transaction_rules, standard_rules, output_value_rules, is_coinbase}
+use Rattle.gate_standard.specs.Rules.{transaction_rules, form_rules, output_rules, output_value_rules, is_coinbase}
 use Rattle.gate_chain.specs.Blocks.{Block}
 use Rattle.gate_chain.specs.Coins.{has_txid as opened_by, coin_made, coin_of, has_transaction, is_known_txid, is_spent_in}
 use Rattle.gate_chain.specs.History.{History}
@@ -29,7 +29,8 @@ use Rattle.gate_chain.specs.Times.{tip_of}
 use Rattle.gate_pool.specs.Pool.{Admitted, has_txid, entry_by_txid, spends_of}
 use Rattle.gate_admit.specs.Coins.{view_coin}
 use Rattle.gate_admit.specs.Rules.{admission_rules}
-use Rattle.gate_submission.specs.Alone.{alone_rules}
+use Rattle.gate_submission.specs.Alone.{alone_rules, own_rules}
+use Rattle.gate_standard.specs.declared.Standards.{Standards}
 use Rattle.gate_admit.specs.Standing.{Standing}
 use Rattle.gate_rbf.proofs.Conflicting.{is_some-find}
 use Rattle.gate_admit.proofs.Granted.{rules_grant}
@@ -99,15 +100,15 @@ alike chain tx t b (t0 ∷ txs) settled at parts member same no_coinbase =
     (λ (c : Contains txs t). c)
     (Contains-cons_cases t0 txs t member)
 
-not_coinbase : (tx : Tx) → NoneFails (alone_rules tx) → is_coinbase tx.inputs ≡ false
-unfolding alone_rules transaction_rules
-not_coinbase tx h =
-    let every = (none_fails-append (transaction_rules tx) (standard_rules tx) h).0 in
+not_coinbase : (standards : Standards) (tx : Tx) → NoneFails (alone_rules standards tx) → is_coinbase tx.inputs ≡ false
+unfolding alone_rules own_rules transaction_rules
+not_coinbase standards tx h =
+    let every = (none_fails-append (transaction_rules tx) (form_rules tx) (none_fails-append (own_rules tx) (output_rules standards tx) h).0).0 in
     (none_fails-append (output_value_rules 0 tx.outputs) _ every.1.1.1).1.1.1.1.0
 
-some_inputs : (tx : Tx) → NoneFails (alone_rules tx) → (length tx.inputs == 0) ≡ false
-unfolding alone_rules transaction_rules
-some_inputs tx h = (none_fails-append (transaction_rules tx) (standard_rules tx) h).0.0
+some_inputs : (standards : Standards) (tx : Tx) → NoneFails (alone_rules standards tx) → (length tx.inputs == 0) ≡ false
+unfolding alone_rules own_rules transaction_rules
+some_inputs standards tx h = (none_fails-append (transaction_rules tx) (form_rules tx) (none_fails-append (own_rules tx) (output_rules standards tx) h).0).0.0
 
 -- the outpoint of the first input has a coin
 first_coin : (chain : History) (entries : List Admitted) (tx : Tx) (i : TxIn) (rest : List TxIn) → tx.inputs ≡ i ∷ rest → All (λ (p : OutPoint). IsSome (view_coin chain entries p)) (spends_of tx)
@@ -184,14 +185,14 @@ pub unconnected : (attempt : Attempt) (over : Standing) (tx : Tx) → IsSettled 
 unconnected attempt over tx settled fresh is_tx apart granted = go tx.inputs refl
   where
     go : (inputs : List TxIn) → tx.inputs ≡ inputs → list_any (has_transaction (txid_of tx)) over.chain.blocks ≡ false
-    go [] e = absurd (true≢false (ap (λ (is : List TxIn). length is == 0) (sym e) ∙ some_inputs tx (passes attempt over tx granted).alone))
+    go [] e = absurd (true≢false (ap (λ (is : List TxIn). length is == 0) (sym e) ∙ some_inputs over.policy.standards tx (passes attempt over tx granted).alone))
     go (i ∷ rest) e = false_from_ne_true _ (λ h.
         let block = any_is (has_transaction (txid_of tx)) over.chain.blocks h in
         let member = any_is (λ (t : Tx). bytes_eq (txid_of t) (txid_of tx)) block.0.transactions block.2 in
         let inside : Contains (connected_transactions over.chain) member.0 = Contains-flat_map (λ (b : Block). b.transactions) over.chain.blocks block.0 member.0 block.1 member.1 in
         let one_form : stripped member.0 ≡ stripped tx = apart member.0 tx (Contains-rest tx (connected_transactions over.chain) member.0 inside) (Contains-head tx (connected_transactions over.chain)) ((bytes_eq-Decides (txid_of member.0) (txid_of tx)).0 member.2) in
         let same : prevouts member.0 ≡ prevouts tx = stripped_forms_spend_the_same member.0 tx (settled.spelled member.0 inside) is_tx one_form in
-        let behind = alike over.chain tx member.0 block.0 block.0.transactions settled block.1 refl member.1 same (not_coinbase tx (passes attempt over tx granted).alone) in
+        let behind = alike over.chain tx member.0 block.0 block.0.transactions settled block.1 refl member.1 same (not_coinbase over.policy.standards tx (passes attempt over tx granted).alone) in
         let spent : spends member.0.inputs i.prevout ≡ true = spends_alike member.0 tx i.prevout same ∙ ap (λ (is : List TxIn). spends is i.prevout) e ∙ spends_first i rest in
         let gone = spent_behind over.chain block.0 member.0 i.prevout block.1 behind spent in
         let given = entry_gives over.chain over.entries i.prevout (first_coin over.chain over.entries tx i rest e (rules_grant attempt over tx granted).coins) gone in

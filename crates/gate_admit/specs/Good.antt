@@ -15,8 +15,7 @@ use Rattle.gate_chain.specs.Coins.{coin_of_blocks, has_transaction, is_known_txi
 use Rattle.gate_pool.specs.Pool.{Admitted, spent_by, size_of}
 use Rattle.gate_pool.specs.Family.{ancestors_of, descendants_of}
 use Rattle.gate_admit.specs.Coins.{view_coin}
-use Rattle.gate_admit.specs.Limits.{descendants_size_limit, family_size_limit}
-use Rattle.gate_admit.specs.Policies.{Policy, most_ancestors, most_descendants}
+use Rattle.gate_admit.specs.Policies.{Policy, IsPolicy, most_ancestors, most_descendants, most_descendants_size}
 
 -- the most virtual bytes that a pool may hold, and the policy on its families
 pub record Limits : Type 0 where
@@ -29,12 +28,13 @@ limits_for policy budget = record { budget = budget; policy = policy }
 -- the ancestors and the descendants of an id, its own entry among each, are within the limits of the policy
 pub record IsLimited (policy : Policy) (entries : List Admitted) (txid : List ℕ) : Type 0 where
   pub ancestors : length (ancestors_of entries txid) ≤ most_ancestors policy
-  pub ancestors_size : size_of (ancestors_of entries txid) ≤ family_size_limit
+  pub ancestors_size : size_of (ancestors_of entries txid) ≤ policy.ancestors_size
   pub descendants : length (descendants_of entries txid) ≤ most_descendants policy
-  pub descendants_size : size_of (descendants_of entries txid) ≤ descendants_size_limit
+  pub descendants_size : size_of (descendants_of entries txid) ≤ most_descendants_size policy
 
--- what holds of entries over a chain, however many they are
+-- what holds of entries over a chain, however many they are, under a policy whose numbers are within their bounds
 pub record IsSound (policy : Policy) (chain : History) (entries : List Admitted) : Type 0 where
+  pub bounds : IsPolicy policy
   -- no two entries share an id
   pub txids : AllPairs (λ (a : Admitted) (b : Admitted). txid_of a.tx ≢ txid_of b.tx) entries
   pub wtxids : AllPairs (λ (a : Admitted) (b : Admitted). wtxid_of a.tx ≢ wtxid_of b.tx) entries

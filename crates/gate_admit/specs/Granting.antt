@@ -13,10 +13,10 @@ use Rattle.gate_locks.specs.Finality.{is_final_at}
 use Rattle.gate_locks.specs.Locks.{median_at, sequence_locks_met_by}
 use Rattle.gate_pool.specs.Pool.{Admitted, spends_of, spent_by}
 use Rattle.gate_pool.specs.Family.{names, is_conflict, conflicts_of, replaced_of, without_below, ancestors_above, fees_of}
-use Rattle.gate_rbf.specs.Replacing.{signals, incremental_relay_rate}
+use Rattle.gate_rbf.specs.Replacing.{signals}
 use Rattle.gate_admit.specs.declared.grant.Grant.{Grant}
 use Rattle.gate_admit.specs.Coins.{view_coin, coins_of}
-use Rattle.gate_admit.specs.Rules.{coins_value, heights_of, is_immature, min_relay_rate, outputs_value}
+use Rattle.gate_admit.specs.Rules.{coins_value, heights_of, is_immature, outputs_value}
 use Rattle.gate_admit.specs.Standing.{Standing}
 
 pub record IsGrantable (over : Standing) (tx : Tx) : Type 0 where
@@ -44,13 +44,13 @@ pub record Conserves (over : Standing) (tx : Tx) (grant : Grant) : Type 0 where
   pub money : grant.fee ≤ max_money
 
 -- the fee pays for the size at the feerate that is asked of every transaction, and at the pool's floor
-pub record PaysItsSize (floor : ℕ) (grant : Grant) : Type 0 where
-  pub relay : required_fee min_relay_rate grant.vsize ≤ grant.fee
-  pub pool : required_fee floor grant.vsize ≤ grant.fee
+pub record PaysItsSize (over : Standing) (grant : Grant) : Type 0 where
+  pub relay : required_fee over.policy.relay_rate grant.vsize ≤ grant.fee
+  pub pool : required_fee over.floor grant.vsize ≤ grant.fee
 
 -- a replacement pays at least the fees of all that it replaces, and its own relay above that; its feerate, rounded down, is
 -- above that of each entry that it conflicts with; and no entry that stays spends an output of one that leaves
 pub record Replaces (over : Standing) (tx : Tx) (grant : Grant) : Type 0 where
-  pub paid : fees_of (replaced_of over.entries tx) + required_fee incremental_relay_rate grant.vsize ≤ grant.fee
+  pub paid : fees_of (replaced_of over.entries tx) + required_fee over.policy.incremental_rate grant.vsize ≤ grant.fee
   pub rate : All (λ (c : Admitted). feerate c.fee c.vsize < feerate grant.fee grant.vsize) (conflicts_of over.entries tx)
   pub whole : All (λ (e : Admitted). All (λ (gone : Admitted). names e (txid_of gone.tx) ≡ false) (replaced_of over.entries tx)) (without_below (is_conflict tx) over.entries)

@@ -13,7 +13,7 @@ use Rattle.gate_trim.specs.Laws.{IsYoung}
 use Rattle.gate_admit.specs.declared.attempt.Attempt.{Attempt}
 use Rattle.gate_admit.specs.declared.attempt.Attempt.TheVariants.{First}
 use Rattle.gate_admit.specs.declared.grant.Grant.{Grant}
-use Rattle.gate_admit.specs.Policies.{Policy}
+use Rattle.gate_admit.specs.Policies.{Policy, IsPolicy}
 use Rattle.gate_admit.specs.Limits.{fits_again, fits_among}
 use Rattle.gate_admit.specs.Good.{Limits, IsGood, IsLimited, IsUnconnected, limits_for}
 use Rattle.gate_admit.specs.Granting.{IsGrantable, Conserves, PaysItsSize, Replaces}
@@ -34,7 +34,7 @@ DecisionsFollow = (attempt : Attempt) (over : Standing) (tx : Tx) → Follows (a
 pub record GrantsAreSound : Type 0 where
   pub live : (attempt : Attempt) (over : Standing) (tx : Tx) (grant : Grant) → decision_of attempt over (Some tx) ≡ Ok grant → IsGrantable over tx
   pub conserve : (attempt : Attempt) (over : Standing) (tx : Tx) (grant : Grant) → decision_of attempt over (Some tx) ≡ Ok grant → Conserves over tx grant
-  pub paid : (over : Standing) (tx : Tx) (grant : Grant) → decision_of First over (Some tx) ≡ Ok grant → PaysItsSize over.floor grant
+  pub paid : (over : Standing) (tx : Tx) (grant : Grant) → decision_of First over (Some tx) ≡ Ok grant → PaysItsSize over grant
 
 -- what BIP 125 is for: what is granted and conflicts with an entry pays for all that it replaces
 abbrev pub ReplacementsPay : Type 0
@@ -43,10 +43,10 @@ ReplacementsPay =
 
 -- what a grant says of the pool after it, and what A46 does
 pub record GrantsStand : Type 0 where
-  -- what is granted is in the pool, and each entry came at most two weeks before
+  -- what is granted is in the pool, and each entry came no longer ago than it may stay
   pub held : (over : Standing) (tx : Tx) (now budget : ℕ) (grant : Grant) → (submit_of over (Some tx) now budget).decision ≡ Ok grant → holds (submit_of over (Some tx) now budget).entries (txid_of tx) ≡ true
   pub young : (over : Standing) (tx : Tx) (now budget : ℕ) (grant : Grant) → (submit_of over (Some tx) now budget).decision ≡ Ok grant
-      → All (IsYoung now) (submit_of over (Some tx) now budget).entries
+      → All (IsYoung over.policy.stay now) (submit_of over (Some tx) now budget).entries
   -- what passes every rule and is denied is not in the pool
   pub gone : (over : Standing) (tx : Tx) (now budget : ℕ) (grant : Grant) → decision_of First over (Some tx) ≡ Ok grant → (submit_of over (Some tx) now budget).decision ≡ Err MempoolFull
       → holds (submit_of over (Some tx) now budget).entries (txid_of tx) ≡ false
@@ -61,9 +61,9 @@ ReadmissionsAskOfAll =
 abbrev pub FloorsNeverFall : Type 0
 FloorsNeverFall = (over : Standing) (tx : Option Tx) (now budget : ℕ) → over.floor ≤ (submit_of over tx now budget).floor
 
--- a pool without entries is good, and each submission of what no connected block has keeps a good pool good under its policy
+-- under a policy within its bounds a pool without entries is good, and each submission of what no connected block has keeps a good pool good under its policy
 pub record PoolsStayGood : Type 0 where
-  pub empty : (limits : Limits) (chain : History) → IsGood limits chain []
+  pub empty : (limits : Limits) (chain : History) → IsPolicy limits.policy → IsGood limits chain []
   pub kept : (over : Standing) (tx : Option Tx) (now budget : ℕ)
       → IsUnconnected over.chain tx → IsGood (limits_for over.policy budget) over.chain over.entries
       → IsGood (limits_for over.policy budget) over.chain (submit_of over tx now budget).entries

@@ -13,20 +13,8 @@ use Rattle.gate_pool.specs.Pool.{Admitted, entry_by_txid, size_of}
 use Rattle.gate_admit.specs.declared.attempt.Attempt.{Attempt}
 use Rattle.gate_admit.specs.declared.attempt.Attempt.TheVariants.{First, Again}
 use Rattle.gate_admit.specs.declared.limits.FamilyLimits.{FamilyLimits}
-use Rattle.gate_admit.specs.Policies.{Policy, most_ancestors, most_descendants}
+use Rattle.gate_admit.specs.Policies.{Policy, carve_out_size, most_ancestors, most_descendants, most_descendants_size}
 use Rattle.gate_pool.specs.Family.{steps, ancestors_of, descendants_of, ancestors_above, is_conflict, conflicts_of}
-
--- the most virtual bytes of a family, for ancestors and descendants (DEFAULT_ANCESTOR_SIZE_LIMIT, DEFAULT_DESCENDANT_SIZE_LIMIT)
-abbrev pub family_size_limit : ℕ
-family_size_limit = 101000
-
--- the most virtual bytes of a transaction that the second try admits (EXTRA_DESCENDANT_TX_SIZE_LIMIT)
-abbrev pub carve_out_size : ℕ
-carve_out_size = 10000
-
--- the most virtual bytes of descendants, with one that the second try admitted
-abbrev pub descendants_size_limit : ℕ
-descendants_size_limit = 111000
 
 -- beside exactly one direct conflict there may be one descendant more, and as many bytes as that has with its descendants
 abbrev pub grown : List Admitted → List Admitted → FamilyLimits → FamilyLimits
@@ -34,15 +22,15 @@ grown entries [] limits = limits
 grown entries (c ∷ []) limits = record limits { descendants = limits.descendants + 1; descendants_size = limits.descendants_size + size_of (descendants_of entries (txid_of c.tx)) }
 grown entries (c ∷ d ∷ rest) limits = limits
 
--- the limits of the first try: the counts are the operator's
+-- the limits of the first try, which are the operator's
 abbrev pub usual_limits : Policy → FamilyLimits
 usual_limits policy =
-    record { ancestors = policy.ancestors; ancestors_size = family_size_limit; descendants = policy.descendants; descendants_size = family_size_limit }
+    record { ancestors = policy.ancestors; ancestors_size = policy.ancestors_size; descendants = policy.descendants; descendants_size = policy.descendants_size }
 
 -- the limits of the second try, for a small transaction with at most one parent, so that each of two parties can raise the
 -- fee of what both can spend (Bitcoin Core's carve-out)
 abbrev pub carved_out : FamilyLimits → FamilyLimits
-carved_out limits = record { ancestors = 2; ancestors_size = family_size_limit; descendants = limits.descendants + 1; descendants_size = limits.descendants_size + carve_out_size }
+carved_out limits = record limits { ancestors = 2; descendants = limits.descendants + 1; descendants_size = limits.descendants_size + carve_out_size }
 
 -- a transaction of this size can join these descendants of an entry
 abbrev pub has_room : FamilyLimits → ℕ → List Admitted → Bool
@@ -72,9 +60,9 @@ fits_families policy entries tx vsize =
 abbrev pub is_limited : Policy → List Admitted → List ℕ → Bool
 is_limited policy entries txid =
     nat_le (length (ancestors_of entries txid)) (most_ancestors policy)
-    && (nat_le (size_of (ancestors_of entries txid)) family_size_limit
+    && (nat_le (size_of (ancestors_of entries txid)) policy.ancestors_size
     && (nat_le (length (descendants_of entries txid)) (most_descendants policy)
-    && nat_le (size_of (descendants_of entries txid)) descendants_size_limit))
+    && nat_le (size_of (descendants_of entries txid)) (most_descendants_size policy)))
 
 abbrev pub are_limited : Policy → List Admitted → List Admitted → Bool
 are_limited policy entries these = list_all (λ e. is_limited policy entries (txid_of e.tx)) these
@@ -105,16 +93,16 @@ has_parent entries tx = list_any (λ (i : TxIn). is_some (entry_by_txid entries 
 -- the limits of a transaction's ancestors without it: each has it as one descendant more, of this size
 pub record LeavesRoomBelow (policy : Policy) (vsize : ℕ) (limits : FamilyLimits) : Type 0 where
   pub ancestors : limits.ancestors ≡ most_ancestors policy
-  pub ancestors_size : limits.ancestors_size ≡ family_size_limit
+  pub ancestors_size : limits.ancestors_size ≡ policy.ancestors_size
   pub descendants : limits.descendants + 1 ≡ most_descendants policy
-  pub descendants_size : limits.descendants_size + vsize ≡ descendants_size_limit
+  pub descendants_size : limits.descendants_size + vsize ≡ most_descendants_size policy
 
 -- the limits of a transaction's descendants without it: each has it as one ancestor more, of this size
 pub record LeavesRoomAbove (policy : Policy) (vsize : ℕ) (limits : FamilyLimits) : Type 0 where
   pub ancestors : limits.ancestors + 1 ≡ most_ancestors policy
-  pub ancestors_size : limits.ancestors_size + vsize ≡ family_size_limit
+  pub ancestors_size : limits.ancestors_size + vsize ≡ policy.ancestors_size
   pub descendants : limits.descendants ≡ most_descendants policy
-  pub descendants_size : limits.descendants_size ≡ descendants_size_limit
+  pub descendants_size : limits.descendants_size ≡ most_descendants_size policy
 
 -- beside the entries the transaction doesn't descend from itself, and each of its ancestors and descendants, itself among them,
 -- is within the limits

@@ -38,9 +38,10 @@ report_rules answers tx =
     ∷ (TooManySigops, nat_lt 16000 (sigop_cost answers tx.outputs))
     ∷ []
 
--- the size in virtual bytes: a quarter, rounded up, of the weight or of 20 for each unit of the cost, whichever is more
-abbrev pub vsize_of : ℕ → Tx → ℕ
-vsize_of cost tx = (max (weight_of tx) (20 * cost) + 3) / 4
+-- the size in virtual bytes: a quarter, rounded up, of the weight or of this many bytes for each unit of the cost, whichever is
+-- more
+abbrev pub vsize_of : ℕ → ℕ → Tx → ℕ
+vsize_of sigop_size cost tx = (max (weight_of tx) (sigop_size * cost) + 3) / 4
 
 -- ---- A43 to A45
 

@@ -95,10 +95,6 @@ coins_value coins = sum_by (λ (c : Coin). amount_or_zero c.value) coins
 abbrev pub outputs_value : Tx → ℕ
 outputs_value tx = sum_by (λ (o : TxOut). amount_or_zero o.value) tx.outputs
 
--- the feerate that is asked of every transaction, in satoshi per 1,000 virtual bytes
-abbrev pub min_relay_rate : ℕ
-min_relay_rate = 1000
-
 -- the coins cover the outputs, and the fee is an amount that there can be
 unfoldable pub balance_rules : ℕ → ℕ → List (Rule Denial)
 balance_rules paid_in paid_out =
@@ -106,17 +102,18 @@ balance_rules paid_in paid_out =
     ∷ (FeeOutOfRange, nat_lt max_money (paid_in - paid_out))
     ∷ []
 
--- the fee that the pool's floor asks for the size, and then the one that every relay asks; a floor of 0 asks for nothing
-unfoldable pub fee_rules : ℕ → ℕ → ℕ → List (Rule Denial)
-fee_rules floor fee vsize =
+-- the fee that the pool's floor asks for the size, and then the one that every relay asks, in satoshi per 1,000 virtual bytes; a
+-- rate of 0 asks for nothing
+unfoldable pub fee_rules : ℕ → ℕ → ℕ → ℕ → List (Rule Denial)
+fee_rules relay_rate floor fee vsize =
     (MempoolMinFee, nat_lt fee (required_fee floor vsize))
-    ∷ (MinRelayFee, nat_lt fee (required_fee min_relay_rate vsize))
+    ∷ (MinRelayFee, nat_lt fee (required_fee relay_rate vsize))
     ∷ []
 
 -- a transaction that is tried again paid its way into a block before
-abbrev pub payment_rules : Attempt → ℕ → ℕ → ℕ → List (Rule Denial)
-payment_rules First floor fee vsize = fee_rules floor fee vsize
-payment_rules Again floor fee vsize = []
+abbrev pub payment_rules : Attempt → ℕ → ℕ → ℕ → ℕ → List (Rule Denial)
+payment_rules First relay_rate floor fee vsize = fee_rules relay_rate floor fee vsize
+payment_rules Again relay_rate floor fee vsize = []
 
 -- ---- the whole
 
@@ -126,8 +123,8 @@ admission_rules attempt over tx =
     let coins = coins_of over.chain over.entries tx.inputs in
     let answers = reported tx.inputs coins in
     let fee = coins_value coins - outputs_value tx in
-    let vsize = vsize_of (sigop_cost answers tx.outputs) tx in
-    alone_rules tx
+    let vsize = vsize_of over.policy.sigop_size (sigop_cost answers tx.outputs) tx in
+    alone_rules over.policy.standards tx
     ++ (final_rules over.chain tx
     ++ (pool_rules over.policy over.entries tx
     ++ (coin_rules over.chain over.entries tx
@@ -135,9 +132,9 @@ admission_rules attempt over tx =
     ++ (coin_value_rules (tip_of over.chain + 1) 0 coins
     ++ (balance_rules (coins_value coins) (outputs_value tx)
     ++ (report_rules answers tx
-    ++ (payment_rules attempt over.floor fee vsize
+    ++ (payment_rules attempt over.policy.relay_rate over.floor fee vsize
     ++ (limit_rules attempt over.policy over.entries tx vsize
-    ++ (replacement_rules over.entries tx fee vsize
+    ++ (replacement_rules over.policy.incremental_rate over.entries tx fee vsize
     ++ verdict_rules over.verdicts (wtxid_of tx) 0 tx.inputs))))))))))
 
 -- what a grant says of a transaction
@@ -146,7 +143,7 @@ grant_of over tx =
     let coins = coins_of over.chain over.entries tx.inputs in
     record {
       fee = coins_value coins - outputs_value tx;
-      vsize = vsize_of (sigop_cost (reported tx.inputs coins) tx.outputs) tx;
+      vsize = vsize_of over.policy.sigop_size (sigop_cost (reported tx.inputs coins) tx.outputs) tx;
       replaced = length (replaced_of over.entries tx);
     }
 

@@ -12,6 +12,7 @@ use Rattle.gate_trim.specs.Expiry.{expired}
 use Rattle.gate_trim.specs.Trimming.{Trimmed, trim_of}
 use Rattle.gate_admit.specs.declared.attempt.Attempt.TheVariants.{First}
 use Rattle.gate_admit.specs.declared.grant.Grant.{Grant}
+use Rattle.gate_admit.specs.Policies.{Policy}
 use Rattle.gate_admit.specs.Good.{Limits, IsGood, IsSettled, AreApart, connected_transactions}
 use Rattle.gate_admit.specs.Rules.{decision_of}
 use Rattle.gate_admit.specs.Standing.{Standing}
@@ -25,10 +26,10 @@ pub record Submitted : Type 0 where
 abbrev pub admitted : Tx → Grant → ℕ → Admitted
 admitted tx grant now = record { tx = tx; fee = grant.fee; vsize = grant.vsize; time = now }
 
--- An entry enters with this budget of virtual bytes, over these entries and this floor. What it conflicts with leaves with
+-- An entry enters under this policy with this budget of virtual bytes, over these entries and this floor. What it conflicts with leaves with
 -- all descendants, and it stands at the end. Then entries expire at its second, and then the pool is trimmed.
-unfoldable pub entry_of : ℕ → List Admitted → ℕ → Admitted → Trimmed
-entry_of budget entries floor e = trim_of budget (expired e.time (entered entries e)) floor
+unfoldable pub entry_of : Policy → ℕ → List Admitted → ℕ → Admitted → Trimmed
+entry_of policy budget entries floor e = trim_of policy.incremental_rate budget (expired policy.stay e.time (entered entries e)) floor
 
 abbrev pub holds : List Admitted → List ℕ → Bool
 holds entries txid = is_some (entry_by_txid entries txid)
@@ -46,7 +47,7 @@ entered_by grant txid after = record {
 abbrev pub submitted_by : Standing → Option Tx → ℕ → ℕ → Result Grant Denial → Submitted
 submitted_by over tx now budget (Err denial) = record { decision = Err denial; entries = over.entries; floor = over.floor }
 submitted_by over None now budget (Ok grant) = record { decision = Ok grant; entries = over.entries; floor = over.floor }
-submitted_by over (Some tx) now budget (Ok grant) = entered_by grant (txid_of tx) (entry_of budget over.entries over.floor (admitted tx grant now))
+submitted_by over (Some tx) now budget (Ok grant) = entered_by grant (txid_of tx) (entry_of over.policy budget over.entries over.floor (admitted tx grant now))
 
 -- the submission at this second, with this budget of virtual bytes
 unfoldable pub submit_of : Standing → Option Tx → ℕ → ℕ → Submitted

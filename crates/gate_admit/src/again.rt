@@ -7,7 +7,8 @@ ghost use Rattle.gate_pool.specs.Pool.{Admitted, entry_by_txid, largest_vsize};
 ghost use Rattle.gate_pool.specs.Search.{IsEntry, AreEntries};
 ghost use Rattle.gate_pool.specs.Family.{names, children_of, ancestors_above, AreIdsOf, OfThese};
 ghost use Rattle.gate_admit.specs.Chains.{AddsNoChain, LeadsToAll, ParentsLeadToAll};
-ghost use Rattle.gate_admit.specs.Limits.{descendants_size_limit, family_size_limit, is_limited, are_limited, fits_within, all_fit_within, fits_again, has_parent, LeavesRoomBelow, LeavesRoomAbove};
+ghost use Rattle.gate_admit.specs.Policies.{most_descendants_size};
+ghost use Rattle.gate_admit.specs.Limits.{is_limited, are_limited, fits_within, all_fit_within, fits_again, has_parent, LeavesRoomBelow, LeavesRoomAbove};
 
 use crate::joining::{Joined, names};
 use crate::limits::FamilyLimits;
@@ -17,12 +18,6 @@ use gate_pool::{Entry, FamilyView, Pool, add_up, ancestors, ancestors_with, desc
 use gate_tx::{Identified, TxIn, Txid};
 use std::alloc::Global;
 use std::hash::BuildHasher;
-
-/// The most virtual bytes that the ancestors of an entry may have, itself among them.
-const MAX_ANCESTORS_SIZE: u128 = 101_000;
-
-/// The most virtual bytes that the descendants of an entry may have, itself among them.
-const MAX_DESCENDANTS_SIZE: u128 = 111_000;
 
 /// Whether the family of an entry is within the limits.
 fn is_limited<V: FamilyView>(
@@ -42,11 +37,13 @@ fn is_limited<V: FamilyView>(
         return Ok(false);
     };
     let (above, below) = (add_up(pool, &above), add_up(pool, &below));
+    let wide = u128::from(policy.ancestors_size());
+    let deep = u128::from(policy.most_descendants_size());
     Ok(
         (above.count <= most_above)
-            & (above.size <= MAX_ANCESTORS_SIZE)
+            & (above.size <= wide)
             & (below.count <= most_below)
-            & (below.size <= MAX_DESCENDANTS_SIZE),
+            & (below.size <= deep),
     )
 }
 
@@ -140,27 +137,27 @@ fn all_fit_within<S: BuildHasher + Copy + Drop>(
 
 /// The limits that a newcomer of this size leaves to its ancestors: each gains it as a descendant.
 fn limits_above(policy: &Policy, vsize: u128) -> FamilyLimits
-    requires { vsize ≤ descendants_size_limit }
+    requires { vsize ≤ most_descendants_size policy.now }
     ensures { LeavesRoomBelow policy.now vsize result }
 {
     FamilyLimits {
         ancestors: policy.most_ancestors(),
-        ancestors_size: MAX_ANCESTORS_SIZE,
+        ancestors_size: u128::from(policy.ancestors_size()),
         descendants: policy.most_descendants() - 1,
-        descendants_size: MAX_DESCENDANTS_SIZE - vsize,
+        descendants_size: u128::from(policy.most_descendants_size()) - vsize,
     }
 }
 
 /// The limits that a newcomer of this size leaves to its descendants: each gains it as an ancestor.
 fn limits_below(policy: &Policy, vsize: u128) -> FamilyLimits
-    requires { vsize ≤ family_size_limit }
+    requires { vsize ≤ policy.now.ancestors_size }
     ensures { LeavesRoomAbove policy.now vsize result }
 {
     FamilyLimits {
         ancestors: policy.most_ancestors() - 1,
-        ancestors_size: MAX_ANCESTORS_SIZE - vsize,
+        ancestors_size: u128::from(policy.ancestors_size()) - vsize,
         descendants: policy.most_descendants(),
-        descendants_size: MAX_DESCENDANTS_SIZE,
+        descendants_size: u128::from(policy.most_descendants_size()),
     }
 }
 
@@ -185,7 +182,12 @@ fn fits_as_leaf<S: BuildHasher + Copy + Drop>(
         return Ok(None);
     };
     let vsize = u128::from(newcomer.vsize());
-    if add_up(pool, &above).size + vsize > MAX_ANCESTORS_SIZE {
+    let most_above = u128::from(policy.ancestors_size());
+    if add_up(pool, &above).size + vsize > most_above {
+        return Ok(None);
+    }
+    let most_below = u128::from(policy.most_descendants_size());
+    if vsize > most_below {
         return Ok(None);
     }
     if !all_fit_within(pool, &above, limits_above(policy, vsize)) {
@@ -223,14 +225,16 @@ fn fits_as_root<S: BuildHasher + Copy + Drop>(
 {
     pool.recall_apart();
     let vsize = u128::from(newcomer.vsize());
-    if vsize > MAX_ANCESTORS_SIZE {
+    let most_above = u128::from(policy.ancestors_size());
+    if vsize > most_above {
         return Ok(false);
     }
     let most = policy.most_descendants() - 1;
     let Some(below) = descendants(alloc, pool, children, most)? else {
         return Ok(false);
     };
-    if add_up(pool, &below).size + vsize > MAX_DESCENDANTS_SIZE {
+    let most_below = u128::from(policy.most_descendants_size());
+    if add_up(pool, &below).size + vsize > most_below {
         return Ok(false);
     }
     Ok(all_fit_within(pool, &below, limits_below(policy, vsize)))

@@ -6,6 +6,7 @@ pub enum Attempt {
     /// The transaction was in a block and paid its way there: A34 and A35 are not asked again. Its children may be in
     /// the pool already, so that it has limits of its own in place of A36's: it may not descend from itself, and each
     /// of its ancestors and descendants, itself among them, may have as many ancestors and descendants as the two tries
-    /// of A36 let an entry have, of at most 101,000 and 111,000 virtual bytes, the entry itself among each.
+    /// of A36 let an entry have, of as many virtual bytes as the policy says and 10,000 more of descendants, the entry
+    /// itself among each.
     Again,
 }

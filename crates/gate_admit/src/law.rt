@@ -1,4 +1,5 @@
 //! Laws of admission, stated apart from its rules.
+ghost use Rattle.gate_admit.specs.Defaults.{DefaultsChangeNothing};
 ghost use Rattle.gate_admit.specs.Laws.{DecisionsFollow, FloorsNeverFall, GrantsAreSound, GrantsStand, PoolsStayGood, ReadmissionsAskOfAll, ReplacementsPay};
 
 /// Each decision follows the written order: a grant says that no rule fails, and a denial names a rule that fails with
@@ -21,7 +22,7 @@ pub fn replacements_pay()
     ensures { ReplacementsPay }
 {}
 
-/// A transaction whose submission is granted is in the pool after it, and no entry is older than two weeks then; one that
+/// A transaction whose submission is granted is in the pool after it, and no entry has stayed longer than it may; one that
 /// passes every rule and is denied all the same (A46) is not in the pool.
 pub fn grants_stand()
     ensures { GrantsStand }
@@ -44,4 +45,10 @@ pub fn floors_never_fall()
 /// within the limits, and all entries together are within the budget.
 pub fn pools_stay_good()
     ensures { PoolsStayGood }
+{}
+
+/// With the settings of an operator who says none, each definition that reads a setting is what it is with Bitcoin Core
+/// 22.0's number in its place.
+pub fn default_settings_change_nothing()
+    ensures { DefaultsChangeNothing }
 {}

@@ -18,6 +18,7 @@ mod limits;
 mod locking;
 mod paying;
 mod policy;
+mod quantity;
 mod readmission;
 mod reporting;
 mod standing;
@@ -36,10 +37,11 @@ pub use gate_trim::Floor;
 pub use grant::Grant;
 pub use judging::judge;
 pub use law::{
-    decisions_follow_the_order, floors_never_fall, grants_are_sound, grants_stand, pools_stay_good,
-    readmissions_ask_of_all, replacements_pay,
+    decisions_follow_the_order, default_settings_change_nothing, floors_never_fall,
+    grants_are_sound, grants_stand, pools_stay_good, readmissions_ask_of_all, replacements_pay,
 };
-pub use policy::{MAX_LIMIT, Policy};
+pub use policy::Policy;
+pub use quantity::Quantity;
 pub use readmission::readmit;
 pub use standing::Conditions;
 pub use submission::{Coming, commit_submission, plan_submission, submit};

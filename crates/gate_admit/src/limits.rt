@@ -10,7 +10,7 @@ ghost use Rattle.gate_admit.specs.declared.attempt.Attempt.TheVariants.{First, A
 
 use crate::again::fits_again;
 use crate::attempt::Attempt;
-use crate::policy::Policy;
+use crate::policy::{CARVE_OUT_VSIZE, Policy};
 use gate_bytes::{Counted, Memory};
 use gate_pool::{Above, Pool, family_above};
 use gate_rbf::DirectConflicts;
@@ -29,22 +29,15 @@ pub(crate) struct FamilyLimits {
     pub(crate) descendants_size: u128,
 }
 
-/// The most virtual bytes that a transaction's ancestors may have, and its descendants, itself among each (Bitcoin
-/// Core's `DEFAULT_ANCESTOR_SIZE_LIMIT` and `DEFAULT_DESCENDANT_SIZE_LIMIT`).
-const FAMILY_SIZE: u128 = 101_000;
-
-/// The most virtual bytes of a transaction that has a second try (Bitcoin Core's `EXTRA_DESCENDANT_TX_SIZE_LIMIT`).
-const CARVE_OUT_VSIZE: u64 = 10_000;
-
 /// The limits of the first try, before they grow for a replacement.
 fn usual_limits(policy: &Policy) -> FamilyLimits
     ensures { result ≡ usual_limits policy.now }
 {
     FamilyLimits {
         ancestors: policy.ancestors(),
-        ancestors_size: FAMILY_SIZE,
+        ancestors_size: u128::from(policy.ancestors_size()),
         descendants: policy.descendants(),
-        descendants_size: FAMILY_SIZE,
+        descendants_size: u128::from(policy.descendants_size()),
     }
 }
 
@@ -149,9 +142,9 @@ fn fits_families<S: BuildHasher + Copy + Drop>(
     }
     let carved_out = FamilyLimits {
         ancestors: 2,
-        ancestors_size: FAMILY_SIZE,
         descendants: limits.descendants + 1,
         descendants_size: limits.descendants_size + u128::from(CARVE_OUT_VSIZE),
+        ..limits
     };
     is_within(pool, above, vsize, carved_out)
 }

@@ -4,6 +4,7 @@ use Rattle.gate_bytes.specs.Order.{first_failing}
 use Rattle.gate_lines.specs.Lines.{unlines}
 use Rattle.gate_prog.specs.Checks.{check_lines, check_status, input_spells, verdict_status}
 use Rattle.gate_standard.specs.declared.Denial.{Denial}
+use Rattle.gate_standard.specs.Standards.{usual_standards}
 use Rattle.gate_submission.specs.Alone.{alone_rules}
 use Rattle.gate_tx.specs.Tx.{Tx}
 use Rattle.gate_c.specs.Outputs.{TextPut}
@@ -15,7 +16,7 @@ verdict_least (Some denial) = omega arith
 -- the status of a check is 0 or 1
 status_least : (tx : Option Tx) → check_status tx ≤ 1
 status_least None = omega arith
-status_least (Some tx) = verdict_least (first_failing (alone_rules tx))
+status_least (Some tx) = verdict_least (first_failing (alone_rules usual_standards tx))
 
 -- a text that was put is that of the check, with its status
 pub check_called : (input text before after : List ℕ) (code checked size status : ℕ) → text ≡ unlines (check_lines (input_spells input)) → checked ≡ check_status (input_spells input)

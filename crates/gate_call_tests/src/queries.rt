@@ -1,4 +1,4 @@
-use gate_admit::{Entry, Floor, Pool};
+use gate_admit::{Entry, Floor, Policy, Pool};
 use gate_bytes::{Counted, Kept};
 use gate_query::*;
 use gate_rpc::RpcResult;
@@ -142,7 +142,7 @@ fn last_is_known<S: BuildHasher + Copy + Drop>(
 }
 
 fn rates_are_known<S: BuildHasher + Copy + Drop>(pool: &Pool<S>) -> bool {
-    let rates = pool_info(pool, &Floor::new(1_001), 5_000);
+    let rates = pool_info(pool, &Floor::new(1_001), &Policy::default(), 5_000);
     let wanted = RpcResult::Info {
         size: 539,
         budget: 5_000,

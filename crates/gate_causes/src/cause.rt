@@ -42,6 +42,7 @@ pub(crate) enum Cause<'a> {
     TooGreat(&'a str, u64),
     /// A 0 where a number from 1 on has to stand.
     Zero,
+    TooSmall(&'a str, u64),
     NoId(&'a str),
     NoHex(&'a str),
     NoAddress(&'a str),
@@ -93,6 +94,9 @@ impl Cause<'_> {
             }
             Cause::TooGreat(text, most) => {
                 Ok(format!(in alloc; "{} is above {most}", Shown(text))?)
+            }
+            Cause::TooSmall(text, least) => {
+                Ok(format!(in alloc; "{} is below {least}", Shown(text))?)
             }
             Cause::NoId(text) => Ok(format!(in alloc;
                 "{} is not an id of 64 hexadecimal digits",

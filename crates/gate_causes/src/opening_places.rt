@@ -13,6 +13,52 @@ const HEIGHTS: u64 = 10_000_000;
 
 const LIMITS: u64 = 1_000;
 
+const EXPIRIES: u64 = 100_000;
+
+const SIGOP_SIZES: u64 = 25;
+
+/// Numbers of the policy from 0 or more on: the word, what it says, the least and the greatest.
+const NUMBERED: [(&str, &str, u64, u64); 8] = [
+    (
+        "minrelaytxfee",
+        "satoshi per 1,000 virtual bytes",
+        0,
+        100_000_000,
+    ),
+    (
+        "incrementalrelayfee",
+        "satoshi per 1,000 virtual bytes",
+        0,
+        100_000_000,
+    ),
+    ("dustrelayfee", "satoshi per 1,000 bytes", 0, 100_000_000),
+    (
+        "limitancestorsize",
+        "the most thousand virtual bytes of ancestors",
+        101,
+        10_000,
+    ),
+    (
+        "limitdescendantsize",
+        "the most thousand virtual bytes of descendants",
+        101,
+        10_000,
+    ),
+    (
+        "datacarriersize",
+        "the most bytes of a script with data",
+        0,
+        100_000,
+    ),
+    (
+        "datacarrieroutputs",
+        "the most outputs with data",
+        0,
+        10_000,
+    ),
+    ("mintxsize", "the least bytes without witnesses", 60, 82),
+];
+
 const BITS: [&str; 2] = ["0", "1"];
 
 /// `COUNT FIRST STEP`
@@ -64,6 +110,23 @@ pub(crate) fn opening_fault<'a>(line: &'a str) -> Result<(), Cause<'a>> {
     if word == "limitdescendantcount" {
         places.count("the most descendants", LIMITS)?;
         return places.end();
+    }
+    if word == "mempoolexpiry" {
+        places.count("how many hours an entry stays", EXPIRIES)?;
+        return places.end();
+    }
+    if word == "bytespersigop" {
+        places.count(
+            "how many bytes a signature operation counts for",
+            SIGOP_SIZES,
+        )?;
+        return places.end();
+    }
+    for (name, what, least, most) in NUMBERED {
+        if word == name {
+            places.within(what, least, most)?;
+            return places.end();
+        }
     }
     if is_among(word, &SETTINGS) {
         places.one_of("0 or 1", &BITS)?;

@@ -102,6 +102,24 @@ impl<'a> Places<'a> {
         self.number(what, most)
     }
 
+    /// Takes a number from `least` to `most`.
+    pub(crate) fn within(
+        &mut self,
+        what: &'static str,
+        least: u64,
+        most: u64,
+    ) -> Result<(), Cause<'a>> {
+        let mut ahead = *self;
+        if let Some(word) = ahead.next()? {
+            if let Some(number) = read_number(word) {
+                if number < least {
+                    return Err(Cause::TooSmall(word, least));
+                }
+            }
+        }
+        self.number(what, most)
+    }
+
     /// Takes a word that is one of the known ones.
     pub(crate) fn one_of(
         &mut self,

@@ -10,7 +10,7 @@ pub(crate) const CALLERS: [&str; 4] = ["peer", "user", "chain", "operator"];
 pub(crate) const PARTINGS: [&str; 2] = ["---", "==="];
 
 /// The words that begin a line of an opening.
-pub(crate) const SETTINGS: [&str; 15] = [
+pub(crate) const SETTINGS: [&str; 26] = [
     "budget",
     "from",
     "times",
@@ -26,6 +26,17 @@ pub(crate) const SETTINGS: [&str; 15] = [
     "limitancestorcount",
     "limitdescendantcount",
     "mempoolfullrbf",
+    "limitancestorsize",
+    "limitdescendantsize",
+    "minrelaytxfee",
+    "incrementalrelayfee",
+    "mempoolexpiry",
+    "bytespersigop",
+    "dustrelayfee",
+    "datacarriersize",
+    "datacarrieroutputs",
+    "mintxsize",
+    "permitbaremultisig",
 ];
 
 /// The longest word that is compared with the known ones.

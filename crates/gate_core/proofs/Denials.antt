@@ -47,7 +47,7 @@ concluded_denied w peer now None (Ok grant) h = (refl, refl, refl)
 concluded_denied w peer now None (Err denial) h = (refl, refl, refl)
 concluded_denied w peer now (Some tx) (Err denial) h = (refl, refl, refl)
 concluded_denied w peer now (Some tx) (Ok grant) h =
-    let after = entry_of w.budget w.pool w.floor (admitted tx grant now) in
+    let after = entry_of w.policy w.budget w.pool w.floor (admitted tx grant now) in
     absurd (granted_denied (record w { pool = after.entries; floor = after.floor }) peer tx grant (holds after.entries (txid_of tx)) h)
 
 submitted_denied : (w : World) (peer now : ℕ) (transaction : Option Tx) → IsDenied (submitted w peer now transaction).0 → IsAsIn w (submitted w peer now transaction).1
@@ -66,7 +66,7 @@ sent_by_denied w id now None (Ok grant) h = (refl, refl, refl)
 sent_by_denied w id now None (Err denial) h = (refl, refl, refl)
 sent_by_denied w id now (Some tx) (Err denial) h = (refl, refl, refl)
 sent_by_denied w id now (Some tx) (Ok grant) h =
-    let after = entry_of w.budget w.pool w.floor (admitted tx grant now) in
+    let after = entry_of w.policy w.budget w.pool w.floor (admitted tx grant now) in
     absurd (granted_failed (record w { pool = after.entries; floor = after.floor }) id tx grant (holds after.entries (txid_of tx)) h)
 
 sent_denied : (w : World) (id : Id) (now : ℕ) (transaction : Option Tx) → IsDenied (sent w id transaction (submit_of (standing_of w) transaction now w.budget)).0

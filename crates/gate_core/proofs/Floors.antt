@@ -54,7 +54,7 @@ submission_within : (over : Standing) (transaction : Option Tx) (now budget : �
 unfolding entry_of
 submission_within over transaction now budget (Err denial) h = h
 submission_within over None now budget (Ok grant) h = h
-submission_within over (Some tx) now budget (Ok grant) h = let e = admitted tx grant now in trim_within budget (expired e.time (entered_with over.entries e)) over.floor
+submission_within over (Some tx) now budget (Ok grant) h = let e = admitted tx grant now in trim_within over.policy.incremental_rate budget (expired over.policy.stay e.time (entered_with over.entries e)) over.floor
 
 after_within : (w : World) (now : ℕ) (transaction : Option Tx) → IsWithin w → size_of (submit_of (standing_of w) transaction now w.budget).entries ≤ w.budget
 unfolding submit_of
@@ -167,7 +167,7 @@ run_floor (event ∷ events) w others =
 -- ---- the age of entries
 
 submitted_young : (w : World) (peer now : ℕ) (transaction : Option Tx) (txid : List ℕ) (fee vsize replaced : ℕ) → (submitted w peer now transaction).0 ≡ Admitted txid fee vsize replaced
-    → AreYoung now (submitted w peer now transaction).1.pool
+    → AreYoung w.policy.stay now (submitted w peer now transaction).1.pool
 submitted_young w peer now None txid fee vsize replaced h = cc
 submitted_young w peer now (Some tx) txid fee vsize replaced h = go (submit_of (standing_of w) (Some tx) now w.budget).decision refl h
   where
@@ -175,15 +175,15 @@ submitted_young w peer now (Some tx) txid fee vsize replaced h = go (submit_of (
     after = let s = submit_of (standing_of w) (Some tx) now w.budget in record w { pool = s.entries; floor = s.floor }
 
     go : (decision : Result Grant Denial) → (submit_of (standing_of w) (Some tx) now w.budget).decision ≡ decision → (decided after peer (Some tx) decision).0 ≡ Admitted txid fee vsize replaced
-        → AreYoung now (decided after peer (Some tx) decision).1.pool
+        → AreYoung w.policy.stay now (decided after peer (Some tx) decision).1.pool
     go (Ok grant) d k = granted_young (standing_of w) tx now w.budget grant d
     go (Err denial) d k = cc
 
 pub admitted_young : (w : World) (peer now : ℕ) (transaction : Option Tx) (txid : List ℕ) (fee vsize replaced : ℕ) → (step_of w (Submit peer now transaction)).0 ≡ Admitted txid fee vsize replaced
-    → AreYoung now (step_of w (Submit peer now transaction)).1.pool
+    → AreYoung w.policy.stay now (step_of w (Submit peer now transaction)).1.pool
 unfolding step_of
 admitted_young w peer now transaction txid fee vsize replaced h = go (first_failing (submission_rules w peer transaction)) h
   where
-    go : (denial : Option PeerDenial) → (answered w peer (submitted w peer now transaction) denial).0 ≡ Admitted txid fee vsize replaced → AreYoung now (answered w peer (submitted w peer now transaction) denial).1.pool
+    go : (denial : Option PeerDenial) → (answered w peer (submitted w peer now transaction) denial).0 ≡ Admitted txid fee vsize replaced → AreYoung w.policy.stay now (answered w peer (submitted w peer now transaction) denial).1.pool
     go (Some denial) k = cc
     go None k = submitted_young w peer now transaction txid fee vsize replaced k

@@ -258,6 +258,7 @@ good_forgotten limits h n entries good =
         fresh = All-weaker (λ (e : Admitted). is_known_txid h (txid_of e.tx) ≡ false) (λ (e : Admitted). is_known_txid after (txid_of e.tx) ≡ false)
             (λ e k. unknown_still h n wanted (txid_of e.tx) k) entries good.sound.fresh;
         limited = good.sound.limited;
+        bounds = good.sound.bounds;
       };
       size = good.size;
     }

@@ -24,6 +24,7 @@ use Rattle.gate_admit.specs.declared.Attempt.TheVariants.{First}
 use Rattle.gate_admit.specs.declared.Grant.{Grant}
 use Rattle.gate_admit.specs.Good.{Limits, IsGood, IsSettled, IsUnconnected, AreApart, SpendsCoins, connected_transactions}
 use Rattle.gate_admit.specs.Rules.{decision_of}
+use Rattle.gate_admit.specs.Policies.{IsPolicy}
 use Rattle.gate_admit.specs.Standing.{Standing}
 use Rattle.gate_admit.specs.Submission.{admitted, entry_of, submitted_by, submit_of}
 use Rattle.gate_admit.specs.Verdicts.{row_rules}
@@ -92,8 +93,8 @@ decision_from over transaction now budget (Err denial) tx h = Contains-append_le
 decision_from over None now budget (Ok grant) tx h = Contains-append_left _ _ tx h
 decision_from over (Some other) now budget (Ok grant) tx h =
     let e = admitted other grant now in
-    let w = Contains-from_map (λ (a : Admitted). a.tx) (entry_of budget over.entries over.floor e).entries tx h in
-    subst (λ (t : Tx). Contains (map (λ (a : Admitted). a.tx) over.entries ++ other ∷ []) t) w.is (entered_from over.entries e w.item (entry_within budget over.entries over.floor e w.item w.among))
+    let w = Contains-from_map (λ (a : Admitted). a.tx) (entry_of over.policy budget over.entries over.floor e).entries tx h in
+    subst (λ (t : Tx). Contains (map (λ (a : Admitted). a.tx) over.entries ++ other ∷ []) t) w.is (entered_from over.entries e w.item (entry_within over.policy budget over.entries over.floor e w.item w.among))
 
 submission_from : (over : Standing) (transaction : Option Tx) (now budget : ℕ) (tx : Tx)
     → Contains (map (λ (e : Admitted). e.tx) (submit_of over transaction now budget).entries) tx → Contains (map (λ (e : Admitted). e.tx) over.entries ++ option_to_list transaction) tx
@@ -170,17 +171,17 @@ none : (before after : List Block) (b : Block) → [] ≡ before ++ b ∷ after 
 none [] after b h = cc
 none (x ∷ before) after b h = cc
 
-pub opened_good : (o : Start) → IsGoodWorld (opened_world o)
-opened_good o = record {
+pub opened_good : (o : Start) → IsPolicy o.policy → IsGoodWorld (opened_world o)
+opened_good o bounds = record {
   chain = record { coinbases = λ b h. absurd (omega arith); spelled = λ tx h. absurd (omega arith); founded = λ before after b h. absurd (none before after b h) };
   spends = record { made = λ before after b h. absurd (none before after b h); once = λ before after b h. absurd (none before after b h) };
-  pool = empty_good (limits_of (opened_world o)) (opened_world o).chain;
+  pool = empty_good (limits_of (opened_world o)) (opened_world o).chain bounds;
   spelled = λ e m. not_in_none e m;
 }
 
-pub all_opened_good : {E : Type 0} (o : Start) (r : Result World E) → IfOk r (λ w. w ≡ opened_world o) → IfOk r IsGoodWorld
-all_opened_good o (Ok w) h = subst IsGoodWorld (sym h) (opened_good o)
-all_opened_good o (Err e) h = tt
+pub all_opened_good : {E : Type 0} (o : Start) → IsPolicy o.policy → (r : Result World E) → IfOk r (λ w. w ≡ opened_world o) → IfOk r IsGoodWorld
+all_opened_good o bounds (Ok w) h = subst IsGoodWorld (sym h) (opened_good o bounds)
+all_opened_good o bounds (Err e) h = tt
 
 -- where no rule fails of an event, none fails of the switch
 rest_passes : {X : Type 0} (b : Bool) (d : X) (o : Option X) → (if b then Some d else o) ≡ None → o ≡ None

@@ -127,6 +127,7 @@ good_learnt limits h entries coin absent good = record {
         (λ e k. unknown_still h coin (txid_of e.tx) (absent_id entries coin.outpoint.txid absent e k.0) k.1) entries
         (λ i d lt. (All-contains_itself entries i d lt, good.sound.fresh i d lt));
     limited = good.sound.limited;
+    bounds = good.sound.bounds;
   };
   size = good.size;
 }

@@ -135,8 +135,8 @@ module _ (c d : History) (entries : List Admitted) (floor : ℕ) (a b : VerdictT
       let coins = coins_same i in
       let answers = reported tx.inputs coins in
       let fee = coins_value coins - outputs_value tx in
-      let vsize = vsize_of (sigop_cost answers tx.outputs) tx in
-      alone_rules tx
+      let vsize = vsize_of policy.sigop_size (sigop_cost answers tx.outputs) tx in
+      alone_rules policy.standards tx
       ++ (final_same c d first times tx i
       ++ (pool_rules policy entries tx
       ++ (coin_rules_same i
@@ -144,9 +144,9 @@ module _ (c d : History) (entries : List Admitted) (floor : ℕ) (a b : VerdictT
       ++ (coin_value_rules (tip_same c d first times i + 1) 0 coins
       ++ (balance_rules (coins_value coins) (outputs_value tx)
       ++ (report_rules answers tx
-      ++ (payment_rules attempt floor fee vsize
+      ++ (payment_rules attempt policy.relay_rate floor fee vsize
       ++ (limit_rules attempt policy entries tx vsize
-      ++ (replacement_rules entries tx fee vsize
+      ++ (replacement_rules policy.incremental_rate entries tx fee vsize
       ++ verdicts_same a b (wtxid_of tx) 0 tx.inputs verdicts i))))))))))
 
   grant_same : grant_of (standing d entries floor b policy) tx ≡ grant_of (standing c entries floor a policy) tx
@@ -156,7 +156,7 @@ module _ (c d : History) (entries : List Admitted) (floor : ℕ) (a b : VerdictT
       grant_with : List Coin → Grant
       grant_with coins = record {
         fee = coins_value coins - outputs_value tx;
-        vsize = vsize_of (sigop_cost (reported tx.inputs coins) tx.outputs) tx;
+        vsize = vsize_of policy.sigop_size (sigop_cost (reported tx.inputs coins) tx.outputs) tx;
         replaced = length (replaced_of entries tx);
       }
 

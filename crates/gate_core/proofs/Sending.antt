@@ -57,17 +57,17 @@ module _ {X : Type 0} (id other : Id) (txid : List ℕ) where
 
 sent_young : (w : World) (now : ℕ) (id other : Id) (transaction : Option Tx) (txid : List ℕ)
     → (sent w id transaction (submit_of (standing_of w) transaction now w.budget)).0 ≡ Rpc (Answer other (Sent txid))
-    → AreYoung now (submit_of (standing_of w) transaction now w.budget).entries
+    → AreYoung w.policy.stay now (submit_of (standing_of w) transaction now w.budget).entries
 sent_young w now id other None txid h = not_failed id other txid _ h
 sent_young w now id other (Some tx) txid h = go (submit_of (standing_of w) (Some tx) now w.budget).decision refl h
   where
     go : (decision : Result Grant Denial) → (submit_of (standing_of w) (Some tx) now w.budget).decision ≡ decision → Rpc (replied id (sent_as (Some tx) decision)) ≡ Rpc (Answer other (Sent txid))
-        → AreYoung now (submit_of (standing_of w) (Some tx) now w.budget).entries
+        → AreYoung w.policy.stay now (submit_of (standing_of w) (Some tx) now w.budget).entries
     go (Ok grant) d k = granted_young (standing_of w) tx now w.budget grant d
     go (Err denial) d k = not_failed id other txid _ k
 
 module _ (w : World) (now : ℕ) (other : Id) (txid : List ℕ) where
-  command_young : (id : Id) (command : Command) → (commanded w now id command).0 ≡ Rpc (Answer other (Sent txid)) → AreYoung now (commanded w now id command).1.pool
+  command_young : (id : Id) (command : Command) → (commanded w now id command).0 ≡ Rpc (Answer other (Sent txid)) → AreYoung w.policy.stay now (commanded w now id command).1.pool
   command_young id (SendRawTransaction transaction) h = sent_young w now id other transaction txid h
   command_young id (TestMempoolAccept None) h = not_failed id other txid _ h
   command_young id (TestMempoolAccept (Some tx)) h = not_tested id other txid tx (decision_of First (standing_of w) (Some tx)) h
@@ -83,17 +83,17 @@ module _ (w : World) (now : ℕ) (other : Id) (txid : List ℕ) where
   not_faulted (MethodNotFound id name) h = cc
   not_faulted (InvalidParams id method) h = cc
 
-  request_young : (request : Result Request CallError) → (called_by w now request).0 ≡ Rpc (Answer other (Sent txid)) → AreYoung now (called_by w now request).1.pool
+  request_young : (request : Result Request CallError) → (called_by w now request).0 ≡ Rpc (Answer other (Sent txid)) → AreYoung w.policy.stay now (called_by w now request).1.pool
   request_young (Ok request) h = command_young request.id request.command h
   request_young (Err error) h = not_faulted error h
 
-  pub call_young : (user : List ℕ) (request : Result Request CallError) → (rpc_step w user now request).0 ≡ Rpc (Answer other (Sent txid)) → AreYoung now (rpc_step w user now request).1.pool
+  pub call_young : (user : List ℕ) (request : Result Request CallError) → (rpc_step w user now request).0 ≡ Rpc (Answer other (Sent txid)) → AreYoung w.policy.stay now (rpc_step w user now request).1.pool
   call_young user request h = by (is_barred w user request) h
     where
       barred : {X : Type 0} → Rpc NotAllowed ≡ Rpc (Answer other (Sent txid)) → X
       barred k = cc
 
-      by : (b : Bool) → (if b then (Rpc NotAllowed, w) else called_by w now request).0 ≡ Rpc (Answer other (Sent txid)) → AreYoung now (if b then (Rpc NotAllowed, w) else called_by w now request).1.pool
+      by : (b : Bool) → (if b then (Rpc NotAllowed, w) else called_by w now request).0 ≡ Rpc (Answer other (Sent txid)) → AreYoung w.policy.stay now (if b then (Rpc NotAllowed, w) else called_by w now request).1.pool
       by true k = barred k
       by false k = request_young request k
 

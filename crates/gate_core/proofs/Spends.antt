@@ -16,6 +16,7 @@ use Rattle.gate_admit.specs.declared.Attempt.TheVariants.{First}
 use Rattle.gate_admit.specs.declared.Grant.{Grant}
 use Rattle.gate_admit.specs.Verdicts.{row_rules}
 use Rattle.gate_admit.specs.Rules.{decision_of}
+use Rattle.gate_admit.specs.Policies.{Policy}
 use Rattle.gate_admit.specs.Standing.{Standing}
 use Rattle.gate_admit.specs.Submission.{admitted, entry_of, submitted_by, submit_of}
 use Rattle.gate_admit.proofs.Granted.{decided_live}
@@ -35,17 +36,17 @@ use Rattle.gate_core.specs.World.{World, standing_of}
 use Rattle.gate_rpc.specs.Calls.{request_of}
 use Rattle.gate_core.proofs.Calls.{call_gives}
 
-entry_once : (budget : ℕ) (entries : List Entry) (floor : ℕ) (e : Entry) → SpendOnce (entered_with entries e) → SpendOnce (entry_of budget entries floor e).entries
+entry_once : (policy : Policy) (budget : ℕ) (entries : List Entry) (floor : ℕ) (e : Entry) → SpendOnce (entered_with entries e) → SpendOnce (entry_of policy budget entries floor e).entries
 unfolding entry_of
-entry_once budget entries floor e h =
-    trim_keeps SpendOnce (λ l txid. part_once (λ (a : Entry). not (reaches (steps l) txid (txid_of a.tx))) l) budget (expired e.time (entered_with entries e)) floor
-    (below_once (is_stale e.time) (entered_with entries e) h)
+entry_once policy budget entries floor e h =
+    trim_keeps SpendOnce (λ l txid. part_once (λ (a : Entry). not (reaches (steps l) txid (txid_of a.tx))) l) policy.incremental_rate budget (expired policy.stay e.time (entered_with entries e)) floor
+    (below_once (is_stale policy.stay e.time) (entered_with entries e) h)
 
 submission_once : (over : Standing) (transaction : Option Tx) (now budget : ℕ) (decision : Result Grant Denial) → decision_of First over transaction ≡ decision → SpendOnce over.entries
     → SpendOnce (submitted_by over transaction now budget decision).entries
 submission_once over transaction now budget (Err denial) is h = h
 submission_once over None now budget (Ok grant) is h = h
-submission_once over (Some tx) now budget (Ok grant) is h = entry_once budget over.entries over.floor (admitted tx grant now) (entered_once over tx grant now (decided_live First over tx grant is) h)
+submission_once over (Some tx) now budget (Ok grant) is h = entry_once over.policy budget over.entries over.floor (admitted tx grant now) (entered_once over tx grant now (decided_live First over tx grant is) h)
 
 after_once : (w : World) (now : ℕ) (transaction : Option Tx) → SpendOnce w.pool → SpendOnce (submit_of (standing_of w) transaction now w.budget).entries
 unfolding submit_of

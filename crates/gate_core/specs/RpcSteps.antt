@@ -58,7 +58,7 @@ commanded w now id GetRawMempool = told w id (Ok (Txids (listing_of w.pool)))
 commanded w now id (GetMempoolEntry txid) = told w id (of_entry Entry (info_of w.pool txid))
 commanded w now id (GetMempoolAncestors txid) = told w id (of_entry Txids (ancestors_listed w.pool txid))
 commanded w now id (GetMempoolDescendants txid) = told w id (of_entry Txids (descendants_listed w.pool txid))
-commanded w now id GetMempoolInfo = told w id (Ok (pool_info w.pool w.floor w.budget))
+commanded w now id GetMempoolInfo = told w id (Ok (pool_info w.pool w.floor w.policy w.budget))
 
 -- a call that may be made: the command that was read is done, or the reply tells the error
 abbrev pub called_by : World → ℕ → Result Request CallError → Reply × World

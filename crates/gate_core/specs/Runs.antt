@@ -8,7 +8,7 @@ use Rattle.gate_pool.specs.Pool.{Admitted as Entry, spent_by, listing_of, size_o
 use Rattle.gate_trim.specs.Laws.{IsYoung}
 use Rattle.gate_admit.specs.Coins.{view_coin}
 use Rattle.gate_admit.specs.Good.{AreApart, IsLimited}
-use Rattle.gate_admit.specs.Policies.{Policy}
+use Rattle.gate_admit.specs.Policies.{Policy, IsPolicy}
 use Rattle.gate_message.specs.declared.caller.Caller.TheVariants.{Operator}
 use Rattle.gate_message.specs.declared.event.Event.{Event}
 use Rattle.gate_message.specs.declared.event.Event.TheVariants.{Tx as Submit, Mempool, Rpc as Calls}
@@ -90,9 +90,10 @@ pub record KeepsFamilies (policy : Policy) (w : World) : Type 0 where
   pub coins : All (λ (p : OutPoint). IsSome (view_coin w.chain w.pool p)) (spent_by w.pool)
   pub limited : All (λ (e : Entry). IsLimited policy w.pool (txid_of e.tx)) w.pool
 
--- after any events whose transactions are told apart by their ids, from any opening, families keep to the opening's policy
+-- after any events whose transactions are told apart by their ids, from any opening whose policy is within its bounds, families keep
+-- to that policy
 abbrev pub RunsKeepFamilies : Type 0
-RunsKeepFamilies = (o : Start) (events : List Event) → All IsSpelled events → IsRunApart (opened_world o) events → KeepsFamilies o.policy (run_of (opened_world o) events).1
+RunsKeepFamilies = (o : Start) (events : List Event) → IsPolicy o.policy → All IsSpelled events → IsRunApart (opened_world o) events → KeepsFamilies o.policy (run_of (opened_world o) events).1
 
 -- after any events, from any opening, the entries are within the opening's budget
 abbrev pub RunsKeepTheBudget : Type 0
@@ -102,13 +103,13 @@ RunsKeepTheBudget = (o : Start) (events : List Event) → size_of (run_of (opene
 abbrev pub OnlyOperatorsLowerTheFloor : Type 0
 OnlyOperatorsLowerTheFloor = (w : World) (events : List Event) → All (λ (e : Event). caller_of e ≢ Operator) events → w.floor ≤ (run_of w events).1.floor
 
--- after a submission that is admitted no entry came more than two weeks before it
+-- after a submission that is admitted no entry came longer before it than an entry stays
 abbrev pub AdmissionsLeaveNothingStale : Type 0
 AdmissionsLeaveNothingStale =
     (w : World) (peer now : ℕ) (transaction : Option Tx) (txid : List ℕ) (fee vsize replaced : ℕ) → (step_of w (Submit peer now transaction)).0 ≡ Admitted txid fee vsize replaced
-    → All (IsYoung now) (step_of w (Submit peer now transaction)).1.pool
+    → All (IsYoung w.policy.stay now) (step_of w (Submit peer now transaction)).1.pool
 
--- after a transaction that a user sends no entry came more than two weeks before it
+-- after a transaction that a user sends no entry came longer before it than an entry stays
 abbrev pub CallsLeaveNothingStale : Type 0
 CallsLeaveNothingStale =
-    (w : World) (call : UserCall) (id : Id) (txid : List ℕ) → (step_of w (Calls call)).0 ≡ Answered (Answer id (Sent txid)) → All (IsYoung call.time) (step_of w (Calls call)).1.pool
+    (w : World) (call : UserCall) (id : Id) (txid : List ℕ) → (step_of w (Calls call)).0 ≡ Answered (Answer id (Sent txid)) → All (IsYoung w.policy.stay call.time) (step_of w (Calls call)).1.pool

@@ -135,7 +135,7 @@ impl<S: BuildHasher + Copy + Drop> Parts<S> {
                 telling(alloc, id, of_ids(alloc, found)?)
             }
             Command::GetMempoolInfo => {
-                let found = pool_info(&self.pool, &self.floor, self.budget);
+                let found = pool_info(&self.pool, &self.floor, &self.policy, self.budget);
                 telling(alloc, id, Ok(found))
             }
         }

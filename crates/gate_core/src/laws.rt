@@ -93,9 +93,10 @@ pub fn runs_keep_the_pool_sound()
     ensures { RunsKeepThePoolSound }
 {}
 
-/// After any events whose transactions are told apart by their ids, from any opening: each input of each entry has a coin,
-/// and each entry has at most as many ancestors as the opening's policy says, or 2 if it says 1, of at most 101,000
-/// virtual bytes, and at most one descendant more than it says, of at most 111,000, itself among each.
+/// After any events whose transactions are told apart by their ids, from any opening whose policy is within its bounds, as
+/// `State::open` ensures of each that it opens: each input of each entry has a coin, and each entry has at most as many
+/// ancestors as the opening's policy says, or 2 if it says 1, and as many virtual bytes of them, and at most one descendant
+/// more than it says, and 10,000 virtual bytes more, itself among each.
 pub fn runs_keep_families()
     ensures { RunsKeepFamilies }
 {}
@@ -110,8 +111,8 @@ pub fn only_operators_lower_the_floor()
     ensures { OnlyOperatorsLowerTheFloor }
 {}
 
-/// After a submission that is admitted, and after a transaction that a user sends, no entry of the pool is older than two
-/// weeks.
+/// After a submission that is admitted, and after a transaction that a user sends, no entry of the pool came longer ago
+/// than the policy lets it stay.
 pub fn admissions_leave_nothing_stale()
     ensures peers { AdmissionsLeaveNothingStale }
     ensures users { CallsLeaveNothingStale }

@@ -111,7 +111,13 @@ impl<S: BuildHasher + Copy + Drop> Parts<S> {
         requires { Fits (Change.Admit coming) self.old.sessions self.old.pool }
         ensures { (reply : Reply) → (settled reply result, world_of self.new) ≡ made_by reply (Change.Admit coming) (world_of self.old) }
     {
-        match commit_submission(&mut self.pool, &mut self.floor, coming, self.budget) {
+        match commit_submission(
+            &mut self.pool,
+            &mut self.floor,
+            coming,
+            &self.policy,
+            self.budget,
+        ) {
             Ok(_grant) => None,
             Err(denial) => Some(denial),
         }

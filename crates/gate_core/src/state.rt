@@ -130,6 +130,7 @@ impl<S: BuildHasher + Copy + Drop> State<S> {
         ensures good { IfOk result IsGoodWorld }
         ensures fault { IsRefusedFor (open_fault_from opening.first opening.coins opening.times) result }
     {
+        opening.policy.recall_bounds();
         State::opened(alloc, hasher, opening)
     }
 

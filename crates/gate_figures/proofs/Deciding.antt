@@ -15,22 +15,22 @@ use Rattle.gate_tx.specs.Money.{amount_or_zero}
 use Rattle.gate_tx.specs.Tx.{Tx}
 use Rattle.gate_standard.specs.Amounts.{required_fee, feerate}
 use Rattle.gate_standard.specs.Outputs.{carries_data, dust_threshold_of, is_below, is_dust}
-use Rattle.gate_standard.specs.Rules.{rules_of_input, rules_of_output, output_value_rules, transaction_rules, standard_rules}
+use Rattle.gate_standard.specs.Rules.{rules_of_input, rules_of_output, output_value_rules, transaction_rules, form_rules, output_rules}
 use Rattle.gate_standard.specs.declared.Denial.{Denial}
-use Rattle.gate_submission.specs.Alone.{alone_rules}
+use Rattle.gate_submission.specs.Alone.{alone_rules, own_rules}
 use Rattle.gate_chain.specs.Times.{tip_of}
 use Rattle.gate_locks.specs.Finality.{is_final_at, threshold_of}
 use Rattle.gate_locks.specs.Locks.{median_at}
 use Rattle.gate_pool.specs.Pool.{Admitted, spender_of, size_of}
 use Rattle.gate_pool.specs.Family.{ancestors_above, is_conflict, conflicts_of, replaced_of, fees_of}
-use Rattle.gate_rbf.specs.Replacing.{replacement_rules, rules_beside, signals, incremental_relay_rate}
+use Rattle.gate_rbf.specs.Replacing.{replacement_rules, rules_beside, signals}
 use Rattle.gate_admit.specs.declared.attempt.Attempt.TheVariants.{First}
 use Rattle.gate_admit.specs.declared.grant.Grant.{Grant}
 use Rattle.gate_admit.specs.Coins.{coins_of, view_coin}
 use Rattle.gate_admit.specs.Limits.{limit_rules}
 use Rattle.gate_admit.specs.Policies.{Policy, most_ancestors}
 use Rattle.gate_admit.specs.Reports.{reported, report_rules, vsize_of, verdict_rules, rules_of_verdict}
-use Rattle.gate_admit.specs.Rules.{final_rules, pool_rules, coin_rules, lock_rules, coin_value_rules, balance_rules, fee_rules, payment_rules, admission_rules, coins_value, outputs_value, grant_of, denied_or, decision_of, is_immature, min_relay_rate}
+use Rattle.gate_admit.specs.Rules.{final_rules, pool_rules, coin_rules, lock_rules, coin_value_rules, balance_rules, fee_rules, payment_rules, admission_rules, coins_value, outputs_value, grant_of, denied_or, decision_of, is_immature}
 use Rattle.gate_admit.specs.Standing.{Standing}
 use Rattle.gate_admit.specs.Verdicts.{verdict_of}
 use Rattle.gate_figures.specs.declared.figures.Figures.{Figures}
@@ -79,20 +79,20 @@ one_or : (over : Standing) (one rest : Option Figures) → IfSome one (Decide ov
 one_or over None rest a b = b
 one_or over (Some figures) rest a b = a
 
-below : (o : TxOut) → is_dust o ≡ true → is_below o.value (dust_threshold_of o) ≡ true
+below : (rate : ℕ) (o : TxOut) → is_dust rate o ≡ true → is_below o.value (dust_threshold_of rate o) ≡ true
 unfolding is_dust
-below o h = second (not (carries_data o)) (is_below o.value (dust_threshold_of o)) h
+below rate o h = second (not (carries_data o)) (is_below o.value (dust_threshold_of rate o)) h
   where
     second : (a b : Bool) → (a && b) ≡ true → b ≡ true
     second true b k = k
     second false b k = absurd (false≢true k)
 
-dust_decides : (over : Standing) (index : ℕ) (outputs : List TxOut) → IfSome (dust index outputs) (Decide over)
-dust_decides over index [] = tt
-dust_decides over index (o ∷ outputs) = go (dust_decides over (index + 1) outputs) (is_dust o) refl
+dust_decides : (over : Standing) (rate index : ℕ) (outputs : List TxOut) → IfSome (dust rate index outputs) (Decide over)
+dust_decides over rate index [] = tt
+dust_decides over rate index (o ∷ outputs) = go (dust_decides over rate (index + 1) outputs) (is_dust rate o) refl
   where
-    go : IfSome (dust (index + 1) outputs) (Decide over) → (b : Bool) → is_dust o ≡ b → IfSome (if b then Some (Dust index o.value (dust_threshold_of o)) else dust (index + 1) outputs) (Decide over)
-    go later true e = below o e
+    go : IfSome (dust rate (index + 1) outputs) (Decide over) → (b : Bool) → is_dust rate o ≡ b → IfSome (if b then Some (Dust index o.value (dust_threshold_of rate o)) else dust rate (index + 1) outputs) (Decide over)
+    go later true e = below rate o e
     go later false e = later
 
 none_of : {X : Type 0} (o : Option X) → is_none o ≡ true → o ≡ None
@@ -177,12 +177,12 @@ allows policy vsize = go (nat_le vsize 10000)
 
 crowded_decides : (over : Standing) (above : List Admitted) (vsize : Option ℕ) → IfSome (crowded over.policy above vsize) (Decide over)
 crowded_decides over above None = tt
-crowded_decides over above (Some vsize) = go (nat_lt (allowed_ancestors over.policy vsize) (length above + 1)) (nat_lt 101000 (size_of above + vsize)) refl refl
+crowded_decides over above (Some vsize) = go (nat_lt (allowed_ancestors over.policy vsize) (length above + 1)) (nat_lt over.policy.ancestors_size (size_of above + vsize)) refl refl
   where
-    go : (a b : Bool) → nat_lt (allowed_ancestors over.policy vsize) (length above + 1) ≡ a → nat_lt 101000 (size_of above + vsize) ≡ b
-        → IfSome (if a then Some (Ancestors (length above + 1) (allowed_ancestors over.policy vsize)) else if b then Some (AncestorsSized (size_of above + vsize)) else None) (Decide over)
+    go : (a b : Bool) → nat_lt (allowed_ancestors over.policy vsize) (length above + 1) ≡ a → nat_lt over.policy.ancestors_size (size_of above + vsize) ≡ b
+        → IfSome (if a then Some (Ancestors (length above + 1) (allowed_ancestors over.policy vsize)) else if b then Some (AncestorsSized (size_of above + vsize) over.policy.ancestors_size) else None) (Decide over)
     go true b e f = (allows over.policy vsize, lt_from (allowed_ancestors over.policy vsize) (length above + 1) e)
-    go false true e f = lt_from 101000 (size_of above + vsize) f
+    go false true e f = (omega arith, lt_from over.policy.ancestors_size (size_of above + vsize) f)
     go false false e f = tt
 
 doubted_decides : (over : Standing) (wtxid : List ℕ) (index : ℕ) (inputs : List TxIn) → IfSome (doubted over.verdicts wtxid index inputs) (Decide over)
@@ -194,22 +194,22 @@ doubted_decides over wtxid index (i ∷ inputs) = go (doubted_decides over wtxid
     go later true e = later
     go later false e = e
 
-pays_decides : (over : Standing) (tx : Tx) (rate fee cost : ℕ) → nat_lt fee (required_fee rate (vsize_of cost tx)) ≡ true → IfSome (pays rate fee (sized cost tx)) (Decide over)
+pays_decides : (over : Standing) (tx : Tx) (rate fee cost : ℕ) → nat_lt fee (required_fee rate (vsize_of over.policy.sigop_size cost tx)) ≡ true → IfSome (pays rate fee (sized over.policy.sigop_size cost tx)) (Decide over)
 unfolding pays
 pays_decides over tx rate fee cost h = go (nat_lt 16000 cost)
   where
-    go : (b : Bool) → IfSome (pays rate fee (if b then None else Some (vsize_of cost tx))) (Decide over)
+    go : (b : Bool) → IfSome (pays rate fee (if b then None else Some (vsize_of over.policy.sigop_size cost tx))) (Decide over)
     go true = tt
-    go false = lt_from fee (required_fee rate (vsize_of cost tx)) h
+    go false = lt_from fee (required_fee rate (vsize_of over.policy.sigop_size cost tx)) h
 
-above_decides : (over : Standing) (tx : Tx) (gone fee cost : ℕ) → nat_lt (fee - gone) (required_fee incremental_relay_rate (vsize_of cost tx)) ≡ true
-    → IfSome (pays_above gone fee (sized cost tx)) (Decide over)
+above_decides : (over : Standing) (tx : Tx) (gone fee cost : ℕ) → nat_lt (fee - gone) (required_fee over.policy.incremental_rate (vsize_of over.policy.sigop_size cost tx)) ≡ true
+    → IfSome (pays_above over.policy.incremental_rate gone fee (sized over.policy.sigop_size cost tx)) (Decide over)
 unfolding pays_above
 above_decides over tx gone fee cost h = go (nat_lt 16000 cost)
   where
-    go : (b : Bool) → IfSome (pays_above gone fee (if b then None else Some (vsize_of cost tx))) (Decide over)
+    go : (b : Bool) → IfSome (pays_above over.policy.incremental_rate gone fee (if b then None else Some (vsize_of over.policy.sigop_size cost tx))) (Decide over)
     go true = tt
-    go false = lt_from (fee - gone) (required_fee incremental_relay_rate (vsize_of cost tx)) h
+    go false = lt_from (fee - gone) (required_fee over.policy.incremental_rate (vsize_of over.policy.sigop_size cost tx)) h
 
 -- ---- group by group
 
@@ -238,25 +238,23 @@ input_shows : (over : Standing) (tx : Tx) (i : TxIn) → AllShow over tx (rules_
 unfolding figures_of paying_figures
 input_shows over tx i = (λ _. tt, (λ _. tt, tt))
 
-output_shows : (over : Standing) (tx : Tx) (o : TxOut) → AllShow over tx (rules_of_output o)
+output_shows : (over : Standing) (tx : Tx) (o : TxOut) → AllShow over tx (rules_of_output over.policy.standards o)
 unfolding figures_of paying_figures
-output_shows over tx o = (λ _. tt, (λ _. dust_decides over 0 tx.outputs, tt))
+output_shows over tx o = (λ _. tt, (λ _. dust_decides over over.policy.standards.dust_rate 0 tx.outputs, tt))
 
-standard_shows : (over : Standing) (tx : Tx) → AllShow over tx (standard_rules tx)
-unfolding figures_of paying_figures standard_rules
-standard_shows over tx = (
-  λ _. tt,
-  (
-    λ h. lt_from 400_000 _ h,
-    both_show over tx (flat_map rules_of_input tx.inputs) _ (each_shows over tx rules_of_input (input_shows over tx) tx.inputs)
-        (both_show over tx (flat_map rules_of_output tx.outputs) _ (each_shows over tx rules_of_output (output_shows over tx) tx.outputs)
-        (λ _. tt, (λ h. lt_from _ 82 h, tt))),
-  ),
-)
+form_shows : (over : Standing) (tx : Tx) → AllShow over tx (form_rules tx)
+unfolding figures_of paying_figures form_rules
+form_shows over tx = (λ _. tt, (λ h. lt_from 400_000 _ h, each_shows over tx rules_of_input (input_shows over tx) tx.inputs))
 
-alone_shows : (over : Standing) (tx : Tx) → AllShow over tx (alone_rules tx)
-unfolding alone_rules
-alone_shows over tx = both_show over tx (transaction_rules tx) (standard_rules tx) (transaction_shows over tx) (standard_shows over tx)
+outputs_show : (over : Standing) (tx : Tx) → AllShow over tx (output_rules over.policy.standards tx)
+unfolding figures_of paying_figures output_rules
+outputs_show over tx =
+    both_show over tx (flat_map (rules_of_output over.policy.standards) tx.outputs) _ (each_shows over tx (rules_of_output over.policy.standards) (output_shows over tx) tx.outputs)
+    (λ _. tt, (λ h. (omega arith, lt_from _ over.policy.standards.least_size h), tt))
+
+alone_shows : (over : Standing) (tx : Tx) → AllShow over tx (alone_rules over.policy.standards tx)
+unfolding alone_rules own_rules
+alone_shows over tx = both_show over tx (own_rules tx) (output_rules over.policy.standards tx) (both_show over tx (transaction_rules tx) (form_rules tx) (transaction_shows over tx) (form_shows over tx)) (outputs_show over tx)
 
 unfinal : (tx : Tx) (next_height median : ℕ) → not (is_final_at tx next_height median) ≡ true → threshold_of tx.locktime next_height median ≤ tx.locktime
 unfolding is_final_at
@@ -299,19 +297,19 @@ unfolding figures_of paying_figures report_rules
 reports_show over tx = (λ _. tt, (λ _. tt, (λ h. lt_from 16000 _ h, tt)))
 
 payment_shows : (over : Standing) (tx : Tx)
-    → AllShow over tx (payment_rules First over.floor (fee_at over.chain over.entries tx) (vsize_of (cost_at over.chain over.entries tx) tx))
+    → AllShow over tx (payment_rules First over.policy.relay_rate over.floor (fee_at over.chain over.entries tx) (vsize_of over.policy.sigop_size (cost_at over.chain over.entries tx) tx))
 unfolding figures_of paying_figures fee_rules
 payment_shows over tx = (
   λ h. pays_decides over tx over.floor (fee_at over.chain over.entries tx) (cost_at over.chain over.entries tx) h,
-  (λ h. pays_decides over tx min_relay_rate (fee_at over.chain over.entries tx) (cost_at over.chain over.entries tx) h, tt),
+  (λ h. pays_decides over tx over.policy.relay_rate (fee_at over.chain over.entries tx) (cost_at over.chain over.entries tx) h, tt),
 )
 
 limits_show : (over : Standing) (tx : Tx) (vsize : ℕ) → AllShow over tx (limit_rules First over.policy over.entries tx vsize)
 unfolding figures_of paying_figures limit_rules
-limits_show over tx vsize = (λ _. crowded_decides over (ancestors_above over.entries tx.inputs) (vsize_at over.chain over.entries tx), (λ _. tt, tt))
+limits_show over tx vsize = (λ _. crowded_decides over (ancestors_above over.entries tx.inputs) (vsize_at over.policy.sigop_size over.chain over.entries tx), (λ _. tt, tt))
 
 beside_shows : (over : Standing) (tx : Tx)
-    → AllShow over tx (rules_beside over.entries (conflicts_of over.entries tx) (fees_of (replaced_of over.entries tx)) tx (fee_at over.chain over.entries tx) (vsize_of (cost_at over.chain over.entries tx) tx))
+    → AllShow over tx (rules_beside over.policy.incremental_rate over.entries (conflicts_of over.entries tx) (fees_of (replaced_of over.entries tx)) tx (fee_at over.chain over.entries tx) (vsize_of over.policy.sigop_size (cost_at over.chain over.entries tx) tx))
 unfolding figures_of paying_figures rules_beside
 beside_shows over tx = (
   λ _. outpaid_at_decides over _ tx.inputs,
@@ -328,11 +326,11 @@ beside_shows over tx = (
 )
 
 replacement_shows : (over : Standing) (tx : Tx)
-    → AllShow over tx (replacement_rules over.entries tx (fee_at over.chain over.entries tx) (vsize_of (cost_at over.chain over.entries tx) tx))
+    → AllShow over tx (replacement_rules over.policy.incremental_rate over.entries tx (fee_at over.chain over.entries tx) (vsize_of over.policy.sigop_size (cost_at over.chain over.entries tx) tx))
 unfolding replacement_rules
 replacement_shows over tx = go (list_any (is_conflict tx) over.entries)
   where
-    go : (b : Bool) → AllShow over tx (if b then rules_beside over.entries (conflicts_of over.entries tx) (fees_of (replaced_of over.entries tx)) tx (fee_at over.chain over.entries tx) (vsize_of (cost_at over.chain over.entries tx) tx) else [])
+    go : (b : Bool) → AllShow over tx (if b then rules_beside over.policy.incremental_rate over.entries (conflicts_of over.entries tx) (fees_of (replaced_of over.entries tx)) tx (fee_at over.chain over.entries tx) (vsize_of over.policy.sigop_size (cost_at over.chain over.entries tx) tx) else [])
     go true = beside_shows over tx
     go false = tt
 
@@ -353,7 +351,7 @@ all_show : (over : Standing) (tx : Tx) → AllShow over tx (admission_rules Firs
 unfolding admission_rules
 all_show over tx =
     let coins = coins_of over.chain over.entries tx.inputs in
-    both_show over tx (alone_rules tx) _ (alone_shows over tx)
+    both_show over tx (alone_rules over.policy.standards tx) _ (alone_shows over tx)
     (both_show over tx (final_rules over.chain tx) _ (final_shows over tx)
     (both_show over tx (pool_rules over.policy over.entries tx) _ (pool_shows over tx)
     (both_show over tx (coin_rules over.chain over.entries tx) _ (coin_shows over tx)
@@ -361,9 +359,9 @@ all_show over tx =
     (both_show over tx (coin_value_rules (tip_of over.chain + 1) 0 coins) _ (coin_values_show over tx (tip_of over.chain + 1) 0 coins)
     (both_show over tx (balance_rules (coins_value coins) (outputs_value tx)) _ (balance_shows over tx)
     (both_show over tx (report_rules (reported tx.inputs coins) tx) _ (reports_show over tx)
-    (both_show over tx (payment_rules First over.floor (fee_at over.chain over.entries tx) (vsize_of (cost_at over.chain over.entries tx) tx)) _ (payment_shows over tx)
-    (both_show over tx (limit_rules First over.policy over.entries tx (vsize_of (cost_at over.chain over.entries tx) tx)) _ (limits_show over tx _)
-    (both_show over tx (replacement_rules over.entries tx (fee_at over.chain over.entries tx) (vsize_of (cost_at over.chain over.entries tx) tx)) _ (replacement_shows over tx)
+    (both_show over tx (payment_rules First over.policy.relay_rate over.floor (fee_at over.chain over.entries tx) (vsize_of over.policy.sigop_size (cost_at over.chain over.entries tx) tx)) _ (payment_shows over tx)
+    (both_show over tx (limit_rules First over.policy over.entries tx (vsize_of over.policy.sigop_size (cost_at over.chain over.entries tx) tx)) _ (limits_show over tx _)
+    (both_show over tx (replacement_rules over.policy.incremental_rate over.entries tx (fee_at over.chain over.entries tx) (vsize_of over.policy.sigop_size (cost_at over.chain over.entries tx) tx)) _ (replacement_shows over tx)
     (verdict_shows over tx 0 tx.inputs)))))))))))
 
 denied : (found : Option Denial) (grant : Grant) (denial : Denial) → denied_or found grant ≡ Err denial → found ≡ Some denial

@@ -16,14 +16,13 @@ use Rattle.gate_chain.specs.Times.{tip_of}
 use Rattle.gate_locks.specs.Locks.{median_at}
 use Rattle.gate_pool.specs.Pool.{Admitted, size_of, spender_of}
 use Rattle.gate_pool.specs.Family.{ancestors_above, conflicts_of, fees_of, replaced_of}
-use Rattle.gate_rbf.specs.Replacing.{descendant_count, incremental_relay_rate, signals}
+use Rattle.gate_rbf.specs.Replacing.{descendant_count, signals}
 use Rattle.gate_submission.specs.declared.verdict.Verdict.{Verdict}
 use Rattle.gate_submission.specs.declared.verdict.Verdict.TheVariants.{Good}
 use Rattle.gate_admit.specs.Coins.{coins_of, view_coin}
-use Rattle.gate_admit.specs.Limits.{carve_out_size, family_size_limit}
-use Rattle.gate_admit.specs.Policies.{Policy, most_ancestors}
+use Rattle.gate_admit.specs.Policies.{Policy, carve_out_size, most_ancestors}
 use Rattle.gate_admit.specs.Reports.{reported, sigop_cost, vsize_of}
-use Rattle.gate_admit.specs.Rules.{coins_value, is_immature, min_relay_rate, outputs_value}
+use Rattle.gate_admit.specs.Rules.{coins_value, is_immature, outputs_value}
 use Rattle.gate_admit.specs.Standing.{Standing}
 use Rattle.gate_admit.specs.Verdicts.{VerdictTable, verdict_of}
 use Rattle.gate_figures.specs.declared.figures.Figures.{Figures}
@@ -31,11 +30,11 @@ use Rattle.gate_figures.specs.declared.figures.Figures.TheVariants.{Large, Small
 
 -- ---- outputs
 
--- the first output that is dust, among outputs from this index on
-abbrev pub dust : ℕ → List TxOut → Option Figures
-dust index [] = None
-dust index (output ∷ outputs) =
-    if is_dust output then Some (Dust index output.value (dust_threshold_of output)) else dust (index + 1) outputs
+-- the first output that is dust at this rate, among outputs from this index on
+abbrev pub dust : ℕ → ℕ → List TxOut → Option Figures
+dust rate index [] = None
+dust rate index (output ∷ outputs) =
+    if is_dust rate output then Some (Dust index output.value (dust_threshold_of rate output)) else dust rate (index + 1) outputs
 
 -- ---- coins
 
@@ -102,23 +101,24 @@ fee_at chain entries tx = coins_at chain entries tx - outputs_value tx
 abbrev pub cost_at : History → List Admitted → Tx → ℕ
 cost_at chain entries tx = sigop_cost (reported tx.inputs (coins_of chain entries tx.inputs)) tx.outputs
 
--- the virtual size of a transaction at a cost of its signature operations; none if the cost is past its limit
-abbrev pub sized : ℕ → Tx → Option ℕ
-sized cost tx = if nat_lt 16000 cost then None else Some (vsize_of cost tx)
+-- the virtual size of a transaction at a cost of its signature operations, each of which counts for this many bytes; none if the
+-- cost is past its limit
+abbrev pub sized : ℕ → ℕ → Tx → Option ℕ
+sized sigop_size cost tx = if nat_lt 16000 cost then None else Some (vsize_of sigop_size cost tx)
 
 -- the virtual size of a transaction
-abbrev pub vsize_at : History → List Admitted → Tx → Option ℕ
-vsize_at chain entries tx = sized (cost_at chain entries tx) tx
+abbrev pub vsize_at : ℕ → History → List Admitted → Tx → Option ℕ
+vsize_at sigop_size chain entries tx = sized sigop_size (cost_at chain entries tx) tx
 
 -- the fee that is paid, and the fee that a size needs at a feerate
 unfoldable pub pays : ℕ → ℕ → Option ℕ → Option Figures
 pays rate fee None = None
 pays rate fee (Some vsize) = Some (Pays fee (required_fee rate vsize))
 
--- the fee that is paid, the fees of the entries that would be replaced, and what has to be paid above them
-unfoldable pub pays_above : ℕ → ℕ → Option ℕ → Option Figures
-pays_above gone fee None = None
-pays_above gone fee (Some vsize) = Some (Above fee gone (required_fee incremental_relay_rate vsize))
+-- the fee that is paid, the fees of the entries that would be replaced, and what has to be paid above them at a feerate
+unfoldable pub pays_above : ℕ → ℕ → ℕ → Option ℕ → Option Figures
+pays_above rate gone fee None = None
+pays_above rate gone fee (Some vsize) = Some (Above fee gone (required_fee rate vsize))
 
 -- ---- families
 
@@ -132,7 +132,7 @@ crowded policy above None = None
 crowded policy above (Some vsize) =
     if nat_lt (allowed_ancestors policy vsize) (length above + 1)
     then Some (Ancestors (length above + 1) (allowed_ancestors policy vsize))
-    else if nat_lt family_size_limit (size_of above + vsize) then Some (AncestorsSized (size_of above + vsize)) else None
+    else if nat_lt policy.ancestors_size (size_of above + vsize) then Some (AncestorsSized (size_of above + vsize) policy.ancestors_size) else None
 
 -- ---- verdicts
 
@@ -152,20 +152,20 @@ doubted verdicts wtxid index (input ∷ inputs) =
 unfoldable pub paying_figures : Standing → Tx → Denial → Option Figures
 paying_figures over tx InBelowOut = Some (Balance (coins_at over.chain over.entries tx) (outputs_value tx))
 paying_figures over tx TooManySigops = Some (Costs (cost_at over.chain over.entries tx))
-paying_figures over tx MempoolMinFee = pays over.floor (fee_at over.chain over.entries tx) (vsize_at over.chain over.entries tx)
-paying_figures over tx MinRelayFee = pays min_relay_rate (fee_at over.chain over.entries tx) (vsize_at over.chain over.entries tx)
-paying_figures over tx TooLongChain = crowded over.policy (ancestors_above over.entries tx.inputs) (vsize_at over.chain over.entries tx)
-paying_figures over tx LowerFeeRate = outpaid_at over.entries (rate_at (fee_at over.chain over.entries tx) (vsize_at over.chain over.entries tx)) tx.inputs
+paying_figures over tx MempoolMinFee = pays over.floor (fee_at over.chain over.entries tx) (vsize_at over.policy.sigop_size over.chain over.entries tx)
+paying_figures over tx MinRelayFee = pays over.policy.relay_rate (fee_at over.chain over.entries tx) (vsize_at over.policy.sigop_size over.chain over.entries tx)
+paying_figures over tx TooLongChain = crowded over.policy (ancestors_above over.entries tx.inputs) (vsize_at over.policy.sigop_size over.chain over.entries tx)
+paying_figures over tx LowerFeeRate = outpaid_at over.entries (rate_at (fee_at over.chain over.entries tx) (vsize_at over.policy.sigop_size over.chain over.entries tx)) tx.inputs
 paying_figures over tx LowerFee = Some (Pays (fee_at over.chain over.entries tx) (fees_of (replaced_of over.entries tx)))
-paying_figures over tx LowerDifference = pays_above (fees_of (replaced_of over.entries tx)) (fee_at over.chain over.entries tx) (vsize_at over.chain over.entries tx)
+paying_figures over tx LowerDifference = pays_above over.policy.incremental_rate (fees_of (replaced_of over.entries tx)) (fee_at over.chain over.entries tx) (vsize_at over.policy.sigop_size over.chain over.entries tx)
 paying_figures over tx other = None
 
 -- the figures by which a rule denies a transaction; a rule without figures has none
 unfoldable pub figures_of : Standing → Tx → Denial → Option Figures
 figures_of over tx Oversize = Some (Large (stripped_size_of tx))
 figures_of over tx TxSize = Some (Weighs (weight_of tx))
-figures_of over tx BelowDust = dust 0 tx.outputs
-figures_of over tx TxSizeSmall = Some (Small (stripped_size_of tx))
+figures_of over tx BelowDust = dust over.policy.standards.dust_rate 0 tx.outputs
+figures_of over tx TxSizeSmall = Some (Small (stripped_size_of tx) over.policy.standards.least_size)
 figures_of over tx NonFinal = Some (Final tx.locktime (tip_of over.chain + 1) (median_at over.chain (tip_of over.chain)))
 figures_of over tx MempoolConflict = firm over.entries 0 tx.inputs
 figures_of over tx MissingOrSpent = coinless over.chain over.entries 0 tx.inputs

@@ -6,7 +6,6 @@ use Rattle.gate_standard.specs.declared.Denial.{Denial}
 use Rattle.gate_locks.specs.Finality.{threshold_of}
 use Rattle.gate_admit.specs.declared.attempt.Attempt.TheVariants.{First}
 use Rattle.gate_admit.specs.Coins.{view_coin}
-use Rattle.gate_admit.specs.Limits.{family_size_limit}
 use Rattle.gate_admit.specs.Rules.{decision_of}
 use Rattle.gate_admit.specs.Standing.{Standing}
 use Rattle.gate_admit.specs.Verdicts.{verdict_of}
@@ -18,7 +17,7 @@ use Rattle.gate_figures.specs.Figures.{figures_of, is_good}
 -- an input no good verdict; and an entry that doesn't signal is named only if the policy asks for signals
 abbrev pub Decide : Standing → Figures → Type 0
 Decide over (Large size) = 1000000 < size
-Decide over (Small size) = size < 82
+Decide over (Small size needs) = (needs ≤ over.policy.standards.least_size) × (size < needs)
 Decide over (Weighs weight) = 400000 < weight
 Decide over (Dust output value needs) = is_below value needs ≡ true
 Decide over (Final locktime height median) = threshold_of locktime height median ≤ locktime
@@ -29,7 +28,7 @@ Decide over (Balance coins outputs) = coins < outputs
 Decide over (Costs cost) = 16000 < cost
 Decide over (Pays fee needs) = fee < needs
 Decide over (Ancestors count most) = (over.policy.ancestors ≤ most) × (most < count)
-Decide over (AncestorsSized size) = family_size_limit < size
+Decide over (AncestorsSized size most) = (over.policy.ancestors_size ≤ most) × (most < size)
 Decide over (Outpaid rate most by) = rate ≤ most
 Decide over (Descendants count) = 100 < count
 Decide over (Above fee gone needs) = fee - gone < needs

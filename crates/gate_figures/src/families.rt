@@ -16,9 +16,6 @@ use gate_tx::{Transaction, TxIn, Txid};
 use std::alloc::Global;
 use std::hash::BuildHasher;
 
-/// The most virtual bytes of ancestors, with the transaction itself (Bitcoin Core's `DEFAULT_ANCESTOR_SIZE_LIMIT`).
-const MAX_ANCESTORS_SIZE: u128 = 101_000;
-
 /// How large a transaction may be for the second try (Bitcoin Core's `EXTRA_DESCENDANT_TX_SIZE_LIMIT`).
 const CARVE_OUT_VSIZE: u64 = 10_000;
 
@@ -56,8 +53,9 @@ pub(crate) fn crowded<S: BuildHasher + Copy + Drop>(
         return Ok(Some(Figures::Ancestors { count, most }));
     }
     let size = sums.size + u128::from(vsize);
-    if size > MAX_ANCESTORS_SIZE {
-        return Ok(Some(Figures::AncestorsSized { size }));
+    let most = policy.ancestors_size();
+    if size > u128::from(most) {
+        return Ok(Some(Figures::AncestorsSized { size, most }));
     }
     Ok(None)
 }

@@ -7,7 +7,7 @@ ghost use Rattle.gate_figures.specs.Figures.{coins_at, cost_at, fee_at, pays, pa
 
 use crate::coins::coins_of;
 use crate::figures::Figures;
-use gate_admit::{Chain, LentCoin, Pool};
+use gate_admit::{Chain, LentCoin, Policy, Pool};
 use gate_bytes::Memory;
 use gate_inputs::{Answers, answers};
 use gate_script::sigops;
@@ -18,10 +18,6 @@ use std::hash::BuildHasher;
 
 /// The most that signature operations may cost (Bitcoin Core's `MAX_STANDARD_TX_SIGOPS_COST`).
 const MAX_COST: u128 = 16_000;
-
-/// The feerate that a replacement pays for its own relay, in satoshi per 1,000 virtual bytes (Bitcoin Core's
-/// `DEFAULT_INCREMENTAL_RELAY_FEE`).
-const INCREMENTAL_RELAY_RATE: u64 = 1000;
 
 /// The fee of a transaction over a chain and a pool, and the virtual size that it pays for.
 #[derive(Clone, Copy)]
@@ -121,39 +117,43 @@ fn sigop_cost(tx: &Transaction, answers: &[Answers]) -> u128
 }
 
 /// The virtual size of a transaction whose signature operations have this cost.
-#[tactic(auto, using(gate_admit::proofs::Weighing::positive))]
-fn vsize_of(cost: u64, tx: &Identified) -> u64
+#[tactic(auto, using(gate_admit::proofs::Weighing::positive, gate_admit::proofs::Weighing::counted))]
+fn vsize_of(policy: &Policy, cost: u64, tx: &Identified) -> u64
     requires { cost ≤ 16000 }
-    ensures size { result ≡ vsize_of cost tx.now }
+    ensures size { result ≡ vsize_of policy.now.sigop_size cost tx.now }
     ensures some { 0 < result }
 {
-    (tx.weight() as u64).max(20 * cost).div_ceil(4)
+    policy.recall_bounds();
+    (tx.weight() as u64)
+        .max(policy.sigop_size() * cost)
+        .div_ceil(4)
 }
 
 /// The virtual size of a transaction whose signature operations have this cost, if that is within its limit.
-fn sized(cost: u128, tx: &Identified) -> Option<u64>
-    ensures size { result ≡ sized cost tx.now }
+fn sized(policy: &Policy, cost: u128, tx: &Identified) -> Option<u64>
+    ensures size { result ≡ sized policy.now.sigop_size cost tx.now }
     ensures some { IfSome result (λ vsize. 0 < vsize) }
 {
     if cost > MAX_COST {
         return None;
     }
-    Some(vsize_of(cost as u64, tx))
+    Some(vsize_of(policy, cost as u64, tx))
 }
 
 impl Price {
-    /// The price of a transaction over a chain and a pool.
+    /// The price of a transaction over a chain and a pool, under a policy.
     pub(crate) fn of<S: BuildHasher + Copy + Drop>(
         alloc: Global,
         chain: &Chain<S>,
         pool: &Pool<S>,
+        policy: &Policy,
         tx: &Identified,
     ) -> Result<Price, Memory>
         ensures coins { IfOk result (λ price. price.coins ≡ coins_at chain.now pool.now.entries tx.now) }
         ensures outputs { IfOk result (λ price. price.outputs ≡ outputs_value tx.now) }
         ensures fee { IfOk result (λ price. price.fee ≡ fee_at chain.now pool.now.entries tx.now) }
         ensures cost { IfOk result (λ price. price.cost ≡ cost_at chain.now pool.now.entries tx.now) }
-        ensures vsize { IfOk result (λ price. price.vsize ≡ vsize_at chain.now pool.now.entries tx.now) }
+        ensures vsize { IfOk result (λ price. price.vsize ≡ vsize_at policy.now.sigop_size chain.now pool.now.entries tx.now) }
         ensures some { IfOk result (λ price. IfSome price.vsize (λ vsize. 0 < vsize)) }
     {
         let transaction = tx.transaction();
@@ -167,7 +167,7 @@ impl Price {
             outputs,
             fee: coins.saturating_sub(outputs),
             cost,
-            vsize: sized(cost, tx),
+            vsize: sized(policy, cost, tx),
         })
     }
 }
@@ -182,11 +182,11 @@ pub(crate) fn pays(rate: u64, fee: u128, vsize: Option<u64>) -> Option<Figures>
 }
 
 /// The figures of a fee that is paid: the fee, the fees of the entries that would be replaced, and what has to be paid
-/// above them.
+/// above them at a feerate.
 #[tactic(auto, unfolding(crate::specs::Figures::pays_above))]
-pub(crate) fn pays_above(gone: u128, fee: u128, vsize: Option<u64>) -> Option<Figures>
-    ensures { result ≡ pays_above gone fee vsize }
+pub(crate) fn pays_above(rate: u64, gone: u128, fee: u128, vsize: Option<u64>) -> Option<Figures>
+    ensures { result ≡ pays_above rate gone fee vsize }
 {
-    let needs = fee_at(INCREMENTAL_RELAY_RATE, vsize?);
+    let needs = fee_at(rate, vsize?);
     Some(Figures::Above { fee, gone, needs })
 }

@@ -9,9 +9,10 @@ pub enum Figures {
     Large {
         size: usize,
     },
-    /// The transaction's size without witnesses, in bytes, which is too small.
+    /// The transaction's size without witnesses, which is too small, and the least that it may have, in bytes.
     Small {
         size: usize,
+        needs: u64,
     },
     /// The transaction's weight, which is too large.
     Weighs {
@@ -21,7 +22,7 @@ pub enum Figures {
     Dust {
         output: usize,
         value: i64,
-        needs: u64,
+        needs: u128,
     },
     /// The transaction's locktime, the height of the next block, and the median time past of the tip.
     Final {
@@ -64,9 +65,10 @@ pub enum Figures {
         count: u128,
         most: usize,
     },
-    /// The total virtual size of the transaction and its ancestors, which is too large.
+    /// The total virtual size of the transaction and its ancestors, which is too large, and how large it may be.
     AncestorsSized {
         size: u128,
+        most: u64,
     },
     /// The transaction's feerate, and an entry that it conflicts with, whose feerate is no lower; in satoshi per 1,000
     /// virtual bytes.
@@ -99,7 +101,9 @@ impl fmt::Display for Figures {
             Figures::Large { size } => {
                 write!(f, "{size} bytes without witnesses, 1000000 allowed")
             }
-            Figures::Small { size } => write!(f, "{size} bytes without witnesses, needs 82"),
+            Figures::Small { size, needs } => {
+                write!(f, "{size} bytes without witnesses, needs {needs}")
+            }
             Figures::Weighs { weight } => write!(f, "weight {weight}, 400000 allowed"),
             Figures::Dust {
                 output,
@@ -138,9 +142,9 @@ impl fmt::Display for Figures {
             Figures::Ancestors { count, most } => {
                 write!(f, "{count} ancestors, {most} allowed")
             },
-            Figures::AncestorsSized { size } => write!(
+            Figures::AncestorsSized { size, most } => write!(
                 f,
-                "ancestors of {size} virtual bytes, 101000 allowed"
+                "ancestors of {size} virtual bytes, {most} allowed"
             ),
             Figures::Outpaid { rate, most, by } => write!(
                 f,

@@ -25,10 +25,6 @@ use gate_tx::Identified;
 use std::alloc::Global;
 use std::hash::BuildHasher;
 
-/// The feerate that every transaction has to pay, in satoshi per 1,000 virtual bytes (Bitcoin Core's
-/// `DEFAULT_MIN_RELAY_TX_FEE`).
-const MIN_RELAY_RATE: u64 = 1000;
-
 /// The median time past of the tip.
 fn tip_median<S: BuildHasher + Copy + Drop>(chain: &Chain<S>) -> u32
     ensures { result ≡ median_at chain.now (tip_of chain.now) }
@@ -49,7 +45,8 @@ fn paying_figures<S: BuildHasher + Copy + Drop>(
     let transaction = tx.transaction();
     let pool = state.pool();
     let inputs = transaction.inputs();
-    let price = Price::of(alloc, state.chain(), pool, tx)?;
+    let policy = state.policy();
+    let price = Price::of(alloc, state.chain(), pool, policy, tx)?;
     match denial {
         Denial::InBelowOut => Ok(Some(Figures::Balance {
             coins: price.coins,
@@ -57,8 +54,8 @@ fn paying_figures<S: BuildHasher + Copy + Drop>(
         })),
         Denial::TooManySigops => Ok(Some(Figures::Costs { cost: price.cost })),
         Denial::MempoolMinFee => Ok(pays(state.floor().rate(), price.fee, price.vsize)),
-        Denial::MinRelayFee => Ok(pays(MIN_RELAY_RATE, price.fee, price.vsize)),
-        Denial::TooLongChain => crowded(alloc, state.policy(), pool, inputs, price.vsize),
+        Denial::MinRelayFee => Ok(pays(policy.relay_rate(), price.fee, price.vsize)),
+        Denial::TooLongChain => crowded(alloc, policy, pool, inputs, price.vsize),
         Denial::LowerFeeRate => Ok(outpaid_at(pool, inputs, rate_at(price.fee, price.vsize))),
         Denial::LowerFee => Ok(Some(Figures::Pays {
             fee: price.fee,
@@ -66,7 +63,8 @@ fn paying_figures<S: BuildHasher + Copy + Drop>(
         })),
         Denial::LowerDifference => {
             let gone = fees_gone(alloc, pool, transaction)?;
-            Ok(pays_above(gone, price.fee, price.vsize))
+            let rate = policy.incremental_rate();
+            Ok(pays_above(rate, gone, price.fee, price.vsize))
         }
         _ => Ok(None),
     }
@@ -86,14 +84,16 @@ fn figures_of<S: BuildHasher + Copy + Drop>(
     let inputs = transaction.inputs();
     let chain = state.chain();
     let pool = state.pool();
+    let standards = state.policy().standards();
     match denial {
         Denial::Oversize => Ok(Some(Figures::Large {
             size: transaction.stripped_size(),
         })),
         Denial::TxSizeSmall => Ok(Some(Figures::Small {
             size: transaction.stripped_size(),
+            needs: standards.least_size,
         })),
-        Denial::Dust => Ok(dust(transaction.outputs())),
+        Denial::Dust => Ok(dust(standards.dust_rate, transaction.outputs())),
         Denial::TxSize => Ok(Some(Figures::Weighs {
             weight: tx.weight(),
         })),

@@ -15,28 +15,28 @@ fn carries_data(output: &TxOut) -> bool
     matches!(template(output.script.as_slice()), Template::NullData)
 }
 
-/// Whether an output is worth less than it has to be.
+/// Whether an output is worth less than it has to be at this rate.
 #[tactic(auto, unfolding(gate_standard::specs::Outputs::is_dust))]
-fn is_dust(output: &TxOut) -> bool
-    ensures { result ≡ is_dust output.now }
+fn is_dust(rate: u64, output: &TxOut) -> bool
+    ensures { result ≡ is_dust rate output.now }
 {
     if carries_data(output) {
         return false;
     }
-    output.value < 0 || (output.value as u64) < dust_threshold(output)
+    output.value < 0 || (output.value as u128) < dust_threshold(rate, output)
 }
 
-/// The first output that is dust.
-pub(crate) fn dust(outputs: &[TxOut]) -> Option<Figures>
-    ensures { result ≡ dust 0 outputs.now }
+/// The first output that is dust at this rate, in satoshi per 1,000 bytes.
+pub(crate) fn dust(rate: u64, outputs: &[TxOut]) -> Option<Figures>
+    ensures { result ≡ dust rate 0 outputs.now }
 {
     for output in 0..outputs.len() {
         let found = &outputs[output];
-        if is_dust(found) {
+        if is_dust(rate, found) {
             return Some(Figures::Dust {
                 output,
                 value: found.value,
-                needs: dust_threshold(found),
+                needs: dust_threshold(rate, found),
             });
         }
     }

@@ -1,7 +1,7 @@
 pub mod OpeningFaults
 pub mod BlockTimes
 pub mod Settings
-pub mod Limits
+pub mod Quantities
 pub mod OpeningLines
 pub mod Said
 pub mod Openings

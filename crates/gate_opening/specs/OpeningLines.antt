@@ -4,12 +4,12 @@ use Rattle.std.specs.Option.{option_map}
 use Rattle.std.specs.Str.{bytes_eq}
 use Rattle.gate_chain.specs.History.{max_height}
 use Rattle.gate_net.specs.Whitelists.{entry_of}
-use Rattle.gate_admit.specs.Policies.{is_count}
+use Rattle.gate_admit.specs.Policies.{allows}
+use Rattle.gate_admit.specs.declared.Quantity.{Quantity}
 use Rattle.gate_words.specs.CoinWords.{coin_of}
 use Rattle.gate_words.specs.VerdictWords.{row_of, verdict_of}
-use Rattle.gate_opening.specs.Limits.{limit_named}
+use Rattle.gate_opening.specs.Quantities.{quantity_named}
 use Rattle.gate_opening.specs.Settings.{setting_named}
-use Rattle.gate_opening.specs.declared.limit.Limit.{Limit}
 use Rattle.gate_opening.specs.declared.opening_line.OpeningLine.{OpeningLine}
 use Rattle.gate_opening.specs.declared.opening_line.OpeningLine.TheVariants as says
 use Rattle.gate_lines.specs.Lines.{if_text}
@@ -73,16 +73,16 @@ set_line_of name text = do
   on ← on_of text
   Some (says.Set setting on)
 
--- `N`, from 1 to 1,000, behind the name of a limit
-abbrev pub limit_line_of : Limit → List ℕ → Option OpeningLine
-limit_line_of limit text = do
-  count ← number_of text
-  if is_count count then Some (says.Limit limit count) else None
+-- `N`, within its bounds, behind the name of a number
+abbrev pub quantity_line_of : Quantity → List ℕ → Option OpeningLine
+quantity_line_of quantity text = do
+  number ← number_of text
+  if allows quantity number then Some (says.Quantity quantity number) else None
 
--- a setting, or a limit on ancestors or descendants
-abbrev pub other_line_of : Option Limit → List ℕ → List ℕ → Option OpeningLine
+-- a number of the policy, or a setting that is on or off
+abbrev pub other_line_of : Option Quantity → List ℕ → List ℕ → Option OpeningLine
 other_line_of None name text = set_line_of name text
-other_line_of (Some limit) name text = limit_line_of limit text
+other_line_of (Some quantity) name text = quantity_line_of quantity text
 
 -- what a line says, by its name and the text after it
 abbrev pub named_line : List ℕ × List ℕ → Option OpeningLine
@@ -94,7 +94,7 @@ named_line p =
     else if bytes_eq p.0 (codes "verdict") then verdict_line_of p.1
     else if bytes_eq p.0 (codes "whitelist") then whitelist_line_of p.1
     else if bytes_eq p.0 (codes "rpcwhitelist") then rpc_line_of p.1
-    else other_line_of (limit_named p.0) p.0 p.1
+    else other_line_of (quantity_named p.0) p.0 p.1
 
 -- what a text says in an opening
 abbrev pub opening_line_of : List ℕ → Option OpeningLine

@@ -1,5 +1,5 @@
 -- What the lines of an opening say: each in turn, up to a line `---` or the end of the text.
-use Rattle.std.specs.Prelude.{◌≡◌, ℕ, ◌+◌, nat_lt, nat_le, ◌||◌, not, if◌then◌else◌, Bool, false, List, [], ◌∷◌, ◌++◌, length, map, codes, Option, Some, None, is_some, Result, Ok, Err}
+use Rattle.std.specs.Prelude.{◌≡◌, ℕ, ◌+◌, nat_lt, nat_le, ◌||◌, not, if◌then◌else◌, Bool, true, false, List, [], ◌∷◌, ◌++◌, length, map, codes, Option, Some, None, is_some, Result, Ok, Err}
 use Rattle.std.specs.Option.{unwrap_or}
 use Rattle.std.specs.Str.{bytes_eq}
 use Rattle.gate_chain.specs.History.{max_height}
@@ -22,16 +22,16 @@ use Rattle.gate_opening.specs.declared.opening_fault.OpeningToken.TheVariants as
 use Rattle.gate_opening.specs.declared.opening_line.OpeningLine.{OpeningLine}
 use Rattle.gate_opening.specs.declared.opening_line.OpeningLine.TheVariants as says
 use Rattle.gate_lines.specs.Lines.{line_limit, count_limit, is_skipped, lines_of}
-use Rattle.gate_admit.specs.Policies.{Policy, policy_of, usual_policy}
-use Rattle.gate_opening.specs.declared.limit.Limits.{Limits}
-use Rattle.gate_opening.specs.Limits.{no_limits, limit_in, with_limit}
+use Rattle.gate_admit.specs.Policies.{Policy, allows, usual_policy, with_bare_multisig, with_full_rbf, with_quantity}
+use Rattle.gate_opening.specs.declared.quantities.SaidNumbers.{SaidNumbers}
+use Rattle.gate_opening.specs.Quantities.{is_said, nothing_said as no_numbers, with_said}
 use Rattle.gate_opening.specs.declared.setting.Settings.{Settings}
 use Rattle.gate_opening.specs.Settings.{nothing_set, said_of, with_setting}
 use Rattle.gate_opening.specs.OpeningLines.{said_by}
 use Rattle.gate_opening.specs.OpeningFaults.{located}
 use Rattle.gate_opening.specs.BlockTimes.{times_from, some_too_great}
 
--- what was said, with the line of each coin, the entries of the whitelist, and the texts of the entries of the lists of methods
+-- what was said, with the line of each coin, which numbers of the policy were said and the policy by them, the entries of the whitelist, and the texts of the entries of the lists of methods
 pub record Said : Type 0 where
   pub budget : Option ℕ
   pub from : Option ℕ
@@ -43,10 +43,11 @@ pub record Said : Type 0 where
   pub whitelist : List WhitelistEntry
   pub rpcwhitelist : List (List ℕ)
   pub settings : Settings
-  pub limits : Limits
+  pub numbers : SaidNumbers
+  pub policy : Policy
 
 abbrev pub nothing_said : Said
-nothing_said = record { budget = None; from = None; times = []; coins = []; coin_lines = []; rows = []; other = None; whitelist = []; rpcwhitelist = []; settings = nothing_set; limits = no_limits }
+nothing_said = record { budget = None; from = None; times = []; coins = []; coin_lines = []; rows = []; other = None; whitelist = []; rpcwhitelist = []; settings = nothing_set; numbers = no_numbers; policy = usual_policy }
 
 -- ---- one line
 
@@ -69,7 +70,8 @@ abbrev pub entry_fault : Result WhitelistEntry NetDenial → Option OpeningToken
 entry_fault (Ok entry) = None
 entry_fault (Err denial) = Some (tokens.Whitelist denial)
 
--- what is wrong with one more line: a setting, or a verdict on an input, may stand only once
+-- what is wrong with one more line: a setting, a number, or a verdict on an input, may stand only once, and a number is within its
+-- bounds
 abbrev pub line_fault : Said → OpeningLine → Option OpeningToken
 line_fault said (says.Budget budget) = fault_if (is_some said.budget) tokens.BadLine
 line_fault said (says.From height) =
@@ -82,7 +84,7 @@ line_fault said (says.OtherVerdicts verdict) = fault_if (is_some said.other) tok
 line_fault said (says.Whitelist entry) = entry_fault entry
 line_fault said (says.RpcWhitelist text) = None
 line_fault said (says.Set setting on) = fault_if (is_some (said_of said.settings setting)) tokens.BadLine
-line_fault said (says.Limit limit count) = fault_if (is_some (limit_in said.limits limit)) tokens.BadLine
+line_fault said (says.Quantity quantity count) = fault_if (is_said said.numbers quantity || not (allows quantity count)) tokens.BadLine
 
 abbrev pub with_entry : List WhitelistEntry → Result WhitelistEntry NetDenial → List WhitelistEntry
 with_entry entries (Ok entry) = entries ++ entry ∷ []
@@ -99,7 +101,7 @@ joined said number (says.OtherVerdicts verdict) = record said { other = Some ver
 joined said number (says.Whitelist entry) = record said { whitelist = with_entry said.whitelist entry }
 joined said number (says.RpcWhitelist text) = record said { rpcwhitelist = said.rpcwhitelist ++ text ∷ [] }
 joined said number (says.Set setting on) = record said { settings = with_setting said.settings setting on }
-joined said number (says.Limit limit count) = record said { limits = with_limit said.limits limit count }
+joined said number (says.Quantity quantity count) = record said { numbers = with_said said.numbers quantity; policy = with_quantity said.policy quantity count }
 
 abbrev pub unless : Option OpeningToken → ℕ → Said → Result Said OpeningFault
 unless None number said = Ok said
@@ -153,11 +155,10 @@ lists_in said = record {
   is_default_on = default_of said.settings.rpcwhitelistdefault said.rpcwhitelist;
 }
 
--- the policy: both limits are 25 if nothing is said; no line says a number that no policy has
+-- the policy: each number is the usual one if nothing is said of it
 abbrev pub policy_in : Said → Policy
 policy_in said =
-    unwrap_or (policy_of (unwrap_or said.limits.ancestors 25) (unwrap_or said.limits.descendants 25) (unwrap_or said.settings.mempoolfullrbf false))
-    usual_policy
+    with_bare_multisig (with_full_rbf said.policy (unwrap_or said.settings.mempoolfullrbf false)) (unwrap_or said.settings.permitbaremultisig true)
 
 abbrev pub opening_of : Said → Start
 opening_of said = record {

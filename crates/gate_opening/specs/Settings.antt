@@ -2,7 +2,7 @@
 use Rattle.std.specs.Prelude.{ℕ, Bool, if◌then◌else◌, List, codes, Option, Some, None}
 use Rattle.std.specs.Str.{bytes_eq}
 use Rattle.gate_opening.specs.declared.setting.Setting.{Setting}
-use Rattle.gate_opening.specs.declared.setting.Setting.TheVariants.{Bloom, BlocksOnly, WhitelistRelay, WhitelistForceRelay, RpcWhitelistDefault, FullRbf}
+use Rattle.gate_opening.specs.declared.setting.Setting.TheVariants.{Bloom, BlocksOnly, WhitelistRelay, WhitelistForceRelay, RpcWhitelistDefault, FullRbf, BareMultisig}
 use Rattle.gate_opening.specs.declared.setting.Settings.{Settings}
 
 -- the setting that a line begins with
@@ -14,6 +14,7 @@ setting_named name =
     else if bytes_eq name (codes "whitelistforcerelay") then Some WhitelistForceRelay
     else if bytes_eq name (codes "rpcwhitelistdefault") then Some RpcWhitelistDefault
     else if bytes_eq name (codes "mempoolfullrbf") then Some FullRbf
+    else if bytes_eq name (codes "permitbaremultisig") then Some BareMultisig
     else None
 
 abbrev pub nothing_set : Settings
@@ -24,6 +25,7 @@ nothing_set = record {
   whitelistforcerelay = None;
   rpcwhitelistdefault = None;
   mempoolfullrbf = None;
+  permitbaremultisig = None;
 }
 
 abbrev pub said_of : Settings → Setting → Option Bool
@@ -33,6 +35,7 @@ said_of settings WhitelistRelay = settings.whitelistrelay
 said_of settings WhitelistForceRelay = settings.whitelistforcerelay
 said_of settings RpcWhitelistDefault = settings.rpcwhitelistdefault
 said_of settings FullRbf = settings.mempoolfullrbf
+said_of settings BareMultisig = settings.permitbaremultisig
 
 abbrev pub with_setting : Settings → Setting → Bool → Settings
 with_setting settings Bloom on = record settings { bloom = Some on }
@@ -41,3 +44,4 @@ with_setting settings WhitelistRelay on = record settings { whitelistrelay = Som
 with_setting settings WhitelistForceRelay on = record settings { whitelistforcerelay = Some on }
 with_setting settings RpcWhitelistDefault on = record settings { rpcwhitelistdefault = Some on }
 with_setting settings FullRbf on = record settings { mempoolfullrbf = Some on }
+with_setting settings BareMultisig on = record settings { permitbaremultisig = Some on }

@@ -4,12 +4,12 @@ ghost use Rattle.gate_core.specs.Good.{IsGoodWorld};
 ghost use Rattle.gate_opening.specs.OpeningLines.{said_by};
 ghost use Rattle.gate_opening.specs.Said.{exceeds, is_past, nothing_said, opened_from, opening_of, policy_in, with_line, with_text, Takes};
 
-use crate::limit::{Limit, Limits};
 use crate::opening_fault::{OpeningFault, OpeningToken, at_line};
 use crate::opening_line::{MAX_HEIGHT, OpeningLine, read_opening_line};
+use crate::quantities::SaidNumbers;
 use crate::setting::{Setting, Settings};
 use crate::times::{append_times, times_fit};
-use gate_admit::{OpeningCoin, Policy, Verdicts};
+use gate_admit::{OpeningCoin, Policy, Quantity, Verdicts};
 use gate_bytes::{Kept, Memory, Text};
 use gate_core::{Opening, State};
 use gate_lines::asks_nothing;
@@ -25,10 +25,6 @@ const MAX_TIMES: u64 = 1_000_000;
 /// The budget of an opening that names none, in virtual bytes.
 const DEFAULT_BUDGET: u64 = 300_000_000;
 
-/// The limit of ancestors, and that of descendants, of an opening that names none (Bitcoin Core's `DEFAULT_ANCESTOR_LIMIT` and
-/// `DEFAULT_DESCENDANT_LIMIT`).
-const DEFAULT_LIMIT: u64 = 25;
-
 /// What the lines of an opening have said so far: contracts see a record of it. After a fault it holds nothing of use.
 #[derive(Drop)]
 pub(crate) struct Draft<S: BuildHasher + Copy + Drop> {
@@ -43,7 +39,9 @@ pub(crate) struct Draft<S: BuildHasher + Copy + Drop> {
     whitelist: Vec<WhitelistEntry>,
     rpcwhitelist: Vec<Text>,
     settings: Settings,
-    limits: Limits,
+    numbers: SaidNumbers,
+    /// The policy by the numbers that were said.
+    policy: Policy,
 }
 
 impl<S: BuildHasher + Copy + Drop> Model for Draft<S> {
@@ -62,7 +60,8 @@ impl<S: BuildHasher + Copy + Drop> Model for Draft<S> {
       whitelist = d.whitelist.items;
       rpcwhitelist = d.rpcwhitelist.items;
       settings = d.settings;
-      limits = d.limits;
+      numbers = d.numbers;
+      policy = d.policy;
     } };
 }
 
@@ -80,7 +79,8 @@ impl<S: BuildHasher + Copy + Drop> Draft<S> {
             whitelist: Vec::new(alloc),
             rpcwhitelist: Vec::new(alloc),
             settings: Settings::new(),
-            limits: Limits::new(),
+            numbers: SaidNumbers::new(),
+            policy: Policy::default(),
         }
     }
 
@@ -135,7 +135,7 @@ impl<S: BuildHasher + Copy + Drop> Draft<S> {
                 Err(_) => Err(OpeningFault::Memory),
             },
             OpeningLine::Set(setting, on) => self.set(number, setting, on),
-            OpeningLine::Limit(limit, count) => self.limit(number, limit, count),
+            OpeningLine::Quantity(quantity, count) => self.count(number, quantity, count),
         }
     }
 
@@ -207,27 +207,30 @@ impl<S: BuildHasher + Copy + Drop> Draft<S> {
         Ok(())
     }
 
-    fn limit(&mut self, number: u64, limit: Limit, count: u64) -> Result<(), OpeningFault>
-        ensures { Takes result self.new (with_line self.old number (OpeningLine.Limit limit count)) }
+    /// Sets a number of the policy.
+    fn count(&mut self, number: u64, quantity: Quantity, count: u64) -> Result<(), OpeningFault>
+        ensures { Takes result self.new (with_line self.old number (OpeningLine.Quantity quantity count)) }
     {
-        if self.limits.get(limit).is_some() {
+        if self.numbers.has(quantity) {
             return Err(OpeningFault::Line(number, OpeningToken::BadLine));
         }
-        self.limits.set(limit, count);
+        let Some(policy) = self.policy.with(quantity, count) else {
+            return Err(OpeningFault::Line(number, OpeningToken::BadLine));
+        };
+        self.numbers.add(quantity);
+        self.policy = policy;
         Ok(())
     }
 
-    /// The policy on ancestors, descendants and replacements.
+    /// The policy by what was said of numbers, of replacements and of multisig scripts.
     fn policy(&self) -> Policy
         ensures { result ≡ policy_in self.now }
     {
-        let ancestors = self.limits.ancestors.unwrap_or(DEFAULT_LIMIT);
-        let descendants = self.limits.descendants.unwrap_or(DEFAULT_LIMIT);
         let full_rbf = self.settings.mempoolfullrbf.unwrap_or(false);
-        match Policy::new(ancestors, descendants, full_rbf) {
-            Some(policy) => policy,
-            None => Policy::default(),
-        }
+        let bare_multisig = self.settings.permitbaremultisig.unwrap_or(true);
+        self.policy
+            .with_full_rbf(full_rbf)
+            .with_bare_multisig(bare_multisig)
     }
 
     /// What a gate is opened with, and the line of each coin.
@@ -245,7 +248,8 @@ impl<S: BuildHasher + Copy + Drop> Draft<S> {
             whitelist,
             rpcwhitelist,
             settings,
-            limits: _,
+            numbers: _,
+            policy: _,
         } = self;
         let lists = RpcWhitelist::parse(
             alloc,

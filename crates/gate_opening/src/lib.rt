@@ -5,10 +5,10 @@
 #![tactic(auto)]
 
 mod draft;
-mod limit;
 mod opening;
 mod opening_fault;
 mod opening_line;
+mod quantities;
 mod setting;
 mod times;
 

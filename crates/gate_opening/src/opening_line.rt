@@ -1,11 +1,11 @@
 //! What one line of an opening says.
 ghost use Rattle.std.specs.Prelude.{◌≡◌, MatchOption, IfOk, None, Some};
 ghost use Rattle.std.specs.Option.{option_map};
-ghost use Rattle.gate_opening.specs.OpeningLines.{opening_line_of, budget_line_of, from_line_of, times_line_of, coin_line_of, verdict_line_of, whitelist_line_of, rpc_line_of, limit_line_of, set_line_of, on_of};
+ghost use Rattle.gate_opening.specs.OpeningLines.{opening_line_of, budget_line_of, from_line_of, times_line_of, coin_line_of, verdict_line_of, whitelist_line_of, rpc_line_of, quantity_line_of, set_line_of, on_of};
 
-use crate::limit::Limit;
+use crate::quantities::quantity_named;
 use crate::setting::Setting;
-use gate_admit::{MAX_LIMIT, Verdict, VerdictRow};
+use gate_admit::{Quantity, Verdict, VerdictRow};
 use gate_bytes::{Memory, Text};
 use gate_chain::OpeningCoin;
 use gate_lines::{next_word, read_number, read_small_number};
@@ -37,8 +37,8 @@ pub(crate) enum OpeningLine {
     /// An entry of the lists of methods that users may call.
     RpcWhitelist(Text),
     Set(Setting, bool),
-    /// A limit on ancestors or descendants: how many transactions it allows, the new one among them.
-    Limit(Limit, u64),
+    /// A number of the policy, in the unit in which an operator says it.
+    Quantity(Quantity, u64),
 }
 
 /// What a line says, or `None` if it has no form.
@@ -69,8 +69,8 @@ pub(crate) fn read_opening_line(alloc: Global, line: &str) -> Result<Option<Open
     if name == "rpcwhitelist" {
         return rpc_line(alloc, rest);
     }
-    match Limit::named(name) {
-        Some(limit) => Ok(limit_line(limit, rest)),
+    match quantity_named(name) {
+        Some(quantity) => Ok(quantity_line(quantity, rest)),
         None => Ok(set_line(name, rest)),
     }
 }
@@ -150,13 +150,13 @@ fn rpc_line(alloc: Global, rest: &str) -> Result<Option<OpeningLine>, Memory>
     Ok(Some(OpeningLine::RpcWhitelist(entry)))
 }
 
-/// `N`, from 1 to 1,000, behind the name of a limit
-fn limit_line(limit: Limit, rest: &str) -> Option<OpeningLine>
-    ensures { result ≡ limit_line_of limit rest.now }
+/// `N`, within its bounds, behind the name of a number
+fn quantity_line(quantity: Quantity, rest: &str) -> Option<OpeningLine>
+    ensures { result ≡ quantity_line_of quantity rest.now }
 {
-    let count = read_number(rest)?;
-    if 1 <= count && count <= MAX_LIMIT {
-        Some(OpeningLine::Limit(limit, count))
+    let number = read_number(rest)?;
+    if quantity.allows(number) {
+        Some(OpeningLine::Quantity(quantity, number))
     } else {
         None
     }

@@ -17,6 +17,8 @@ pub(crate) enum Setting {
     RpcWhitelistDefault,
     /// Every entry of the pool may be replaced, even one that doesn't signal it (BIP 125).
     FullRbf,
+    /// An output may be a multisig script.
+    BareMultisig,
 }
 
 impl Setting {
@@ -36,6 +38,8 @@ impl Setting {
             Some(Setting::RpcWhitelistDefault)
         } else if name == "mempoolfullrbf" {
             Some(Setting::FullRbf)
+        } else if name == "permitbaremultisig" {
+            Some(Setting::BareMultisig)
         } else {
             None
         }
@@ -51,6 +55,7 @@ pub(crate) struct Settings {
     pub(crate) whitelistforcerelay: Option<bool>,
     pub(crate) rpcwhitelistdefault: Option<bool>,
     pub(crate) mempoolfullrbf: Option<bool>,
+    pub(crate) permitbaremultisig: Option<bool>,
 }
 
 impl Settings {
@@ -64,6 +69,7 @@ impl Settings {
             whitelistforcerelay: None,
             rpcwhitelistdefault: None,
             mempoolfullrbf: None,
+            permitbaremultisig: None,
         }
     }
 
@@ -77,6 +83,7 @@ impl Settings {
             Setting::WhitelistForceRelay => self.whitelistforcerelay,
             Setting::RpcWhitelistDefault => self.rpcwhitelistdefault,
             Setting::FullRbf => self.mempoolfullrbf,
+            Setting::BareMultisig => self.permitbaremultisig,
         }
     }
 
@@ -90,6 +97,7 @@ impl Settings {
             Setting::WhitelistForceRelay => self.whitelistforcerelay = Some(on),
             Setting::RpcWhitelistDefault => self.rpcwhitelistdefault = Some(on),
             Setting::FullRbf => self.mempoolfullrbf = Some(on),
+            Setting::BareMultisig => self.permitbaremultisig = Some(on),
         }
     }
 }

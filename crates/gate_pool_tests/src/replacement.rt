@@ -109,7 +109,7 @@ impl Case {
         pool: &Pool<S>,
         tx: &Transaction,
     ) -> Result<bool, Fail> {
-        let judged = judge_replacement(alloc, pool, tx, self.fee, self.vsize.max(1))?;
+        let judged = judge_replacement(alloc, pool, tx, 1000, self.fee, self.vsize.max(1))?;
         let ids = conflicts(alloc, pool, tx)?.len();
         let direct = DirectConflicts::find(alloc, pool, tx)?;
         Ok(

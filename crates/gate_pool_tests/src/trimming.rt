@@ -89,6 +89,12 @@ fn enter_all<S: BuildHasher + Copy + Drop>(
     Ok(txids)
 }
 
+/// How long an entry may stay, in seconds.
+const TWO_WEEKS: u64 = 1_209_600;
+
+/// How far the floor rises above the feerate of what is trimmed.
+const STEP: u64 = 1000;
+
 /// The ids of the entries that should be left.
 fn left_of(alloc: Global, txids: &[Txid], case: &Case) -> Result<Vec<Txid>, Memory> {
     let mut left = Vec::new(alloc);
@@ -110,10 +116,10 @@ fn lists<S: BuildHasher + Copy + Drop>(
 
 /// Trims. By the law on trimming, the entry of least score went each time, with its descendants and nothing else.
 fn trim_the_least<S: BuildHasher + Copy + Drop>(pool: &mut Pool<S>, floor: &mut Floor, budget: u64)
-    ensures { Trims budget pool.old.entries floor.old (record { entries = pool.new.entries; floor = floor.new }) }
+    ensures { Trims 1000 budget pool.old.entries floor.old (record { entries = pool.new.entries; floor = floor.new }) }
 {
     trimming_takes_the_least();
-    trim(pool, floor, budget);
+    trim(pool, floor, STEP, budget);
 }
 
 /// What is trimmed once is within the budget, so that a second trim changes nothing.
@@ -122,9 +128,9 @@ fn expire_and_trim<S: BuildHasher + Copy + Drop>(
     floor: &mut Floor,
     case: &Case,
 ) -> Result<(), Memory> {
-    try_expire(pool, case.now)?;
+    try_expire(pool, TWO_WEEKS, case.now)?;
     trim_the_least(pool, floor, case.budget);
-    try_trim(pool, floor, case.budget)
+    try_trim(pool, floor, STEP, case.budget)
 }
 
 fn is_left<S: BuildHasher + Copy + Drop>(

@@ -12,7 +12,8 @@ use Rattle.gate_pool.specs.Family.{names, children_of, ancestors_of, descendants
 use Rattle.gate_rbf.specs.Replacing.{signals}
 use Rattle.gate_admit.specs.declared.Attempt.TheVariants.{First}
 use Rattle.gate_admit.specs.declared.Grant.{Grant}
-use Rattle.gate_admit.specs.Rules.{decision_of, min_relay_rate}
+use Rattle.gate_admit.specs.Rules.{decision_of}
+use Rattle.gate_admit.specs.Policies.{Policy}
 use Rattle.gate_admit.specs.Standing.{Standing}
 use Rattle.gate_rpc.specs.declared.error.RpcError.{RpcError}
 use Rattle.gate_rpc.specs.declared.error.RpcError.TheVariants.{Denied}
@@ -83,8 +84,8 @@ listing_at rate entries = listing_of (filter (pays rate) entries)
 -- ---- the pool
 
 -- the least feerate of the pool is that of every relay, or the pool's floor if that is greater
-abbrev pub pool_info : List Admitted → ℕ → ℕ → RpcResult
-pool_info entries floor budget = Info (size_of entries) budget (max floor min_relay_rate) min_relay_rate (length entries)
+abbrev pub pool_info : List Admitted → ℕ → Policy → ℕ → RpcResult
+pool_info entries floor policy budget = Info (size_of entries) budget (max floor policy.relay_rate) policy.relay_rate (length entries)
 
 -- ---- a transaction that might enter
 

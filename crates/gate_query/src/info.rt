@@ -6,17 +6,13 @@ ghost use Rattle.gate_pool.specs.Family.{ancestors_of, is_among};
 ghost use Rattle.gate_query.specs.Answers.{info_of, info_from, is_replaceable, pool_info};
 
 use crate::family::{children, parents, with_ancestors};
-use gate_admit::{Entry, Floor, Pool};
+use gate_admit::{Entry, Floor, Policy, Pool};
 use gate_bytes::{Kept, Memory};
 use gate_rbf::signals;
 use gate_rpc::{EntryInfo, RpcResult};
 use gate_tx::Txid;
 use std::alloc::Global;
 use std::hash::BuildHasher;
-
-/// The least feerate at which a transaction is relayed, in satoshi per 1,000 virtual bytes (Bitcoin Core's
-/// `DEFAULT_MIN_RELAY_TX_FEE`).
-const MIN_RELAY_RATE: u64 = 1_000;
 
 /// Whether the entry of an id signals by itself that it may be replaced (BIP 125).
 fn is_signalling<S: BuildHasher + Copy + Drop>(pool: &Pool<S>, txid: &Txid) -> bool
@@ -106,15 +102,16 @@ pub fn entry_info<S: BuildHasher + Copy + Drop>(
 pub fn pool_info<S: BuildHasher + Copy + Drop>(
     pool: &Pool<S>,
     floor: &Floor,
+    policy: &Policy,
     budget: u64,
 ) -> RpcResult
-    ensures { result ≡ pool_info pool.now.entries floor.now budget }
+    ensures { result ≡ pool_info pool.now.entries floor.now policy.now budget }
 {
     RpcResult::Info {
         size: pool.size(),
         budget,
-        least_rate: floor.rate().max(MIN_RELAY_RATE),
-        relay_rate: MIN_RELAY_RATE,
+        least_rate: floor.rate().max(policy.relay_rate()),
+        relay_rate: policy.relay_rate(),
         count: pool.count() as u64,
     }
 }

@@ -4,8 +4,7 @@ use Rattle.gate_bytes.specs.Order.{Rule}
 use Rattle.gate_standard.specs.Amounts.{required_fee}
 use Rattle.gate_standard.specs.declared.Denial.{Denial}
 use Rattle.gate_standard.specs.declared.Denial.TheVariants.{LowerFee, LowerDifference}
-use Rattle.gate_rbf.specs.Replacing.{incremental_relay_rate}
 
--- the rules on the fee of a transaction of this size that replaces entries which pay `paid`
-abbrev pub amount_rules : ℕ → ℕ → ℕ → List (Rule Denial)
-amount_rules paid fee vsize = (LowerFee, nat_lt fee paid) ∷ (LowerDifference, nat_lt (fee - paid) (required_fee incremental_relay_rate vsize)) ∷ []
+-- the rules on the fee of a transaction of this size that replaces entries which pay `paid`, and pays for its own relay at `rate`
+abbrev pub amount_rules : ℕ → ℕ → ℕ → ℕ → List (Rule Denial)
+amount_rules rate paid fee vsize = (LowerFee, nat_lt fee paid) ∷ (LowerDifference, nat_lt (fee - paid) (required_fee rate vsize)) ∷ []

@@ -19,10 +19,6 @@ signals tx = list_any (λ (i : TxIn). nat_le i.sequence 0xffff_fffd) tx.inputs
 abbrev pub is_firm_conflict : Tx → Admitted → Bool
 is_firm_conflict tx e = is_conflict tx e && not (signals e.tx)
 
--- what a replacement pays for its own relay, in satoshi per 1,000 virtual bytes
-abbrev pub incremental_relay_rate : ℕ
-incremental_relay_rate = 1000
-
 -- the descendants of some entries, themselves among them: an entry below two of them counts twice
 abbrev pub descendant_count : List Admitted → List Admitted → ℕ
 descendant_count entries some = sum_by (λ (c : Admitted). length (descendants_of entries (txid_of c.tx))) some
@@ -35,17 +31,18 @@ adds_parent entries direct input = is_some (entry_by_txid entries input.prevout.
 abbrev pub adds_unconfirmed : List Admitted → Tx → Bool
 adds_unconfirmed entries tx = list_any (adds_parent entries (conflicts_of entries tx)) tx.inputs
 
--- the rules on a transaction of this fee and size that conflicts with the entries `direct`, if all that it replaces pay `paid`
-unfoldable pub rules_beside : List Admitted → List Admitted → ℕ → Tx → ℕ → ℕ → List (Rule Denial)
-rules_beside entries direct paid tx fee vsize =
+-- the rules on a transaction of this fee and size that conflicts with the entries `direct`, if all that it replaces pay `paid`, and
+-- a replacement pays for its own relay at `rate`, in satoshi per 1,000 virtual bytes
+unfoldable pub rules_beside : ℕ → List Admitted → List Admitted → ℕ → Tx → ℕ → ℕ → List (Rule Denial)
+rules_beside rate entries direct paid tx fee vsize =
     (LowerFeeRate, list_any (λ (c : Admitted). nat_le (feerate fee vsize) (feerate c.fee c.vsize)) direct)
     ∷ (TooManyReplacements, nat_lt 100 (descendant_count entries direct))
     ∷ (AddsUnconfirmed, list_any (adds_parent entries direct) tx.inputs)
     ∷ (LowerFee, nat_lt fee paid)
-    ∷ (LowerDifference, nat_lt (fee - paid) (required_fee incremental_relay_rate vsize))
+    ∷ (LowerDifference, nat_lt (fee - paid) (required_fee rate vsize))
     ∷ []
 
 -- A38 to A42, which apply only to a transaction that conflicts with an entry
-unfoldable pub replacement_rules : List Admitted → Tx → ℕ → ℕ → List (Rule Denial)
-replacement_rules entries tx fee vsize =
-    if list_any (is_conflict tx) entries then rules_beside entries (conflicts_of entries tx) (fees_of (replaced_of entries tx)) tx fee vsize else []
+unfoldable pub replacement_rules : ℕ → List Admitted → Tx → ℕ → ℕ → List (Rule Denial)
+replacement_rules rate entries tx fee vsize =
+    if list_any (is_conflict tx) entries then rules_beside rate entries (conflicts_of entries tx) (fees_of (replaced_of entries tx)) tx fee vsize else []

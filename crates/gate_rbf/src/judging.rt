@@ -49,12 +49,19 @@ impl<'a, S: BuildHasher + Copy + Drop> DirectConflicts<'a, S> {
     }
 
     /// How many entries the transaction replaces with this fee, in satoshi, and this size, in virtual bytes, or the
-    /// first of A38 to A42 that fails. A transaction without a conflict replaces none.
-    pub fn judge(&self, alloc: Global, fee: u64, vsize: u64) -> Result<Result<u64, Denial>, Memory>
+    /// first of A38 to A42 that fails, where a replacement pays for its own relay at this rate, in satoshi per 1,000
+    /// virtual bytes. A transaction without a conflict replaces none.
+    pub fn judge(
+        &self,
+        alloc: Global,
+        rate: u64,
+        fee: u64,
+        vsize: u64,
+    ) -> Result<Result<u64, Denial>, Memory>
         requires { 0 < vsize }
-        ensures ok { IfOk result (λ found. OnOk found (first_failing (replacement_rules self.now.entries self.now.tx fee vsize) ≡ None)) }
+        ensures ok { IfOk result (λ found. OnOk found (first_failing (replacement_rules rate self.now.entries self.now.tx fee vsize) ≡ None)) }
         ensures count { IfOk result (λ found. IfOk found (λ n. n ≡ length (replaced_of self.now.entries self.now.tx))) }
-        ensures err { IfOk result (λ found. IfErr found (λ denial. first_failing (replacement_rules self.now.entries self.now.tx fee vsize) ≡ Some denial)) }
+        ensures err { IfOk result (λ found. IfErr found (λ denial. first_failing (replacement_rules rate self.now.entries self.now.tx fee vsize) ≡ Some denial)) }
     {
         if !self.has_any() {
             return Ok(Ok(0));
@@ -69,7 +76,7 @@ impl<'a, S: BuildHasher + Copy + Drop> DirectConflicts<'a, S> {
             return Ok(Err(Denial::AddsUnconfirmed));
         }
         let sums = self.replaced_sums(alloc, ids.as_slice())?;
-        match check_amounts(fee, vsize, sums.fees) {
+        match check_amounts(rate, fee, vsize, sums.fees) {
             Ok(()) => Ok(Ok(sums.count as u64)),
             Err(denial) => Ok(Err(denial)),
         }
@@ -77,19 +84,21 @@ impl<'a, S: BuildHasher + Copy + Drop> DirectConflicts<'a, S> {
 }
 
 /// How many entries a transaction of this fee, in satoshi, and this size, in virtual bytes, replaces, or the first of
-/// A38 to A42 that fails. A transaction without a conflict replaces none.
+/// A38 to A42 that fails, where a replacement pays for its own relay at this rate (Bitcoin Core 22.0's
+/// `-incrementalrelayfee`). A transaction without a conflict replaces none.
 pub fn judge_replacement<S: BuildHasher + Copy + Drop>(
     alloc: Global,
     pool: &Pool<S>,
     tx: &Transaction,
+    rate: u64,
     fee: u64,
     vsize: u64,
 ) -> Result<Result<u64, Denial>, Memory>
     requires { 0 < vsize }
-    ensures ok { IfOk result (λ found. OnOk found (first_failing (replacement_rules pool.now.entries tx.now fee vsize) ≡ None)) }
+    ensures ok { IfOk result (λ found. OnOk found (first_failing (replacement_rules rate pool.now.entries tx.now fee vsize) ≡ None)) }
     ensures count { IfOk result (λ found. IfOk found (λ n. n ≡ length (replaced_of pool.now.entries tx.now))) }
-    ensures err { IfOk result (λ found. IfErr found (λ denial. first_failing (replacement_rules pool.now.entries tx.now fee vsize) ≡ Some denial)) }
+    ensures err { IfOk result (λ found. IfErr found (λ denial. first_failing (replacement_rules rate pool.now.entries tx.now fee vsize) ≡ Some denial)) }
 {
     let direct = DirectConflicts::find(alloc, pool, tx)?;
-    direct.judge(alloc, fee, vsize)
+    direct.judge(alloc, rate, fee, vsize)
 }

@@ -39,6 +39,7 @@ pub record IsSoundBut (policy : Policy) (pending : List Tx) (chain : History) (e
 -- where nothing is pending, sound
 pub sound_at_last : (policy : Policy) (chain : History) (entries : List Admitted) → IsSoundBut policy [] chain entries → IsSound policy chain entries
 sound_at_last policy chain entries h = record {
+  bounds = h.orderly.bounds;
   txids = h.orderly.txids;
   wtxids = h.orderly.wtxids;
   spends = h.orderly.spends;
@@ -53,7 +54,7 @@ sound_at_last policy chain entries h = record {
 
 -- what is sound is orderly
 pub sound_orderly : (policy : Policy) (chain : History) (entries : List Admitted) → IsSound policy chain entries → AreOrderly policy entries
-sound_orderly policy chain entries h = record { txids = h.txids; wtxids = h.wtxids; spends = h.spends; limited = h.limited }
+sound_orderly policy chain entries h = record { bounds = h.bounds; txids = h.txids; wtxids = h.wtxids; spends = h.spends; limited = h.limited }
 
 -- ---- blocks in the place of others
 

@@ -130,10 +130,10 @@ module _ (over : Standing) (depth : ℕ) (blocks : List Block) (now budget : ℕ
       let sound : IsSound over.policy chain tried =
       sound_at_last over.policy chain tried (all_tried_kept under settled (all_confirmed over.entries (transactions_of blocks)) (unconfirmed (transactions_of blocks) (transactions_of (last_blocks over.chain depth)))
       (tried_spelled ready depth) (tried_apart ready depth) confirmed_kept) in
-      let left = expired now (without_premature chain tried) in
+      let left = expired over.policy.stay now (without_premature chain tried) in
       record {
-        sound = trim_keeps (IsSound over.policy chain) (family_sound over.policy chain) budget left over.floor (below_sound over.policy chain (is_stale now) (without_premature chain tried) (below_sound over.policy chain (λ (e : Admitted). is_premature chain tried e.tx) tried sound));
-        size = trim_within budget left over.floor;
+        sound = trim_keeps (IsSound over.policy chain) (family_sound over.policy chain) over.policy.incremental_rate budget left over.floor (below_sound over.policy chain (is_stale over.policy.stay now) (without_premature chain tried) (below_sound over.policy chain (λ (e : Admitted). is_premature chain tried e.tx) tried sound));
+        size = trim_within over.policy.incremental_rate budget left over.floor;
       }
 
 none_gone : (depth : ℕ) → (depth == 0) ≡ true → depth ≡ 0

@@ -18,7 +18,7 @@ use Rattle.gate_pool.specs.Family.{steps, is_below_some, is_conflict, without_be
 use Rattle.gate_pool.proofs.Entries.{Id, entry_step}
 use Rattle.gate_pool.proofs.Walking.{Contains-filter, Contains-from_filter}
 use Rattle.gate_admit.specs.Good.{IsLimited}
-use Rattle.gate_admit.specs.Policies.{Policy}
+use Rattle.gate_admit.specs.Policies.{Policy, IsPolicy}
 use Rattle.gate_admit.proofs.Filtering.{AllPairs-flat_map_filter}
 use Rattle.gate_admit.proofs.Granted.{Differ}
 use Rattle.gate_admit.proofs.Removing.{DifferByTxid, DifferByWtxid, limited_part}
@@ -29,6 +29,7 @@ use Rattle.gate_reorg.specs.Reorganisation.{without_txid, confirmed, all_confirm
 
 -- entries are told apart, no outpoint is spent twice, and families are within their limits
 pub record AreOrderly (policy : Policy) (entries : List Admitted) : Type 0 where
+  pub bounds : IsPolicy policy
   pub txids : AllPairs DifferByTxid entries
   pub wtxids : AllPairs DifferByWtxid entries
   pub spends : AllPairs Differ (spent_by entries)
@@ -36,6 +37,7 @@ pub record AreOrderly (policy : Policy) (entries : List Admitted) : Type 0 where
 
 pub orderly_part : (policy : Policy) (k : Admitted → Bool) (entries : List Admitted) → AreOrderly policy entries → AreOrderly policy (filter k entries)
 orderly_part policy k entries h = record {
+  bounds = h.bounds;
   txids = AllPairs-filter DifferByTxid k entries h.txids;
   wtxids = AllPairs-filter DifferByWtxid k entries h.wtxids;
   spends = AllPairs-flat_map_filter (λ (e : Admitted). spends_of e.tx) Differ k entries h.spends;

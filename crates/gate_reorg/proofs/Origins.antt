@@ -60,9 +60,9 @@ returned_came under entries floor new old e m =
     let ripe = without_premature under.chain left in
     let within : Contains left e =
     stays_within (λ (a : Admitted). is_premature under.chain left a.tx) left e
-    (stays_within (is_stale under.second) ripe e
-    (trim_keeps (λ (l : List Admitted). (a : Admitted) → Contains l a → Contains (expired under.second ripe) a)
-    (λ l txid h a k. h a (Contains-from_filter (λ (x : Admitted). not (reaches (steps l) txid (txid_of x.tx))) l a k)) under.budget (expired under.second ripe) floor (λ a k. k) e m)) in
+    (stays_within (is_stale under.policy.stay under.second) ripe e
+    (trim_keeps (λ (l : List Admitted). (a : Admitted) → Contains l a → Contains (expired under.policy.stay under.second ripe) a)
+    (λ l txid h a k. h a (Contains-from_filter (λ (x : Admitted). not (reaches (steps l) txid (txid_of x.tx))) l a k)) under.policy.incremental_rate under.budget (expired under.policy.stay under.second ripe) floor (λ a k. k) e m)) in
     ⊎_elim (λ (k : Contains (all_confirmed entries new) e). inl ((all_confirmed_leaves entries new).within e k))
     (λ (k : Contains (unconfirmed new old) e.tx). inr (Contains-from_filter (λ (u : Tx). not (has_id new (txid_of u))) old e.tx k))
     (all_tried_came under (all_confirmed entries new) (unconfirmed new old) e within)
@@ -111,7 +111,7 @@ events_bring_nothing_else over depth blocks now budget tx m =
 
 returned_floor : (under : Terms) (entries : List Admitted) (floor : ℕ) (new old : List Tx) → floor ≤ (returned under entries floor new old).floor
 unfolding returned
-returned_floor under entries floor new old = trim_rises under.budget (expired under.second (without_premature under.chain (brought_back under entries new old))) floor
+returned_floor under entries floor new old = trim_rises under.policy.incremental_rate under.budget (expired under.policy.stay under.second (without_premature under.chain (brought_back under entries new old))) floor
 
 after_floor : (depth : ℕ) (under : Terms) (entries : List Admitted) (floor : ℕ) (new old : List Tx) → floor ≤ (pool_after depth under entries floor new old).floor
 unfolding pool_after

@@ -87,8 +87,8 @@ returned_mature under entries floor new old =
     let chain = under.chain in
     let tried = brought_back under entries new old in
     let ripe = without_premature chain tried in
-    trim_keeps (AreMature chain) (λ l txid. kept_mature chain (reaches (steps l) txid) l (below_closed l txid)) under.budget (expired under.second ripe) floor
-    (kept_mature chain (is_below (is_stale under.second) ripe) ripe (below_some_closed (is_stale under.second) ripe) (first_mature chain tried))
+    trim_keeps (AreMature chain) (λ l txid. kept_mature chain (reaches (steps l) txid) l (below_closed l txid)) under.policy.incremental_rate under.budget (expired under.policy.stay under.second ripe) floor
+    (kept_mature chain (is_below (is_stale under.policy.stay under.second) ripe) ripe (below_some_closed (is_stale under.policy.stay under.second) ripe) (first_mature chain tried))
 
 true_from_not : (b : Bool) → not b ≡ false → b ≡ true
 true_from_not true h = refl

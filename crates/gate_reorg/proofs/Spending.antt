@@ -70,8 +70,8 @@ module _ (under : Terms) where
   returned_once entries floor new old h =
       let tried = brought_back under entries new old in
       let ripe = without_premature under.chain tried in
-      trim_keeps SpendOnce (λ l txid. part_once (λ (e : Admitted). not (reaches (steps l) txid (txid_of e.tx))) l) under.budget (expired under.second ripe) floor
-      (below_once (is_stale under.second) ripe
+      trim_keeps SpendOnce (λ l txid. part_once (λ (e : Admitted). not (reaches (steps l) txid (txid_of e.tx))) l) under.policy.incremental_rate under.budget (expired under.policy.stay under.second ripe) floor
+      (below_once (is_stale under.policy.stay under.second) ripe
       (below_once (λ (e : Admitted). is_premature under.chain tried e.tx) tried (all_tried_once (all_confirmed entries new) (unconfirmed new old) (all_confirmed_once entries new h))))
 
   after_once : (depth : ℕ) (entries : List Admitted) (floor : ℕ) (new old : List Tx) → SpendOnce entries → SpendOnce (pool_after depth under entries floor new old).entries
@@ -92,7 +92,7 @@ events_spend_once over depth blocks now budget h =
 returned_size : (under : Terms) (entries : List Admitted) (floor : ℕ) (new old : List Tx) → size_of (returned under entries floor new old).entries ≤ under.budget
 unfolding returned
 returned_size under entries floor new old =
-    trim_within under.budget (expired under.second (without_premature under.chain (brought_back under entries new old))) floor
+    trim_within under.policy.incremental_rate under.budget (expired under.policy.stay under.second (without_premature under.chain (brought_back under entries new old))) floor
 
 after_size : (depth : ℕ) (under : Terms) (entries : List Admitted) (floor : ℕ) (new old : List Tx) → size_of entries ≤ under.budget → size_of (pool_after depth under entries floor new old).entries ≤ under.budget
 unfolding pool_after

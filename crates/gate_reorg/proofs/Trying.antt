@@ -129,6 +129,7 @@ module _
         let left = without_below (is_conflict t) over.entries in
         let stays : Admitted → Bool = λ a. not (is_below_some (is_conflict t) over.entries a) in
         record {
+          bounds = left_is.orderly.bounds;
           txids = AllPairs-append DifferByTxid left (e ∷ []) left_is.orderly.txids (AllPairs-one DifferByTxid e)
               (λ n d l. All-one (λ (b : Admitted). txid_of (get_or left n d).tx ≢ txid_of b.tx) e (All-filter stays (λ (a : Admitted). txid_of a.tx ≢ txid_of t) over.entries k.txid n d l));
           wtxids = AllPairs-append DifferByWtxid left (e ∷ []) left_is.orderly.wtxids (AllPairs-one DifferByWtxid e)

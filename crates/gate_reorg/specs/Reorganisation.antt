@@ -119,7 +119,7 @@ brought_back under entries new old = all_tried_again under (all_confirmed entrie
 -- the entries and the floor after that, without entries that the next block cannot have, are too old or pay too little
 unfoldable pub returned : Terms → List Admitted → ℕ → List Tx → List Tx → Trimmed
 returned under entries floor new old =
-    trim_of under.budget (expired under.second (without_premature under.chain (brought_back under entries new old))) floor
+    trim_of under.policy.incremental_rate under.budget (expired under.policy.stay under.second (without_premature under.chain (brought_back under entries new old))) floor
 
 -- the entries and the floor after `depth` blocks were disconnected; if none was, entries are confirmed and nothing else is
 -- done

@@ -72,8 +72,11 @@ impl<S: BuildHasher + Copy + Drop> Draft<S> {
         drop(new);
         returned?;
         take_premature(alloc, under.chain, &mut self.pool)?;
-        expire(&mut self.pool, under.second);
-        trim(&mut self.pool, &mut self.floor, under.budget);
+        let policy = under.policy;
+        policy.recall_bounds();
+        expire(&mut self.pool, policy.stay(), under.second);
+        let step = policy.incremental_rate();
+        trim(&mut self.pool, &mut self.floor, step, under.budget);
         Ok(())
     }
 

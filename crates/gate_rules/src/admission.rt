@@ -128,28 +128,28 @@ pub(crate) fn standard_rules() -> [Rule; 8]
             token: "scriptpubkey",
             then: Then::Keep,
             core: Some("IsStandardTx, IsStandard"),
-            says: "The script of an output is not standard",
+            says: "The script of an output is not standard, which a script with more data than datacarriersize says (83 bytes) is not, nor a multisig script if permitbaremultisig is 0 (1)",
         },
         Rule {
             name: "A17",
             token: "dust",
             then: Then::Keep,
             core: Some("IsDust"),
-            says: "An output has less than its dust threshold, which is what spending it costs at 3,000 satoshi per 1,000 virtual bytes",
+            says: "An output has less than its dust threshold, which is what spending it costs at the rate that dustrelayfee says (3,000 satoshi per 1,000 virtual bytes)",
         },
         Rule {
             name: "A18",
             token: "multi-op-return",
             then: Then::Keep,
             core: Some("IsStandardTx"),
-            says: "More than one output carries data (OP_RETURN)",
+            says: "More outputs carry data (OP_RETURN) than datacarrieroutputs says (1)",
         },
         Rule {
             name: "A19",
             token: "tx-size-small",
             then: Then::Keep,
             core: Some("MIN_STANDARD_TX_NONWITNESS_SIZE"),
-            says: "The size without witnesses is below 82 bytes",
+            says: "The size without witnesses is below what mintxsize says (82 bytes)",
         },
     ]
 }
@@ -277,14 +277,14 @@ pub(crate) fn fee_rules() -> [Rule; 4]
             token: "min relay fee not met",
             then: Then::Keep,
             core: Some("-minrelaytxfee"),
-            says: "The fee is below the fee at 1,000 satoshi per 1,000 virtual bytes for the virtual size",
+            says: "The fee is below the fee for the virtual size at the rate that minrelaytxfee says (1,000 satoshi per 1,000 virtual bytes)",
         },
         Rule {
             name: "A36",
             token: "too-long-mempool-chain",
             then: Then::Keep,
             core: Some("CalculateMemPoolAncestors"),
-            says: "With its ancestors in the pool it would be more transactions than limitancestorcount says (25) or more than 101,000 virtual bytes, or an ancestor would get more descendants than limitdescendantcount says (25) or more than 101,000 virtual bytes of them",
+            says: "With its ancestors in the pool it would be more transactions than limitancestorcount says (25) or more thousand virtual bytes than limitancestorsize says (101), or an ancestor would get more descendants than limitdescendantcount says (25) or more thousand virtual bytes of them than limitdescendantsize says (101)",
         },
         Rule {
             name: "A37",
@@ -334,7 +334,7 @@ pub(crate) fn replacement_rules() -> [Rule; 5]
             token: "insufficient fee",
             then: Then::Keep,
             core: Some("BIP 125, rule 4, -incrementalrelayfee"),
-            says: "What it pays above the fees that it would replace is below the fee at 1,000 satoshi per 1,000 virtual bytes for its virtual size",
+            says: "What it pays above the fees that it would replace is below the fee for its virtual size at the rate that incrementalrelayfee says (1,000 satoshi per 1,000 virtual bytes)",
         },
     ]
 }

@@ -3,4 +3,5 @@ pub mod Denials
 pub mod Examples
 pub mod Outputs
 pub mod Rules
+pub mod Standards
 pub mod Laws

@@ -14,6 +14,7 @@ use Rattle.gate_script.specs.Pushes.{is_push_only}
 use Rattle.gate_standard.specs.declared.denial.Denial.{Denial}
 use Rattle.gate_standard.specs.declared.denial.Denial.TheVariants.{VinEmpty, VoutEmpty, Oversize, VoutNegative, VoutTooLarge, TotalTooLarge, InputsDuplicate, CoinbaseLength, PrevoutNull, Coinbase, Version, TxSize, ScriptSigSize, ScriptSigNotPushOnly, ScriptPubKey, Dust, MultiOpReturn, TxSizeSmall}
 use Rattle.gate_standard.specs.Outputs.{is_standard_output, is_dust, carries_data}
+use Rattle.gate_standard.specs.declared.standards.Standards.{Standards}
 
 -- the rules on a value that comes after values of this sum
 abbrev pub rules_of_value : ℕ → ℤ → List (Rule Denial)
@@ -70,25 +71,33 @@ rules_of_input input =
     ∷ (ScriptSigNotPushOnly, not (is_push_only input.script))
     ∷ []
 
-abbrev pub rules_of_output : TxOut → List (Rule Denial)
-rules_of_output output =
-    (ScriptPubKey, not (is_standard_output output))
-    ∷ (Dust, is_dust output)
+abbrev pub rules_of_output : Standards → TxOut → List (Rule Denial)
+rules_of_output standards output =
+    (ScriptPubKey, not (is_standard_output standards output))
+    ∷ (Dust, is_dust standards.dust_rate output)
     ∷ []
 
 abbrev pub is_version : ℤ → Bool
 is_version version = int_eq version (pos 1) || int_eq version (pos 2)
 
--- the rules on the outputs together, and on the size: 82 is MIN_STANDARD_TX_NONWITNESS_SIZE
-abbrev pub rules_of_whole : Tx → List (Rule Denial)
-rules_of_whole tx =
-    (MultiOpReturn, nat_lt 1 (count_by carries_data tx.outputs))
-    ∷ (TxSizeSmall, nat_lt (stripped_size_of tx) 82)
+-- the rules on the outputs together, and on the size
+abbrev pub rules_of_whole : Standards → Tx → List (Rule Denial)
+rules_of_whole standards tx =
+    (MultiOpReturn, nat_lt standards.data_outputs (count_by carries_data tx.outputs))
+    ∷ (TxSizeSmall, nat_lt (stripped_size_of tx) standards.least_size)
     ∷ []
 
--- the rules of policy on a transaction, which one in a block may break (A12 to A19): 400,000 is MAX_STANDARD_TX_WEIGHT
-unfoldable pub standard_rules : Tx → List (Rule Denial)
-standard_rules tx =
+-- the rules of policy on a transaction that no operator sets (A12 to A15): 400,000 is MAX_STANDARD_TX_WEIGHT
+unfoldable pub form_rules : Tx → List (Rule Denial)
+form_rules tx =
     (Version, not (is_version tx.version))
     ∷ (TxSize, nat_lt 400_000 (weight_of tx))
-    ∷ (flat_map rules_of_input tx.inputs ++ (flat_map rules_of_output tx.outputs ++ rules_of_whole tx))
+    ∷ flat_map rules_of_input tx.inputs
+
+-- the rules of policy on a transaction by what an operator takes for standard (A16 to A19)
+unfoldable pub output_rules : Standards → Tx → List (Rule Denial)
+output_rules standards tx = flat_map (rules_of_output standards) tx.outputs ++ rules_of_whole standards tx
+
+-- the rules of policy on a transaction, which one in a block may break (A12 to A19)
+unfoldable pub standard_rules : Standards → Tx → List (Rule Denial)
+standard_rules standards tx = form_rules tx ++ output_rules standards tx

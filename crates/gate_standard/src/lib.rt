@@ -1,6 +1,6 @@
 //! The rules on one transaction by itself, and the order that all rules of admission are written
-//! in. The main clauses are those of `check_transaction` and `is_standard`: each names the first of
-//! its rules that fails, or none.
+//! in. The main clauses are those of `check_transaction`, `check_form` and `check_outputs`: each names the
+//! first of its rules that fails, or none. What an operator sets of these rules is one value, a `Standards`.
 #![tactic(auto)]
 
 mod amounts;
@@ -11,6 +11,7 @@ mod law;
 mod order;
 mod outputs;
 mod standard;
+mod standards;
 
 pub use amounts::{fee_at, rate_of};
 pub use check::check_transaction;
@@ -19,4 +20,5 @@ pub use gate_tx::MAX_MONEY;
 pub use law::{outpoints_are_spent_once, rates_are_rounded_down, values_are_in_range};
 pub use order::the_order;
 pub use outputs::dust_threshold;
-pub use standard::is_standard;
+pub use standard::{check_form, check_outputs, is_standard};
+pub use standards::Standards;

@@ -1,12 +1,13 @@
-//! What is relayed by default.
+//! What is relayed: A12 to A19.
 ghost use Rattle.std.specs.Prelude.{◌≡◌, None, Some, IfOk, IfErr, OnOk};
 ghost use Rattle.std.specs.List.{flat_map, count_by};
 ghost use Rattle.gate_bytes.specs.Order.{first_failing};
 ghost use Rattle.gate_standard.specs.Outputs.{carries_data};
-ghost use Rattle.gate_standard.specs.Rules.{rules_of_input, rules_of_output, standard_rules};
+ghost use Rattle.gate_standard.specs.Rules.{rules_of_input, rules_of_output, form_rules, output_rules, standard_rules};
 
 use crate::Denial;
 use crate::outputs::{is_below_dust, is_null_data, is_standard_template};
+use crate::standards::Standards;
 use gate_script::{is_push_only, template};
 use gate_tx::{Transaction, TxIn, TxOut};
 
@@ -15,9 +16,6 @@ const MAX_WEIGHT: usize = 400_000;
 
 /// The longest input script in bytes (Bitcoin Core's `MAX_STANDARD_SCRIPTSIG_SIZE`).
 const MAX_INPUT_SCRIPT: usize = 1650;
-
-/// The least stripped size in bytes (Bitcoin Core's `MIN_STANDARD_TX_NONWITNESS_SIZE`).
-const MIN_STRIPPED_SIZE: usize = 82;
 
 fn check_inputs(inputs: &[TxIn]) -> Option<Denial>
     ensures { result ≡ first_failing (flat_map rules_of_input inputs.now) }
@@ -36,31 +34,31 @@ fn check_inputs(inputs: &[TxIn]) -> Option<Denial>
 
 /// Whether the output carries data, unless a rule fails on it.
 #[tactic(auto, unfolding(crate::specs::Outputs::is_standard_output, crate::specs::Outputs::carries_data, crate::specs::Outputs::is_dust))]
-fn check_output(output: &TxOut) -> Result<bool, Denial>
+fn check_output(standards: &Standards, output: &TxOut) -> Result<bool, Denial>
     ensures carries { IfOk result (λ carries. carries ≡ carries_data output.now) }
-    ensures passes { OnOk result (first_failing (rules_of_output output.now) ≡ None) }
-    ensures err { IfErr result (λ denial. first_failing (rules_of_output output.now) ≡ Some denial) }
+    ensures passes { OnOk result (first_failing (rules_of_output standards.now output.now) ≡ None) }
+    ensures err { IfErr result (λ denial. first_failing (rules_of_output standards.now output.now) ≡ Some denial) }
 {
     let template = template(output.script.as_slice());
-    if !is_standard_template(&template, output.script.len()) {
+    if !is_standard_template(standards, &template, output.script.len()) {
         return Err(Denial::ScriptPubKey);
     }
     let carries = is_null_data(&template);
-    if !carries && is_below_dust(output) {
+    if !carries && is_below_dust(standards.dust_rate, output) {
         return Err(Denial::Dust);
     }
     Ok(carries)
 }
 
 /// How many outputs carry data, unless a rule fails on an output.
-fn check_outputs(outputs: &[TxOut]) -> Result<usize, Denial>
+fn count_carriers(standards: &Standards, outputs: &[TxOut]) -> Result<usize, Denial>
     ensures carriers { IfOk result (λ carriers. carriers ≡ count_by carries_data outputs.now) }
-    ensures passes { OnOk result (first_failing (flat_map rules_of_output outputs.now) ≡ None) }
-    ensures err { IfErr result (λ denial. first_failing (flat_map rules_of_output outputs.now) ≡ Some denial) }
+    ensures passes { OnOk result (first_failing (flat_map (rules_of_output standards.now) outputs.now) ≡ None) }
+    ensures err { IfErr result (λ denial. first_failing (flat_map (rules_of_output standards.now) outputs.now) ≡ Some denial) }
 {
     let mut carriers = 0;
     for output in outputs {
-        match check_output(output) {
+        match check_output(standards, output) {
             Ok(true) => carriers += 1,
             Ok(false) => {}
             Err(denial) => return Err(denial),
@@ -69,11 +67,11 @@ fn check_outputs(outputs: &[TxOut]) -> Result<usize, Denial>
     Ok(carriers)
 }
 
-/// The first rule that fails, of the rules of policy on a transaction alone: A12 to A19 (Bitcoin Core
-/// 22.0's `IsStandardTx`, and its least size).
-#[tactic(auto, using(gate_bytes::proofs::OrderLemmas::first_failing_append), unfolding(crate::specs::Rules::standard_rules))]
-pub fn is_standard(tx: &Transaction) -> Option<Denial>
-    ensures { result ≡ first_failing (standard_rules tx.now) }
+/// The first rule that fails, of the rules of policy on a transaction alone that no operator sets: A12 to A15 (Bitcoin
+/// Core 22.0's `IsStandardTx`, up to the inputs).
+#[tactic(auto, unfolding(crate::specs::Rules::form_rules))]
+pub fn check_form(tx: &Transaction) -> Option<Denial>
+    ensures { result ≡ first_failing (form_rules tx.now) }
 {
     if tx.version() != 1 && tx.version() != 2 {
         return Some(Denial::Version);
@@ -81,16 +79,35 @@ pub fn is_standard(tx: &Transaction) -> Option<Denial>
     if tx.weight() > MAX_WEIGHT {
         return Some(Denial::TxSize);
     }
-    if let Some(denial) = check_inputs(tx.inputs()) {
-        return Some(denial);
-    }
-    match check_outputs(tx.outputs()) {
+    check_inputs(tx.inputs())
+}
+
+/// The first rule that fails, of the rules of policy on a transaction alone by what an operator takes for standard: A16
+/// to A19 (Bitcoin Core 22.0's `IsStandardTx`, on the outputs, and its least size).
+#[tactic(auto, using(gate_bytes::proofs::OrderLemmas::first_failing_append), unfolding(crate::specs::Rules::output_rules))]
+pub fn check_outputs(standards: &Standards, tx: &Transaction) -> Option<Denial>
+    ensures { result ≡ first_failing (output_rules standards.now tx.now) }
+{
+    match count_carriers(standards, tx.outputs()) {
         Err(denial) => return Some(denial),
-        Ok(carriers) if carriers > 1 => return Some(Denial::MultiOpReturn),
+        Ok(carriers) if carriers as u64 > standards.data_outputs => {
+            return Some(Denial::MultiOpReturn);
+        }
         Ok(_) => {}
     }
-    if tx.stripped_size() < MIN_STRIPPED_SIZE {
+    if (tx.stripped_size() as u64) < standards.least_size {
         return Some(Denial::TxSizeSmall);
     }
     None
+}
+
+/// The first rule that fails, of the rules of policy on a transaction alone: A12 to A19.
+#[tactic(auto, using(gate_bytes::proofs::OrderLemmas::first_failing_append), unfolding(crate::specs::Rules::standard_rules))]
+pub fn is_standard(standards: &Standards, tx: &Transaction) -> Option<Denial>
+    ensures { result ≡ first_failing (standard_rules standards.now tx.now) }
+{
+    match check_form(tx) {
+        Some(denial) => Some(denial),
+        None => check_outputs(standards, tx),
+    }
 }

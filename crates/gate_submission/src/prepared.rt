@@ -5,11 +5,11 @@ ghost use Rattle.gate_tx.specs.Reading.{decoded};
 ghost use Rattle.gate_tx.specs.Ids.{txid_of, wtxid_of};
 ghost use Rattle.gate_tx.specs.Text.{IsTx};
 ghost use Rattle.gate_bytes.specs.Order.{first_failing};
-ghost use Rattle.gate_submission.specs.Alone.{alone_rules, first_denial};
+ghost use Rattle.gate_submission.specs.Alone.{own_rules, alone_rules, first_denial, denial_by};
 
 use gate_bytes::{Copied, Counted, Exact, Kept, Memory};
 use gate_inputs::InputReport;
-use gate_standard::{Denial, check_transaction, is_standard};
+use gate_standard::{Denial, Standards, check_form, check_outputs, check_transaction};
 use gate_tx::{Identified, Transaction, TxFault, Txid, Wtxid};
 use std::alloc::Global;
 use std::marker::Model;
@@ -48,13 +48,13 @@ impl<'a> Model for Candidate<'a> {
     ghost use Rattle.std.specs.Prelude.{◌≡◌};
     ghost use Rattle.gate_bytes.specs.Order.{first_failing};
     ghost use Rattle.gate_tx.specs.Tx.{Tx};
-    ghost use Rattle.gate_submission.specs.Alone.{alone_rules};
+    ghost use Rattle.gate_submission.specs.Alone.{own_rules};
 
     ghost Value = { Tx };
 
     ghost view = { λ c. c.identified.now };
 
-    ghost invariant = { λ c. c.denial ≡ first_failing (alone_rules c.identified.now) };
+    ghost invariant = { λ c. c.denial ≡ first_failing (own_rules c.identified.now) };
 }
 
 impl<'a> Candidate<'a> {
@@ -64,11 +64,22 @@ impl<'a> Candidate<'a> {
         self.identified
     }
 
-    /// The first of A2 to A19 that fails.
+    /// The first of A2 to A15 that fails.
     pub fn denial(&self) -> Option<Denial>
-        ensures { result ≡ first_failing (alone_rules self.now) }
+        ensures { result ≡ first_failing (own_rules self.now) }
     {
         self.denial
+    }
+
+    /// The first of A2 to A19 that fails, by what an operator takes for standard.
+    #[tactic(auto, using(gate_bytes::proofs::OrderLemmas::first_failing_append), unfolding(crate::specs::Alone::alone_rules))]
+    pub fn denial_by(&self, standards: &Standards) -> Option<Denial>
+        ensures { result ≡ first_failing (alone_rules standards.now self.now) }
+    {
+        match self.denial() {
+            Some(denial) => Some(denial),
+            None => check_outputs(standards, self.identified().get().transaction()),
+        }
     }
 
     pub fn reports(&self) -> &'a [InputReport] {
@@ -76,14 +87,14 @@ impl<'a> Candidate<'a> {
     }
 }
 
-/// The first of A2 to A19 that fails.
-#[tactic(auto, using(gate_bytes::proofs::OrderLemmas::first_failing_append), unfolding(crate::specs::Alone::alone_rules))]
-fn check_alone(alloc: Global, tx: &Transaction) -> Result<Option<Denial>, Memory>
-    ensures { IfOk result (λ found. found ≡ first_failing (alone_rules tx.now)) }
+/// The first of A2 to A15 that fails.
+#[tactic(auto, using(gate_bytes::proofs::OrderLemmas::first_failing_append), unfolding(crate::specs::Alone::own_rules))]
+fn check_own(alloc: Global, tx: &Transaction) -> Result<Option<Denial>, Memory>
+    ensures { IfOk result (λ found. found ≡ first_failing (own_rules tx.now)) }
 {
     match check_transaction(alloc, tx)? {
         Some(denial) => Ok(Some(denial)),
-        None => Ok(is_standard(tx)),
+        None => Ok(check_form(tx)),
     }
 }
 
@@ -103,7 +114,7 @@ impl Prepared {
     pub fn of(alloc: Global, identified: Counted<Identified>) -> Result<Prepared, Memory>
         ensures { IfOk result (λ prepared. prepared ≡ Some identified) }
     {
-        let denial = check_alone(alloc, identified.get().transaction())?;
+        let denial = check_own(alloc, identified.get().transaction())?;
         Ok(Prepared {
             identified: Some(identified),
             denial,
@@ -198,11 +209,21 @@ impl Prepared {
         }
     }
 
-    /// The denial by A1, or the first of A2 to A19 that fails.
+    /// The denial by A1, or the first of A2 to A15 that fails.
     pub fn denial(&self) -> Option<Denial>
         ensures { result ≡ first_denial self.now }
     {
         self.denial
+    }
+
+    /// The denial by A1, or the first of A2 to A19 that fails, by what an operator takes for standard.
+    pub fn denial_by(&self, standards: &Standards) -> Option<Denial>
+        ensures { result ≡ denial_by standards.now self.now }
+    {
+        match self.candidate() {
+            Some(candidate) => candidate.denial_by(standards),
+            None => Some(Denial::Decode),
+        }
     }
 }
 

@@ -13,7 +13,7 @@ use Rattle.gate_pool.specs.Pool.{Admitted, is_before}
 use Rattle.gate_pool.specs.Family.{steps, without_below, is_below_some}
 use Rattle.gate_pool.proofs.Adding.{passed}
 use Rattle.gate_pool.proofs.Walking.{Contains-filter, Contains-from_filter}
-use Rattle.gate_trim.specs.Expiry.{longest_stay, is_stale, expired}
+use Rattle.gate_trim.specs.Expiry.{is_stale, expired}
 use Rattle.gate_trim.specs.Laws.{IsYoung}
 
 -- two tests that agree take out the same
@@ -27,36 +27,36 @@ without_below-same p q same entries = filter_agree (λ e. not (is_below_some p e
         list_any_of (λ a. q a && reaches (steps entries) (txid_of a.tx) (txid_of e.tx)) entries w.0 w.1 (and_from _ _ (sym (same w.0) ∙ k.0) k.1)
 
 -- the stale ones were admitted before the second that lies so far back
-pub stale_is : (now time : ℕ) (e : Admitted) → time ≡ now - longest_stay → is_before time e ≡ is_stale now e
-stale_is now time e is = same_bool _ _ (λ h. later (omega (arith, lt e.time time h, is))) (λ h. before (omega (arith, lt (e.time + longest_stay) now h, is)))
+pub stale_is : (stay now time : ℕ) (e : Admitted) → time ≡ now - stay → is_before time e ≡ is_stale stay now e
+stale_is stay now time e is = same_bool _ _ (λ h. later (omega (arith, lt e.time time h, is))) (λ h. before (omega (arith, lt (e.time + stay) now h, is)))
   where
     lt : (m n : ℕ) → nat_lt m n ≡ true → m + 1 ≤ n
     lt m n h = grind (arith, nat_tests)
 
-    later : e.time + longest_stay + 1 ≤ now → nat_lt (e.time + longest_stay) now ≡ true
+    later : e.time + stay + 1 ≤ now → nat_lt (e.time + stay) now ≡ true
     later h = grind (arith, nat_tests)
 
     before : e.time + 1 ≤ time → nat_lt e.time time ≡ true
     before h = grind (arith, nat_tests)
 
-young_from : (now : ℕ) (e : Admitted) → is_stale now e ≡ false → IsYoung now e
-young_from now e h = grind (arith, nat_tests)
+young_from : (stay now : ℕ) (e : Admitted) → is_stale stay now e ≡ false → IsYoung stay now e
+young_from stay now e h = grind (arith, nat_tests)
 
-young_to : (now : ℕ) (e : Admitted) → IsYoung now e → is_stale now e ≡ false
-young_to now e h = grind (arith, nat_tests)
+young_to : (stay now : ℕ) (e : Admitted) → IsYoung stay now e → is_stale stay now e ≡ false
+young_to stay now e h = grind (arith, nat_tests)
 
-pub all_young : (now : ℕ) (entries : List Admitted) (e : Admitted) → Contains (expired now entries) e → (a : Admitted) → Contains entries a → reaches (steps entries) (txid_of a.tx) (txid_of e.tx) ≡ true → IsYoung now a
-all_young now entries e m a c r =
-    young_from now a (false_from_ne_true _ (λ t.
-    true≢false (sym (list_any_of (λ b. is_stale now b && reaches (steps entries) (txid_of b.tx) (txid_of e.tx)) entries a c (and_from _ _ t r))
-    ∙ not-true _ (passed (λ e. not (is_below_some (is_stale now) entries e)) entries e m))))
+pub all_young : (stay now : ℕ) (entries : List Admitted) (e : Admitted) → Contains (expired stay now entries) e → (a : Admitted) → Contains entries a → reaches (steps entries) (txid_of a.tx) (txid_of e.tx) ≡ true → IsYoung stay now a
+all_young stay now entries e m a c r =
+    young_from stay now a (false_from_ne_true _ (λ t.
+    true≢false (sym (list_any_of (λ b. is_stale stay now b && reaches (steps entries) (txid_of b.tx) (txid_of e.tx)) entries a c (and_from _ _ t r))
+    ∙ not-true _ (passed (λ e. not (is_below_some (is_stale stay now) entries e)) entries e m))))
 
-pub one_young : (now : ℕ) (entries : List Admitted) (e : Admitted) → Contains (expired now entries) e → IsYoung now e
-one_young now entries e m = all_young now entries e m e (Contains-from_filter (λ e. not (is_below_some (is_stale now) entries e)) entries e m) (reaches-same (steps entries) (txid_of e.tx))
+pub one_young : (stay now : ℕ) (entries : List Admitted) (e : Admitted) → Contains (expired stay now entries) e → IsYoung stay now e
+one_young stay now entries e m = all_young stay now entries e m e (Contains-from_filter (λ e. not (is_below_some (is_stale stay now) entries e)) entries e m) (reaches-same (steps entries) (txid_of e.tx))
 
-pub young_stays : (now : ℕ) (entries : List Admitted) (e : Admitted) → Contains entries e → ((a : Admitted) → Contains entries a → Leads (steps entries) (txid_of a.tx) (txid_of e.tx) → IsYoung now a) → Contains (expired now entries) e
-young_stays now entries e m young =
-    Contains-filter (λ e. not (is_below_some (is_stale now) entries e)) entries e m (ap not (false_from_ne_true _ (λ t.
-    let w = any_is (λ b. is_stale now b && reaches (steps entries) (txid_of b.tx) (txid_of e.tx)) entries t in
+pub young_stays : (stay now : ℕ) (entries : List Admitted) (e : Admitted) → Contains entries e → ((a : Admitted) → Contains entries a → Leads (steps entries) (txid_of a.tx) (txid_of e.tx) → IsYoung stay now a) → Contains (expired stay now entries) e
+young_stays stay now entries e m young =
+    Contains-filter (λ e. not (is_below_some (is_stale stay now) entries e)) entries e m (ap not (false_from_ne_true _ (λ t.
+    let w = any_is (λ b. is_stale stay now b && reaches (steps entries) (txid_of b.tx) (txid_of e.tx)) entries t in
     let k = and_parts _ _ w.2 in
-    true≢false (sym k.0 ∙ young_to now w.0 (young w.0 w.1 (Leads_from_reaches (steps entries) (txid_of w.0.tx) (txid_of e.tx) k.1))))))
+    true≢false (sym k.0 ∙ young_to stay now w.0 (young w.0 w.1 (Leads_from_reaches (steps entries) (txid_of w.0.tx) (txid_of e.tx) k.1))))))

@@ -15,13 +15,13 @@ score_family : (entries : List Admitted) (e : Admitted) → (score_of entries e)
 unfolding score_of
 score_family entries e = refl
 
-pub trims_the_least : (budget : ℕ) (entries : List Admitted) (floor : ℕ) → Trims budget entries floor (trim_of budget entries floor)
-trims_the_least budget entries floor = trims budget (λ l f t. Trims budget l f t) (λ l f fits. within fits) step entries floor
+pub trims_the_least : (step budget : ℕ) (entries : List Admitted) (floor : ℕ) → Trims step budget entries floor (trim_of step budget entries floor)
+trims_the_least step budget entries floor = trims step budget (λ l f t. Trims step budget l f t) (λ l f fits. within fits) picks entries floor
   where
-    step : (l : List Admitted) (f : ℕ) (s : Score) (t : Trimmed) → budget < size_of l → least_of l ≡ Some s → Trims budget (without_family l s.txid) (raised f s.family) t → Trims budget l f t
-    step l f s t over is rest =
+    picks : (l : List Admitted) (f : ℕ) (s : Score) (t : Trimmed) → budget < size_of l → least_of l ≡ Some s → Trims step budget (without_family l s.txid) (raised step f s.family) t → Trims step budget l f t
+    picks l f s t over is rest =
         let w = least_is l s is in
         let id : s.txid ≡ txid_of w.entry.tx = ap (λ (x : Score). x.txid) w.is ∙ score_txid l w.entry in
         let family : s.family ≡ sums_of (descendants_of l (txid_of w.entry.tx)) = ap (λ (x : Score). x.family) w.is ∙ score_family l w.entry in
         goes w.entry over (least_stands l w.entry w.least)
-        (subst (λ x. Trims budget (without_family l x) (floor_above l w.entry f) t) id (subst (λ (x : Sums). Trims budget (without_family l s.txid) (raised f x) t) family rest))
+        (subst (λ x. Trims step budget (without_family l x) (floor_above step l w.entry f) t) id (subst (λ (x : Sums). Trims step budget (without_family l s.txid) (raised step f x) t) family rest))

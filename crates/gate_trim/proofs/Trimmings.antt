@@ -47,69 +47,69 @@ none_left : (entries : List Admitted) → length entries ≤ 0 → entries ≡ [
 none_left [] h = refl
 none_left (e ∷ entries) h = absurd (omega (arith, h))
 
-empty_steps : (n budget floor : ℕ) → trim_steps n budget [] floor ≡ stop [] floor
+empty_steps : (step n budget floor : ℕ) → trim_steps step n budget [] floor ≡ stop [] floor
 unfolding trim_steps
-empty_steps zero budget floor = refl
-empty_steps (suc n) budget floor = by (nat_le (size_of []) budget)
+empty_steps step zero budget floor = refl
+empty_steps step (suc n) budget floor = by (nat_le (size_of []) budget)
   where
     by : (b : Bool) → cond b (stop [] floor) (stop [] floor) ≡ stop [] floor
     by true = refl
     by false = refl
 
 -- any number of steps that is enough gives the same
-pub enough : (n m budget : ℕ) (entries : List Admitted) (floor : ℕ) → length entries ≤ n → length entries ≤ m → trim_steps n budget entries floor ≡ trim_steps m budget entries floor
+pub enough : (step n m budget : ℕ) (entries : List Admitted) (floor : ℕ) → length entries ≤ n → length entries ≤ m → trim_steps step n budget entries floor ≡ trim_steps step m budget entries floor
 unfolding trim_steps
-enough zero m budget entries floor h k =
+enough step zero m budget entries floor h k =
     let e = none_left entries h in
-    ap (λ l. trim_steps zero budget l floor) e ∙ empty_steps zero budget floor ∙ sym (empty_steps m budget floor) ∙ ap (λ l. trim_steps m budget l floor) (sym e)
-enough (suc n) zero budget entries floor h k =
+    ap (λ l. trim_steps step zero budget l floor) e ∙ empty_steps step zero budget floor ∙ sym (empty_steps step m budget floor) ∙ ap (λ l. trim_steps step m budget l floor) (sym e)
+enough step (suc n) zero budget entries floor h k =
     let e = none_left entries k in
-    ap (λ l. trim_steps (suc n) budget l floor) e ∙ empty_steps (suc n) budget floor ∙ sym (empty_steps zero budget floor) ∙ ap (λ l. trim_steps zero budget l floor) (sym e)
-enough (suc n) (suc m) budget entries floor h k =
-    ap (λ t. cond (nat_le (size_of entries) budget) (stop entries floor) t) (go (λ l f p q. enough n m budget l f p q) (least_of entries) refl)
+    ap (λ l. trim_steps step (suc n) budget l floor) e ∙ empty_steps step (suc n) budget floor ∙ sym (empty_steps step zero budget floor) ∙ ap (λ l. trim_steps step zero budget l floor) (sym e)
+enough step (suc n) (suc m) budget entries floor h k =
+    ap (λ t. cond (nat_le (size_of entries) budget) (stop entries floor) t) (go (λ l f p q. enough step n m budget l f p q) (least_of entries) refl)
   where
-    go : ((l : List Admitted) (f : ℕ) → length l ≤ n → length l ≤ m → trim_steps n budget l f ≡ trim_steps m budget l f) → (o : Option Score) → least_of entries ≡ o
-        → on_least o (stop entries floor) (λ s. trim_steps n budget (without_family entries s.txid) (raised floor s.family)) ≡ on_least o (stop entries floor) (λ s. trim_steps m budget (without_family entries s.txid) (raised floor s.family))
+    go : ((l : List Admitted) (f : ℕ) → length l ≤ n → length l ≤ m → trim_steps step n budget l f ≡ trim_steps step m budget l f) → (o : Option Score) → least_of entries ≡ o
+        → on_least o (stop entries floor) (λ s. trim_steps step n budget (without_family entries s.txid) (raised step floor s.family)) ≡ on_least o (stop entries floor) (λ s. trim_steps step m budget (without_family entries s.txid) (raised step floor s.family))
     go ih None e = refl
-    go ih (Some s) e = let l = least_falls entries s e in ih (without_family entries s.txid) (raised floor s.family) (omega (arith, l, h)) (omega (arith, l, k))
+    go ih (Some s) e = let l = least_falls entries s e in ih (without_family entries s.txid) (raised step floor s.family) (omega (arith, l, h)) (omega (arith, l, k))
 
 -- one step, where any are left
-one_step : (n budget : ℕ) (entries : List Admitted) (floor : ℕ) (s : Score) → nat_le (size_of entries) budget ≡ false → least_of entries ≡ Some s
-    → trim_steps (suc n) budget entries floor ≡ trim_steps n budget (without_family entries s.txid) (raised floor s.family)
+one_step : (step n budget : ℕ) (entries : List Admitted) (floor : ℕ) (s : Score) → nat_le (size_of entries) budget ≡ false → least_of entries ≡ Some s
+    → trim_steps step (suc n) budget entries floor ≡ trim_steps step n budget (without_family entries s.txid) (raised step floor s.family)
 unfolding trim_steps
-one_step n budget entries floor s h e =
-    cond-false (nat_le (size_of entries) budget) (stop entries floor) (on_least (least_of entries) (stop entries floor) (λ s. trim_steps n budget (without_family entries s.txid) (raised floor s.family))) h
-    ∙ ap (λ o. on_least o (stop entries floor) (λ s. trim_steps n budget (without_family entries s.txid) (raised floor s.family))) e
+one_step step n budget entries floor s h e =
+    cond-false (nat_le (size_of entries) budget) (stop entries floor) (on_least (least_of entries) (stop entries floor) (λ s. trim_steps step n budget (without_family entries s.txid) (raised step floor s.family))) h
+    ∙ ap (λ o. on_least o (stop entries floor) (λ s. trim_steps step n budget (without_family entries s.txid) (raised step floor s.family))) e
 
-ends_step : (n budget : ℕ) (entries : List Admitted) (floor : ℕ) → nat_le (size_of entries) budget ≡ true → trim_steps n budget entries floor ≡ stop entries floor
+ends_step : (step n budget : ℕ) (entries : List Admitted) (floor : ℕ) → nat_le (size_of entries) budget ≡ true → trim_steps step n budget entries floor ≡ stop entries floor
 unfolding trim_steps
-ends_step zero budget entries floor h = refl
-ends_step (suc n) budget entries floor h = cond-true (nat_le (size_of entries) budget) (stop entries floor) (on_least (least_of entries) (stop entries floor) (λ s. trim_steps n budget (without_family entries s.txid) (raised floor s.family))) h
+ends_step step zero budget entries floor h = refl
+ends_step step (suc n) budget entries floor h = cond-true (nat_le (size_of entries) budget) (stop entries floor) (on_least (least_of entries) (stop entries floor) (λ s. trim_steps step n budget (without_family entries s.txid) (raised step floor s.family))) h
 
 -- within the budget nothing goes
-pub trim_ends : (budget : ℕ) (entries : List Admitted) (floor : ℕ) → nat_le (size_of entries) budget ≡ true → trim_of budget entries floor ≡ record { entries = entries; floor = floor }
+pub trim_ends : (step budget : ℕ) (entries : List Admitted) (floor : ℕ) → nat_le (size_of entries) budget ≡ true → trim_of step budget entries floor ≡ record { entries = entries; floor = floor }
 unfolding trim_of
-trim_ends budget entries floor h = ends_step (length entries) budget entries floor h
+trim_ends step budget entries floor h = ends_step step (length entries) budget entries floor h
 
 -- above it the entry of least score goes first
-pub trim_goes : (budget : ℕ) (entries : List Admitted) (floor : ℕ) (s : Score) → nat_le (size_of entries) budget ≡ false → least_of entries ≡ Some s
-    → trim_of budget entries floor ≡ trim_of budget (without_family entries s.txid) (raised floor s.family)
+pub trim_goes : (step budget : ℕ) (entries : List Admitted) (floor : ℕ) (s : Score) → nat_le (size_of entries) budget ≡ false → least_of entries ≡ Some s
+    → trim_of step budget entries floor ≡ trim_of step budget (without_family entries s.txid) (raised step floor s.family)
 unfolding trim_of
-trim_goes budget entries floor s h e =
+trim_goes step budget entries floor s h e =
     let l = least_falls entries s e in
-    enough (length entries) (suc (length entries)) budget entries floor (omega arith) (omega arith)
-    ∙ one_step (length entries) budget entries floor s h e
-    ∙ enough (length entries) (length (without_family entries s.txid)) budget (without_family entries s.txid) (raised floor s.family) (omega (arith, l)) (omega arith)
+    enough step (length entries) (suc (length entries)) budget entries floor (omega arith) (omega arith)
+    ∙ one_step step (length entries) budget entries floor s h e
+    ∙ enough step (length entries) (length (without_family entries s.txid)) budget (without_family entries s.txid) (raised step floor s.family) (omega (arith, l)) (omega arith)
 
 -- some entry ranks least
 abbrev first : Admitted → List Admitted → Admitted
 first e entries = lesser rate_cmp (rate_of (e ∷ entries)) e (least_by rate_cmp (rate_of (e ∷ entries)) entries)
 
 -- and where there is none, nothing does
-pub trim_stops : (budget : ℕ) (entries : List Admitted) (floor : ℕ) → least_of entries ≡ None → trim_of budget entries floor ≡ record { entries = entries; floor = floor }
+pub trim_stops : (step budget : ℕ) (entries : List Admitted) (floor : ℕ) → least_of entries ≡ None → trim_of step budget entries floor ≡ record { entries = entries; floor = floor }
 unfolding trim_of
-trim_stops budget [] floor h = empty_steps 0 budget floor
-trim_stops budget (e ∷ entries) floor h = absurd (none-some (score_of (e ∷ entries) (first e entries)) (sym h))
+trim_stops step budget [] floor h = empty_steps step 0 budget floor
+trim_stops step budget (e ∷ entries) floor h = absurd (none-some (score_of (e ∷ entries) (first e entries)) (sym h))
 
 pub above : (n b : ℕ) → b < n → nat_le n b ≡ false
 above n b h = grind (arith, nat_tests)
@@ -128,36 +128,36 @@ empty_fits [] h = omega arith
 empty_fits (e ∷ entries) h = absurd (none-some (score_of (e ∷ entries) (first e entries)) (sym h))
 
 -- what holds of entries and the floor where trimming stops, and before a step where it holds after it, holds of what it makes of them
-module _ (budget : ℕ) (P : List Admitted → ℕ → Trimmed → Type 0)
+module _ (step budget : ℕ) (P : List Admitted → ℕ → Trimmed → Type 0)
     (stops : (entries : List Admitted) (floor : ℕ) → size_of entries ≤ budget → P entries floor (record { entries = entries; floor = floor }))
-    (steps : (entries : List Admitted) (floor : ℕ) (s : Score) (t : Trimmed) → budget < size_of entries → least_of entries ≡ Some s → P (without_family entries s.txid) (raised floor s.family) t → P entries floor t) where
-  trims_once : (entries : List Admitted) (floor : ℕ) → ((s : Score) → least_of entries ≡ Some s → P (without_family entries s.txid) (raised floor s.family) (trim_of budget (without_family entries s.txid) (raised floor s.family))) → P entries floor (trim_of budget entries floor)
+    (steps : (entries : List Admitted) (floor : ℕ) (s : Score) (t : Trimmed) → budget < size_of entries → least_of entries ≡ Some s → P (without_family entries s.txid) (raised step floor s.family) t → P entries floor t) where
+  trims_once : (entries : List Admitted) (floor : ℕ) → ((s : Score) → least_of entries ≡ Some s → P (without_family entries s.txid) (raised step floor s.family) (trim_of step budget (without_family entries s.txid) (raised step floor s.family))) → P entries floor (trim_of step budget entries floor)
   trims_once entries floor rest = go (nat_le (size_of entries) budget) refl (least_of entries) refl
     where
-      end : trim_of budget entries floor ≡ stop entries floor → size_of entries ≤ budget → P entries floor (trim_of budget entries floor)
+      end : trim_of step budget entries floor ≡ stop entries floor → size_of entries ≤ budget → P entries floor (trim_of step budget entries floor)
       end is fits = subst (P entries floor) (sym is) (stops entries floor fits)
 
-      go : (b : Bool) → nat_le (size_of entries) budget ≡ b → (o : Option Score) → least_of entries ≡ o → P entries floor (trim_of budget entries floor)
-      go true e o r = end (trim_ends budget entries floor e) (in_budget (size_of entries) budget e)
-      go false e None r = end (trim_stops budget entries floor r) (omega (arith, empty_fits entries r))
-      go false e (Some s) r = subst (P entries floor) (sym (trim_goes budget entries floor s e r))
-          (steps entries floor s (trim_of budget (without_family entries s.txid) (raised floor s.family)) (past_budget (size_of entries) budget e) r (rest s r))
+      go : (b : Bool) → nat_le (size_of entries) budget ≡ b → (o : Option Score) → least_of entries ≡ o → P entries floor (trim_of step budget entries floor)
+      go true e o r = end (trim_ends step budget entries floor e) (in_budget (size_of entries) budget e)
+      go false e None r = end (trim_stops step budget entries floor r) (omega (arith, empty_fits entries r))
+      go false e (Some s) r = subst (P entries floor) (sym (trim_goes step budget entries floor s e r))
+          (steps entries floor s (trim_of step budget (without_family entries s.txid) (raised step floor s.family)) (past_budget (size_of entries) budget e) r (rest s r))
 
-  trims_by : (n : ℕ) (entries : List Admitted) (floor : ℕ) → length entries ≤ n → P entries floor (trim_of budget entries floor)
+  trims_by : (n : ℕ) (entries : List Admitted) (floor : ℕ) → length entries ≤ n → P entries floor (trim_of step budget entries floor)
   trims_by zero entries floor h = trims_once entries floor (λ s r. absurd (omega (arith, h, least_falls entries s r)))
-  trims_by (suc n) entries floor h = trims_once entries floor (λ s r. trims_by n (without_family entries s.txid) (raised floor s.family) (omega (arith, h, least_falls entries s r)))
+  trims_by (suc n) entries floor h = trims_once entries floor (λ s r. trims_by n (without_family entries s.txid) (raised step floor s.family) (omega (arith, h, least_falls entries s r)))
 
-  pub trims : (entries : List Admitted) (floor : ℕ) → P entries floor (trim_of budget entries floor)
+  pub trims : (entries : List Admitted) (floor : ℕ) → P entries floor (trim_of step budget entries floor)
   trims entries floor = trims_by (length entries) entries floor (omega arith)
 
 -- what each removal of a family keeps, trimming keeps
-pub trim_keeps : (P : List Admitted → Type 0) → ((entries : List Admitted) (txid : List ℕ) → P entries → P (without_family entries txid)) → (budget : ℕ) (entries : List Admitted) (floor : ℕ) → P entries → P (trim_of budget entries floor).entries
-trim_keeps P keeps budget entries floor h = trims budget (λ l f t. P l → P t.entries) (λ l f fits p. p) (λ l f s t over r k p. k (keeps l s.txid p)) entries floor h
+pub trim_keeps : (P : List Admitted → Type 0) → ((entries : List Admitted) (txid : List ℕ) → P entries → P (without_family entries txid)) → (step budget : ℕ) (entries : List Admitted) (floor : ℕ) → P entries → P (trim_of step budget entries floor).entries
+trim_keeps P keeps step budget entries floor h = trims step budget (λ l f t. P l → P t.entries) (λ l f fits p. p) (λ l f s t over r k p. k (keeps l s.txid p)) entries floor h
 
 -- what is left is within the budget
-pub trim_within : (budget : ℕ) (entries : List Admitted) (floor : ℕ) → size_of (trim_of budget entries floor).entries ≤ budget
-trim_within budget entries floor = trims budget (λ l f t. size_of t.entries ≤ budget) (λ l f fits. fits) (λ l f s t over r k. k) entries floor
+pub trim_within : (step budget : ℕ) (entries : List Admitted) (floor : ℕ) → size_of (trim_of step budget entries floor).entries ≤ budget
+trim_within step budget entries floor = trims step budget (λ l f t. size_of t.entries ≤ budget) (λ l f fits. fits) (λ l f s t over r k. k) entries floor
 
 -- the floor doesn't fall
-pub trim_rises : (budget : ℕ) (entries : List Admitted) (floor : ℕ) → floor ≤ (trim_of budget entries floor).floor
-trim_rises budget entries floor = trims budget (λ l f t. f ≤ t.floor) (λ l f fits. omega arith) (λ l f s t over r k. omega (arith, k)) entries floor
+pub trim_rises : (step budget : ℕ) (entries : List Admitted) (floor : ℕ) → floor ≤ (trim_of step budget entries floor).floor
+trim_rises step budget entries floor = trims step budget (λ l f t. f ≤ t.floor) (λ l f fits. omega arith) (λ l f s t over r k. omega (arith, k)) entries floor

@@ -7,14 +7,13 @@ use Rattle.gate_pool.specs.Scores.{least_of}
 use Rattle.gate_pool.specs.declared.Score.{Score}
 use Rattle.gate_pool.specs.declared.Sums.{Sums}
 
--- how far the floor rises above the feerate of what was trimmed, in satoshi per 1,000 virtual bytes (Bitcoin Core 22.0's
--- -incrementalrelayfee)
-abbrev pub floor_step : ℕ
-floor_step = 1000
+-- the largest step by which a floor rises, in satoshi per 1,000 virtual bytes
+abbrev pub largest_step : ℕ
+largest_step = 100_000_000
 
--- the floor after a family with these sums was trimmed
-abbrev pub raised : ℕ → Sums → ℕ
-raised floor family = max floor (feerate family.fees family.size + floor_step)
+-- the floor after a family with these sums was trimmed: a step above its feerate
+abbrev pub raised : ℕ → ℕ → Sums → ℕ
+raised step floor family = max floor (feerate family.fees family.size + step)
 
 -- what trimming leaves: the entries, and the floor
 pub record Trimmed : Type 0 where
@@ -28,12 +27,12 @@ on_least (Some score) stop go = go score
 
 -- at most n times, while the entries are over the budget of virtual bytes, the one of least score is taken out with all below
 -- it
-unfoldable pub trim_steps : ℕ → ℕ → List Admitted → ℕ → Trimmed
-trim_steps zero budget entries floor = record { entries = entries; floor = floor }
-trim_steps (suc n) budget entries floor =
+unfoldable pub trim_steps : ℕ → ℕ → ℕ → List Admitted → ℕ → Trimmed
+trim_steps step zero budget entries floor = record { entries = entries; floor = floor }
+trim_steps step (suc n) budget entries floor =
     if nat_le (size_of entries) budget then record { entries = entries; floor = floor }
-    else on_least (least_of entries) (record { entries = entries; floor = floor }) (λ score. trim_steps n budget (without_family entries score.txid) (raised floor score.family))
+    else on_least (least_of entries) (record { entries = entries; floor = floor }) (λ score. trim_steps step n budget (without_family entries score.txid) (raised step floor score.family))
 
--- trimming to the end: as many steps as there are entries are enough
-unfoldable pub trim_of : ℕ → List Admitted → ℕ → Trimmed
-trim_of budget entries floor = trim_steps (length entries) budget entries floor
+-- trimming to the end, with this step of the floor: as many steps as there are entries are enough
+unfoldable pub trim_of : ℕ → ℕ → List Admitted → ℕ → Trimmed
+trim_of step budget entries floor = trim_steps step (length entries) budget entries floor

@@ -5,22 +5,23 @@ use gate_bytes::Memory;
 use gate_pool::Pool;
 use std::hash::BuildHasher;
 
-/// How long an entry may stay, in seconds: two weeks (Bitcoin Core 22.0's `-mempoolexpiry`).
-pub const EXPIRY_SECONDS: u64 = 1_209_600;
-
-/// Takes out the entries that were admitted longer ago than an entry may stay, and all that is below them. `now` is in
-/// seconds since 1970. It takes no memory, and gives up the room that the pool had taken.
-pub fn expire<S: BuildHasher + Copy + Drop>(pool: &mut Pool<S>, now: u64)
-    ensures { pool.new.entries ≡ expired now pool.old.entries }
+/// Takes out the entries that were admitted longer ago than an entry may stay, in seconds, and all that is below them
+/// (Bitcoin Core 22.0's `-mempoolexpiry`). `now` is in seconds since 1970. It takes no memory, and gives up the room that the pool had taken.
+pub fn expire<S: BuildHasher + Copy + Drop>(pool: &mut Pool<S>, stay: u64, now: u64)
+    ensures { pool.new.entries ≡ expired stay now pool.old.entries }
 {
-    pool.take_before(now.saturating_sub(EXPIRY_SECONDS));
+    pool.take_before(now.saturating_sub(stay));
 }
 
 /// `expire` for callers whose changes of a pool may run out of memory: this one never fails.
-pub fn try_expire<S: BuildHasher + Copy + Drop>(pool: &mut Pool<S>, now: u64) -> Result<(), Memory>
+pub fn try_expire<S: BuildHasher + Copy + Drop>(
+    pool: &mut Pool<S>,
+    stay: u64,
+    now: u64,
+) -> Result<(), Memory>
     ensures done { IsOk result }
-    ensures entries { pool.new.entries ≡ expired now pool.old.entries }
+    ensures entries { pool.new.entries ≡ expired stay now pool.old.entries }
 {
-    expire(pool, now);
+    expire(pool, stay, now);
     Ok(())
 }

@@ -1,13 +1,9 @@
-ghost use Rattle.std.specs.Prelude.{◌≡◌};
+ghost use Rattle.std.specs.Prelude.{◌≡◌, ◌≤◌};
 ghost use Rattle.gate_pool.specs.Scores.{AreBounded};
-ghost use Rattle.gate_trim.specs.Trimming.{raised};
+ghost use Rattle.gate_trim.specs.Trimming.{largest_step, raised};
 
 use gate_pool::Sums;
 use std::marker::Model;
-
-/// How far the floor rises above the feerate of what was trimmed, in satoshi per 1,000 virtual bytes (Bitcoin Core
-/// 22.0's `-incrementalrelayfee`).
-pub const FLOOR_STEP: u64 = 1000;
 
 /// The least feerate that the pool asks of a transaction, beside the one for every relay, in satoshi per 1,000 virtual
 /// bytes.
@@ -39,14 +35,15 @@ impl Floor {
         self.rate
     }
 
-    /// Rises to `FLOOR_STEP` above the feerate of trimmed entries with these sums, unless the floor is there already.
-    /// It never falls.
+    /// Rises to a step above the feerate of trimmed entries with these sums, unless the floor is there already (Bitcoin
+    /// Core 22.0's `-incrementalrelayfee` is the step). It never falls.
     #[tactic(auto, unfolding(gate_standard::specs::Amounts::feerate))]
-    pub fn raise(&mut self, family: Sums)
-        requires { AreBounded family }
-        ensures { self.new ≡ raised self.old family }
+    pub fn raise(&mut self, step: u64, family: Sums)
+        requires bounded { AreBounded family }
+        requires small { step ≤ largest_step }
+        ensures { self.new ≡ raised step self.old family }
     {
         let rate = family.fees * 1000 / family.size;
-        self.rate = self.rate.max(rate as u64 + FLOOR_STEP);
+        self.rate = self.rate.max(rate as u64 + step);
     }
 }

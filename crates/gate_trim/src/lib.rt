@@ -10,8 +10,8 @@ mod floor;
 mod law;
 mod trimming;
 
-pub use expiry::{EXPIRY_SECONDS, expire, try_expire};
-pub use floor::{FLOOR_STEP, Floor};
+pub use expiry::{expire, try_expire};
+pub use floor::Floor;
 pub use law::{
     expiry_leaves_the_young, trimming_keeps_the_budget, trimming_raises_the_floor,
     trimming_takes_the_least,

@@ -1,5 +1,5 @@
-ghost use Rattle.std.specs.Prelude.{◌≡◌, IsOk};
-ghost use Rattle.gate_trim.specs.Trimming.{trim_of};
+ghost use Rattle.std.specs.Prelude.{◌≡◌, ◌≤◌, IsOk};
+ghost use Rattle.gate_trim.specs.Trimming.{largest_step, trim_of};
 
 use crate::floor::Floor;
 use gate_bytes::Memory;
@@ -7,10 +7,16 @@ use gate_pool::Pool;
 use std::hash::BuildHasher;
 
 /// Takes out the entry of least score, with all that is below it, until the rest is within the budget in virtual bytes.
-/// Each time the floor rises above the feerate of the entries that were taken out. It takes no memory, and gives up the
-/// room that the pool had taken if anything is taken out.
-pub fn trim<S: BuildHasher + Copy + Drop>(pool: &mut Pool<S>, floor: &mut Floor, budget: u64)
-    ensures { trim_of budget pool.old.entries floor.old ≡ record { entries = pool.new.entries; floor = floor.new } }
+/// Each time the floor rises to a step above the feerate of the entries that were taken out. It takes no memory, and
+/// gives up the room that the pool had taken if anything is taken out.
+pub fn trim<S: BuildHasher + Copy + Drop>(
+    pool: &mut Pool<S>,
+    floor: &mut Floor,
+    step: u64,
+    budget: u64,
+)
+    requires { step ≤ largest_step }
+    ensures { trim_of step budget pool.old.entries floor.old ≡ record { entries = pool.new.entries; floor = floor.new } }
 {
     while pool.size() > u128::from(budget) {
         let Some(score) = pool.least() else {
@@ -18,7 +24,7 @@ pub fn trim<S: BuildHasher + Copy + Drop>(pool: &mut Pool<S>, floor: &mut Floor,
         };
         let score = *score;
         pool.take_family(&score.txid);
-        floor.raise(score.family);
+        floor.raise(step, score.family);
     }
 }
 
@@ -26,11 +32,13 @@ pub fn trim<S: BuildHasher + Copy + Drop>(pool: &mut Pool<S>, floor: &mut Floor,
 pub fn try_trim<S: BuildHasher + Copy + Drop>(
     pool: &mut Pool<S>,
     floor: &mut Floor,
+    step: u64,
     budget: u64,
 ) -> Result<(), Memory>
+    requires { step ≤ largest_step }
     ensures done { IsOk result }
-    ensures trimmed { trim_of budget pool.old.entries floor.old ≡ record { entries = pool.new.entries; floor = floor.new } }
+    ensures trimmed { trim_of step budget pool.old.entries floor.old ≡ record { entries = pool.new.entries; floor = floor.new } }
 {
-    trim(pool, floor, budget);
+    trim(pool, floor, step, budget);
     Ok(())
 }

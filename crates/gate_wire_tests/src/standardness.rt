@@ -70,7 +70,7 @@ fn transaction(
 fn denial_of(alloc: Global, tx: &Transaction) -> Result<Option<Denial>, Fail> {
     Ok(match check_transaction(alloc, tx)? {
         Some(denial) => Some(denial),
-        None => is_standard(tx),
+        None => is_standard(&Standards::default(), tx),
     })
 }
 
@@ -107,7 +107,7 @@ fn denials_in_print(rt: HostRuntime) -> Result<(), Fail> {
 
 #[test]
 fn dust_of_each_template(rt: HostRuntime) -> Result<(), Fail> {
-    let thresholds: [(&[&[u8]], u64); 7] = [
+    let thresholds: [(&[&[u8]], u128); 7] = [
         (&[&[0x76, 0xa9, 20], &[0x22; 20], &[0x88, 0xac]], 546),
         (&[&[0xa9, 20], &[0x22; 20], &[0x87]], 540),
         (&[&[0x00, 20], &[0x22; 20]], 294),
@@ -118,7 +118,7 @@ fn dust_of_each_template(rt: HostRuntime) -> Result<(), Fail> {
     ];
     for (parts, threshold) in thresholds {
         let output = paying(rt.alloc(), &(0, parts))?;
-        let found = dust_threshold(&output);
+        let found = dust_threshold(3000, &output);
         drop(output);
         assert_eq!(rt; found, threshold);
     }

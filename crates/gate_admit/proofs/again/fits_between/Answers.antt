@@ -81,7 +81,7 @@ limits_above-requires g c =
     let own = ap (is_limited c.args.policy.now es) (sym c.txid-txid.ensures) ∙ sym c.in_ok-is_limited.ensures ∙ c.if-not-branch.false in
     let light = amid_light c.args.policy.now entries n (differs entries n c.requires.new) (subst (AllPairs DifferById) c.new-joined.ensures c.recall_apart.ensures) c.requires.own c.requires.adds (subst (λ l. is_below_itself l n.tx ≡ false) c.new-joined.ensures beside)
     (subst (λ l. is_limited c.args.policy.now l (txid_of n.tx) ≡ true) c.new-joined.ensures own) in
-    omega (arith, light, c.from-vsize.ensures, c.vsize.ensures.value)
+    omega (arith, light.1, c.from-vsize.ensures, c.vsize.ensures.value)
 
 pub limits_below-requires : goal.limits_below-requires
 limits_below-requires g c =
@@ -97,7 +97,7 @@ limits_below-requires g c =
     let own = ap (is_limited c.args.policy.now es) (sym c.txid-txid.ensures) ∙ sym c.in_ok-is_limited.ensures ∙ c.if-not-branch.false in
     let light = amid_light c.args.policy.now entries n (differs entries n c.requires.new) (subst (AllPairs DifferById) c.new-joined.ensures c.recall_apart.ensures) c.requires.own c.requires.adds (subst (λ l. is_below_itself l n.tx ≡ false) c.new-joined.ensures beside)
     (subst (λ l. is_limited c.args.policy.now l (txid_of n.tx) ≡ true) c.new-joined.ensures own) in
-    omega (arith, light, c.from-vsize.ensures, c.vsize.ensures.value)
+    omega (arith, light.0, c.from-vsize.ensures, c.vsize.ensures.value)
 
 pub returns-then-not-fits-clause-fits : goal.returns-then-not-fits-clause-fits
 returns-then-not-fits-clause-fits g c =

@@ -5,7 +5,7 @@ use Rattle.gate_pool.specs.Pool.{Admitted, has_txid, size_of}
 use Rattle.gate_pool.specs.Family.{steps, ancestors_of, descendants_of, all_below, is_below_some, AreIdsOf}
 use Rattle.gate_pool.specs.declared.closures.Sums.{Sums}
 use Rattle.gate_pool.proofs.Ids.{AreIdsOf-one}
-use Rattle.gate_admit.specs.Policies.{most_ancestors, most_descendants}
+use Rattle.gate_admit.specs.Policies.{most_ancestors, most_descendants, most_descendants_size}
 use Rattle.gate_admit.proofs.Families.{below_one}
 use Rattle.gate_admit.proofs.OwnLimits.{too_many_descend}
 use Rattle.gate_admit.proofs.again.is_limited.Goals as goal
@@ -38,9 +38,13 @@ returns g c =
     let same = below_one entries own.0 x own.1 own.2 ∙ ap (descendants_of entries) own.2 in
     let high = most_ancestors c.args.policy.now in
     let low = most_descendants c.args.policy.now in
-    ap (λ (m : ℕ). (((leb c.add_up-above.result.count m && leb c.add_up-above.result.size 101000) && leb c.add_up-below.result.count c.most_descendants-most_below.result) && leb c.add_up-below.result.size 111000)) c.most_ancestors-most_above.ensures
-    ∙ ap (λ (m : ℕ). (((leb c.add_up-above.result.count high && leb c.add_up-above.result.size 101000) && leb c.add_up-below.result.count m) && leb c.add_up-below.result.size 111000)) c.most_descendants-most_below.ensures
-    ∙ grouped (leb c.add_up-above.result.count high) (leb c.add_up-above.result.size 101000) (leb c.add_up-below.result.count low) (leb c.add_up-below.result.size 111000)
-    ∙ ap (λ (s : Sums). leb s.count high && (leb s.size 101000 && (leb c.add_up-below.result.count low && leb c.add_up-below.result.size 111000))) up
-    ∙ ap (λ (s : Sums). leb (length (ancestors_of entries x)) high && (leb (size_of (ancestors_of entries x)) 101000 && (leb s.count low && leb s.size 111000))) down
-    ∙ ap (λ (l : List Admitted). leb (length (ancestors_of entries x)) high && (leb (size_of (ancestors_of entries x)) 101000 && (leb (length l) low && leb (size_of l) 111000))) same
+    let wide = c.args.policy.now.ancestors_size in
+    let deep = most_descendants_size c.args.policy.now in
+    ap (λ (n : ℕ). (((leb c.add_up-above.result.count c.most_ancestors-most_above.result && leb c.add_up-above.result.size n) && leb c.add_up-below.result.count c.most_descendants-most_below.result) && leb c.add_up-below.result.size c.from-deep.result)) (c.from-wide.ensures ∙ c.ancestors_size.ensures)
+    ∙ ap (λ (n : ℕ). (((leb c.add_up-above.result.count c.most_ancestors-most_above.result && leb c.add_up-above.result.size wide) && leb c.add_up-below.result.count c.most_descendants-most_below.result) && leb c.add_up-below.result.size n)) (c.from-deep.ensures ∙ c.most_descendants_size.ensures)
+    ∙ ap (λ (m : ℕ). (((leb c.add_up-above.result.count m && leb c.add_up-above.result.size wide) && leb c.add_up-below.result.count c.most_descendants-most_below.result) && leb c.add_up-below.result.size deep)) c.most_ancestors-most_above.ensures
+    ∙ ap (λ (m : ℕ). (((leb c.add_up-above.result.count high && leb c.add_up-above.result.size wide) && leb c.add_up-below.result.count m) && leb c.add_up-below.result.size deep)) c.most_descendants-most_below.ensures
+    ∙ grouped (leb c.add_up-above.result.count high) (leb c.add_up-above.result.size wide) (leb c.add_up-below.result.count low) (leb c.add_up-below.result.size deep)
+    ∙ ap (λ (s : Sums). leb s.count high && (leb s.size wide && (leb c.add_up-below.result.count low && leb c.add_up-below.result.size deep))) up
+    ∙ ap (λ (s : Sums). leb (length (ancestors_of entries x)) high && (leb (size_of (ancestors_of entries x)) wide && (leb s.count low && leb s.size deep))) down
+    ∙ ap (λ (l : List Admitted). leb (length (ancestors_of entries x)) high && (leb (size_of (ancestors_of entries x)) wide && (leb (length l) low && leb (size_of l) deep))) same

@@ -9,4 +9,4 @@ returns-clause-live g c =
 
 pub returns-clause-fits : goal.returns-clause-fits
 returns-clause-fits g c =
-    answers_fit c.args.attempt (lent c.args.over.now) (Some c.args.candidate.now) c.find_decision.result c.find_decision.ensures
+    answers_fit c.args.attempt (lent c.args.over.now) (Some c.args.candidate.now) c.recall_bounds.ensures c.find_decision.result c.find_decision.ensures

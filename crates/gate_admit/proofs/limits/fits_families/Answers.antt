@@ -21,7 +21,7 @@ returns g c =
     let first : is_within limits entries above c.args.vsize ≡ false =
     ap (λ l. is_within l entries above c.args.vsize) (sym c.first_limits-limits.ensures.limits) ∙ sym ((rw c.pool-pool.ensures at c.is_within.ensures) test c.requires.ids c.requires.sums) ∙ c.if-is_within.false in
     let small : nat_le c.args.vsize 10000 ≡ true = grind (arith, nat_tests, c.if-vsize-gt-CARVE_OUT_VSIZE.false) in
-    let asked : ℕ → FamilyLimits = λ n. record { ancestors = 2; ancestors_size = 101000; descendants = c.first_limits-limits.result.descendants + 1; descendants_size = c.first_limits-limits.result.descendants_size + n } in
+    let asked : ℕ → FamilyLimits = λ n. record { ancestors = 2; ancestors_size = c.first_limits-limits.result.ancestors_size; descendants = c.first_limits-limits.result.descendants + 1; descendants_size = c.first_limits-limits.result.descendants_size + n } in
     (rw c.pool-pool.ensures at c.is_within-2.ensures) test c.requires.ids c.requires.sums
     ∙ ap (λ n. is_within (asked n) entries above c.args.vsize) c.from.ensures ∙ ap (λ l. is_within (carved_out l) entries above c.args.vsize) c.first_limits-limits.ensures.limits
     ∙ second_try _ _ (is_within (carved_out limits) entries above c.args.vsize) first small

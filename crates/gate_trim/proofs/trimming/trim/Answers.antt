@@ -7,7 +7,7 @@ use Rattle.gate_trim.proofs.trimming.trim.Goals as goal
 
 pub returns-in_default : goal.returns-in_default
 returns-in_default g c =
-    sym c.loop-pool.invariant ∙ trim_stops c.args.budget c.loop-pool.pool.entries c.loop-pool.floor (sym c.in_default.ensures.value)
+    sym c.loop-pool.invariant ∙ trim_stops c.args.step c.args.budget c.loop-pool.pool.entries c.loop-pool.floor (sym c.in_default.ensures.value)
 
 pub loop-pool-smaller : goal.loop-pool-smaller
 loop-pool-smaller g c =
@@ -16,16 +16,17 @@ loop-pool-smaller g c =
 
 pub loop-pool-preserved : goal.loop-pool-preserved
 loop-pool-preserved g c =
+    let step = c.args.step in
     let budget = c.args.budget in
     let entries = c.loop-pool.pool.entries in
     let score = c.in-Some.score.now in
     let over : budget < size_of entries = omega (arith, c.size.ensures, c.from.ensures, c.loop-pool-test.true) in
-    ap (λ (l : List Admitted). trim_of budget l c.raise.new.self) c.take_family.ensures
-    ∙ ap (trim_of budget (without_family entries score.txid)) c.raise.ensures
-    ∙ sym (trim_goes budget entries c.loop-pool.floor score (above (size_of entries) budget over) (sym c.in-Some.ensures.value))
+    ap (λ (l : List Admitted). trim_of step budget l c.raise.new.self) c.take_family.ensures
+    ∙ ap (trim_of step budget (without_family entries score.txid)) c.raise.ensures
+    ∙ sym (trim_goes step budget entries c.loop-pool.floor score (above (size_of entries) budget over) (sym c.in-Some.ensures.value))
     ∙ c.loop-pool.invariant
 
 pub returns : goal.returns
 returns g c =
     let fits : size_of c.loop-pool.pool.entries ≤ c.args.budget = omega (arith, c.size.ensures, c.from.ensures, c.loop-pool-test.false) in
-    sym c.loop-pool.invariant ∙ trim_ends c.args.budget c.loop-pool.pool.entries c.loop-pool.floor (within (size_of c.loop-pool.pool.entries) c.args.budget fits)
+    sym c.loop-pool.invariant ∙ trim_ends c.args.step c.args.budget c.loop-pool.pool.entries c.loop-pool.floor (within (size_of c.loop-pool.pool.entries) c.args.budget fits)

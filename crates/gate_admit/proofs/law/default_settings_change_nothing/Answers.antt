@@ -1,0 +1,36 @@
+use Rattle.std.proofs.Common.{◌≡◌, ℕ, refl}
+use Rattle.gate_script.specs.declared.Template.{Template}
+use Rattle.gate_script.specs.declared.Template.TheVariants.{ScriptHash, WitnessV0Key, WitnessV0Script, Taproot, WitnessUnknown, NullData, Key, KeyHash, Multisig, Nonstandard}
+use Rattle.gate_standard.specs.Outputs.{is_standard_template, dust_threshold_of}
+use Rattle.gate_admit.specs.Defaults.{standard_by_default}
+use Rattle.gate_admit.specs.Policies.{usual_policy}
+use Rattle.gate_admit.specs.Rules.{fee_rules}
+use Rattle.gate_admit.proofs.law.default_settings_change_nothing.Goals as goal
+
+same_template : (template : Template) (size : ℕ) → is_standard_template usual_policy.standards template size ≡ standard_by_default template size
+same_template ScriptHash size = refl
+same_template WitnessV0Key size = refl
+same_template WitnessV0Script size = refl
+same_template Taproot size = refl
+same_template WitnessUnknown size = refl
+same_template NullData size = refl
+same_template Key size = refl
+same_template KeyHash size = refl
+same_template (Multisig required keys) size = refl
+same_template Nonstandard size = refl
+
+pub returns : goal.returns
+unfolding dust_threshold_of fee_rules
+returns c = record {
+  template = same_template;
+  dust = λ o. refl;
+  whole = λ tx. refl;
+  size = λ cost tx. refl;
+  relay = λ floor fee vsize. refl;
+  replacement = λ paid fee vsize. refl;
+  first = refl;
+  second = refl;
+  again = λ entries txid. refl;
+  stale = λ now e. refl;
+  floor = λ floor family. refl;
+}

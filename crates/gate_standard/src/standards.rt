@@ -1,0 +1,35 @@
+//! What an operator takes for standard.
+
+/// What an operator asks of a transaction's outputs and of its size: A16 to A19.
+#[derive(Clone, Copy, Debug, PartialEq, Eq)]
+pub struct Standards {
+    /// The feerate at which an output's own size and that of its spending are paid for, in satoshi per 1,000 bytes
+    /// (Bitcoin Core's `-dustrelayfee`).
+    pub dust_rate: u64,
+    /// The longest script in bytes that carries data (Bitcoin Core's `-datacarriersize`).
+    pub data_size: u64,
+    /// The most outputs that carry data.
+    pub data_outputs: u64,
+    /// Whether an output may be a multisig script (Bitcoin Core's `-permitbaremultisig`).
+    pub bare_multisig: bool,
+    /// The least size in bytes without witnesses.
+    pub least_size: u64,
+}
+
+/// Bitcoin Core 22.0's: a dust rate of 3,000, one output of at most 83 bytes of data, multisig scripts, and 82 bytes.
+impl Default for Standards {
+    ghost use Rattle.std.specs.Prelude.{◌≡◌};
+    ghost use Rattle.gate_standard.specs.Standards.{usual_standards};
+
+    ghost is_default = { λ standards. standards ≡ usual_standards };
+
+    fn default() -> Standards {
+        Standards {
+            dust_rate: 3000,
+            data_size: 83,
+            data_outputs: 1,
+            bare_multisig: true,
+            least_size: 82,
+        }
+    }
+}
