@@ -111,19 +111,22 @@ def test_full_replacement_is_told(gate):
 
 
 def test_the_floor(gate):
-    """The floor of the node's pool is set if it is above the node's relay minimum or the gate's."""
+    """The floor of the node's pool is set if it is above the node's relay minimum, which is the gate's then."""
     recorded = calls(NODES[1])
     told = result_of(recorded, "getmempoolinfo")
-    for minimum, floor, wanted in (  # the last is too low for any transaction that is tried
+    for minimum, floor, wanted in (
         ("0.00001000", "0.00001000", []),
         ("0.00001000", "0.00001001", ["operator floor 1001"]),
-        ("0.00005000", "0.00005000", ["operator floor 5000"]),
+        ("0.00005000", "0.00005000", []),
         ("0.00000100", "0.00000100", []),
         ("0.00000100", "0.00000500", ["operator floor 500"]),
         ("0.00000001", "0.00000002", ["operator floor 2"]),
     ):
         told["minrelaytxfee"], told["mempoolminfee"] = float(minimum), float(floor)
-        same_lines([it for it in opened_from(recorded) if it.startswith("operator")], wanted)
+        lines, rate = opened_from(recorded), round(float(minimum) * 100000000)
+        same_lines([it for it in lines if it.startswith("operator")], wanted)
+        same_lines([it for it in lines if it.startswith("minrelaytxfee")], ["minrelaytxfee %d" % rate] if rate != 1000 else [])
+    told["minrelaytxfee"], told["mempoolminfee"] = 0.00001, 0.00001
     found, said, status = compared_with(gate, recorded, NODES[1])
     same("the last line, standard error, status", (found[-1], said, status), ("71 compared: 71 alike, 0 known differences, 0 others", "", 0))
 

@@ -92,9 +92,9 @@ class Transaction:
     def weight(self):
         return 3 * len(self.stripped()) + len(self.text())
 
-    def virtual_size(self, cost=0):
-        """A quarter of the weight, or of 20 times the signature-operation cost, rounded up."""
-        return (max(self.weight(), 20 * cost) + 3) // 4
+    def virtual_size(self, cost=0, sigop_size=20):
+        """A quarter of the weight, or of the signature-operation cost by the bytes that each counts for, rounded up."""
+        return (max(self.weight(), sigop_size * cost) + 3) // 4
 
 
 def number_hash(number):

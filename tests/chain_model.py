@@ -5,7 +5,7 @@ from dataclasses import dataclass
 from typing import List
 
 from bitcoin import Transaction, counted
-from model import NULL, TWO_WEEKS, Coin, Entry, Model, carries_data, outpoints, size_of
+from model import HOUR, KILO, NULL, SMALL, Coin, Entry, Model, carries_data, outpoints, size_of
 
 GREATEST_DEPTH = 100
 GREATEST_HEIGHT = 10000000
@@ -144,7 +144,7 @@ class ChainModel(Model):
                 if tx.hash() not in confirmed:
                     self.try_again(tx, now)
         self.remove([entry for entry in self.pool if self.is_premature(entry.tx)], "premature")
-        self.remove([entry for entry in self.pool if entry.time + TWO_WEEKS < now], "expired")
+        self.remove([entry for entry in self.pool if entry.time + HOUR * self.opening.hours < now], "expired")
         self.trim()
 
     def try_again(self, tx, now):
@@ -191,8 +191,8 @@ class ChainModel(Model):
         above, below = self.above(entry.tx) | {entry}, self.below([entry])
         most_above, most_below = max(self.opening.ancestors, 2), self.opening.descendants + 1
         found = {
-            "over the most ancestors": len(above) > most_above, "over the size of ancestors": size_of(above) > 101000,
-            "over the most descendants": len(below) > most_below, "over the size of descendants": size_of(below) > 111000,
+            "over the most ancestors": len(above) > most_above, "over the size of ancestors": size_of(above) > KILO * self.opening.ancestors_size,
+            "over the most descendants": len(below) > most_below, "over the size of descendants": size_of(below) > KILO * self.opening.descendants_size + SMALL,
             "back with the most ancestors": len(above) == most_above, "back with the most descendants": len(below) == most_below,
         }
         return [limit for limit, holds in found.items() if holds]

@@ -17,8 +17,8 @@ OPENING = [TIMES, "verdict * ok", "bloom 1"]
 ENTER = "peer 1 enter 192.0.2.1"
 MULTISIG = b"\x51" + 3 * (b"\x21\x02" + b"\x02" * 32) + b"\x53\xae"
 LONG_CHAIN = (
-    "A36 With its ancestors in the pool it would be more transactions than limitancestorcount says (25) or more than 101,000 virtual bytes,"
-    " or an ancestor would get more descendants than limitdescendantcount says (25) or more than 101,000 virtual bytes of them"
+    "A36 With its ancestors in the pool it would be more transactions than limitancestorcount says (25) or more thousand virtual bytes than limitancestorsize says (101),"
+    " or an ancestor would get more descendants than limitdescendantcount says (25) or more thousand virtual bytes of them than limitdescendantsize says (101)"
 )
 FORGETTING = "C6 More blocks are to be disconnected than are connected, or than 100; or more are to be forgotten than are connected"
 

@@ -23,6 +23,8 @@ LAST_SIGNAL = 0xFFFFFFFD
 SMALL = 10000
 MOST_REPLACED = 100
 TWO_WEEKS = 1209600
+HOUR = 3600
+KILO = 1000
 
 
 def tokens():
@@ -61,6 +63,17 @@ class Opening:
     descendants: int = 25
     full_rbf: bool = False
     first: int = 0
+    ancestors_size: int = 101
+    descendants_size: int = 101
+    relay_rate: int = 1000
+    incremental_rate: int = 1000
+    hours: int = 336
+    sigop_size: int = 20
+    dust_rate: int = 3000
+    data_size: int = 83
+    data_outputs: int = 1
+    bare_multisig: bool = True
+    least_size: int = 82
 
     def tip(self):
         """The height of the last time."""
@@ -86,10 +99,19 @@ class Entry:
         return any(one.sequence <= LAST_SIGNAL for one in self.tx.inputs)
 
 
+# the lines of settings that stand only if they say something else than usual, and the fields of an opening
+SETTINGS = {
+    "limitancestorsize": "ancestors_size", "limitdescendantsize": "descendants_size", "minrelaytxfee": "relay_rate", "incrementalrelayfee": "incremental_rate",
+    "mempoolexpiry": "hours", "bytespersigop": "sigop_size", "dustrelayfee": "dust_rate", "datacarriersize": "data_size", "datacarrieroutputs": "data_outputs",
+    "permitbaremultisig": "bare_multisig", "mintxsize": "least_size",
+}
+
+
 def policy_lines(opening, spoken):
     """The lines of what is asked of families and of replacements: what is usual stands only where `spoken` says so."""
     told = {"limitancestorcount": (opening.ancestors, 25), "limitdescendantcount": (opening.descendants, 25), "mempoolfullrbf": (int(opening.full_rbf), 0)}
-    return ["%s %d" % (name, value) for name, (value, usual) in told.items() if value != usual or spoken()]
+    lines = ["%s %d" % (name, value) for name, (value, usual) in told.items() if value != usual or spoken()]
+    return lines + ["%s %d" % (word, getattr(opening, name)) for word, name in SETTINGS.items() if getattr(opening, name) != getattr(Opening, name)]
 
 
 def draw_policy(random, opening):
@@ -125,9 +147,9 @@ def carries_data(output):
     return output.script[:1] == bytes([RETURN])
 
 
-def dust(output):
-    """What an output has at least: what it costs to make and to spend it, at 3,000 satoshi per 1,000 bytes."""
-    return 0 if carries_data(output) else 582 if output.script == MULTISIG else 294
+def dust(output, rate):
+    """What an output has at least: what it costs to make and to spend it."""
+    return 0 if carries_data(output) else fee_at(rate, 194 if output.script == MULTISIG else 98)
 
 
 def cost_of(tx):
@@ -210,7 +232,7 @@ class Model:
         entry = Entry(tx, self.fee(tx), self.size(tx), now)
         replaced = self.remove(self.conflicts(tx), "replaced")
         self.pool.append(entry)
-        self.remove([one for one in self.pool if one.time + TWO_WEEKS < now], "expired")
+        self.remove([one for one in self.pool if one.time + HOUR * self.opening.hours < now], "expired")
         self.trim()
         if entry not in self.pool:
             return self.denied("A46", peer)
@@ -226,7 +248,7 @@ class Model:
     def trim(self):
         while size_of(self.pool) > self.opening.budget:
             family = self.remove([self.least()], "trimmed")
-            self.floor = max(self.floor, rate_of(fees_of(family), size_of(family)) + 1000)
+            self.floor = max(self.floor, rate_of(fees_of(family), size_of(family)) + self.opening.incremental_rate)
             self.gone["trimmed as a family"] += len(family) > 1
 
     def least(self):
@@ -285,12 +307,19 @@ class Model:
             yield "A12"
         if tx.weight() > 400000:
             yield "A13"
-        if any(output.value < dust(output) for output in tx.outputs):
-            yield "A17"
-        if len([output for output in tx.outputs if carries_data(output)]) > 1:
+        for output in tx.outputs:
+            if self.is_strange(output):
+                yield "A16"
+            if output.value < dust(output, self.opening.dust_rate):
+                yield "A17"
+        if len([output for output in tx.outputs if carries_data(output)]) > self.opening.data_outputs:
             yield "A18"
-        if len(tx.stripped()) < 82:
+        if len(tx.stripped()) < self.opening.least_size:
             yield "A19"
+
+    def is_strange(self, output):
+        """Whether an output is one that the operator doesn't take for standard."""
+        return output.script == MULTISIG and not self.opening.bare_multisig or carries_data(output) and len(output.script) > self.opening.data_size
 
     def in_pool_and_chain(self, tx):
         if not self.is_final(tx):
@@ -326,7 +355,7 @@ class Model:
             yield "A33"
         if self.fee(tx) < fee_at(self.floor, self.size(tx)):
             yield "A34"
-        if self.fee(tx) < fee_at(1000, self.size(tx)):
+        if self.fee(tx) < fee_at(self.opening.relay_rate, self.size(tx)):
             yield "A35"
 
     def families(self, tx):
@@ -351,7 +380,7 @@ class Model:
         paid = fees_of(self.below(direct))
         if fee < paid:
             yield "A41"
-        if fee - paid < size:
+        if fee - paid < fee_at(self.opening.incremental_rate, size):
             yield "A42"
 
     def judged(self, tx):
@@ -380,7 +409,7 @@ class Model:
         return self.opening.times
 
     def size(self, tx):
-        return tx.virtual_size(cost_of(tx))
+        return tx.virtual_size(cost_of(tx), self.opening.sigop_size)
 
     def conflicts(self, tx):
         """The entries that spend what it spends."""
@@ -410,11 +439,12 @@ class Model:
 
     def tries(self, tx):
         """The limits of its family: the usual ones, and for a small transaction those of the carve-out."""
-        direct, descendants, size = self.conflicts(tx), self.opening.descendants, 101000
+        direct, descendants, size = self.conflicts(tx), self.opening.descendants, KILO * self.opening.descendants_size
         if len(direct) == 1:
             descendants, size = descendants + 1, size + size_of(self.below(direct))
-        usual = Limits(self.opening.ancestors, 101000, descendants, size)
-        carved_out = Limits(2, 101000, descendants + 1, size + SMALL)
+        most = KILO * self.opening.ancestors_size
+        usual = Limits(self.opening.ancestors, most, descendants, size)
+        carved_out = Limits(2, most, descendants + 1, size + SMALL)
         return [usual, carved_out] if self.size(tx) <= SMALL else [usual]
 
     def passed(self, limits, above, size):

@@ -6,6 +6,8 @@
 #[cfg(test)]
 mod blocks;
 #[cfg(test)]
+mod bounds_of_settings;
+#[cfg(test)]
 mod calls;
 #[cfg(test)]
 mod families;
@@ -40,6 +42,8 @@ mod repeating;
 mod rounds;
 #[cfg(test)]
 mod row;
+#[cfg(test)]
+mod settings;
 #[cfg(test)]
 mod spending;
 #[cfg(test)]
