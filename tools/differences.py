@@ -24,15 +24,19 @@ class Answer:
 @dataclass
 class Known:
     """A difference of later releases: the gate's rule, how the node's reason begins ("" if the node takes it), the first
-    such release, what has to hold of the node's relay minimum, and why."""
+    such release, why, what has to hold of the node's relay minimum, and the settings that explain it: where the opening says
+    one of these, the gate has what the node has, and a difference is none that is known."""
 
     rule: str
     reason: str
     since: int
     why: str
     holds: Callable[[int], bool] = lambda minimum: True
+    settings: tuple = ()
 
-    def is_it(self, release, relay_minimum, gate, told):
+    def is_it(self, release, relay_minimum, gate, told, said=()):
+        if any(it in said for it in self.settings):
+            return False
         is_reason = told.reason.startswith(self.reason) if self.reason else not told.reason
         return gate.rule == self.rule and is_reason and release >= self.since and self.holds(relay_minimum)
 
@@ -43,22 +47,23 @@ def pays_less(relay_minimum):
 
 KNOWN = (
     Known("A12", "", 280000, "version 3 is standard (BIP 431)"),
-    Known("A16", "", 300000, "data outputs may have 100,000 bytes"),
+    Known("A16", "", 300000, "data outputs may have 100,000 bytes", settings=("datacarriersize",)),
     Known("A17", "", 290000, "dust may stand in a transaction without a fee whose child spends it"),
     Known("A17", "dust-nonanchor", 290000, "the same refusal under another name"),
-    Known("A18", "", 300000, "several data outputs are standard"),
-    Known("A19", "", 250000, "65 bytes without witnesses are enough"),
+    Known("A18", "", 300000, "several data outputs are standard", settings=("datacarrieroutputs",)),
+    Known("A19", "", 250000, "65 bytes without witnesses are enough", settings=("mintxsize",)),
     Known("A31", "", 280000, "anchors may be spent (pay to anchor)"),
-    Known("A35", "", 290100, "the relay minimum is lower", pays_less),
-    Known("A42", "", 290100, "a replacement pays less for its own relay", pays_less),
+    Known("A35", "", 290100, "the relay minimum is lower", pays_less, ("minrelaytxfee",)),
+    Known("A42", "", 290100, "a replacement pays less for its own relay", pays_less, ("incrementalrelayfee",)),
     Known("A44", "mempool-script-verify-flag-failed", 290000, "the same refusal under another name"),
     Known("", "bad-txns-nonstandard-inputs", 300000, "at most 2,500 signature operations outside witnesses"),
 )
 
 
-def why_known(release, relay_minimum, gate, told):
-    """Why the two answers differ, if later releases are known to do so; else None."""
-    return next((it.why for it in KNOWN if it.is_it(release, relay_minimum, gate, told)), None)
+def why_known(release, relay_minimum, gate, told, said=()):
+    """Why the two answers differ, if later releases are known to do so and none of the settings that the opening says explains
+    it; else None."""
+    return next((it.why for it in KNOWN if it.is_it(release, relay_minimum, gate, told, said)), None)
 
 
 def are_alike(gate, told):

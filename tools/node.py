@@ -19,8 +19,16 @@ SATOSHI = 100000000
 MEDIAN_OF = 11
 MOST_BUDGET = 1000000000
 MOST_TIMES = 1000000
-# the gate's own relay minimum, in satoshi for 1,000 virtual bytes
+# the gate's own relay minimum, in satoshi for 1,000 virtual bytes, where its opening says none
 RELAY_MINIMUM = 1000
+# what an opening may say of a policy, and what the gate has without it
+USUAL = {
+    "minrelaytxfee": RELAY_MINIMUM, "incrementalrelayfee": 1000, "mempoolexpiry": 336, "limitancestorcount": 25, "limitdescendantcount": 25, "limitancestorsize": 101,
+    "limitdescendantsize": 101, "bytespersigop": 20, "dustrelayfee": 3000, "datacarriersize": 83, "datacarrieroutputs": 1, "permitbaremultisig": 1, "mintxsize": 82,
+    "mempoolfullrbf": 0,
+}
+# what releases of Bitcoin Core have since, where a node doesn't tell it
+SINCE = ((250000, "mintxsize", 65), (300000, "datacarriersize", 100000), (300000, "datacarrieroutputs", 10000))
 # the first release of Bitcoin Core that replaces whatever pays less unless it is set otherwise; one that has no field for it does
 FULL_REPLACEMENT_SINCE = 280000
 TEXTS = ("getblockhash", "getbestblockhash", "getrawtransaction")
@@ -273,7 +281,9 @@ class View:
         pool = node.ask("getmempoolinfo")
         self.budget = min(pool["maxmempool"], MOST_BUDGET)
         self.floor, self.relay_minimum = floor_of(pool), satoshi(pool["minrelaytxfee"])
+        self.settings = settings_of(pool, self.release)
         self.replaces_all = bool(pool.get("fullrbf", self.release >= FULL_REPLACEMENT_SINCE))
+        self.settings["mempoolfullrbf"] = int(self.replaces_all)
         # what the node says of each transaction of its pool, once its entries are asked for
         self.listed = {}
 
@@ -332,10 +342,41 @@ class View:
         return found
 
 
+def settings_of(pool, release):
+    """What a node asks of transactions, by line: what its `getmempoolinfo` tells, and what its release has."""
+    found = {name: number for since, name, number in SINCE if release >= since}
+    found["minrelaytxfee"] = satoshi(pool["minrelaytxfee"])
+    if "incrementalrelayfee" in pool:
+        found["incrementalrelayfee"] = satoshi(pool["incrementalrelayfee"])
+    if "permitbaremultisig" in pool:
+        found["permitbaremultisig"] = int(pool["permitbaremultisig"])
+    if "maxdatacarriersize" in pool:
+        found["datacarriersize"] = pool["maxdatacarriersize"]
+    return found
+
+
+def said_in(lines):
+    """The settings that lines say, as an operator writes them; lines that are empty or begin with # say nothing."""
+    found = {}
+    for line in lines:
+        words = line.split()
+        if not words or words[0].startswith("#"):
+            continue
+        if len(words) != 2 or words[0] not in USUAL or not words[1].isdecimal():
+            raise Unusable("%r is no setting; one is NAME NUMBER, as mintxsize 65" % line.strip())
+        found[words[0]] = int(words[1])
+    return found
+
+
+def setting_lines(settings):
+    """The lines of what is other than the gate has without them."""
+    return ["%s %d" % (name, settings[name]) for name, usual in USUAL.items() if settings.get(name, usual) != usual]
+
+
 def floor_of(pool):
-    """What the pool asks for above the node's relay minimum, or the gate's, by `getmempoolinfo`; 0 if nothing."""
+    """What the pool asks for above the node's relay minimum, by `getmempoolinfo`; 0 if nothing."""
     floor = satoshi(pool["mempoolminfee"])
-    return floor if floor > min(satoshi(pool["minrelaytxfee"]), RELAY_MINIMUM) else 0
+    return floor if floor > satoshi(pool["minrelaytxfee"]) else 0
 
 
 def entry_of(digits, told):
@@ -418,8 +459,7 @@ def opening(view, entries, candidates):
     yield "# from a node: chain %s, tip %d, %d transactions of its pool" % (view.chain, view.tip, len(entries))
     yield "# scripts are not run: what the node took is taken to be right"
     yield "budget %d" % view.budget
-    if view.replaces_all:
-        yield "mempoolfullrbf 1"
+    yield from setting_lines(view.settings)
     yield from times
     yield from dict.fromkeys(verdicts_of(candidates))
     yield "verdict * ok"
@@ -443,6 +483,8 @@ def add_words(words):
     which.add_argument("--cli", "--rpc", dest="cli", metavar="COMMAND", help='the command that asks the node: bitcoin-cli, or "bitcoin-cli -regtest"')
     which.add_argument("--from", metavar="PATH", dest="path", help="a recording of a node's answers, or a folder of them")
     words.add_argument("--record", metavar="FILE", help="writes the answers down as a recording")
+    words.add_argument("--settings", metavar="FILE", help="lines of settings that the node has, as the files of settings/; they come before what it tells")
+    words.add_argument("--set", metavar="LINE", action="append", default=[], help='one such line, as "mempoolexpiry 24"; it comes before those of a file')
     words.add_argument("--try", metavar="FILE", dest="tried", help="transactions to be tried, a line of hexadecimal each; - is standard input")
 
 
@@ -450,6 +492,10 @@ def asked(words):
     """The node's view, its pool and the candidates that the words ask for."""
     node = RunningNode(words.cli) if words.cli else RecordedNode(words.path)
     view = View(Recorder(node, words.record) if words.record else node)
+    if words.settings:
+        with open(words.settings) as file:
+            view.settings.update(said_in(file))
+    view.settings.update(said_in(words.set))
     return view, view.entries(), candidates_of(view, digits_in(words.tried))
 
 

@@ -69,8 +69,7 @@ def _lines(view: Any, entries: Sequence[Any], settings: Sequence[str], times: in
     coins, heights = node.coins_of(view, transactions)
     first = first_height(view.tip, heights, times)
     own = ["budget %d" % view.budget]
-    if view.replaces_all:
-        own.append("mempoolfullrbf 1")
+    own += node.setting_lines(view.settings)
     # what the operator sets goes before what the node says
     given = {line.partition(" ")[0] for line in settings}
     found = [line for line in own if line.partition(" ")[0] not in given]

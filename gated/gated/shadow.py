@@ -107,6 +107,8 @@ class Shadow(Watcher):
         # where the journal is written now
         self.segment: Callable[[], Optional[Path]] = lambda: None
         self._release = self._relay_minimum = 0
+        # the first words of the opening's lines, among them the settings that it says
+        self._said: list[str] = []
         self.opened_at, self.why = 0.0, ""
         self.tip: Optional[Tip] = None
         self._denied: set[str] = set()
@@ -116,6 +118,7 @@ class Shadow(Watcher):
 
     def opened(self, opening: Opening, why: str) -> None:
         self._release, self._relay_minimum = opening.release, opening.relay_minimum
+        self._said = [line.partition(" ")[0] for line in opening.lines]
         self.why, self.opened_at = why, time.time()
         self.tip = Tip(opening.best, opening.tip)
         self._denied.clear()
@@ -150,7 +153,7 @@ class Shadow(Watcher):
         if self._denied.intersection(it.parents) and ours.reason:
             self._differ(PARENT, it, ours.text(), theirs.text(), "a parent is denied here")
             return
-        known = differences.why_known(self._release, self._relay_minimum, ours, theirs) or ""
+        known = differences.why_known(self._release, self._relay_minimum, ours, theirs, self._said) or ""
         self._differ(ours.rule or "fee", it, ours.text(), theirs.text(), known)
 
     def _differ(self, rule: str, it: Submitted, ours: str, theirs: str, known: str) -> None:
@@ -181,7 +184,7 @@ class Shadow(Watcher):
         if differences.are_alike(ours, theirs):
             self._agree(1)
             return
-        known = differences.why_known(self._release, self._relay_minimum, ours, theirs) or ""
+        known = differences.why_known(self._release, self._relay_minimum, ours, theirs, self._said) or ""
         self.differs(ours.rule or "fee", txid, ours.text(), theirs.text(), known)
 
     def differs(self, rule: str, txid: str, ours: str, theirs: str, known: str = "") -> Difference:
