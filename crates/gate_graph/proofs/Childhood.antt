@@ -31,6 +31,12 @@ step_child g a b s =
 pub listed_child : (g : List Node) (lists : Lists) (x b : Id) (i : ℕ) → IsLinked g lists → i < length (listing lists x) → b ≡ get_or (listing lists x) i b → Contains (children_of g x) b
 listed_child g lists x b i linked lt is = step_child g x b ((linked.linked x b).0 (i, lt, sym is))
 
+-- the list has the children and no others
+pub listed_children : (g : List Node) (lists : Lists) (x : Id) → IsLinked g lists → (other : Id) → among (listing lists x) other ≡ among (children_of g x) other
+listed_children g lists x linked other = same_bool _ _
+    (λ t. among_from (children_of g x) other (step_child g x other ((linked.linked x other).0 (Contains-among (listing lists x) other t))))
+    (λ t. among_from (listing lists x) other ((linked.linked x other).1 (child_step g x other (Contains-among (children_of g x) other t))))
+
 -- an empty list
 pub unlisted : (g : List Node) (lists : Lists) (x : Id) → IsLinked g lists → length (listing lists x) ≡ 0 → children_of g x ≡ []
 unlisted g lists x linked none = by (children_of g x) refl

@@ -124,6 +124,13 @@ impl<T: Drop, S: BuildHasher + Copy + Drop> Nodes<T, S> {
         children(alloc, &self.slots, &self.links, id)
     }
 
+    /// Whether a node with the id `child` names an id, whether a node has that id or not. It is one look-up.
+    pub fn is_child(&self, id: &NodeId, child: &NodeId) -> bool
+        ensures { result ≡ among (children_of (nodes_in self.now.nodes) id.now) child.now }
+    {
+        self.links.has(id, child)
+    }
+
     /// The nodes in the order of adding, with holes where some were taken out.
     pub fn as_slice(&self) -> &[Option<Held<T>>]
         ensures nodes { loaded (entries_of result.now) ≡ self.now.nodes }

@@ -1,11 +1,12 @@
 -- The children of an id among nodes are those among entries.
-use Rattle.std.proofs.Common.{◌≡◌, ◌<◌, true, false, List, [], Option, Some, None, length, sym, ap, subst, ◌∙◌, Bor}
+use Rattle.std.proofs.Common.{◌≡◌, ◌<◌, ◌&&◌, true, false, List, [], Option, Some, None, length, sym, ap, subst, ◌∙◌, Bor}
 use Rattle.std.specs.Prelude.{Contains, IfSome, IfNone}
 use Rattle.std.specs.List.{IsDistinct}
 use Rattle.std.specs.Option.{option_copied}
 use Rattle.std.specs.Str.{bytes_eq}
 use Rattle.std.specs.Cmp.Lexicographic.{bytes_decides}
-use Rattle.std.proofs.lemmas.Bool.{false_from_ne_true}
+use Rattle.std.specs.List.{list_any}
+use Rattle.std.proofs.lemmas.Bool.{false_from_ne_true, and_from, and_parts}
 use Rattle.std.proofs.lemmas.Map.Made.{AllPairs-from_IsDistinct}
 use Rattle.gate_tx.specs.declared.TxIn.{TxIn}
 use Rattle.gate_tx.specs.Ids.{txid_of}
@@ -14,8 +15,9 @@ use Rattle.gate_graph.specs.Families.{among, children_of as nodes_naming}
 use Rattle.gate_graph.specs.Holding.{nodes_in}
 use Rattle.gate_graph.proofs.Apart.{among_from, Contains-among}
 use Rattle.gate_graph.proofs.Childhood.{child_step, step_child}
+use Rattle.gate_graph.proofs.Steps.{same_bool}
 use Rattle.gate_bytes.proofs.Members.{any_is, list_any_of, not_in_none}
-use Rattle.gate_pool.specs.Pool.{Admitted}
+use Rattle.gate_pool.specs.Pool.{Admitted, has_txid}
 use Rattle.gate_pool.specs.Family.{names, steps, children_of, without_family, without_below, AreIdsOf}
 use Rattle.gate_pool.specs.Keeping.{entries_in, IsCarried}
 use Rattle.gate_pool.specs.Search.{IsChild}
@@ -51,6 +53,17 @@ module _ (nodes : List (Node × Admitted)) (k : IsCarried nodes) (x : Id) where
         let v = is_child id (Contains-among (nodes_naming (nodes_in nodes) x) id (sym (same id) ∙ among_from keys id m)) in
         (v.0, Contains-filter (λ (d : Admitted). names d x) es v.0 v.1 v.2, v.3);
   }
+
+  -- an id is that of a child if the entry that has it names the other
+  pub child_told : (c : Id) → among (nodes_naming (nodes_in nodes) x) c ≡ list_any (λ (e : Admitted). names e x && has_txid e c) es
+  child_told c = same_bool _ _
+      (λ t.
+      let v = is_child c (Contains-among (nodes_naming (nodes_in nodes) x) c t) in
+      list_any_of (λ (e : Admitted). names e x && has_txid e c) es v.0 v.1 (and_from _ _ v.2 ((bytes_decides (txid_of v.0.tx) c).1 v.3)))
+      (λ t.
+      let w = any_is (λ (e : Admitted). names e x && has_txid e c) es t in
+      let p = and_parts _ _ w.2 in
+      among_from (nodes_naming (nodes_in nodes) x) c (subst (Contains (nodes_naming (nodes_in nodes) x)) ((bytes_decides (txid_of w.0.tx) c).0 p.1) (child_named w.0 w.1 p.0)))
 
   -- none names an id that has no child
   pub none_named : nodes_naming (nodes_in nodes) x ≡ [] → (e : Admitted) → Contains es e → names e x ≡ false

@@ -1,4 +1,5 @@
-ghost use Rattle.std.specs.Prelude.{◌≡◌, ◌<◌, ◌^◌, Bool, None, [], not, filter, length, is_some, IfOk, IfSome, OnOk};
+ghost use Rattle.std.specs.Prelude.{◌≡◌, ◌<◌, ◌^◌, ◌&&◌, Bool, None, [], not, filter, length, is_some, IfOk, IfSome, OnOk};
+ghost use Rattle.std.specs.List.{list_any};
 ghost use Rattle.std.specs.List.Sorted.{IsPermutation};
 ghost use Rattle.std.specs.Option.{option_copied};
 ghost use Rattle.gate_tx.specs.Ids.{txid_of, wtxid_of};
@@ -215,6 +216,14 @@ impl<S: BuildHasher + Copy + Drop> Pool<S> {
     {
         self.store.take_before(&mut self.arrivals, time);
         self.least = self.store.settle();
+    }
+
+    /// Whether the entry with the id `child` spends outputs of a transaction. It is one look-up, however many children
+    /// and inputs there are.
+    pub fn is_child(&self, txid: &Txid, child: &Txid) -> bool
+        ensures { result ≡ list_any (λ e. names e txid.now && has_txid e child.now) self.now.entries }
+    {
+        self.store.is_child(txid, child)
     }
 
     /// The least score of all entries, of equal ones that of the entry that was admitted last; none for an empty pool.

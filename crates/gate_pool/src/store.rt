@@ -1,4 +1,5 @@
-ghost use Rattle.std.specs.Prelude.{◌≡◌, ◌<◌, ◌≤◌, ◌^◌, ◌++◌, ◌∷◌, Bool, List, ℕ, [], not, filter, length, is_some, IfOk, IfSome, IfNone, OnOk, Contains, None, true, false};
+ghost use Rattle.std.specs.Prelude.{◌≡◌, ◌<◌, ◌≤◌, ◌^◌, ◌++◌, ◌∷◌, ◌&&◌, Bool, List, ℕ, [], not, filter, length, is_some, IfOk, IfSome, IfNone, OnOk, Contains, None, true, false};
+ghost use Rattle.std.specs.List.{list_any};
 ghost use Rattle.std.specs.List.Sorted.{IsPermutation};
 ghost use Rattle.std.specs.Option.{option_copied};
 ghost use Rattle.std.specs.Vec.{vec_capacity};
@@ -148,6 +149,13 @@ impl<S: BuildHasher + Copy + Drop> Store<S> {
     {
         let found = self.nodes.children(alloc, &node_id(txid))?;
         txids_of(alloc, found.as_slice())
+    }
+
+    /// Whether the entry with the id `child` spends outputs of a transaction.
+    pub(crate) fn is_child(&self, txid: &Txid, child: &Txid) -> bool
+        ensures { result ≡ list_any (λ e. names e txid.now && has_txid e child.now) self.now.entries }
+    {
+        self.nodes.is_child(&node_id(txid), &node_id(child))
     }
 
     /// The arrivals of all entries.

@@ -1,5 +1,5 @@
 -- To ask each input for a parent that is added is to ask each parent.
-use Rattle.std.proofs.Common.{◌≡◌, ℕ, Bool, true, not, ◌&&◌, List, refl, sym, ap, ◌∙◌}
+use Rattle.std.proofs.Common.{◌≡◌, ℕ, Bool, true, not, ◌&&◌, List, sym, ap, ◌∙◌}
 use Rattle.std.specs.Prelude.{Contains, filter, is_some}
 use Rattle.std.specs.List.{list_any}
 use Rattle.std.specs.Str.{bytes_eq}
@@ -10,33 +10,34 @@ use Rattle.gate_tx.specs.Ids.{txid_of}
 use Rattle.gate_bytes.proofs.Members.{any_is, list_any_of}
 use Rattle.gate_graph.proofs.Steps.{same_bool}
 use Rattle.gate_pool.specs.Pool.{Admitted, has_txid, entry_by_txid}
-use Rattle.gate_pool.specs.Family.{names, is_among, children_of, parents_above, AreIdsOf}
+use Rattle.gate_pool.specs.Family.{names, is_among, parents_above, AreIdsOf}
 use Rattle.gate_pool.specs.Distinct.{AreDistinct}
 use Rattle.gate_pool.proofs.Walking.{Contains-filter, Contains-from_filter}
 use Rattle.gate_pool.proofs.Adding.{passed}
 use Rattle.gate_rbf.specs.Replacing.{adds_parent}
 use Rattle.gate_rbf.specs.Gathering.{is_new as gathered_new}
 use Rattle.gate_rbf.proofs.Conflicting.{is_some-find, list_any-agree}
-use Rattle.gate_rbf.proofs.Choosing.{any_among_last, any_filter, listed}
+use Rattle.gate_rbf.proofs.Choosing.{any_among_last}
 
 -- an input spends from the entry
 abbrev is_parent : List TxIn → Admitted → Bool
 is_parent inputs e = list_any (λ (i : TxIn). bytes_eq i.prevout.txid (txid_of e.tx)) inputs
 
--- what is asked of ids is asked of the entries that have them
-pub any_of_ids : (q : List ℕ → Bool) (ids : List (List ℕ)) (some : List Admitted) → AreIdsOf ids some → list_any q ids ≡ list_any (λ (e : Admitted). q (txid_of e.tx)) some
-any_of_ids q ids some are = same_bool _ _
+-- to ask each id for an entry that has it is to ask each entry for its id
+pub any_child : (entries : List Admitted) (parent : List ℕ) (ids : List (List ℕ))
+    → list_any (λ (id : List ℕ). list_any (λ (e : Admitted). names e parent && has_txid e id) entries) ids ≡ list_any (λ (e : Admitted). names e parent && is_among ids e) entries
+any_child entries parent ids = same_bool _ _
     (λ h.
-    let w = any_is q ids h in
-    let v = are.only w.0 w.1 in
-    list_any_of (λ (e : Admitted). q (txid_of e.tx)) some v.0 v.1 (ap q v.2 ∙ w.2))
-    (λ h. let w = any_is (λ (e : Admitted). q (txid_of e.tx)) some h in list_any_of q ids (txid_of w.0.tx) (are.all w.0 w.1) w.2)
-
--- what is asked of the children of an id
-pub any_child : (q : List ℕ → Bool) (entries : List Admitted) (parent : List ℕ) (ids : List (List ℕ)) → AreIdsOf ids (children_of entries parent)
-    → list_any q ids ≡ list_any (λ (e : Admitted). names e parent && q (txid_of e.tx)) entries
-any_child q entries parent ids are =
-    any_of_ids q ids (children_of entries parent) are ∙ any_filter (λ (e : Admitted). q (txid_of e.tx)) (λ (e : Admitted). names e parent) entries
+    let i = any_is (λ (id : List ℕ). list_any (λ (e : Admitted). names e parent && has_txid e id) entries) ids h in
+    let w = any_is (λ (e : Admitted). names e parent && has_txid e i.0) entries i.2 in
+    let p = and_parts _ _ w.2 in
+    list_any_of (λ (e : Admitted). names e parent && is_among ids e) entries w.0 w.1 (and_from _ _ p.0 (list_any_of (has_txid w.0) ids i.0 i.1 p.1)))
+    (λ h.
+    let w = any_is (λ (e : Admitted). names e parent && is_among ids e) entries h in
+    let p = and_parts _ _ w.2 in
+    let i = any_is (has_txid w.0) ids p.1 in
+    list_any_of (λ (id : List ℕ). list_any (λ (e : Admitted). names e parent && has_txid e id) entries) ids i.0 i.1
+    (list_any_of (λ (e : Admitted). names e parent && has_txid e i.0) entries w.0 w.1 (and_from _ _ p.0 i.2)))
 
 -- no direct conflict spends from it
 abbrev is_new : List Admitted → List ℕ → Bool
@@ -69,13 +70,11 @@ module _ (entries direct : List Admitted) (inputs : List TxIn) (ids : List (List
   parents_asked : list_any (is_new direct) ids ≡ list_any (adds_parent entries direct) inputs
   parents_asked = same_bool _ _ down up
 
--- the same, where the direct conflicts are given by their ids, which a look-up finds
+-- the same, where the direct conflicts are given by their ids
 pub any_new_parent : (entries : List Admitted) → AreDistinct entries → (test : Admitted → Bool) (given : List (List ℕ)) → AreIdsOf given (filter test entries)
-    → (has : List ℕ → Bool) → ((id : List ℕ) → has id ≡ list_any (λ y. bytes_eq y id) given)
     → (inputs : List TxIn) (ids : List (List ℕ)) → AreIdsOf ids (parents_above entries inputs)
-    → list_any (gathered_new entries has) ids ≡ list_any (adds_parent entries (filter test entries)) inputs
-any_new_parent entries distinct test given some has looks inputs ids are =
-    list_any-agree (gathered_new entries has) (is_new (filter test entries))
-    (λ id. ap not (list_any-agree (λ (e : Admitted). names e id && has (txid_of e.tx)) (λ (e : Admitted). names e id && is_among given e) (λ e. ap (λ b. names e id && b) (looks (txid_of e.tx) ∙ listed given e (txid_of e.tx) refl)) entries
-    ∙ any_among_last (λ (e : Admitted). names e id) entries test given distinct some)) ids
+    → list_any (gathered_new entries given) ids ≡ list_any (adds_parent entries (filter test entries)) inputs
+any_new_parent entries distinct test given some inputs ids are =
+    list_any-agree (gathered_new entries given) (is_new (filter test entries))
+    (λ id. ap not (any_among_last (λ (e : Admitted). names e id) entries test given distinct some)) ids
     ∙ parents_asked entries (filter test entries) inputs ids are

@@ -2,8 +2,7 @@
 use Rattle.std.specs.Prelude.{◌≡◌, ◌≢◌, ◌⊎◌, ℕ, Bool, not, ◌&&◌, List, filter, Contains, Result, IfOk}
 use Rattle.std.specs.Global.{Vec}
 use Rattle.std.specs.List.{list_any, AllPairs}
-use Rattle.gate_tx.specs.Ids.{txid_of}
-use Rattle.gate_pool.specs.Family.{names, all_below, AreIdsOf}
+use Rattle.gate_pool.specs.Family.{names, all_below, is_among, AreIdsOf}
 use Rattle.gate_pool.specs.Pool.{Admitted}
 
 -- ids after one was put among them, unless it was there before
@@ -13,9 +12,9 @@ pub record IsPut (before : List (List ℕ)) (txid : List ℕ) (after : List (Lis
   pub keeps : (a : List ℕ) → Contains before a → Contains after a
   pub only : (a : List ℕ) → Contains after a → Contains before a ⊎ (a ≡ txid)
 
--- no entry that a look-up by its id finds spends outputs of the transaction with this id
-abbrev pub is_new : List Admitted → (List ℕ → Bool) → List ℕ → Bool
-is_new entries has txid = not (list_any (λ (e : Admitted). names e txid && has (txid_of e.tx)) entries)
+-- no entry with one of these ids spends outputs of the transaction with this id
+abbrev pub is_new : List Admitted → List (List ℕ) → List ℕ → Bool
+is_new entries ids txid = not (list_any (λ (e : Admitted). names e txid && is_among ids e) entries)
 
 -- a fact about the entries with these ids
 abbrev pub ForEntriesOf : List (List ℕ) → List Admitted → (List Admitted → Type 0) → Type 0
