@@ -121,6 +121,10 @@ fn parameters_have_the_form_of_the_method(rt: HostRuntime) -> Result<(), Fail> {
         ),
         (
             "{\"method\":\"getrawmempool\",\"params\":[true],\"id\":1}",
+            NO_ENTRIES,
+        ),
+        (
+            "{\"method\":\"getrawmempool\",\"params\":[true,false],\"id\":1}",
             INVALID_PARAMS,
         ),
         (
@@ -150,6 +154,26 @@ fn parameters_have_the_form_of_the_method(rt: HostRuntime) -> Result<(), Fail> {
         (
             "{\"method\":\"getmempoolentry\",\"params\":[\"AAAAAAAAAAAAAAAAAAAAAAAAAAAAAAAAAAAAAAAAAAAAAAAAAAAAAAAAAAAAAAAA\"],\"id\":1}",
             "rpc 500 {\"error\":{\"code\":-5,\"message\":\"Transaction not in mempool\"},\"id\":1,\"result\":null}",
+        ),
+        (
+            "{\"method\":\"getrawtransaction\",\"params\":[\"AAAAAAAAAAAAAAAAAAAAAAAAAAAAAAAAAAAAAAAAAAAAAAAAAAAAAAAAAAAAAAAA\",true],\"id\":1}",
+            INVALID_PARAMS,
+        ),
+        (
+            "{\"method\":\"getrawtransaction\",\"params\":[\"AAAAAAAAAAAAAAAAAAAAAAAAAAAAAAAAAAAAAAAAAAAAAAAAAAAAAAAAAAAAAAAA\",false],\"id\":1}",
+            "rpc 500 {\"error\":{\"code\":-5,\"message\":\"Transaction not in mempool\"},\"id\":1,\"result\":null}",
+        ),
+        (
+            "{\"method\":\"gettxspendingprevout\",\"params\":[[]],\"id\":1}",
+            INVALID_PARAMS,
+        ),
+        (
+            "{\"method\":\"gettxspendingprevout\",\"params\":[[{\"txid\":\"AAAAAAAAAAAAAAAAAAAAAAAAAAAAAAAAAAAAAAAAAAAAAAAAAAAAAAAAAAAAAAAA\",\"vout\":-1}]],\"id\":1}",
+            INVALID_PARAMS,
+        ),
+        (
+            "{\"method\":\"gettxspendingprevout\",\"params\":[[{\"txid\":\"AAAAAAAAAAAAAAAAAAAAAAAAAAAAAAAAAAAAAAAAAAAAAAAAAAAAAAAAAAAAAAAA\",\"vout\":0,\"a\":0}]],\"id\":1}",
+            INVALID_PARAMS,
         ),
         (
             "{\"method\":\"sendrawtransaction\",\"params\":[\"zz\"],\"id\":1}",

@@ -5,7 +5,7 @@ use Rattle.std.specs.Prelude.{codes}
 use Rattle.gate_rpc.specs.Calls.{request_of}
 use Rattle.gate_rpc.specs.Lists.{is_allowed, is_among, is_listed, list_of}
 use Rattle.gate_rpc.specs.declared.request.Command.{Command}
-use Rattle.gate_rpc.specs.declared.request.Command.TheVariants.{SendRawTransaction, TestMempoolAccept, GetRawMempool, GetMempoolEntry, GetMempoolAncestors, GetMempoolDescendants, GetMempoolInfo}
+use Rattle.gate_rpc.specs.declared.request.Command.TheVariants.{SendRawTransaction, TestMempoolAccept, TestList, GetRawMempool, GetRawMempoolVerbose, GetMempoolEntry, GetMempoolAncestors, GetMempoolDescendants, GetMempoolInfo, GetRawTransaction, GetTxSpendingPrevout}
 use Rattle.gate_rpc.specs.declared.request.Request.{Request}
 use Rattle.gate_rpc.specs.declared.fault.CallError.{CallError}
 use Rattle.gate_rpc.specs.declared.reply.RpcReply.TheVariants.{NotAllowed}
@@ -39,11 +39,15 @@ module _ (w : World) (now : ℕ) where
       by : (command : Command) → sends_by command ≡ false → (commanded w now request.id command).1 ≡ w
       by (SendRawTransaction transaction) k = absurd (true≢false k)
       by (TestMempoolAccept transaction) k = refl
+      by (TestList transactions) k = refl
       by GetRawMempool k = refl
+      by GetRawMempoolVerbose k = refl
       by (GetMempoolEntry txid) k = refl
       by (GetMempoolAncestors txid) k = refl
       by (GetMempoolDescendants txid) k = refl
       by GetMempoolInfo k = refl
+      by (GetRawTransaction txid) k = refl
+      by (GetTxSpendingPrevout points) k = refl
 
   question_stays : (user : List ℕ) (request : Result Request CallError) → sends request ≡ false → (rpc_step w user now request).1 ≡ w
   question_stays user request h = by (is_barred w user request) (served request h)
@@ -66,11 +70,15 @@ module _ (w : World) (now : ℕ) where
           (barred w user now (Ok request)
           (ap (λ (c : Command). option_map_or (λ n. not (is_allowed w.rpcwhitelist user n)) (name_called (Ok (record request { command = c }))) false) is ∙ ap not h))
       by (TestMempoolAccept transaction) is = question_stays user (Ok request) (ap sends_by is)
+      by (TestList transactions) is = question_stays user (Ok request) (ap sends_by is)
       by GetRawMempool is = question_stays user (Ok request) (ap sends_by is)
+      by GetRawMempoolVerbose is = question_stays user (Ok request) (ap sends_by is)
       by (GetMempoolEntry txid) is = question_stays user (Ok request) (ap sends_by is)
       by (GetMempoolAncestors txid) is = question_stays user (Ok request) (ap sends_by is)
       by (GetMempoolDescendants txid) is = question_stays user (Ok request) (ap sends_by is)
       by GetMempoolInfo is = question_stays user (Ok request) (ap sends_by is)
+      by (GetRawTransaction txid) is = question_stays user (Ok request) (ap sends_by is)
+      by (GetTxSpendingPrevout points) is = question_stays user (Ok request) (ap sends_by is)
 
 pub questions_change_nothing : QuestionsChangeNothing
 unfolding step_of

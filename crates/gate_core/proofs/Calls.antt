@@ -4,7 +4,7 @@ use Rattle.gate_tx.specs.Tx.{Tx}
 use Rattle.gate_admit.specs.Submission.{submit_of}
 use Rattle.gate_rpc.specs.declared.id.Id.{Id}
 use Rattle.gate_rpc.specs.declared.request.Command.{Command}
-use Rattle.gate_rpc.specs.declared.request.Command.TheVariants.{SendRawTransaction, TestMempoolAccept, GetRawMempool, GetMempoolEntry, GetMempoolAncestors, GetMempoolDescendants, GetMempoolInfo}
+use Rattle.gate_rpc.specs.declared.request.Command.TheVariants.{SendRawTransaction, TestMempoolAccept, TestList, GetRawMempool, GetRawMempoolVerbose, GetMempoolEntry, GetMempoolAncestors, GetMempoolDescendants, GetMempoolInfo, GetRawTransaction, GetTxSpendingPrevout}
 use Rattle.gate_rpc.specs.declared.request.Request.{Request}
 use Rattle.gate_rpc.specs.declared.fault.CallError.{CallError}
 use Rattle.gate_rpc.specs.declared.reply.RpcReply.{RpcReply}
@@ -22,11 +22,15 @@ module _ (P : Reply × World → Type 0) (w : World) (now : ℕ) where
       → P (commanded w now id command)
   command_gives id (SendRawTransaction transaction) same send = send transaction refl
   command_gives id (TestMempoolAccept transaction) same send = same _
+  command_gives id (TestList transactions) same send = same _
   command_gives id GetRawMempool same send = same _
+  command_gives id GetRawMempoolVerbose same send = same _
   command_gives id (GetMempoolEntry txid) same send = same _
   command_gives id (GetMempoolAncestors txid) same send = same _
   command_gives id (GetMempoolDescendants txid) same send = same _
   command_gives id GetMempoolInfo same send = same _
+  command_gives id (GetRawTransaction txid) same send = same _
+  command_gives id (GetTxSpendingPrevout points) same send = same _
 
   request_gives : (request : Result Request CallError) → ((answer : RpcReply) → P (Rpc answer, w))
       → ((id : Id) (transaction : Option Tx) → transaction ≡ offered request → P (sent w id transaction (submit_of (standing_of w) transaction now w.budget)))

@@ -1,26 +1,35 @@
 -- What users send that is answered by a txid.
 use Rattle.std.proofs.Common.{◌≡◌, ℕ, Bool, true, false, if◌then◌else◌, List, Option, Some, None, Result, Ok, Err, refl, ap, ◌∙◌}
+use Rattle.std.specs.Prelude.{is_none}
+use Rattle.std.specs.List.{list_any}
 use Rattle.gate_tx.specs.Ids.{txid_of}
 use Rattle.gate_tx.specs.Tx.{Tx}
 use Rattle.gate_standard.specs.declared.Denial.{Denial}
+use Rattle.gate_standard.specs.declared.Denial.TheVariants.{Decode}
+use Rattle.gate_admit.specs.Standing.{Standing}
 use Rattle.gate_admit.specs.declared.Attempt.TheVariants.{First}
 use Rattle.gate_admit.specs.declared.Grant.{Grant}
 use Rattle.gate_admit.specs.Rules.{decision_of}
 use Rattle.gate_admit.specs.Submission.{submit_of}
 use Rattle.gate_admit.proofs.Submissions.{AreYoung, granted_young}
 use Rattle.gate_query.specs.Answers.{tested, tested_as}
+use Rattle.gate_query.specs.Queries.{outcomes_of}
 use Rattle.gate_rpc.specs.Calls.{request_of}
 use Rattle.gate_rpc.specs.declared.id.Id.{Id}
 use Rattle.gate_rpc.specs.declared.request.Command.{Command}
-use Rattle.gate_rpc.specs.declared.request.Command.TheVariants.{SendRawTransaction, TestMempoolAccept, GetRawMempool, GetMempoolEntry, GetMempoolAncestors, GetMempoolDescendants, GetMempoolInfo}
+use Rattle.gate_rpc.specs.declared.request.Command.TheVariants.{SendRawTransaction, TestMempoolAccept, TestList, GetRawMempool, GetRawMempoolVerbose, GetMempoolEntry, GetMempoolAncestors, GetMempoolDescendants, GetMempoolInfo, GetRawTransaction, GetTxSpendingPrevout}
 use Rattle.gate_rpc.specs.declared.request.Request.{Request}
 use Rattle.gate_rpc.specs.declared.error.RpcError.{RpcError}
+use Rattle.gate_rpc.specs.declared.error.RpcError.TheVariants.{Denied}
 use Rattle.gate_rpc.specs.declared.fault.CallError.{CallError}
 use Rattle.gate_rpc.specs.declared.fault.CallError.TheVariants.{ParseError, InvalidRequest, MethodNotFound, InvalidParams}
 use Rattle.gate_rpc.specs.declared.reply.RpcReply.{RpcReply}
 use Rattle.gate_rpc.specs.declared.reply.RpcReply.TheVariants.{NotAllowed, Answer, Failure}
 use Rattle.gate_rpc.specs.declared.result.RpcResult.{RpcResult}
-use Rattle.gate_rpc.specs.declared.result.RpcResult.TheVariants.{Sent, Allowed, Rejected, Txids, Entry, Info}
+use Rattle.gate_rpc.specs.declared.result.RpcResult.TheVariants.{Sent, Allowed, Rejected, Txids, Entry, Info, Outcomes, Entries, Transaction, Spendings}
+use Rattle.gate_rpc.specs.declared.items.KnownEntry.{KnownEntry}
+use Rattle.gate_rpc.specs.declared.items.Outcome.{Outcome}
+use Rattle.gate_rpc.specs.declared.items.Spending.{Spending}
 use Rattle.gate_rpc.specs.Faults.{reply_of}
 use Rattle.gate_message.specs.declared.event.Event.TheVariants.{Rpc as Calls}
 use Rattle.gate_message.specs.declared.reply.Reply.TheVariants.{Rpc}
@@ -47,6 +56,27 @@ module _ {X : Type 0} (id other : Id) (txid : List ℕ) where
   not_tested tx (Ok grant) h = cc
   not_tested tx (Err denial) h = cc
 
+  not_outcomes : (outcomes : List Outcome) → Rpc (Answer id (Outcomes outcomes)) ≡ Rpc (Answer other (Sent txid)) → X
+  not_outcomes outcomes h = cc
+
+  not_entries : (entries : List KnownEntry) → Rpc (Answer id (Entries entries)) ≡ Rpc (Answer other (Sent txid)) → X
+  not_entries entries h = cc
+
+  not_transaction : (tx : Tx) → Rpc (Answer id (Transaction tx)) ≡ Rpc (Answer other (Sent txid)) → X
+  not_transaction tx h = cc
+
+  not_spendings : (spendings : List Spending) → Rpc (Answer id (Spendings spendings)) ≡ Rpc (Answer other (Sent txid)) → X
+  not_spendings spendings h = cc
+
+  outcomes_or_not : (over : Standing) (now : ℕ) (transactions : List (Option Tx)) (b : Bool)
+      → Rpc (replied id (if b then Err (Denied Decode) else Ok (Outcomes (outcomes_of over now transactions)))) ≡ Rpc (Answer other (Sent txid)) → X
+  outcomes_or_not over now transactions true h = not_failed _ h
+  outcomes_or_not over now transactions false h = not_outcomes _ h
+
+  transaction_or_not : (found : Option Tx) → Rpc (replied id (of_entry Transaction found)) ≡ Rpc (Answer other (Sent txid)) → X
+  transaction_or_not None h = not_failed _ h
+  transaction_or_not (Some tx) h = not_transaction tx h
+
   listed_or_not : (found : Option (List (List ℕ))) → Rpc (replied id (of_entry Txids found)) ≡ Rpc (Answer other (Sent txid)) → X
   listed_or_not None h = not_failed _ h
   listed_or_not (Some txids) h = not_listed txids h
@@ -71,11 +101,15 @@ module _ (w : World) (now : ℕ) (other : Id) (txid : List ℕ) where
   command_young id (SendRawTransaction transaction) h = sent_young w now id other transaction txid h
   command_young id (TestMempoolAccept None) h = not_failed id other txid _ h
   command_young id (TestMempoolAccept (Some tx)) h = not_tested id other txid tx (decision_of First (standing_of w) (Some tx)) h
+  command_young id (TestList transactions) h = outcomes_or_not id other txid (standing_of w) now transactions (list_any is_none transactions) h
   command_young id GetRawMempool h = not_listed id other txid _ h
+  command_young id GetRawMempoolVerbose h = not_entries id other txid _ h
   command_young id (GetMempoolEntry asked) h = known_or_not id other txid _ h
   command_young id (GetMempoolAncestors asked) h = listed_or_not id other txid _ h
   command_young id (GetMempoolDescendants asked) h = listed_or_not id other txid _ h
   command_young id GetMempoolInfo h = not_told id other txid _ _ _ _ _ h
+  command_young id (GetRawTransaction asked) h = transaction_or_not id other txid _ h
+  command_young id (GetTxSpendingPrevout points) h = not_spendings id other txid _ h
 
   not_faulted : {X : Type 0} (error : CallError) → Rpc (reply_of error) ≡ Rpc (Answer other (Sent txid)) → X
   not_faulted ParseError h = cc

@@ -5,7 +5,7 @@ use Rattle.gate_net.specs.Permissions.{Permissions}
 use Rattle.gate_rpc.specs.Calls.{request_of}
 use Rattle.gate_rpc.specs.Lists.{is_allowed, is_among, list_of}
 use Rattle.gate_rpc.specs.declared.request.Command.{Command}
-use Rattle.gate_rpc.specs.declared.request.Command.TheVariants.{SendRawTransaction, TestMempoolAccept, GetRawMempool, GetMempoolEntry, GetMempoolAncestors, GetMempoolDescendants, GetMempoolInfo}
+use Rattle.gate_rpc.specs.declared.request.Command.TheVariants.{SendRawTransaction, TestMempoolAccept, TestList, GetRawMempool, GetRawMempoolVerbose, GetMempoolEntry, GetMempoolAncestors, GetMempoolDescendants, GetMempoolInfo, GetRawTransaction, GetTxSpendingPrevout}
 use Rattle.gate_rpc.specs.declared.request.Request.{Request}
 use Rattle.gate_rpc.specs.declared.fault.CallError.{CallError}
 use Rattle.gate_rpc.specs.declared.reply.RpcReply.TheVariants.{NotAllowed}
@@ -63,11 +63,15 @@ OnlySendersChange = (w : World) (call : UserCall) → is_allowed w.rpcwhitelist 
 abbrev pub sends_by : Command → Bool
 sends_by (SendRawTransaction transaction) = true
 sends_by (TestMempoolAccept transaction) = false
+sends_by (TestList transactions) = false
 sends_by GetRawMempool = false
+sends_by GetRawMempoolVerbose = false
 sends_by (GetMempoolEntry txid) = false
 sends_by (GetMempoolAncestors txid) = false
 sends_by (GetMempoolDescendants txid) = false
 sends_by GetMempoolInfo = false
+sends_by (GetRawTransaction txid) = false
+sends_by (GetTxSpendingPrevout points) = false
 
 abbrev pub sends : Result Request CallError → Bool
 sends (Ok request) = sends_by request.command

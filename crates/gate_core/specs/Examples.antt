@@ -13,6 +13,7 @@ use Rattle.gate_submission.specs.declared.Verdict.TheVariants.{Good, Hard}
 use Rattle.gate_submission.specs.declared.VerdictRow.{VerdictRow}
 use Rattle.gate_admit.specs.Policies.{usual_policy}
 use Rattle.gate_net.specs.Addresses.{V4}
+use Rattle.gate_tx.specs.declared.OutPoint.{OutPoint}
 use Rattle.gate_net.specs.Permissions.{Permissions, no_permissions, permissions_text}
 use Rattle.gate_core.specs.Switching.{unswitched}
 use Rattle.gate_core.specs.Sessions.{Session, session}
@@ -22,12 +23,12 @@ use Rattle.gate_core.specs.RpcSteps.{rpc_step}
 use Rattle.gate_rpc.specs.declared.id.Id.{Id}
 use Rattle.gate_rpc.specs.declared.id.Id.TheVariants.{Null, Unsigned}
 use Rattle.gate_rpc.specs.declared.request.Command.{Command}
-use Rattle.gate_rpc.specs.declared.request.Command.TheVariants.{SendRawTransaction, TestMempoolAccept, GetRawMempool, GetMempoolEntry, GetMempoolInfo}
+use Rattle.gate_rpc.specs.declared.request.Command.TheVariants.{SendRawTransaction, TestMempoolAccept, TestList, GetRawMempool, GetRawMempoolVerbose, GetMempoolEntry, GetMempoolInfo, GetRawTransaction, GetTxSpendingPrevout}
 use Rattle.gate_rpc.specs.declared.request.Request.{Request}
 use Rattle.gate_rpc.specs.declared.fault.CallError.{CallError}
 use Rattle.gate_rpc.specs.declared.fault.CallError.TheVariants.{ParseError, MethodNotFound}
 use Rattle.gate_rpc.specs.declared.error.RpcError.TheVariants as errors
-use Rattle.gate_rpc.specs.declared.result.RpcResult.TheVariants.{Txids, Info}
+use Rattle.gate_rpc.specs.declared.result.RpcResult.TheVariants.{Txids, Info, Entries, Spendings}
 use Rattle.gate_rpc.specs.declared.reply.RpcReply.TheVariants.{NotAllowed, Answer, Failure}
 use Rattle.gate_core.specs.Steps.{step_of}
 
@@ -175,6 +176,9 @@ pub record LearningSteps : Type 0 where
   pub the_first : step_of (two_blocks 5 [] []) (GetBlock 7 5) ≡ (Block 5 1000, two_blocks 5 [] [])
   pub headers_below : step_of (two_blocks 5 [] []) (AskHeaders 7 4) ≡ (Headers 5 2, two_blocks 5 [] [])
 
+abbrev pub small_point : OutPoint
+small_point = record { txid = replicate 32 7; index = 0 }
+
 -- steps of users' calls
 pub record CallSteps : Type 0 where
   pub unread : rpc_step (called_with []) (codes "b") 0 (Err ParseError) ≡ (Rpc (Failure Null errors.ParseError), called_with [])
@@ -186,3 +190,7 @@ pub record CallSteps : Type 0 where
   pub no_entry : rpc_step (with_sessions false []) (codes "a") 0 (request (GetMempoolEntry [])) ≡ (Rpc (Failure (Unsigned 7) errors.NotInMempool), with_sessions false [])
   pub sends_nothing : rpc_step (with_sessions false []) (codes "a") 0 (request (SendRawTransaction None)) ≡ (Rpc (Failure (Unsigned 7) (errors.Denied Decode)), with_sessions false [])
   pub tests_nothing : rpc_step (with_sessions false []) (codes "a") 0 (request (TestMempoolAccept None)) ≡ (Rpc (Failure (Unsigned 7) (errors.Denied Decode)), with_sessions false [])
+  pub tests_none_of_several : rpc_step (with_sessions false []) (codes "a") 0 (request (TestList (None ∷ None ∷ []))) ≡ (Rpc (Failure (Unsigned 7) (errors.Denied Decode)), with_sessions false [])
+  pub knows_no_entry : rpc_step (with_sessions false []) (codes "a") 0 (request GetRawMempoolVerbose) ≡ (Rpc (Answer (Unsigned 7) (Entries [])), with_sessions false [])
+  pub no_transaction : rpc_step (with_sessions false []) (codes "a") 0 (request (GetRawTransaction [])) ≡ (Rpc (Failure (Unsigned 7) errors.NotInMempool), with_sessions false [])
+  pub unspent : rpc_step (with_sessions false []) (codes "a") 0 (request (GetTxSpendingPrevout (small_point ∷ []))) ≡ (Rpc (Answer (Unsigned 7) (Spendings (record { outpoint = small_point; spender = None } ∷ []))), with_sessions false [])

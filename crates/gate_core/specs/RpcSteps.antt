@@ -9,15 +9,16 @@ use Rattle.gate_pool.specs.Pool.{listing_of}
 use Rattle.gate_admit.specs.declared.Grant.{Grant}
 use Rattle.gate_admit.specs.Submission.{Submitted, submit_of}
 use Rattle.gate_query.specs.Answers.{info_of, ancestors_listed, descendants_listed, pool_info, tested}
+use Rattle.gate_query.specs.Queries.{entries_known, spendings_of, tested_list, transaction_of}
 use Rattle.gate_rpc.specs.declared.id.Id.{Id}
 use Rattle.gate_rpc.specs.declared.request.Command.{Command}
-use Rattle.gate_rpc.specs.declared.request.Command.TheVariants.{SendRawTransaction, TestMempoolAccept, GetRawMempool, GetMempoolEntry, GetMempoolAncestors, GetMempoolDescendants, GetMempoolInfo}
+use Rattle.gate_rpc.specs.declared.request.Command.TheVariants.{SendRawTransaction, TestMempoolAccept, TestList, GetRawMempool, GetRawMempoolVerbose, GetMempoolEntry, GetMempoolAncestors, GetMempoolDescendants, GetMempoolInfo, GetRawTransaction, GetTxSpendingPrevout}
 use Rattle.gate_rpc.specs.declared.request.Request.{Request}
 use Rattle.gate_rpc.specs.declared.fault.CallError.{CallError}
 use Rattle.gate_rpc.specs.declared.error.RpcError.{RpcError}
 use Rattle.gate_rpc.specs.declared.error.RpcError.TheVariants.{NotInMempool, Denied}
 use Rattle.gate_rpc.specs.declared.result.RpcResult.{RpcResult}
-use Rattle.gate_rpc.specs.declared.result.RpcResult.TheVariants.{Sent, Txids, Entry}
+use Rattle.gate_rpc.specs.declared.result.RpcResult.TheVariants.{Sent, Txids, Entry, Entries, Transaction, Spendings}
 use Rattle.gate_rpc.specs.declared.reply.RpcReply.{RpcReply}
 use Rattle.gate_rpc.specs.declared.reply.RpcReply.TheVariants.{NotAllowed, Answer, Failure}
 use Rattle.gate_rpc.specs.Faults.{reply_of}
@@ -54,11 +55,15 @@ sent w id transaction s = told (record w { pool = s.entries; floor = s.floor }) 
 abbrev pub commanded : World → ℕ → Id → Command → Reply × World
 commanded w now id (SendRawTransaction transaction) = sent w id transaction (submit_of (standing_of w) transaction now w.budget)
 commanded w now id (TestMempoolAccept transaction) = told w id (tested (standing_of w) transaction)
+commanded w now id (TestList transactions) = told w id (tested_list (standing_of w) now transactions)
 commanded w now id GetRawMempool = told w id (Ok (Txids (listing_of w.pool)))
+commanded w now id GetRawMempoolVerbose = told w id (Ok (Entries (entries_known w.pool)))
 commanded w now id (GetMempoolEntry txid) = told w id (of_entry Entry (info_of w.pool txid))
 commanded w now id (GetMempoolAncestors txid) = told w id (of_entry Txids (ancestors_listed w.pool txid))
 commanded w now id (GetMempoolDescendants txid) = told w id (of_entry Txids (descendants_listed w.pool txid))
 commanded w now id GetMempoolInfo = told w id (Ok (pool_info w.pool w.floor w.policy w.budget))
+commanded w now id (GetRawTransaction txid) = told w id (of_entry Transaction (transaction_of w.pool txid))
+commanded w now id (GetTxSpendingPrevout points) = told w id (Ok (Spendings (spendings_of w.pool points)))
 
 -- a call that may be made: the command that was read is done, or the reply tells the error
 abbrev pub called_by : World → ℕ → Result Request CallError → Reply × World

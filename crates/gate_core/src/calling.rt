@@ -4,8 +4,9 @@ ghost use Rattle.std.specs.Option.{option_copied};
 ghost use Rattle.gate_core.specs.Submissions.{StandsFor, submitted_by, submitted_in};
 ghost use Rattle.gate_rpc.specs.Calls.{request_of};
 ghost use Rattle.gate_core.specs.RpcSteps.{is_barred, rpc_step, commanded, told, of_entry};
-ghost use Rattle.gate_rpc.specs.declared.result.RpcResult.TheVariants.{Txids, Entry};
+ghost use Rattle.gate_rpc.specs.declared.result.RpcResult.TheVariants.{Txids, Entry, Transaction};
 ghost use Rattle.gate_query.specs.Answers.{tested};
+ghost use Rattle.gate_query.specs.Queries.{tested_list};
 ghost use Rattle.gate_core.specs.World.{World, standing_of};
 ghost use Rattle.gate_core.specs.Planning.{Fits, Plans, world_of};
 
@@ -15,10 +16,13 @@ use crate::submitting::standing_for;
 use gate_admit::{Conditions, Prepared, plan_submission};
 use gate_bytes::{Boxed, Copied, Counted, Kept, Memory};
 use gate_message::{Call, Reply};
-use gate_query::{ancestors_listed, descendants_listed, entry_info, pool_info, test_submission};
+use gate_query::{
+    ancestors_listed, descendants_listed, entries_known, entry_info, pool_info, spendings,
+    test_list, test_submission, transaction,
+};
 use gate_rpc::{Command, EntryInfo, Id, Request, RpcError, RpcReply, RpcResult};
 use gate_standard::Denial;
-use gate_tx::Txid;
+use gate_tx::{Identified, Txid};
 use std::alloc::Global;
 use std::hash::BuildHasher;
 
@@ -52,6 +56,16 @@ fn of_ids(alloc: Global, found: Option<Kept<Txid>>) -> Result<Result<RpcResult, 
     match found {
         Some(txids) => Ok(Ok(RpcResult::Txids(Counted::new(alloc, txids)?))),
         None => Ok(Err(RpcError::NotInMempool)),
+    }
+}
+
+/// The result of a call that asks for the transaction of an entry.
+fn of_transaction(found: Option<Counted<Identified>>) -> Result<RpcResult, RpcError>
+    ensures { result ≡ of_entry Transaction found }
+{
+    match found {
+        Some(transaction) => Ok(RpcResult::Transaction(transaction)),
+        None => Err(RpcError::NotInMempool),
     }
 }
 
@@ -117,10 +131,18 @@ impl<S: BuildHasher + Copy + Drop> Parts<S> {
             Command::TestMempoolAccept(transaction) => {
                 self.testing(alloc, id, standing_for(prepared, transaction))
             }
+            Command::TestList(transactions) => {
+                self.testing_list(alloc, now, id, transactions.as_slice())
+            }
             Command::GetRawMempool => {
                 let txids = self.pool.listing(alloc)?;
                 let txids = self.listing.share(alloc, txids)?;
                 telling(alloc, id, Ok(RpcResult::Txids(txids)))
+            }
+            Command::GetRawMempoolVerbose => {
+                let known = entries_known(alloc, &self.pool)?;
+                let known = Counted::new(alloc, known)?;
+                telling(alloc, id, Ok(RpcResult::Entries(known)))
             }
             Command::GetMempoolEntry(txid) => {
                 let found = entry_info(alloc, &self.pool, txid)?;
@@ -137,6 +159,15 @@ impl<S: BuildHasher + Copy + Drop> Parts<S> {
             Command::GetMempoolInfo => {
                 let found = pool_info(&self.pool, &self.floor, &self.policy, self.budget);
                 telling(alloc, id, Ok(found))
+            }
+            Command::GetRawTransaction(txid) => {
+                let found = transaction(alloc, &self.pool, txid)?;
+                telling(alloc, id, of_transaction(found))
+            }
+            Command::GetTxSpendingPrevout(outpoints) => {
+                let found = spendings(alloc, &self.pool, outpoints.as_slice())?;
+                let found = Counted::new(alloc, found)?;
+                telling(alloc, id, Ok(RpcResult::Spendings(found)))
             }
         }
     }
@@ -155,6 +186,30 @@ impl<S: BuildHasher + Copy + Drop> Parts<S> {
             &self.policy,
             transaction,
         )?;
+        telling(alloc, id, outcome)
+    }
+
+    /// The plan of `testmempoolaccept` for several transactions.
+    fn testing_list(
+        &mut self,
+        alloc: Global,
+        now: u64,
+        id: &Id,
+        transactions: &[Prepared],
+    ) -> Result<Plan, Memory>
+        ensures ok { IfOk result (Plans (world_of self.old) (told (world_of self.old) id.now (tested_list (standing_of (world_of self.old)) now transactions.now))) }
+        ensures change { IfOk result (λ plan. plan.change ≡ Change.Nothing) }
+        ensures same { world_of self.new ≡ world_of self.old }
+    {
+        let under = Conditions {
+            chain: &self.chain,
+            floor: &self.floor,
+            verdicts: &self.verdicts,
+            policy: &self.policy,
+            second: now,
+            budget: self.budget,
+        };
+        let outcome = test_list(alloc, &under, &mut self.pool, transactions)?;
         telling(alloc, id, outcome)
     }
 

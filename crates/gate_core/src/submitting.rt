@@ -13,7 +13,7 @@ use gate_tx::{Coin, TxIn};
 use std::alloc::Global;
 use std::hash::BuildHasher;
 
-/// What a command submits, to let it enter or to ask whether it would.
+/// What a command submits, to let it enter or to ask whether it would. A list of several is no submission.
 fn submission_by(command: &Command) -> Option<&Prepared>
     ensures { option_copied result ≡ submitted_by command.now }
 {
@@ -24,7 +24,7 @@ fn submission_by(command: &Command) -> Option<&Prepared>
     }
 }
 
-/// The submission of an event, if it makes one: a peer's, or one that a user sends or tests.
+/// The submission of an event, if it makes one: a peer's, or one that a user sends or tests by itself.
 pub fn submission(event: &Event) -> Option<&Prepared>
     ensures { option_copied result ≡ submission_of event.now }
 {

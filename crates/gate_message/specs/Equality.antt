@@ -1,10 +1,9 @@
 -- `==` on callers, calls, events and replies says whether they are equal.
-use Rattle.std.proofs.Common.{◌≡◌, ℕ, Bool, true, false, ◌&&◌, eqb, List, refl, sym, ap}
+use Rattle.std.proofs.Common.{◌≡◌, ℕ, Bool, true, false, ◌&&◌, eqb, List, sym, ap}
 use Rattle.std.specs.Bool.{Decides, beq}
 use Rattle.std.specs.Cmp.{booleans_Decides}
-use Rattle.std.specs.Cmp.Lexicographic.{pointwise}
 use Rattle.std.specs.Str.{bytes_eq}
-use Rattle.std.proofs.lemmas.Slice.Eq.{slice_eq-Decides, bytes_eq-Decides}
+use Rattle.std.proofs.lemmas.Slice.Eq.{bytes_eq-Decides}
 use Rattle.std.proofs.lemmas.Bool.{false≢true}
 use Rattle.std.proofs.lemmas.Bool.Decides.{Decides-eqb, Decides-and, Decides-like}
 use Rattle.gate_net.specs.Addresses.{Address, V4, V6}
@@ -23,12 +22,6 @@ call_decides a b =
     let parts = Decides-and _ _ (Decides-eqb a.time b.time) (Decides-and _ _ (bytes_eq-Decides a.user b.user) (bytes_eq-Decides a.json b.json)) in
     Decides-like _ (λ p i. called (p.1.0 i) (p.0 i) (p.1.1 i))
     (λ q. (ap (λ (c : UserCall). c.time) q, (ap (λ (c : UserCall). c.user) q, ap (λ (c : UserCall). c.json) q))) parts
-
--- ---- lists
-
-pub list_decides : {A : Type 0} {E : A → A → Bool} → ((a b : A) → Decides (E a b) (a ≡ b))
-    → (xs ys : List A) → Decides (pointwise E xs ys) (xs ≡ ys)
-list_decides {E = E} item xs ys = slice_eq-Decides item xs ys (pointwise E xs ys) refl
 
 -- ---- addresses
 

@@ -6,7 +6,7 @@ use Rattle.gate_tx.specs.Tx.{Tx}
 use Rattle.gate_submission.specs.Blocks.{present}
 use Rattle.gate_submission.specs.Blocks.{transactions_of as block_transactions}
 use Rattle.gate_rpc.specs.declared.request.Command.{Command}
-use Rattle.gate_rpc.specs.declared.request.Command.TheVariants.{SendRawTransaction, TestMempoolAccept, GetRawMempool, GetMempoolEntry, GetMempoolAncestors, GetMempoolDescendants, GetMempoolInfo}
+use Rattle.gate_rpc.specs.declared.request.Command.TheVariants.{SendRawTransaction, TestMempoolAccept, TestList, GetRawMempool, GetRawMempoolVerbose, GetMempoolEntry, GetMempoolAncestors, GetMempoolDescendants, GetMempoolInfo, GetRawTransaction, GetTxSpendingPrevout}
 use Rattle.gate_rpc.specs.declared.request.Request.{Request}
 use Rattle.gate_rpc.specs.declared.fault.CallError.{CallError}
 use Rattle.gate_rpc.specs.Calls.{request_of}
@@ -17,11 +17,15 @@ use Rattle.gate_message.specs.declared.event.Event.TheVariants.{Enter, Leave, Tx
 abbrev pub offered_by : Command → Option Tx
 offered_by (SendRawTransaction transaction) = transaction
 offered_by (TestMempoolAccept transaction) = None
+offered_by (TestList transactions) = None
 offered_by GetRawMempool = None
+offered_by GetRawMempoolVerbose = None
 offered_by (GetMempoolEntry txid) = None
 offered_by (GetMempoolAncestors txid) = None
 offered_by (GetMempoolDescendants txid) = None
 offered_by GetMempoolInfo = None
+offered_by (GetRawTransaction txid) = None
+offered_by (GetTxSpendingPrevout points) = None
 
 abbrev pub offered : Result Request CallError → Option Tx
 offered (Ok request) = offered_by request.command

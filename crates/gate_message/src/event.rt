@@ -236,7 +236,8 @@ impl Exact for Event {
     ghost use Rattle.gate_submission.specs.contracts.verdict.Verdict.{enum as verdicts};
     ghost use Rattle.gate_submission.specs.contracts.verdict.VerdictRow.{the_type as verdict_rows};
     ghost use Rattle.gate_bytes.specs.Equality.{struct_decides, enum_decides, ◌or◌, ◌&◌, last_decides, bare_decides};
-    ghost use Rattle.gate_message.specs.Equality.{address_decides, call_decides, list_decides};
+    ghost use Rattle.gate_message.specs.Equality.{address_decides, call_decides};
+    ghost use Rattle.gate_rpc.specs.Equality.{list_decides};
     ghost use Rattle.gate_message.specs.contracts.switch.Switch.{enum as switches};
     ghost use Rattle.gate_message.specs.contracts.event.Event.{enum};
 

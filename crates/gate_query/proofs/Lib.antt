@@ -1,2 +1,4 @@
-mod Listed
+mod Ids
 mod Rated
+mod Entries
+mod Behind

@@ -11,7 +11,7 @@ use Rattle.gate_pool.specs.Pool.{Admitted, has_txid, listing_of}
 use Rattle.gate_pool.proofs.Adding.{found_by_id}
 use Rattle.gate_rbf.proofs.Spenders.{held_by}
 use Rattle.gate_query.specs.Answers.{listing_at, pays}
-use Rattle.gate_query.proofs.Listed.{kept_listing}
+use Rattle.gate_query.proofs.Ids.{kept_listing}
 
 -- the ids whose entries pass a test are those of the entries that pass it
 pub passing_listed : (test : Admitted → Bool) (entries : List Admitted) → AreDistinct entries

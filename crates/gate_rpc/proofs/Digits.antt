@@ -31,5 +31,8 @@ reverse_bytes xs fits i =
       | inr le ↦ rw (get_or_past (reverse xs) i 0 (omega (arith, length-reverse xs))) (omega arith)
     ]
 
+pub quoted_hex : (bytes : List ℕ) → IsBytes bytes → 34 ∷ (encode_lower bytes ++ 34 ∷ []) ≡ quoted (encode_lower bytes)
+quoted_hex bytes fits = rw (escape_digits bytes fits) refl
+
 pub quoted_id : (id : List ℕ) → IsBytes id → 34 ∷ (id_text id ++ 34 ∷ []) ≡ quoted (id_text id)
 quoted_id id fits = rw (escape_digits (reverse id) (reverse_bytes id fits)) refl

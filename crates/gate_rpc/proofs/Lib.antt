@@ -1,5 +1,6 @@
 pub mod Listings
 pub mod Alone
+pub mod Each
 pub mod Digits
 pub mod Listed
 pub mod Objects

@@ -1,13 +1,14 @@
 -- What a text of JSON asks for, and the first fault of one that asks for nothing, in the written order.
-use Rattle.std.specs.Prelude.{◌≡◌, ℕ, Bool, true, false, not, ◌||◌, if◌then◌else◌, List, codes, Option, Some, None, Result, Ok, Err, option_and_then}
+use Rattle.std.specs.Prelude.{◌≡◌, ℕ, suc, ◌^◌, ◌==◌, nat_le, nat_lt, Bool, true, false, not, ◌||◌, ◌&&◌, if◌then◌else◌, List, [], ◌∷◌, codes, Option, Some, None, Result, Ok, Err, option_and_then}
 use Rattle.std.specs.Option.{option_map, ok_or}
 use Rattle.hex.specs.Hex.{decode_of}
 use Rattle.hex.specs.declared.error.FromHexError.{FromHexError}
-use Rattle.serde_json.specs.Data.{Num, unsigned, negative, float, Data, null, boolean, number, string, array, object, Items, no_items, item}
+use Rattle.serde_json.specs.Data.{Num, unsigned, negative, float, Data, null, boolean, number, string, array, object, Items, no_items, item, Members, no_members, member}
 use Rattle.serde_json.specs.Read.{read}
 use Rattle.serde_json.specs.View.{view}
 use Rattle.serde_json.specs.declared.value.Value.{Value}
-use Rattle.serde_json.specs.Find.{get, as_bool, as_str, as_array}
+use Rattle.serde_json.specs.Find.{get, as_bool, as_str, as_array, as_object, as_number, as_u64}
+use Rattle.gate_tx.specs.declared.OutPoint.{OutPoint}
 use Rattle.gate_tx.specs.Tx.{Tx}
 use Rattle.gate_tx.specs.Ids.{read_id}
 use Rattle.gate_tx.specs.Reading.{decoded}
@@ -27,11 +28,15 @@ use Rattle.gate_rpc.specs.Methods.{method_named}
 abbrev pub method_of : Command → Method
 method_of (commands.SendRawTransaction submission) = methods.SendRawTransaction
 method_of (commands.TestMempoolAccept submission) = methods.TestMempoolAccept
+method_of (commands.TestList submissions) = methods.TestMempoolAccept
 method_of commands.GetRawMempool = methods.GetRawMempool
+method_of commands.GetRawMempoolVerbose = methods.GetRawMempool
 method_of (commands.GetMempoolEntry txid) = methods.GetMempoolEntry
 method_of (commands.GetMempoolAncestors txid) = methods.GetMempoolAncestors
 method_of (commands.GetMempoolDescendants txid) = methods.GetMempoolDescendants
 method_of commands.GetMempoolInfo = methods.GetMempoolInfo
+method_of (commands.GetRawTransaction txid) = methods.GetRawTransaction
+method_of (commands.GetTxSpendingPrevout points) = methods.GetTxSpendingPrevout
 
 abbrev pub decoded_from : Result (List ℕ) FromHexError → Option Tx
 decoded_from (Ok bytes) = decoded bytes
@@ -93,27 +98,122 @@ abbrev pub is_false_alone : Option Bool → Bool
 is_false_alone None = false
 is_false_alone (Some b) = not b
 
+-- `[true]`
+abbrev pub is_true_alone : Option Bool → Bool
+is_true_alone None = false
+is_true_alone (Some b) = b
+
 -- `[text]`
 abbrev pub text_alone : Items → Option (List ℕ)
 text_alone params = option_and_then as_str (only params)
 
--- `[[text]]`
-abbrev pub text_inside : Items → Option (List ℕ)
-text_inside params = option_and_then text_alone (option_and_then as_array (only params))
+-- `[[..]]`
+abbrev pub list_alone : Items → Option Items
+list_alone params = option_and_then as_array (only params)
 
 -- `[txid]`
 abbrev pub txid_alone : Items → Option (List ℕ)
 txid_alone params = option_and_then read_id (text_alone params)
 
+-- ---- lists of values
+
+abbrev pub joined : {A : Type 0} → Option A → Option (List A) → Option (List A)
+joined None rest = None
+joined (Some first) None = None
+joined (Some first) (Some rest) = Some (first ∷ rest)
+
+-- what each item of a list stands for, if all of them stand for something
+abbrev pub each_of : {A : Type 0} → (Data → Option A) → Items → Option (List A)
+each_of f no_items = Some []
+each_of f (item d ds) = joined (f d) (each_of f ds)
+
+abbrev pub count_of : Items → ℕ
+count_of no_items = 0
+count_of (item d ds) = suc (count_of ds)
+
+-- the most transactions that one call tests
+abbrev pub most_tested : ℕ
+most_tested = 25
+
+-- the submissions of a list of texts, of which there are at least one and at most 25
+abbrev pub submissions_in : Items → Option (List (Option Tx))
+submissions_in items = if nat_le 1 (count_of items) && nat_le (count_of items) most_tested then each_of (λ d. option_map submission_of (as_str d)) items else None
+
+-- what is tested: one transaction by itself, or several as a list
+abbrev pub test_of : List (Option Tx) → Command
+test_of [] = commands.TestList []
+test_of (submission ∷ []) = commands.TestMempoolAccept submission
+test_of (first ∷ second ∷ others) = commands.TestList (first ∷ second ∷ others)
+
+-- ---- outpoints
+
+abbrev pub members_count : Members → ℕ
+members_count no_members = 0
+members_count (member key d ms) = suc (members_count ms)
+
+-- an index that Bitcoin Core reads: a whole number from 0 to 2,147,483,647
+abbrev pub small_index : Option ℕ → Option ℕ
+small_index None = None
+small_index (Some n) = if nat_lt n (2 ^ 31) then Some n else None
+
+abbrev pub index_in : Data → Option ℕ
+index_in d = small_index (option_and_then as_u64 (as_number d))
+
+abbrev pub point_of : Option (List ℕ) → Option ℕ → Option OutPoint
+point_of None index = None
+point_of (Some txid) None = None
+point_of (Some txid) (Some index) = Some (record { txid = txid; index = index })
+
+-- how many keys an object has; a value that is none has no key
+abbrev pub keys_in : Option Members → ℕ
+keys_in None = 0
+keys_in (Some ms) = members_count ms
+
+abbrev pub txid_in : Data → Option (List ℕ)
+txid_in d = option_and_then read_id (as_str d)
+
+-- the outpoint of an object with a `txid` and a `vout`, and no other key
+abbrev pub point_in : Data → Option OutPoint
+point_in d =
+    if keys_in (as_object d) == 2
+    then point_of (option_and_then txid_in (get (codes "txid") d)) (option_and_then index_in (get (codes "vout") d))
+    else None
+
+-- the outpoints of a list of objects, of which there is at least one
+abbrev pub points_in : Items → Option (List OutPoint)
+points_in items = if is_none items then None else each_of point_in items
+
+-- ---- commands
+
+-- the txid that a value prints, if another is `false`
+abbrev pub txid_unless : Data → Data → Option (List ℕ)
+txid_unless d verbose = if is_false_alone (as_bool verbose) then txid_in d else None
+
+-- `[txid]` or `[txid, false]`
+abbrev pub txid_first : Items → Option (List ℕ)
+txid_first no_items = None
+txid_first (item d no_items) = txid_in d
+txid_first (item d (item e no_items)) = txid_unless d e
+txid_first (item d (item e (item f fs))) = None
+
+-- `[]` or `[false]`: the txids; `[true]`: what is known of each entry
+abbrev pub listing_of : Items → Option Command
+listing_of params =
+    if is_none params || is_false_alone (option_and_then as_bool (only params)) then Some commands.GetRawMempool
+    else if is_true_alone (option_and_then as_bool (only params)) then Some commands.GetRawMempoolVerbose
+    else None
+
 -- the command of a method with these parameters
 abbrev pub command_of : Method → Items → Option Command
 command_of methods.SendRawTransaction params = option_map (λ hex. commands.SendRawTransaction (submission_of hex)) (text_alone params)
-command_of methods.TestMempoolAccept params = option_map (λ hex. commands.TestMempoolAccept (submission_of hex)) (text_inside params)
-command_of methods.GetRawMempool params = if is_none params || is_false_alone (option_and_then as_bool (only params)) then Some commands.GetRawMempool else None
+command_of methods.TestMempoolAccept params = option_map test_of (option_and_then submissions_in (list_alone params))
+command_of methods.GetRawMempool params = listing_of params
 command_of methods.GetMempoolEntry params = option_map commands.GetMempoolEntry (txid_alone params)
 command_of methods.GetMempoolAncestors params = option_map commands.GetMempoolAncestors (txid_alone params)
 command_of methods.GetMempoolDescendants params = option_map commands.GetMempoolDescendants (txid_alone params)
 command_of methods.GetMempoolInfo params = if is_none params then Some commands.GetMempoolInfo else None
+command_of methods.GetRawTransaction params = option_map commands.GetRawTransaction (txid_first params)
+command_of methods.GetTxSpendingPrevout params = option_map commands.GetTxSpendingPrevout (option_and_then points_in (list_alone params))
 
 -- ---- the whole
 

@@ -1,5 +1,6 @@
 pub mod Lists
 pub mod Listing
+pub mod Equality
 pub mod Methods
 pub mod Calls
 pub mod Replies

@@ -2,7 +2,7 @@
 use Rattle.std.specs.Prelude.{ℕ, if◌then◌else◌, List, codes, Option, Some, None}
 use Rattle.std.specs.Str.{bytes_eq}
 use Rattle.gate_rpc.specs.declared.method.Method.{Method}
-use Rattle.gate_rpc.specs.declared.method.Method.TheVariants.{SendRawTransaction, TestMempoolAccept, GetRawMempool, GetMempoolEntry, GetMempoolAncestors, GetMempoolDescendants, GetMempoolInfo}
+use Rattle.gate_rpc.specs.declared.method.Method.TheVariants.{SendRawTransaction, TestMempoolAccept, GetRawMempool, GetMempoolEntry, GetMempoolAncestors, GetMempoolDescendants, GetMempoolInfo, GetRawTransaction, GetTxSpendingPrevout}
 
 abbrev pub method_name : Method → List ℕ
 method_name SendRawTransaction = codes "sendrawtransaction"
@@ -12,6 +12,8 @@ method_name GetMempoolEntry = codes "getmempoolentry"
 method_name GetMempoolAncestors = codes "getmempoolancestors"
 method_name GetMempoolDescendants = codes "getmempooldescendants"
 method_name GetMempoolInfo = codes "getmempoolinfo"
+method_name GetRawTransaction = codes "getrawtransaction"
+method_name GetTxSpendingPrevout = codes "gettxspendingprevout"
 
 -- the method of a name
 abbrev pub method_named : List ℕ → Option Method
@@ -23,4 +25,6 @@ method_named name =
     else if bytes_eq name (codes "getmempoolancestors") then Some GetMempoolAncestors
     else if bytes_eq name (codes "getmempooldescendants") then Some GetMempoolDescendants
     else if bytes_eq name (codes "getmempoolinfo") then Some GetMempoolInfo
+    else if bytes_eq name (codes "getrawtransaction") then Some GetRawTransaction
+    else if bytes_eq name (codes "gettxspendingprevout") then Some GetTxSpendingPrevout
     else None

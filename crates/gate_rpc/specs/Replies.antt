@@ -1,10 +1,13 @@
 -- Answers as values of JSON, and their texts.
-use Rattle.std.specs.Prelude.{ℕ, ℤ, pos, neg_ℤ, true, false, List, [], ◌∷◌, ◌++◌, codes}
+use Rattle.std.specs.Prelude.{ℕ, ℤ, pos, neg_ℤ, true, false, List, [], ◌∷◌, ◌++◌, codes, Option, Some, None}
 use Rattle.std.specs.Fmt.{decimal}
 use Rattle.serde_json.specs.Data.{unsigned, Data, null, boolean, number, string, array, object, Items, no_items, item, Members, no_members, member}
 use Rattle.serde_json.specs.Find.{of_integer}
 use Rattle.serde_json.specs.Written.{compact_text}
+use Rattle.hex.specs.Hex.{encode_lower}
 use Rattle.gate_tx.specs.Ids.{id_text}
+use Rattle.gate_tx.specs.Text.{text}
+use Rattle.gate_tx.specs.Tx.{Tx}
 use Rattle.gate_standard.specs.declared.denial.Denial.{Denial}
 use Rattle.gate_standard.specs.declared.denial.Denial.TheVariants.{Decode, MissingOrSpent}
 use Rattle.gate_standard.specs.Denials.{rule_of, token_of}
@@ -12,6 +15,10 @@ use Rattle.gate_rpc.specs.declared.id.Id.{Id}
 use Rattle.gate_rpc.specs.declared.id.Id.TheVariants as ids
 use Rattle.gate_rpc.specs.declared.error.RpcError.{RpcError}
 use Rattle.gate_rpc.specs.declared.error.RpcError.TheVariants.{ParseError, InvalidRequest, MethodNotFound, InvalidParams, NotInMempool, Denied}
+use Rattle.gate_rpc.specs.declared.items.KnownEntry.{KnownEntry}
+use Rattle.gate_rpc.specs.declared.items.Outcome.{Outcome}
+use Rattle.gate_rpc.specs.declared.items.Outcome.TheVariants.{Allowed, Rejected}
+use Rattle.gate_rpc.specs.declared.items.Spending.{Spending}
 use Rattle.gate_rpc.specs.declared.result.EntryInfo.{EntryInfo}
 use Rattle.gate_rpc.specs.declared.result.RpcResult.{RpcResult}
 use Rattle.gate_rpc.specs.declared.result.RpcResult.TheVariants as results
@@ -140,6 +147,46 @@ info_json size budget least_rate relay_rate count =
     (member (codes "size") (integer count)
     no_members)))))
 
+-- what would become of one of several transactions
+abbrev pub outcome_json : Outcome → Data
+outcome_json (Allowed txid wtxid fee vsize) = allowed_json txid wtxid fee vsize
+outcome_json (Rejected txid wtxid denial) = rejected_json txid wtxid denial
+
+-- the list of what each of these is answered as
+abbrev pub items_json : {A : Type 0} → (A → Data) → List A → Items
+items_json f [] = no_items
+items_json f (first ∷ others) = item (f first) (items_json f others)
+
+abbrev pub outcomes_json : List Outcome → Data
+outcomes_json outcomes = array (items_json outcome_json outcomes)
+
+-- entries by their txids, in order of admission
+abbrev pub known_members : List KnownEntry → Members
+known_members [] = no_members
+known_members (known ∷ others) = member (id_text known.txid) (entry_json known.info) (known_members others)
+
+abbrev pub entries_json : List KnownEntry → Data
+entries_json entries = object (known_members entries)
+
+-- a transaction's text, in hexadecimal digits of lower case
+abbrev pub transaction_json : Tx → Data
+transaction_json tx = string (encode_lower (text tx))
+
+abbrev pub spender_members : Option (List ℕ) → Members → Members
+spender_members None others = others
+spender_members (Some txid) others = member (codes "spendingtxid") (txid_json txid) others
+
+-- an outpoint, with the txid of the entry that spends it, if there is one
+abbrev pub spending_json : Spending → Data
+spending_json s =
+    object (spender_members s.spender
+    (member (codes "txid") (txid_json s.outpoint.txid)
+    (member (codes "vout") (integer s.outpoint.index)
+    no_members)))
+
+abbrev pub spendings_json : List Spending → Data
+spendings_json spendings = array (items_json spending_json spendings)
+
 abbrev pub result_json : RpcResult → Data
 result_json (results.Sent txid) = txid_json txid
 result_json (results.Allowed txid wtxid fee vsize) = array (item (allowed_json txid wtxid fee vsize) no_items)
@@ -147,6 +194,10 @@ result_json (results.Rejected txid wtxid denial) = array (item (rejected_json tx
 result_json (results.Txids txids) = txids_json txids
 result_json (results.Entry entry) = entry_json entry
 result_json (results.Info size budget least_rate relay_rate count) = info_json size budget least_rate relay_rate count
+result_json (results.Outcomes outcomes) = outcomes_json outcomes
+result_json (results.Entries entries) = entries_json entries
+result_json (results.Transaction tx) = transaction_json tx
+result_json (results.Spendings spendings) = spendings_json spendings
 
 abbrev pub answer_json : Data → Data → Data → Data
 answer_json error id result =

@@ -1,5 +1,5 @@
 -- Objects of JSON as they are printed, given the texts of their parts.
-use Rattle.std.specs.Prelude.{Bool, if◌then◌else◌, List, ℕ, ◌++◌, codes}
+use Rattle.std.specs.Prelude.{Bool, if◌then◌else◌, List, ℕ, ◌++◌, codes, Option, Some, None}
 use Rattle.std.specs.Fmt.{decimal}
 use Rattle.gate_rpc.specs.declared.result.EntryInfo.{EntryInfo}
 
@@ -9,6 +9,15 @@ rejected_text reason rule txid wtxid =
     codes ",\"rule\":" ++ (rule ++ (
     codes ",\"txid\":" ++ (txid ++ (
     codes ",\"wtxid\":" ++ (wtxid ++ (codes "}"))))))))
+
+-- the end of an outpoint's object
+abbrev pub spending_end : List ℕ → ℕ → List ℕ
+spending_end txid index = codes "\"txid\":" ++ (txid ++ (codes ",\"vout\":" ++ (decimal index ++ codes "}")))
+
+-- the start of an outpoint's object, with the text of the id of its spender, if there is one, and the text that follows
+abbrev pub spending_start : Option (List ℕ) → List ℕ → List ℕ
+spending_start None rest = codes "{" ++ rest
+spending_start (Some spender) rest = codes "{\"spendingtxid\":" ++ (spender ++ (codes "," ++ rest))
 
 abbrev pub bool_text : Bool → List ℕ
 bool_text b = if b then codes "true" else codes "false"

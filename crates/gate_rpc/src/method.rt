@@ -4,7 +4,7 @@ ghost use Rattle.gate_rpc.specs.Methods.{method_named, method_name};
 
 use gate_bytes::Exact;
 
-/// What can be called, under the names of Bitcoin Core 22.0.
+/// What can be called, under the names of Bitcoin Core 22.0; `gettxspendingprevout` came with 24.0.
 #[derive(Clone, Copy, Debug, PartialEq, Eq)]
 pub enum Method {
     SendRawTransaction,
@@ -14,6 +14,8 @@ pub enum Method {
     GetMempoolAncestors,
     GetMempoolDescendants,
     GetMempoolInfo,
+    GetRawTransaction,
+    GetTxSpendingPrevout,
 }
 
 impl Method {
@@ -35,6 +37,10 @@ impl Method {
             Some(Method::GetMempoolDescendants)
         } else if name == "getmempoolinfo" {
             Some(Method::GetMempoolInfo)
+        } else if name == "getrawtransaction" {
+            Some(Method::GetRawTransaction)
+        } else if name == "gettxspendingprevout" {
+            Some(Method::GetTxSpendingPrevout)
         } else {
             None
         }
@@ -51,6 +57,8 @@ impl Method {
             Method::GetMempoolAncestors => "getmempoolancestors",
             Method::GetMempoolDescendants => "getmempooldescendants",
             Method::GetMempoolInfo => "getmempoolinfo",
+            Method::GetRawTransaction => "getrawtransaction",
+            Method::GetTxSpendingPrevout => "gettxspendingprevout",
         }
     }
 }

@@ -2,18 +2,20 @@
 ghost use Rattle.std.specs.Prelude.{◌≡◌, IfOk, option_and_then};
 ghost use Rattle.std.specs.Option.{option_map};
 ghost use Rattle.serde_json.specs.View.{view, items_view};
-ghost use Rattle.serde_json.specs.Find.{as_bool};
-ghost use Rattle.gate_rpc.specs.declared.method.Method.TheVariants.{GetRawMempool};
-ghost use Rattle.gate_rpc.specs.Calls.{params_of, only, is_none, is_false_alone, text_alone, text_inside, txid_alone, command_of, submission_of};
+ghost use Rattle.serde_json.specs.Find.{as_bool, as_object, as_str};
+ghost use Rattle.gate_rpc.specs.Calls.{params_of, only, is_none, is_false_alone, is_true_alone, text_alone, list_alone, txid_alone, txid_first, txid_unless, listing_of, submissions_in, test_of, keys_in, txid_in, index_in, point_in, points_in, command_of, submission_of, each_of};
 
 use crate::method::Method;
 use crate::request::Command;
-use gate_bytes::Memory;
+use gate_bytes::{Kept, Memory};
 use gate_submission::Prepared;
-use gate_tx::Txid;
+use gate_tx::{OutPoint, Txid};
 use hex::FromHexError;
 use serde_json::Value;
 use std::alloc::Global;
+
+/// The most transactions that one call tests.
+const MOST_TESTED: usize = 25;
 
 /// The command of a method with these parameters, which may be absent; `None` if the method doesn't take them.
 pub(crate) fn read_command(
@@ -32,8 +34,8 @@ pub(crate) fn read_command(
             Ok(submission.map(|s| Command::SendRawTransaction(s)))
         }
         Method::TestMempoolAccept => {
-            let submission = submission(alloc, text_inside(params))?;
-            Ok(submission.map(|s| Command::TestMempoolAccept(s)))
+            let submissions = submissions_inside(alloc, params)?;
+            Ok(submissions.map(|s| testing(s)))
         }
         Method::GetRawMempool => Ok(listing(params)),
         Method::GetMempoolEntry => {
@@ -52,17 +54,40 @@ pub(crate) fn read_command(
                 Ok(None)
             }
         }
+        Method::GetRawTransaction => {
+            Ok(txid_first(params).map(|txid| Command::GetRawTransaction(txid)))
+        }
+        Method::GetTxSpendingPrevout => {
+            let points = points_inside(alloc, params)?;
+            Ok(points.map(|points| Command::GetTxSpendingPrevout(points)))
+        }
     }
 }
 
-/// The call of `getrawmempool`, which takes nothing or `false`.
+/// The call of `getrawmempool`, which takes nothing, `false` or `true`.
 fn listing(params: &[Value]) -> Option<Command>
-    ensures { result ≡ command_of GetRawMempool (items_view params.now) }
+    ensures { result ≡ listing_of (items_view params.now) }
 {
     if takes_none(params) || is_false_alone(params) {
         Some(Command::GetRawMempool)
+    } else if is_true_alone(params) {
+        Some(Command::GetRawMempoolVerbose)
     } else {
         None
+    }
+}
+
+/// The call of `testmempoolaccept` for these submissions.
+fn testing(submissions: Kept<Prepared>) -> Command
+    ensures { result ≡ test_of submissions }
+{
+    if submissions.len() != 1 {
+        return Command::TestList(submissions);
+    }
+    let mut submissions = submissions.into_vec();
+    match submissions.pop() {
+        Some(submission) => Command::TestMempoolAccept(submission),
+        None => Command::TestList(Kept::from_vec(submissions)),
     }
 }
 
@@ -142,17 +167,184 @@ fn text_alone(params: &[Value]) -> Option<&str>
     }
 }
 
-/// The text of `[[text]]`.
-fn text_inside(params: &[Value]) -> Option<&str>
-    ensures { option_map (λ text. text.now) result ≡ text_inside (items_view params.now) }
+/// Whether the parameters are `[true]`.
+fn is_true_alone(params: &[Value]) -> bool
+    ensures { result ≡ is_true_alone (option_and_then as_bool (only (items_view params.now))) }
+{
+    match only(params) {
+        Some(param) => param.as_bool() == Some(true),
+        None => false,
+    }
+}
+
+/// The items of `[[..]]`.
+fn list_alone(params: &[Value]) -> Option<&[Value]>
+    ensures { option_map (λ items. items_view items.now) result ≡ list_alone (items_view params.now) }
 {
     match only(params) {
         Some(param) => match param.as_array() {
-            Some(inner) => text_alone(inner.as_slice()),
+            Some(inner) => Some(inner.as_slice()),
             None => None,
         },
         None => None,
     }
+}
+
+/// The submissions of `[[text, ..]]`, of which there are at least one and at most 25.
+fn submissions_inside(alloc: Global, params: &[Value]) -> Result<Option<Kept<Prepared>>, Memory>
+    ensures { IfOk result (λ s. s ≡ option_and_then submissions_in (list_alone (items_view params.now))) }
+{
+    match list_alone(params) {
+        Some(items) => submissions(alloc, items),
+        None => Ok(None),
+    }
+}
+
+fn submissions(alloc: Global, items: &[Value]) -> Result<Option<Kept<Prepared>>, Memory>
+    ensures { IfOk result (λ s. s ≡ submissions_in (items_view items.now)) }
+{
+    if items.is_empty() || items.len() > MOST_TESTED {
+        return Ok(None);
+    }
+    each_submission(alloc, items)
+}
+
+/// The submission of each text of a list; `None` if an item is no text.
+fn each_submission(alloc: Global, items: &[Value]) -> Result<Option<Kept<Prepared>>, Memory>
+    ensures { IfOk result (λ s. s ≡ each_of (λ d. option_map submission_of (as_str d)) (items_view items.now)) }
+{
+    let mut submissions = Vec::with_capacity(alloc, items.len())?;
+    for item in items {
+        match submission(alloc, item.as_str())? {
+            Some(submission) => submissions.push(submission)?,
+            None => return Ok(None),
+        }
+    }
+    Ok(Some(Kept::from_vec(submissions)))
+}
+
+/// The outpoints of `[[{"txid": .., "vout": ..}, ..]]`, of which there is at least one.
+fn points_inside(alloc: Global, params: &[Value]) -> Result<Option<Kept<OutPoint>>, Memory>
+    ensures { IfOk result (λ points. points ≡ option_and_then points_in (list_alone (items_view params.now))) }
+{
+    match list_alone(params) {
+        Some(items) => points(alloc, items),
+        None => Ok(None),
+    }
+}
+
+fn points(alloc: Global, items: &[Value]) -> Result<Option<Kept<OutPoint>>, Memory>
+    ensures { IfOk result (λ points. points ≡ points_in (items_view items.now)) }
+{
+    if takes_none(items) {
+        return Ok(None);
+    }
+    each_point(alloc, items)
+}
+
+/// The outpoint of each object of a list; `None` if an item names none.
+fn each_point(alloc: Global, items: &[Value]) -> Result<Option<Kept<OutPoint>>, Memory>
+    ensures { IfOk result (λ points. points ≡ each_of point_in (items_view items.now)) }
+{
+    let mut points = Vec::with_capacity(alloc, items.len())?;
+    for item in items {
+        match point(item) {
+            Some(point) => points.push(point)?,
+            None => return Ok(None),
+        }
+    }
+    Ok(Some(Kept::from_vec(points)))
+}
+
+/// How many keys an object has; none if the value is no object.
+fn keys_in(item: &Value) -> usize
+    ensures { result ≡ keys_in (as_object (view item.now)) }
+{
+    match item.as_object() {
+        Some(members) => members.len(),
+        None => 0,
+    }
+}
+
+/// The outpoint that an object names, whose keys are `txid` and `vout`.
+fn point(item: &Value) -> Option<OutPoint>
+    ensures { result ≡ point_in (view item.now) }
+{
+    if keys_in(item) != 2 {
+        return None;
+    }
+    let Some(txid) = txid_at(item.get("txid")) else {
+        return None;
+    };
+    match index_at(item.get("vout")) {
+        Some(index) => Some(OutPoint { txid, index }),
+        None => None,
+    }
+}
+
+fn txid_at(value: Option<&Value>) -> Option<Txid>
+    ensures { result ≡ option_and_then txid_in (option_map (λ v. view v.now) value.entry) }
+{
+    match value {
+        Some(value) => txid_in(value),
+        None => None,
+    }
+}
+
+fn index_at(value: Option<&Value>) -> Option<u32>
+    ensures { result ≡ option_and_then index_in (option_map (λ v. view v.now) value.entry) }
+{
+    match value {
+        Some(value) => index_in(value),
+        None => None,
+    }
+}
+
+fn txid_in(value: &Value) -> Option<Txid>
+    ensures { result ≡ txid_in (view value.now) }
+{
+    match value.as_str() {
+        Some(text) => Txid::read(text),
+        None => None,
+    }
+}
+
+/// The whole number from 0 to 2,147,483,647 that a value is.
+fn index_in(value: &Value) -> Option<u32>
+    ensures { result ≡ index_in (view value.now) }
+{
+    match value.as_u64() {
+        Some(index) => if index < 1 << 31 {
+            Some(index as u32)
+        } else {
+            None
+        },
+        None => None,
+    }
+}
+
+/// The txid that a value prints, if another is `false`.
+fn txid_unless_verbose(txid: &Value, verbose: &Value) -> Option<Txid>
+    ensures { result ≡ txid_unless (view txid.now) (view verbose.now) }
+{
+    if verbose.as_bool() == Some(false) {
+        txid_in(txid)
+    } else {
+        None
+    }
+}
+
+/// The txid of `[txid]` or `[txid, false]`.
+fn txid_first(params: &[Value]) -> Option<Txid>
+    ensures { result ≡ txid_first (items_view params.now) }
+{
+    if params.len() == 1 {
+        return txid_in(&params[0]);
+    }
+    if params.len() == 2 {
+        return txid_unless_verbose(&params[0], &params[1]);
+    }
+    None
 }
 
 /// The txid of `[txid]`.

@@ -50,8 +50,9 @@ impl Copied for RpcReply {
     }
 }
 
-/// What an answer says after its status: compact JSON with the keys `error`, `id` and `result`, sorted at every level;
-/// only a call that isn't allowed is answered without JSON.
+/// What an answer says after its status: compact JSON with the keys `error`, `id` and `result`, sorted at every level
+/// but for txids that are keys, which stand in the order of admission; only a call that isn't allowed is answered without
+/// JSON.
 #[tactic(auto, unfolding(serde_json::proofs::OnLiterals::serde_json_on_literals))]
 pub fn reply_text(alloc: Global, reply: &RpcReply) -> Result<String, Memory>
     ensures { IfOk result (λ text. string_bytes text ≡ reply_text reply.now) }

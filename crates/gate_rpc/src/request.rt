@@ -4,9 +4,9 @@ ghost use Rattle.gate_rpc.specs.Calls.{method_of};
 
 use crate::id::Id;
 use crate::method::Method;
-use gate_bytes::{Copied, Exact, Memory};
+use gate_bytes::{Copied, Exact, Kept, Memory};
 use gate_submission::Prepared;
-use gate_tx::Txid;
+use gate_tx::{OutPoint, Txid};
 use std::alloc::Global;
 
 /// A method with its parameters.
@@ -16,8 +16,12 @@ pub enum Command {
     SendRawTransaction(Prepared),
     /// Says whether a transaction would enter the pool.
     TestMempoolAccept(Prepared),
+    /// Says of each of several transactions whether it would enter the pool behind those before it that would.
+    TestList(Kept<Prepared>),
     /// The txids in the pool.
     GetRawMempool,
+    /// What the pool knows of each entry.
+    GetRawMempoolVerbose,
     /// What the pool knows of an entry.
     GetMempoolEntry(Txid),
     /// The txids of an entry's ancestors.
@@ -26,6 +30,10 @@ pub enum Command {
     GetMempoolDescendants(Txid),
     /// The pool's size and its feerates.
     GetMempoolInfo,
+    /// The text of an entry's transaction.
+    GetRawTransaction(Txid),
+    /// Which entries spend outpoints.
+    GetTxSpendingPrevout(Kept<OutPoint>),
 }
 
 impl Command {
@@ -35,11 +43,15 @@ impl Command {
         match self {
             Command::SendRawTransaction(_) => Method::SendRawTransaction,
             Command::TestMempoolAccept(_) => Method::TestMempoolAccept,
+            Command::TestList(_) => Method::TestMempoolAccept,
             Command::GetRawMempool => Method::GetRawMempool,
+            Command::GetRawMempoolVerbose => Method::GetRawMempool,
             Command::GetMempoolEntry(_) => Method::GetMempoolEntry,
             Command::GetMempoolAncestors(_) => Method::GetMempoolAncestors,
             Command::GetMempoolDescendants(_) => Method::GetMempoolDescendants,
             Command::GetMempoolInfo => Method::GetMempoolInfo,
+            Command::GetRawTransaction(_) => Method::GetRawTransaction,
+            Command::GetTxSpendingPrevout(_) => Method::GetTxSpendingPrevout,
         }
     }
 }
@@ -53,11 +65,17 @@ impl Copied for Command {
             Command::TestMempoolAccept(submission) => {
                 Ok(Command::TestMempoolAccept(submission.copy(alloc)?))
             }
+            Command::TestList(submissions) => Ok(Command::TestList(submissions.copy(alloc)?)),
             Command::GetRawMempool => Ok(Command::GetRawMempool),
+            Command::GetRawMempoolVerbose => Ok(Command::GetRawMempoolVerbose),
             Command::GetMempoolEntry(txid) => Ok(Command::GetMempoolEntry(*txid)),
             Command::GetMempoolAncestors(txid) => Ok(Command::GetMempoolAncestors(*txid)),
             Command::GetMempoolDescendants(txid) => Ok(Command::GetMempoolDescendants(*txid)),
             Command::GetMempoolInfo => Ok(Command::GetMempoolInfo),
+            Command::GetRawTransaction(txid) => Ok(Command::GetRawTransaction(*txid)),
+            Command::GetTxSpendingPrevout(points) => {
+                Ok(Command::GetTxSpendingPrevout(points.copy(alloc)?))
+            }
         }
     }
 }
@@ -80,12 +98,15 @@ impl Copied for Request {
 
 impl Exact for Command {
     ghost use Rattle.std.proofs.lemmas.Slice.Eq.{bytes_eq-Decides};
+    ghost use Rattle.gate_tx.specs.Equality.{out_point_decides};
     ghost use Rattle.gate_submission.specs.contracts.prepared.PreparedExact.TheImpl.Laws.{exact-law as prepared_decides};
     ghost use Rattle.gate_rpc.specs.contracts.request.Command.{enum};
+    ghost use Rattle.gate_rpc.specs.Equality.{list_decides};
     ghost use Rattle.gate_bytes.specs.Equality.{enum_decides, ◌or◌, none_decides, last_decides};
 
-    ghost exact = { enum_decides enum _ (last_decides prepared_decides or last_decides prepared_decides or none_decides
-        or last_decides bytes_eq-Decides or last_decides bytes_eq-Decides or last_decides bytes_eq-Decides or none_decides or tt) };
+    ghost exact = { enum_decides enum _ (last_decides prepared_decides or last_decides prepared_decides or last_decides (list_decides prepared_decides)
+        or none_decides or none_decides or last_decides bytes_eq-Decides or last_decides bytes_eq-Decides or last_decides bytes_eq-Decides or none_decides
+        or last_decides bytes_eq-Decides or last_decides (list_decides out_point_decides) or tt) };
 }
 
 impl Exact for Request {

@@ -1,7 +1,8 @@
 //! The results of calls.
+use crate::items::{KnownEntry, Outcome, Spending};
 use gate_bytes::{Copied, Counted, Exact, Kept, Memory};
 use gate_standard::Denial;
-use gate_tx::{Txid, Wtxid};
+use gate_tx::{Identified, Txid, Wtxid};
 use std::alloc::Global;
 
 /// What the pool knows of an entry. Sizes are in virtual bytes, fees in satoshi; the counts and sums of ancestors and
@@ -59,6 +60,14 @@ pub enum RpcResult {
         relay_rate: u64,
         count: u64,
     },
+    /// What would become of several transactions, each behind those before it that would enter.
+    Outcomes(Counted<Kept<Outcome>>),
+    /// Entries of the pool, in order of admission.
+    Entries(Counted<Kept<KnownEntry>>),
+    /// A transaction of the pool, whose text is the answer.
+    Transaction(Counted<Identified>),
+    /// Which entries spend outpoints.
+    Spendings(Counted<Kept<Spending>>),
 }
 
 impl Copied for RpcResult {
@@ -100,6 +109,12 @@ impl Copied for RpcResult {
                 relay_rate: *relay_rate,
                 count: *count,
             }),
+            RpcResult::Outcomes(outcomes) => Ok(RpcResult::Outcomes(outcomes.copy(alloc)?)),
+            RpcResult::Entries(entries) => Ok(RpcResult::Entries(entries.copy(alloc)?)),
+            RpcResult::Transaction(transaction) => {
+                Ok(RpcResult::Transaction(transaction.copy(alloc)?))
+            }
+            RpcResult::Spendings(spendings) => Ok(RpcResult::Spendings(spendings.copy(alloc)?)),
         }
     }
 }
@@ -120,10 +135,15 @@ impl Exact for EntryInfo {
 impl Exact for RpcResult {
     ghost use Rattle.std.proofs.lemmas.Bool.Decides.{Decides-eqb};
     ghost use Rattle.std.proofs.lemmas.Slice.Eq.{bytes_eq-Decides};
+    ghost use Rattle.gate_tx.specs.contracts.identified.IdentifiedExact.TheImpl.Laws.{exact-law as transaction_decides};
+    ghost use Rattle.gate_rpc.specs.contracts.items.KnownEntryExact.TheImpl.Laws.{exact-law as known_decides};
+    ghost use Rattle.gate_rpc.specs.contracts.items.SpendingExact.TheImpl.Laws.{exact-law as spending_decides};
+    ghost use Rattle.gate_rpc.specs.contracts.items.OutcomeExact.TheImpl.Laws.{exact-law as outcome_decides};
     ghost use Rattle.gate_tx.specs.Equality.{items_decides};
     ghost use Rattle.gate_standard.specs.contracts.denial.Denial.{enum as denials};
     ghost use Rattle.gate_rpc.specs.contracts.result.EntryInfoExact.TheImpl.Laws.{exact-law as entry_decides};
     ghost use Rattle.gate_rpc.specs.contracts.result.RpcResult.{enum};
+    ghost use Rattle.gate_rpc.specs.Equality.{list_decides};
     ghost use Rattle.gate_bytes.specs.Equality.{enum_decides, ◌or◌, ◌&◌, last_decides, bare_decides};
 
     ghost exact = { enum_decides enum _ (last_decides bytes_eq-Decides
@@ -132,5 +152,9 @@ impl Exact for RpcResult {
         or last_decides items_decides
         or last_decides entry_decides
         or Decides-eqb & Decides-eqb & Decides-eqb & Decides-eqb & last_decides Decides-eqb
+        or last_decides (list_decides outcome_decides)
+        or last_decides (list_decides known_decides)
+        or last_decides transaction_decides
+        or last_decides (list_decides spending_decides)
         or tt) };
 }

@@ -1,21 +1,23 @@
 //! Values of JSON, written compactly.
-ghost use Rattle.std.specs.Prelude.{◌≡◌, [], ◌∷◌, ◌++◌, codes, IfOk, string_bytes};
+ghost use Rattle.std.specs.Prelude.{◌≡◌, [], ◌∷◌, ◌++◌, codes, IfOk, OnOk, Some, string_bytes};
+ghost use Rattle.std.specs.Option.{option_map};
 ghost use Rattle.std.specs.Fmt.{decimal};
 ghost use Rattle.serde_json.specs.View.{view};
 ghost use Rattle.serde_json.specs.Written.{compact_text};
-ghost use Rattle.gate_rpc.specs.Replies.{error_json, id_json, txids_json, allowed_json, rejected_json, entry_json, info_json, result_json, reject_reason};
+ghost use Rattle.gate_rpc.specs.Replies.{error_json, id_json, txids_json, allowed_json, rejected_json, entry_json, info_json, outcome_json, outcomes_json, entries_json, transaction_json, spending_json, spendings_json, result_json, reject_reason};
 ghost use Rattle.gate_standard.specs.Denials.{rule_of};
 ghost use Rattle.gate_tx.specs.Ids.{id_text};
-ghost use Rattle.gate_rpc.specs.Texts.{rejected_text, entry_text, entry_start, entry_middle, entry_end};
-ghost use Rattle.hex.specs.Hex.{IsBytes};
+ghost use Rattle.gate_rpc.specs.Texts.{rejected_text, spending_start, spending_end, entry_text, entry_start, entry_middle, entry_end};
+ghost use Rattle.hex.specs.Hex.{IsBytes, encode_lower};
 ghost use Rattle.json.specs.Print.{quoted};
 
 use crate::error::RpcError;
 use crate::id::Id;
+use crate::items::{KnownEntry, Outcome, Spending};
 use crate::result::{EntryInfo, RpcResult};
 use gate_bytes::Memory;
 use gate_standard::Denial;
-use gate_tx::{Txid, Wtxid};
+use gate_tx::{Identified, Txid, Wtxid};
 use serde_json::{Value, json};
 use std::alloc::{AllocError, Global};
 
@@ -103,6 +105,10 @@ pub(crate) fn result_json(alloc: Global, outcome: &RpcResult) -> Result<String, 
             relay_rate,
             count,
         } => info_json(alloc, *size, *budget, *least_rate, *relay_rate, *count),
+        RpcResult::Outcomes(outcomes) => outcomes_json(alloc, outcomes.get().as_slice()),
+        RpcResult::Entries(entries) => entries_json(alloc, entries.get().as_slice()),
+        RpcResult::Transaction(transaction) => transaction_json(alloc, transaction.get()),
+        RpcResult::Spendings(spendings) => spendings_json(alloc, spendings.get().as_slice()),
     }
 }
 
@@ -227,6 +233,168 @@ fn some_txids_json(alloc: Global, first: &Txid, others: &[Txid]) -> Result<Strin
     }
     text.push_str("]")?;
     Ok(text)
+}
+
+fn outcomes_json(alloc: Global, outcomes: &[Outcome]) -> Result<String, Memory>
+    ensures { IfOk result (λ text. string_bytes text ≡ compact_text (outcomes_json outcomes.now)) }
+{
+    match outcomes.split_first() {
+        Some((first, others)) => some_outcomes_json(alloc, first, others),
+        None => Ok(String::from_str(alloc, "[]")?),
+    }
+}
+
+fn some_outcomes_json(alloc: Global, first: &Outcome, others: &[Outcome]) -> Result<String, Memory>
+    ensures { IfOk result (λ text. string_bytes text ≡ compact_text (outcomes_json (first.now ∷ others.now))) }
+{
+    let json = outcome_json(alloc, first)?;
+    let mut text = opened(alloc, "[", json.as_str())?;
+    for outcome in others {
+        let json = outcome_json(alloc, outcome)?;
+        push_later(&mut text, json.as_str())?;
+    }
+    text.push_str("]")?;
+    Ok(text)
+}
+
+fn outcome_json(alloc: Global, outcome: &Outcome) -> Result<String, AllocError>
+    ensures { IfOk result (λ text. string_bytes text ≡ compact_text (outcome_json outcome.now)) }
+{
+    match outcome {
+        Outcome::Allowed {
+            txid,
+            wtxid,
+            fee,
+            vsize,
+        } => allowed_json(alloc, txid, wtxid, *fee, *vsize),
+        Outcome::Rejected {
+            txid,
+            wtxid,
+            denial,
+        } => rejected_json(alloc, txid, wtxid, denial),
+    }
+}
+
+/// The text of a list or an object up to its first item.
+fn opened(alloc: Global, bracket: &str, item: &str) -> Result<String, AllocError>
+    ensures { IfOk result (λ text. string_bytes text ≡ bracket.now ++ item.now) }
+{
+    format!(in alloc; "{bracket}{item}")
+}
+
+/// Puts a comma and an item at the end.
+fn push_later(text: &mut String, item: &str) -> Result<(), AllocError>
+    ensures { OnOk result (string_bytes text.new ≡ string_bytes text.old ++ 44 ∷ item.now) }
+{
+    text.push_str(",")?;
+    text.push_str(item)
+}
+
+fn entries_json(alloc: Global, entries: &[KnownEntry]) -> Result<String, Memory>
+    ensures { IfOk result (λ text. string_bytes text ≡ compact_text (entries_json entries.now)) }
+{
+    match entries.split_first() {
+        Some((first, others)) => some_entries_json(alloc, first, others),
+        None => Ok(String::from_str(alloc, "{}")?),
+    }
+}
+
+fn some_entries_json(
+    alloc: Global,
+    first: &KnownEntry,
+    others: &[KnownEntry],
+) -> Result<String, Memory>
+    ensures { IfOk result (λ text. string_bytes text ≡ compact_text (entries_json (first.now ∷ others.now))) }
+{
+    let member = known_member(alloc, first)?;
+    let mut text = opened(alloc, "{", member.as_str())?;
+    for known in others {
+        let member = known_member(alloc, known)?;
+        push_later(&mut text, member.as_str())?;
+    }
+    text.push_str("}")?;
+    Ok(text)
+}
+
+/// An entry behind its txid.
+fn known_member(alloc: Global, known: &KnownEntry) -> Result<String, Memory>
+    ensures { IfOk result (λ text. string_bytes text ≡ quoted (id_text known.now.txid) ++ 58 ∷ compact_text (entry_json known.now.info)) }
+{
+    let txid = txid_text(alloc, &known.txid)?;
+    let info = entry_json(alloc, &known.info)?;
+    Ok(format!(in alloc; "{txid}:{info}")?)
+}
+
+fn transaction_json(alloc: Global, transaction: &Identified) -> Result<String, Memory>
+    ensures { IfOk result (λ text. string_bytes text ≡ compact_text (transaction_json transaction.now)) }
+{
+    let bytes = transaction.transaction().write_tx(alloc)?;
+    Ok(quoted_digits(alloc, bytes.as_slice())?)
+}
+
+fn quoted_digits(alloc: Global, bytes: &[u8]) -> Result<String, AllocError>
+    ensures { IfOk result (λ text. string_bytes text ≡ quoted (encode_lower bytes.now)) }
+{
+    recall_bytes(bytes);
+    let digits = hex::encode(alloc, bytes)?;
+    format!(in alloc; "\"{digits}\"")
+}
+
+fn spendings_json(alloc: Global, spendings: &[Spending]) -> Result<String, Memory>
+    ensures { IfOk result (λ text. string_bytes text ≡ compact_text (spendings_json spendings.now)) }
+{
+    match spendings.split_first() {
+        Some((first, others)) => some_spendings_json(alloc, first, others),
+        None => Ok(String::from_str(alloc, "[]")?),
+    }
+}
+
+fn some_spendings_json(
+    alloc: Global,
+    first: &Spending,
+    others: &[Spending],
+) -> Result<String, Memory>
+    ensures { IfOk result (λ text. string_bytes text ≡ compact_text (spendings_json (first.now ∷ others.now))) }
+{
+    let json = spending_json(alloc, first)?;
+    let mut text = opened(alloc, "[", json.as_str())?;
+    for spending in others {
+        let json = spending_json(alloc, spending)?;
+        push_later(&mut text, json.as_str())?;
+    }
+    text.push_str("]")?;
+    Ok(text)
+}
+
+fn spending_json(alloc: Global, spending: &Spending) -> Result<String, AllocError>
+    ensures { IfOk result (λ text. string_bytes text ≡ compact_text (spending_json spending.now)) }
+{
+    let txid = txid_text(alloc, &spending.outpoint.txid)?;
+    let rest = spending_end(alloc, txid.as_str(), spending.outpoint.index)?;
+    spending_start(alloc, &spending.spender, rest.as_str())
+}
+
+fn spending_end(alloc: Global, txid: &str, index: u32) -> Result<String, AllocError>
+    ensures { IfOk result (λ text. string_bytes text ≡ spending_end txid.now index) }
+{
+    format!(in alloc; "\"txid\":{txid},\"vout\":{index}}}")
+}
+
+/// The start of an outpoint's object, with the id of its spender, if there is one, and the text that follows.
+fn spending_start(alloc: Global, spender: &Option<Txid>, rest: &str) -> Result<String, AllocError>
+    ensures { IfOk result (λ text. string_bytes text ≡ spending_start (option_map (λ txid. quoted (id_text txid)) spender.now) rest.now) }
+{
+    match spender {
+        Some(spender) => start_with_spender(alloc, spender, rest),
+        None => format!(in alloc; "{{{rest}"),
+    }
+}
+
+fn start_with_spender(alloc: Global, spender: &Txid, rest: &str) -> Result<String, AllocError>
+    ensures { IfOk result (λ text. string_bytes text ≡ spending_start (Some (quoted (id_text spender.now))) rest.now) }
+{
+    let spender = txid_text(alloc, spender)?;
+    format!(in alloc; "{{\"spendingtxid\":{spender},{rest}")
 }
 
 #[tactic(auto, unfolding(serde_json::proofs::OnLiterals::serde_json_on_literals))]

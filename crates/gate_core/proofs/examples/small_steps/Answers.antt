@@ -72,6 +72,10 @@ returns-clause-calls c = record {
   no_entry = refl;
   sends_nothing = refl;
   tests_nothing = refl;
+  tests_none_of_several = refl;
+  knows_no_entry = refl;
+  no_transaction = refl;
+  unspent = refl;
 }
 
 pub returns-clause-learning : goal.returns-clause-learning

@@ -9,7 +9,7 @@ use Rattle.gate_graph.specs.Family.{reaches}
 use Rattle.gate_pool.specs.Pool.{Admitted, listing_of}
 use Rattle.gate_pool.specs.Family.{steps, AreIdsOf}
 use Rattle.gate_pool.proofs.Walking.{shorter}
-use Rattle.gate_query.proofs.Listed.{some_unless_none}
+use Rattle.gate_query.proofs.Ids.{some_unless_none}
 use Rattle.gate_query.proofs.family.with_ancestors.Goals as goal
 
 -- an entry leads to what the inputs spend

@@ -8,7 +8,7 @@ use Rattle.gate_pool.proofs.Entries.{Id}
 use Rattle.gate_pool.proofs.Ids.{AreIdsOf-one, descendants_of_one}
 use Rattle.gate_pool.proofs.Searching.{entry_there}
 use Rattle.gate_pool.proofs.Walking.{shorter}
-use Rattle.gate_query.proofs.Listed.{some_unless_none}
+use Rattle.gate_query.proofs.Ids.{some_unless_none}
 use Rattle.gate_query.proofs.family.with_descendants.Goals as goal
 
 -- an entry's id is the root of its family

@@ -2,7 +2,7 @@ use Rattle.std.proofs.Common.{not, ◌∙◌, ap, List, ℕ}
 use Rattle.std.specs.Prelude.{filter}
 use Rattle.std.specs.Str.{bytes_eq}
 use Rattle.gate_pool.specs.Family.{ancestors_of}
-use Rattle.gate_query.proofs.Listed.{kept_listing}
+use Rattle.gate_query.proofs.Ids.{kept_listing}
 use Rattle.gate_query.proofs.listing.above.Goals as goal
 
 pub returns : goal.returns
