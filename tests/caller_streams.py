@@ -126,13 +126,39 @@ class Callers(Stream):
         return "user %s rpc 5000 %s" % (user, text), model.call(user, 5000, {**call, "params": values})
 
     def parameters(self, model, method):
-        if method in ("sendrawtransaction", "testmempoolaccept"):
+        if method == "sendrawtransaction":
             tx, digits = self.submission(model)
-            return ([digits] if method[0] == "s" else [[digits]]), [tx]
-        if method in ("getmempoolentry", "getmempoolancestors", "getmempooldescendants"):
+            return [digits], [tx]
+        if method == "testmempoolaccept":
+            made = self.submissions(model)
+            return [[digits for _, digits in made]], [[tx for tx, _ in made]]
+        if method in ("getmempoolentry", "getmempoolancestors", "getmempooldescendants", "getrawtransaction"):
             txid = self.txid(model)
-            return [self.random.choice((txid, txid.upper()))], [txid]
-        return ([False], [False]) if method == "getrawmempool" and self.random.random() < 0.3 else ([], [])
+            more = [False] if method == "getrawtransaction" and self.random.random() < 0.3 else []
+            return [self.random.choice((txid, txid.upper()))] + more, [txid] + more
+        if method == "gettxspendingprevout":
+            points = [self.point(model) for _ in range(self.random.choice((1, 1, 2, 5)))]
+            return [points], [points]
+        verbose = [self.random.random() < 0.5] if method == "getrawmempool" and self.random.random() < 0.6 else []
+        return verbose, verbose
+
+    def submissions(self, model):
+        """One transaction, or several, of which some spend outputs of those before them."""
+        made = [self.submission(model) for _ in range(self.random.choice((1, 1, 1, 2, 3, 6)))]
+        for place in range(1, len(made)):
+            parent = self.random.choice(made[:place])[0]
+            if parent is not None and parent.outputs and self.random.random() < 0.5:
+                index = self.random.randrange(len(parent.outputs))
+                child = Transaction([Input(parent.hash(), index, sequence=self.sequence())], [Output(max(294, parent.outputs[index].value - 150))])
+                made[place] = child, child.hex()
+        return made
+
+    def point(self, model):
+        """An outpoint that an entry spends or makes, or that is in no transaction of the pool."""
+        spent = [(printed(hash), index) for entry in model.pool for hash, index in sorted(entry.spent)]
+        made = [(entry.tx.txid(), index) for entry in model.pool for index in range(len(entry.tx.outputs))]
+        txid, index = self.random.choice(self.random.choice([points for points in (spent, made) if points] + [[(self.txid(model), self.random.choice((0, 7, 2147483647)))]]))
+        return {"txid": txid, "vout": index}
 
     def txid(self, model):
         known = [entry.tx.txid() for entry in model.pool]

@@ -5,7 +5,8 @@ import json
 import re
 from dataclasses import dataclass, field
 
-from model import CLOSING, TOKENS, Model, Opening, fees_of, size_of
+from bitcoin import printed
+from model import CLOSING, TOKENS, Entry, Model, Opening, fees_of, size_of
 
 FLAGS = ("bloomfilter", "noban", "forcerelay", "relay", "mempool", "download", "addr")
 WORDS = {"": (), "bloom": ("bloomfilter",), "noban": ("noban", "download"), "forcerelay": ("forcerelay", "relay"), "all": FLAGS}
@@ -20,6 +21,7 @@ CALLER_TOKENS = {
 CLOSING_TOO = CLOSING + ["P4", "P7", "P10"]
 METHODS = (
     "sendrawtransaction", "testmempoolaccept", "getrawmempool", "getmempoolentry", "getmempoolancestors", "getmempooldescendants", "getmempoolinfo",
+    "getrawtransaction", "gettxspendingprevout",
 )
 
 
@@ -51,8 +53,18 @@ class Error(Exception):
             self.error["rule"] = rule
 
 
+class InOrder(dict):
+    """An object whose members stand as they were put in."""
+
+
 def json_text(value):
-    return json.dumps(value, separators=(",", ":"), sort_keys=True, ensure_ascii=False)
+    """Compact JSON with sorted keys, but for objects that have an order of their own."""
+    if isinstance(value, dict):
+        members = value.items() if isinstance(value, InOrder) else sorted(value.items())
+        return "{%s}" % ",".join("%s:%s" % (json_text(name), json_text(one)) for name, one in members)
+    if isinstance(value, (list, tuple)):
+        return "[%s]" % ",".join(json_text(one) for one in value)
+    return json.dumps(value, ensure_ascii=False)
 
 
 def address_of(text):
@@ -187,17 +199,36 @@ class CallerModel(Model):
             raise Error(500, {"A1": -22, "A25": -25}.get(rule, -26), TOKENS[rule], rule)
         return tx.txid()
 
-    def testmempoolaccept(self, now, tx):
-        rule = self.user_failing(tx)
-        if rule == "A1":
-            raise Error(500, -22, TOKENS[rule], rule)
+    def testmempoolaccept(self, now, made):
+        """Each over the pool with those before it that are allowed. In a list of several nothing is replaced."""
+        if None in made:
+            raise Error(500, -22, TOKENS["A1"], "A1")
+        before, told = self.pool, []
+        for tx in made:
+            rule = self.user_failing(tx)
+            if len(made) > 1 and self.conflicts(tx) and (rule is None or int(rule[1:]) > 23):
+                rule = "A23"
+            told.append(self.tested(tx, rule))
+            if rule is None:
+                self.pool = self.pool + [Entry(tx, self.fee(tx), self.size(tx), now)]
+        self.pool = before
+        return told
+
+    def tested(self, tx, rule):
         ids = {"txid": tx.txid(), "wtxid": tx.wtxid()}
         if rule:
-            return [{"allowed": False, "reject-reason": "missing-inputs" if rule == "A25" else TOKENS[rule], "rule": rule, **ids}]
-        return [{"allowed": True, "fees": {"base": self.fee(tx)}, "vsize": self.size(tx), **ids}]
+            return {"allowed": False, "reject-reason": "missing-inputs" if rule == "A25" else TOKENS[rule], "rule": rule, **ids}
+        return {"allowed": True, "fees": {"base": self.fee(tx)}, "vsize": self.size(tx), **ids}
 
-    def getrawmempool(self, now, *params):
-        return self.listed(self.pool)
+    def getrawmempool(self, now, verbose=False):
+        return InOrder({txid: self.getmempoolentry(now, txid) for txid in self.listed(self.pool)}) if verbose else self.listed(self.pool)
+
+    def getrawtransaction(self, now, txid, verbose=False):
+        return self.entry(txid).tx.hex()
+
+    def gettxspendingprevout(self, now, points):
+        spenders = {(printed(hash), index): entry.tx.txid() for entry in self.pool for hash, index in entry.spent}
+        return [{**point, **{"spendingtxid": spenders[at] for at in [(point["txid"], point["vout"])] if at in spenders}} for point in points]
 
     def getmempoolinfo(self, now):
         return {"bytes": size_of(self.pool), "maxmempool": self.opening.budget, "mempoolminfee": max(1000, self.floor), "minrelaytxfee": 1000, "size": len(self.pool)}

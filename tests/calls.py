@@ -12,6 +12,7 @@ PARSE_ERROR = 'rpc 500 {"error":{"code":-32700,"message":"Parse error"},"id":nul
 INVALID_REQUEST = 'rpc 400 {"error":{"code":-32600,"message":"Invalid Request"},"id":null,"result":null}'
 NOT_ALLOWED = "rpc 403 denied U1 rpc-whitelist"
 UNKNOWN_ID = "ab" * 32
+POINT = {"txid": UNKNOWN_ID, "vout": 0}
 
 
 def called(method, *params, id=1):
@@ -86,18 +87,27 @@ def test_parameters(gate):
     """Each method takes parameters of its own form alone; none may be absent or null."""
     for method, wrong in {
         "sendrawtransaction": ([], [1], [["00"]], ["00", 0], ["00", None], [None]),
-        "testmempoolaccept": ([], ["00"], [[]], [["00", "00"]], [[1]], [["00"], 0], [[["00"]]]),
-        "getrawmempool": ([True], [0], [None], [False, False], ["false"], [[]]),
+        "testmempoolaccept": ([], ["00"], [[]], [["00"] * 26], [[1]], [["00", 1]], [["00", None]], [["00"], 0], [["00", "00"], 0], [[["00"]]], ["00", "00"]),
+        "getrawmempool": ([0], [1], [None], [False, False], [True, False], ["false"], ["true"], [[]]),
         "getmempoolentry": ([], [1], [UNKNOWN_ID[1:]], [UNKNOWN_ID + "0"], [UNKNOWN_ID[1:] + "g"], ["0x" + UNKNOWN_ID[2:]], [UNKNOWN_ID, True], [[UNKNOWN_ID]]),
         "getmempoolancestors": ([], [UNKNOWN_ID, False], [None]),
         "getmempooldescendants": ([], [""], [{}]),
         "getmempoolinfo": ([False], [None], [[]]),
+        "getrawtransaction": ([], [1], [UNKNOWN_ID[1:]], [UNKNOWN_ID + "0"], [UNKNOWN_ID, True], [UNKNOWN_ID, 0], [UNKNOWN_ID, None], [UNKNOWN_ID, False, UNKNOWN_ID], [[UNKNOWN_ID]], [False]),
+        "gettxspendingprevout": ([], [None], [[]], [{}], [[{}]], [[UNKNOWN_ID]], [POINT], [[POINT], True], [[[POINT]]], [[POINT, None]], [[{"txid": UNKNOWN_ID}]], [[{"vout": 0}]])
+        + tuple([[{**POINT, name: value}]] for name, value in (
+            ("vout", -1), ("vout", 2**31), ("vout", 2**64), ("vout", "0"), ("vout", None), ("vout", True), ("vout", 0.0), ("vout", [0]),
+            ("txid", UNKNOWN_ID[1:]), ("txid", UNKNOWN_ID + "0"), ("txid", None), ("txid", 1), ("x", 0),
+        )),
     }.items():
         gate.answers([TIMES], [(asked(called(method, *params)), INVALID_PARAMS) for params in wrong])
         gate.answers([TIMES], [(asked('{"id":1,"method":"%s","params":%s}' % (method, params)), INVALID_PARAMS) for params in ("{}", '"x"', "0", "false")])
     for params in ("", ',"params":null', ',"params":[]', ',"params":[false]', ',"params":{},"params":[]'):
         gate.answers([TIMES], [(asked('{"id":1,"method":"getrawmempool"%s}' % params), result([]))])
-    gate.answers([TIMES], [(asked(called(method, id)), NO_ENTRY) for method in ("getmempoolentry", "getmempoolancestors", "getmempooldescendants") for id in (UNKNOWN_ID, UNKNOWN_ID.upper())])
+    gate.answers([TIMES], [(asked(called(method, id)), NO_ENTRY) for method in ("getmempoolentry", "getmempoolancestors", "getmempooldescendants", "getrawtransaction") for id in (UNKNOWN_ID, UNKNOWN_ID.upper())])
+    gate.answers([TIMES], [(asked(called("getrawtransaction", UNKNOWN_ID, False)), NO_ENTRY), (asked(called("getrawmempool", True)), result({}))])
+    for index in (0, 1, 2**31 - 1):
+        gate.answers([TIMES], [(asked(called("gettxspendingprevout", [{"vout": index, "txid": UNKNOWN_ID.upper()}])), result([{**POINT, "vout": index}]))])
 
 
 def test_lists_of_methods(gate):
@@ -138,6 +148,43 @@ def test_submissions_by_users(gate):
         (asked(called("getrawmempool")), result([tx.txid()])),
         ("peer 1 enter 192.0.2.1", "entered none"),
         ("peer 1 tx 5000 " + tx.hex(), "denied P5 keep txn-already-in-mempool"),
+    ])
+
+
+def test_lists_of_transactions(gate):
+    """Each is judged behind those before it that are allowed, as a chain of 25 shows; nothing in a list is replaced, and nothing enters."""
+    chain = [payment(1, 99000)]
+    while len(chain) < 26:
+        chain.append(Transaction([Input(chain[-1].hash())], [Output(chain[-1].outputs[0].value - 1000)]))
+
+    def allowed(tx, fee=1000):
+        return {"allowed": True, "fees": {"base": fee}, "txid": tx.txid(), "vsize": tx.virtual_size(1), "wtxid": tx.wtxid()}
+
+    def rejected(tx, rule, reason):
+        return {"allowed": False, "reject-reason": reason, "rule": rule, "txid": tx.txid(), "wtxid": tx.wtxid()}
+
+    def tested(*made):
+        return asked(called("testmempoolaccept", [tx.hex() for tx in made]))
+
+    missing = [rejected(tx, "A25", "missing-inputs") for tx in chain]
+    more, double = payment(2, 90000), payment(2, 99000)
+    gate.answers(OPEN, [
+        (tested(*chain[:25]), result([allowed(tx) for tx in chain[:25]])),
+        (tested(*chain[1:]), result(missing[1:])),
+        (tested(*chain[:2][::-1]), result([missing[1], allowed(chain[0])])),
+        (tested(more, double), result([allowed(more, 10000), rejected(double, "A23", "txn-mempool-conflict")])),
+        (tested(double, more), result([allowed(double), rejected(more, "A23", "txn-mempool-conflict")])),
+        (asked(called("getrawmempool")), result([])),
+        (asked(called("sendrawtransaction", double.hex())), result(double.txid())),
+        (tested(more), result([allowed(more, 10000)])),
+        (tested(more, chain[0]), result([rejected(more, "A23", "txn-mempool-conflict"), allowed(chain[0])])),
+        (tested(double, double), result([rejected(double, "A21", "txn-already-in-mempool")] * 2)),
+        (asked(called("sendrawtransaction", chain[0].hex())), result(chain[0].txid())),
+        (tested(*chain[1:]), result([allowed(tx) for tx in chain[1:25]] + [rejected(chain[25], "A36", "too-long-mempool-chain")])),
+        (asked(called("getrawmempool")), result([double.txid(), chain[0].txid()])),
+        (asked(called("sendrawtransaction", more.hex())), result(more.txid())),
+        (asked(called("testmempoolaccept", [more.hex(), "0"])), UNDECODABLE),
+        (asked(called("testmempoolaccept", ["zz", more.hex()])), UNDECODABLE),
     ])
 
 

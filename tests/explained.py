@@ -254,7 +254,7 @@ def test_calls(gate):
         ("user a rpc 0 {", "the call is not valid JSON"),
         ('user a rpc 0 {"method":1}', "a call is an object with a method and a list of params"),
         ('user a rpc 0 {"method":"getrawmempol"}', "there is no such method"),
-        ('user a rpc 0 {"method":"getrawmempool","params":[true]}', "the method does not take these params"),
+        ('user a rpc 0 {"method":"getrawmempool","params":[1]}', "the method does not take these params"),
         ('user a rpc 0 {"method":"getmempoolentry","params":["%s"]}' % printed(number_hash(1)), "no transaction in the pool has this txid"),
     ])
 

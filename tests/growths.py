@@ -3,7 +3,7 @@
 import os
 from collections import namedtuple
 
-from bitcoin import Input, Output, Transaction, coin, number_hash, payment
+from bitcoin import Input, Output, Transaction, coin, number_hash, payment, printed
 from chain_model import Block
 from failing import each_growth, failing
 from gate import ROOT, NotTried, lines, same, same_lines, true
@@ -43,7 +43,7 @@ def is_short(name):
 def questions(replies):
     """What tells one pool from another: floor, budget, listing, and each admitted entry with its family; a tip and sessions."""
     txids = sorted({reply.split(" ")[1] for reply in replies if reply.startswith("admitted ")})
-    asked = [ASKED % ("getmempoolinfo", ""), ASKED % ("getrawmempool", "")]
+    asked = [ASKED % ("getmempoolinfo", ""), ASKED % ("getrawmempool", ""), ASKED % ("getrawmempool", "true")]
     for txid in txids:
         asked += [ASKED % (method, '"%s"' % txid) for method in ("getmempoolentry", "getmempoolancestors", "getmempooldescendants")]
     return asked + ["peer 1 headers 0", "peer 1 getblock 101", "peer 2 leave"]
@@ -137,12 +137,17 @@ def events_of_each_kind():
     """An opening, and events of each kind, with a block that comes and goes again."""
     one, two, three = payment(1, 99000), payment(2, 99000), payment(1, 98000)
     user = 'user a rpc 5000 {"method":"%s","params":[%s],"id":1}'
+    child = Transaction([Input(two.hash())], [Output(98000)])
+    grandchild = Transaction([Input(child.hash())], [Output(97000)])
     coinbase = Transaction([Input(NULL[0], NULL[1], b"\x04abcd")], [Output(5000000000)])
     events = [
         "peer 1 enter 192.0.2.1", submitted(one), submitted(three), "x", "# skipped", "peer 1 mempool",
         user % ("sendrawtransaction", '"%s"' % two.hex()), user % ("testmempoolaccept", '["%s"]' % one.hex()),
         user % ("getrawmempool", ""), user % ("getmempoolentry", '"%s"' % two.txid()), user % ("getmempoolancestors", '"%s"' % two.txid()),
         user % ("getmempooldescendants", '"%s"' % two.txid()), user % ("getmempoolinfo", ""), user % ("none", ""), "user a rpc 0 {",
+        user % ("getrawmempool", "true"), user % ("getrawtransaction", '"%s"' % two.txid()),
+        user % ("gettxspendingprevout", '[{"txid":"%s","vout":0},{"txid":"%s","vout":0}]' % (printed(number_hash(2)), two.txid())),
+        user % ("testmempoolaccept", '["%s","%s","%s"]' % (child.hex(), grandchild.hex(), one.hex())),
         "chain 0 5000 " + Block(70000, [coinbase, two]).hex(), "peer 1 getblock 101", "peer 1 headers 0", "chain 1 5000", "peer 1 mempool",
         "chain " + coin(3), "chain verdict %s 0 ok" % two.wtxid(), "chain forget 0",
         "operator floor 5000", "operator bloom off", "operator ibd on", "peer 1 leave", "peer 1 leave",

@@ -187,6 +187,9 @@ class Answering:
         highest = forms.satoshi_of(call.params[1]) if len(call.params) > 1 else USUAL_FEERATE
         listed = call.params[0] if call.params and isinstance(call.params[0], list) else []
         told = await self._judged(user, Call(call.method, call.params[:1] + call.params[2:], call.id), listed, 0)
+        if len(listed) > 1:
+            # coins and verdicts are asked for of one transaction
+            raise Fault(forms.INVALID_PARAMS, "one transaction at a time")
         if self._shadow.is_on and len(told) == 1:
             await self._compare(listed[0], told[0])
         found = []

@@ -19,6 +19,8 @@ PARAMETERS = {
     "getmempoolancestors": ("txid", "verbose"),
     "getmempooldescendants": ("txid", "verbose"),
     "getmempoolinfo": (),
+    "getrawtransaction": ("txid", "verbose", "blockhash"),
+    "gettxspendingprevout": ("outputs",),
 }
 PARSE_ERROR, INVALID_REQUEST, METHOD_NOT_FOUND, INVALID_PARAMS = -32700, -32600, -32601, -32602
 MISC_ERROR, FORBIDDEN, TYPE_ERROR, INVALID_PARAMETER, IN_WARMUP, VERIFY_ERROR = -1, -2, -3, -8, -28, -25
