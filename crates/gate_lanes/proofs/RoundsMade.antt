@@ -6,19 +6,8 @@ use Rattle.std.proofs.lemmas.List.{map-append}
 use Rattle.std.proofs.lemmas.List.Elements.{All-cons, All-head, All-map, All-nil, All-tail}
 use Rattle.gate_lines.specs.declared.fault.LaneFault.{LaneFault}
 use Rattle.gate_core.specs.World.{World}
-use Rattle.gate_shared.specs.Calls.{PassView}
-use Rattle.gate_shared.specs.Held.{Held, IsHeld}
-use Rattle.gate_shared.specs.Settling.{WhyUnsettled}
-use Rattle.gate_shared.specs.declared.settle.Unsettled.{Unsettled}
-use Rattle.gate_shared.specs.declared.settle.Unsettled.TheVariants as causes
 use Rattle.gate_lanes.specs.Ends.{AreWhole, Given, Left, left}
-use Rattle.gate_lanes.specs.Rounds.{Concludes, IsNextState, RoundLeft, RoundRan, RoundsRan, RoundsSettled, unsettled_by}
-
--- a gate whose end is refused
-pub unconcluded : (w : World) (passes : List PassView) (why : Unsettled) (s : Held) → IsHeld w s → WhyUnsettled s.journal passes why → Concludes w passes (unsettled_by why) None
-unconcluded w passes (causes.Missing receipt) s held un = (causes.Missing receipt, (λ e. cc), (s, held, un))
-unconcluded w passes (causes.CountDiffers n m) s held un = (causes.CountDiffers n m, (λ e. cc), (s, held, un))
-unconcluded w passes causes.Memory s held un = tt
+use Rattle.gate_lanes.specs.Rounds.{Concludes, IsNextState, RoundLeft, RoundRan, RoundsRan, RoundsSettled}
 
 -- the next round begins with a state by one and the same reading of what a whole round is
 goes_on_as : (A B : Type 0) → (A → B) → (B → A) → (led next : Option World) → IsNextState A led next → IsNextState B led next

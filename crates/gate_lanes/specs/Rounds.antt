@@ -5,10 +5,8 @@ use Rattle.gate_core.specs.World.{World}
 use Rattle.gate_journal.specs.Legal.{entry_limit, state_after}
 use Rattle.gate_shared.specs.Calls.{PassView}
 use Rattle.gate_shared.specs.Ends.{EndsGood}
-use Rattle.gate_shared.specs.Settling.{SettlesAll, DontSettle}
+use Rattle.gate_shared.specs.Settling.{SettlesAll}
 use Rattle.gate_shared.specs.declared.settle.Settled.{Settled}
-use Rattle.gate_shared.specs.declared.settle.Unsettled.{Unsettled}
-use Rattle.gate_shared.specs.declared.settle.Unsettled.TheVariants as causes
 use Rattle.gate_lanes.specs.Ends.{AreWhole, Given, Left, LanesRan, all_given, all_left}
 use Rattle.gate_lanes.specs.declared.lane.Lane.{Lane}
 use Rattle.gate_lanes.specs.declared.round.Conclusion.{Conclusion}
@@ -25,23 +23,15 @@ pub record SettlesTo (w : World) (passes : List PassView) (settled : Settled) (n
   pub leads : next ≡ state_after w settled.journal.entries
   pub good : EndsGood w passes next
 
--- the conclusion for passes that were not settled, by the cause
-abbrev pub unsettled_by : Unsettled → Conclusion
-unsettled_by (causes.Missing receipt) = conclusions.Differs
-unsettled_by (causes.CountDiffers journal passes) = conclusions.Differs
-unsettled_by causes.Memory = conclusions.Unknown
-
--- The passes settle, and lead to the next state; or, whatever memory there is, they don't; or that is not known. There is a
--- next state exactly if they settle.
+-- The passes settle, and lead to the next state; or memory ran out before it was known how they settle, and there is no next
+-- state.
 abbrev pub Concludes : World → List PassView → Conclusion → Option World → Type 0
 Concludes w passes (conclusions.Settles settled) None = ⊥
 Concludes w passes (conclusions.Settles settled) (Some next) = SettlesTo w passes settled next
-Concludes w passes conclusions.Differs None = DontSettle w passes
-Concludes w passes conclusions.Differs (Some next) = ⊥
 Concludes w passes conclusions.Unknown None = Unit {0}
 Concludes w passes conclusions.Unknown (Some next) = ⊥
 
--- how a round ended: the ends of its lanes, and whether their passes settle
+-- how a round ended: the ends of its lanes, and how their passes settle
 pub record RoundLeft : Type 0 where
   pub ends : List Left
   pub conclusion : Conclusion
@@ -53,8 +43,8 @@ round_left ends conclusion = record { ends = ends; conclusion = conclusion }
 abbrev pub left_by : {W : Type 0} → (W → Option (List ℕ)) → RoundEnd W → RoundLeft
 left_by contents end = round_left (all_left contents end.ends.items) end.conclusion
 
--- The next round begins with this state: the one that this round's passes lead to, if they settle and the round is whole. If
--- there is no such state, the passes don't settle or the round is not whole.
+-- The next round begins with this state: the one that this round's passes lead to, if the round is whole. If there is no such
+-- state, memory ran out before they settled or the round is not whole.
 abbrev pub IsNextState : Type 0 → Option World → Option World → Type 0
 IsNextState IsWhole led None = (led ≡ None) ⊎ (¬ IsWhole)
 IsNextState IsWhole led (Some next) = IsWhole × (led ≡ Some next)
@@ -80,7 +70,7 @@ RoundsSettled w (lanes ∷ more) [] last = ⊥
 RoundsSettled w (lanes ∷ more) (round ∷ rounds) last = (next : World) × RoundRan w lanes round (Some next) × RoundsSettled next more rounds last
 
 -- From this state the rounds of these lanes ran one after another, each on the state that the round before led to. No round ran
--- after one that doesn't settle or is not whole, nor after these if memory ran out in the next.
+-- after one that is not known to settle or is not whole, nor after these if memory ran out in the next.
 abbrev pub RoundsRan : {M : Type 0} → World → List (List Given) → List RoundLeft → Result (Unit {0}) M → Type 0
 RoundsRan w [] [] result = IsOk result
 RoundsRan w [] (round ∷ rounds) result = ⊥

@@ -1,15 +1,16 @@
 //! Rounds: gates one after another, each on the state that the one before led to.
-ghost use Rattle.std.specs.Prelude.{◌≡◌, ◌≢◌, ◌↔◌, ◌++◌, ◌∷◌, [], true, map, IfErr, IfOk, IsOk, IsTrue, OnErr, OnOk};
+ghost use Rattle.std.specs.Prelude.{◌≡◌, ◌≢◌, ◌↔◌, ◌+◌, ◌++◌, ◌∷◌, [], true, length, map, IfErr, IfOk, IsOk, IsTrue, OnErr, OnOk};
 ghost use Rattle.std.specs.List.{All};
+ghost use Rattle.gate_shared.specs.Tokens.{seat_limit};
 ghost use Rattle.gate_lanes.specs.Ends.{all_given};
-ghost use Rattle.gate_lanes.specs.Rounds.{Concludes, IsNextState, RoundLeft, RoundRan, RoundsRan, left_by, rounds_given, unsettled_by};
+ghost use Rattle.gate_lanes.specs.Rounds.{Concludes, IsNextState, RoundLeft, RoundRan, RoundsRan, left_by, rounds_given};
 
 use crate::lane::{Lane, LaneEnd};
 use crate::run::run_lanes;
 use gate_bytes::Memory;
 use gate_core::State;
 use gate_lines::{LaneFault, Sink, Source};
-use gate_shared::{Base, Gate, Pass, Settled, Unsettled, finish};
+use gate_shared::{Base, Gate, Pass, Register, Rest, Settled, Unsettled, finish};
 use gate_verify::{InputCheck, Workers};
 use std::alloc::Global;
 use std::hash::BuildHasher;
@@ -17,18 +18,17 @@ use std::marker::Brand;
 use std::sync::Wait;
 use std::thread::Threads;
 
-/// Whether the passes of lanes settle with the journal of their gate.
+/// What became of the passes of lanes and the journal of their gate. They settle: no pass and no journal is such that they
+/// don't.
 #[derive(Drop)]
 pub enum Conclusion {
     /// The passes settle.
     Settles(Settled),
-    /// The passes don't settle, whatever memory there is.
-    Differs,
-    /// Memory ran out before it was known whether the passes settle.
+    /// Memory ran out before it was known how the passes settle.
     Unknown,
 }
 
-/// How a round ended: the end of each of its lanes, and whether their passes settle.
+/// How a round ended: the end of each of its lanes, and how their passes settle.
 #[derive(Drop)]
 pub struct RoundEnd<W> {
     pub ends: Vec<LaneEnd<W>>,
@@ -71,25 +71,28 @@ impl<W> RoundEnd<W> {
     }
 }
 
-/// The conclusion for passes that were not settled with a journal, by the cause.
+/// The conclusion for all passes of a gate that were not settled: memory ran out.
 fn unsettled(why: &Unsettled) -> Conclusion
-    ensures { result ≡ unsettled_by why.now }
+    requires { why.now ≡ Unsettled.Memory }
+    ensures { result ≡ Conclusion.Unknown }
 {
     match why {
-        Unsettled::Missing(_) | Unsettled::CountDiffers { .. } => Conclusion::Differs,
         Unsettled::Memory => Conclusion::Unknown,
+        Unsettled::Missing(_) | Unsettled::CountDiffers { .. } => unreachable!(),
     }
 }
 
-/// Settles passes with the journal of their gate, and takes the state out of the gate if they settle.
+/// Settles all passes of a gate with its journal, and takes the state out of the gate.
 fn conclude<N: Base, S: BuildHasher + Copy + Drop>(
     alloc: Global,
     gate: Gate<N, S>,
+    rest: Rest<N>,
     passes: Vec<Pass<N>>,
 ) -> (Conclusion, Option<State<S>>)
+    requires { rest + length passes.items ≡ seat_limit }
     ensures { Concludes N.base passes.items result.0 result.1 }
 {
-    match finish(alloc, gate, passes) {
+    match finish(alloc, gate, rest, passes) {
         Ok((settled, state)) => {
             // Lending the entries makes the bound of the journal known.
             let _entries = settled.journal.entries();
@@ -103,7 +106,7 @@ fn conclude<N: Base, S: BuildHasher + Copy + Drop>(
     }
 }
 
-/// Runs lanes over a gate on the state of a name, and ends the gate.
+/// Runs lanes over a gate on the state and with the register of a name, and ends the gate.
 fn run_named<
     N: Base + Send + Sync,
     S: BuildHasher + Copy + Drop + Send + Sync,
@@ -115,38 +118,43 @@ fn run_named<
     rt: &T,
     alloc: Global,
     state: State<S>,
+    register: Register,
     check: &C,
     lanes: Vec<Lane<R, W>>,
     workers: Workers,
 ) -> Result<Round<S, W>, Memory>
 where
     S::Hasher: Send + Sync,
-    requires { state ≡ N.base }
+    requires base { state ≡ N.base }
+    requires registry { register ≡ N.registry }
     ensures ran { IfOk result (λ round. RoundRan N.base (all_given R.remaining W.contents lanes.items) (left_by W.contents round.end) round.next) }
     ensures sent { IfOk result (λ round. All (λ end. OnOk end.result (W.held end.writer ≡ [])) round.end.ends.items) }
     ensures steady_readers { R.steady ≡ true → IfOk result (λ round. All (λ end. IfErr end.result (λ fault. fault ≢ LaneFault.Read)) round.end.ends.items) }
     ensures steady_writers { W.steady ≡ true → IfOk result (λ round. All (λ end. IfErr end.result (λ fault. fault ≢ LaneFault.Write)) round.end.ends.items) }
 {
-    let gate: Gate<N, S> = Gate::open(alloc, state);
-    match run_lanes(rt, alloc, &gate, check, lanes, workers) {
+    // There are more seats than a list of lanes can be long.
+    let _count = lanes.len();
+    let (gate, mut rest): (Gate<N, S>, Rest<N>) = Gate::open(alloc, state, register);
+    match run_lanes(rt, alloc, &gate, &mut rest, check, lanes, workers) {
         Ok((ends, passes)) => {
-            let (conclusion, led) = conclude(alloc, gate, passes);
+            let (conclusion, led) = conclude(alloc, gate, rest, passes);
             let end = RoundEnd { ends, conclusion };
             let next = end.next(led);
             Ok(Round { end, next })
         }
         Err(Memory) => {
             drop(gate);
+            drop(rest);
             Err(Memory)
         }
     }
 }
 
 /// Runs lanes over a gate on this state, as `run_lanes` does, settles their passes with its journal, and ends the gate.
-/// If they settle, and each lane went to its end, the state that the journal leads to is the next round's: the gate of
-/// that round has an empty journal, its receipts begin at 1, and no pass of this round fits it.
+/// They settle, unless memory runs out. If each lane went to its end, the state that the journal leads to is the next
+/// round's: the gate of that round has an empty journal, its receipts begin at 1, and no pass of this round fits it.
 ///
-/// `Memory` is that of `run_lanes`: what the lanes did and wrote is then lost.
+/// `Memory` is that of a register or of `run_lanes`: what the lanes did and wrote is then lost.
 pub fn run_round<
     S: BuildHasher + Copy + Drop + Send + Sync,
     T: Threads + Wait + Sync,
@@ -168,7 +176,8 @@ where
     ensures steady_readers { R.steady ≡ true → IfOk result (λ round. All (λ end. IfErr end.result (λ fault. fault ≢ LaneFault.Read)) round.end.ends.items) }
     ensures steady_writers { W.steady ≡ true → IfOk result (λ round. All (λ end. IfErr end.result (λ fault. fault ≢ LaneFault.Write)) round.end.ends.items) }
 {
-    run_named::<Brand, S, T, C, R, W>(rt, alloc, state, check, lanes, workers)
+    let register = Register::new(alloc)?;
+    run_named::<Brand, S, T, C, R, W>(rt, alloc, state, register, check, lanes, workers)
 }
 
 /// Runs a round, and adds its end to those of the rounds before it. If memory runs out, it adds none.
@@ -205,8 +214,8 @@ where
 }
 
 /// Runs rounds one after another, each on the state that the round before led to. The last round that ended is the first
-/// that doesn't settle, or in which a lane stopped, if there is one: no round is run after it. If memory runs out in a
-/// round, the rounds before it are returned.
+/// that is not known to settle, or in which a lane stopped, if there is one: no round is run after it. If memory runs out
+/// in a round, the rounds before it are returned.
 pub fn run_rounds<
     S: BuildHasher + Copy + Drop + Send + Sync,
     T: Threads + Wait + Sync,

@@ -290,7 +290,6 @@ printed_one journal start lanes text next goes = settled goes.round.conclusion r
       state = to.leads;
       behind = behind ∙ ap (λ (n : ℕ). Some (count_before start.behind + n)) to.settles.1.1;
     }
-    settled conclusions.Differs same to told behind = absurd to
     settled conclusions.Unknown same to told behind = absurd to
 
 record PrintedAll (journal : Bool) (start : Start) (rounds : List (List (List ℕ))) (text : List ℕ) : Type 0 where
@@ -318,12 +317,8 @@ printed_all journal start (lanes ∷ rounds) text last (next, front, rest, goes,
       replied = (one.replied, subst (λ (w : World). ReplyAsRuns w rounds more.printed) one.state more.replied);
     }
 
-one_not_zero : ◌≡◌ {A = ℕ} 0 1 → ⊥
-one_not_zero e = omega arith
-
 told_all : (journal : Bool) (w : World) (rounds : List (List (List ℕ))) (printed : List ℕ) → RoundsTell journal w rounds printed 0 → PrintedAll journal (first_start w) rounds printed
-told_all journal w rounds printed (inl (last, on, status)) = printed_all journal (first_start w) rounds printed last on
-told_all journal w rounds printed (inr (lanes, start, front, told, reaches, ends, is, status)) = absurd (one_not_zero status)
+told_all journal w rounds printed (last, on, status) = printed_all journal (first_start w) rounds printed last on
 
 -- the lines of what is printed that are a journal's
 shows_rounds : (before : Option ℕ) (w : World) (rounds : List (List (List ℕ))) (printed : List PrintedRound) → AreSound w printed → ReplyAsRuns w rounds printed

@@ -4,3 +4,6 @@ pub mod Growing
 pub mod Owners
 pub mod Passes
 pub mod Recorded
+pub mod Told
+pub mod Totals
+pub mod Moves

@@ -77,6 +77,12 @@ WhyUnsettled journal passes (Missing r) = FirstMissing journal passes r
 WhyUnsettled journal passes (CountDiffers n m) = (n ≡ length journal) × (m ≡ length (claims_of passes)) × (n ≢ m) × HavePlaces journal (claims_of passes)
 WhyUnsettled journal passes Memory = Unit {0}
 
+-- the cause is not a receipt that is missing
+abbrev pub IsNotMissing : Unsettled → Type 0
+IsNotMissing (Missing r) = ⊥
+IsNotMissing (CountDiffers n m) = Unit {0}
+IsNotMissing Memory = Unit {0}
+
 -- the journal that was settled is legal
 abbrev pub SettlesAll : World → List PassView → Settled → Type 0
 SettlesAll base passes s = IsLegal base s.journal.entries × IsSettled s.journal.entries passes s

@@ -1,5 +1,5 @@
 //! One state under one lock, for many callers.
-ghost use Rattle.std.specs.Prelude.{◌≡◌, ◌≤◌, [], length, Some, IfOk, IfErr, OnErr, IsErrOf};
+ghost use Rattle.std.specs.Prelude.{◌≡◌, ◌+◌, ◌<◌, ◌≤◌, [], length, Some, IfOk, IfErr, OnErr, IsErrOf};
 ghost use Rattle.gate_message.specs.Callers.{caller_of};
 ghost use Rattle.gate_shared.specs.declared.receipt.Made.{Made as TheMade};
 ghost use Rattle.gate_shared.specs.declared.receipt.Receipt.{Receipt as TheReceipt};
@@ -10,10 +10,13 @@ ghost use Rattle.std.specs.Option.{option_copied};
 ghost use Rattle.gate_core.specs.Submissions.{StandsFor, submission_of};
 ghost use Rattle.gate_shared.specs.Held.{Called, Enrolled, Grows, IsHeld, IsRecorded, Looked};
 ghost use Rattle.gate_shared.specs.Settling.{SettlesAll, WhyNone};
+ghost use Rattle.gate_shared.specs.Tokens.{seat_limit};
 
 use crate::base::Base;
 use crate::pass::Pass;
 use crate::receipt::Receipt;
+use crate::register::Register;
+use crate::seat::{Rest, Seat};
 use crate::settle::{SettleFault, Settled};
 use crate::shared::{CallFault, Shared};
 use gate_bytes::Memory;
@@ -35,11 +38,14 @@ pub struct Gate<N: Base, S: BuildHasher + Copy + Drop> {
 }
 
 impl<N: Base, S: BuildHasher + Copy + Drop> Gate<N, S> {
-    /// A gate on the state of its name, with an empty journal.
-    pub fn open(alloc: Global, state: State<S>) -> Gate<N, S>
-        requires { state ≡ N.base }
+    /// A gate on the state of its name, with an empty journal, and all seats.
+    pub fn open(alloc: Global, state: State<S>, register: Register) -> (Gate<N, S>, Rest<N>)
+        requires base { state ≡ N.base }
+        requires registry { register ≡ N.registry }
+        ensures { result.1 ≡ seat_limit }
     {
-        Gate::of(Shared::new(alloc, state))
+        let (shared, rest) = Shared::new(alloc, state, register);
+        (Gate::of(shared), rest)
     }
 
     /// A gate that goes on with this state and journal.
@@ -59,13 +65,34 @@ impl<N: Base, S: BuildHasher + Copy + Drop> Gate<N, S> {
         shared
     }
 
-    /// A pass of a caller, with no calls and the next number.
-    pub fn enroll<R: Wait>(&self, rt: &R, alloc: Global, caller: &Caller) -> Result<Pass<N>, Memory>
+    /// One of the seats that are left.
+    pub fn seat<R: Wait>(&self, rt: &R, rest: &mut Rest<N>) -> Seat<N>
+        requires { 0 < rest.old }
+        ensures { rest.new + 1 ≡ rest.old }
+    {
+        self.shared.lock(rt).seat(rest)
+    }
+
+    /// Puts a seat back to those that are left.
+    pub fn take_back<R: Wait>(&self, rt: &R, rest: &mut Rest<N>, seat: Seat<N>)
+        ensures { rest.new ≡ rest.old + 1 }
+    {
+        self.shared.lock(rt).take_back(rest, seat);
+    }
+
+    /// A pass of a caller, with no calls and the next number. Out of memory, the seat is handed back.
+    pub fn enroll<R: Wait>(
+        &self,
+        rt: &R,
+        alloc: Global,
+        seat: Seat<N>,
+        caller: &Caller,
+    ) -> Result<Pass<N>, Seat<N>>
         ensures enrolled { IfOk result (Enrolled N.base caller.now) }
         ensures caller { IfOk result (λ p. p.caller ≡ caller.now) }
         ensures calls { IfOk result (λ p. p.calls ≡ []) }
     {
-        self.shared.lock(rt).enroll(alloc, caller)
+        self.shared.lock(rt).enroll(alloc, seat, caller)
     }
 
     /// The coin of each input of a submission, in their order; None for an input that has no coin at that moment.

@@ -10,13 +10,18 @@ mod ending;
 mod gate;
 mod pass;
 mod receipt;
+mod register;
+mod seat;
 mod settle;
 mod shared;
+mod tokens;
 
 pub use base::Base;
 pub use ending::{FinishFault, finish};
 pub use gate::Gate;
 pub use pass::{MAX_CALLS, Pass};
 pub use receipt::{Made, Receipt};
+pub use register::Register;
+pub use seat::{Rest, Seat};
 pub use settle::{Owner, SettleFault, Settled, Unsettled};
 pub use shared::{CallFault, Shared};

@@ -4,6 +4,7 @@ ghost use Rattle.std.specs.Option.{option_copied};
 
 use crate::base::Base;
 use crate::receipt::Made;
+use crate::tokens::Token;
 use gate_journal::Entry;
 use gate_message::{Caller, is_same_event, is_same_reply};
 use std::marker::{Model, PhantomData};
@@ -17,17 +18,20 @@ pub struct Pass<N: Base> {
     pub(crate) number: u64,
     pub(crate) caller: Caller,
     pub(crate) calls: Vec<Made>,
+    pub(crate) token: Token,
     pub(crate) of: PhantomData<N>,
 }
 
 impl<N: Base> Model for Pass<N> {
+    ghost use Rattle.std.specs.Prelude.{◌≡◌, []};
     ghost use Rattle.gate_shared.specs.Calls.{PassView, Rises};
+    ghost use Rattle.gate_shared.specs.Tokens.{calls_under, holder};
 
     ghost Value = { PassView };
 
     ghost view = { λ p. record { number = p.number; caller = p.caller; calls = p.calls.items } };
 
-    ghost invariant = { λ p. Rises 0 p.calls.items };
+    ghost invariant = { λ p. Rises 0 p.calls.items × (p.token.table_id ≡ N.registry) × (p.token.me ≡ (holder 1 (calls_under p.number p.calls.items), [])) };
 }
 
 impl<N: Base> Pass<N> {

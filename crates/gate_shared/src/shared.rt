@@ -1,15 +1,19 @@
 //! The value under the lock, and its one change.
-ghost use Rattle.std.specs.Prelude.{◌≡◌, ◌+◌, ◌<◌, [], ◌∷◌, ◌++◌, length, IfOk, IfErr, OnOk, OnErr, MatchResult};
+ghost use Rattle.std.specs.Prelude.{◌≡◌, ◌+◌, ◌<◌, [], ◌∷◌, ◌++◌, true, length, IfOk, IfErr, OnOk, OnErr, MatchResult};
 ghost use Rattle.std.specs.Vec.{vec_len, vec_capacity};
 ghost use Rattle.std.specs.Option.{option_copied};
 ghost use Rattle.gate_core.specs.Submissions.{StandsFor, submission_of, coins_of};
 ghost use Rattle.gate_journal.specs.Legal.{entry, entry_limit};
 ghost use Rattle.gate_shared.specs.Calls.{made, receipt};
+ghost use Rattle.gate_shared.specs.Tokens.{IsIdleEmpty, IsTold, calls_in, gathered, holder, of_journal, seat_limit};
 
 use crate::base::Base;
 use crate::pass::{Pass, stands};
 use crate::receipt::{Made, Receipt};
+use crate::register::Register;
+use crate::seat::{Rest, Seat};
 use crate::settle::{Owner, SettleFault, Settled, owners, settle};
+use crate::tokens::{Registry, Token, enter, give_up, join, lend, look, split};
 use gate_bytes::{Copied, Kept, Memory};
 use gate_core::State;
 use gate_journal::{Entry, Journal};
@@ -41,23 +45,28 @@ pub enum CallFault {
     Memory,
 }
 
-/// The state, the journal that led to it from the state of its name, and how many passes were given out.
+/// The state, the journal that led to it from the state of its name, and how many passes were given out; and the tokens'
+/// register, whose keeper knows the journal.
 #[derive(Drop)]
 pub struct Shared<N: Base, S: BuildHasher + Copy + Drop> {
     state: State<S>,
     journal: Journal,
     passes: u64,
+    registry: Registry,
+    keeper: Token,
     of: PhantomData<N>,
 }
 
 impl<N: Base, S: BuildHasher + Copy + Drop> Model for Shared<N, S> {
+    ghost use Rattle.std.specs.Prelude.{◌≡◌, []};
+    ghost use Rattle.gate_shared.specs.Tokens.{knower};
     ghost use Rattle.gate_shared.specs.Held.{Held, IsHeld, held};
 
     ghost Value = { Held };
 
     ghost view = { λ s. held s.state s.journal.entries s.passes };
 
-    ghost invariant = { λ s. IsHeld N.base (held s.state s.journal.entries s.passes) };
+    ghost invariant = { λ s. IsHeld N.base (held s.state s.journal.entries s.passes) × (s.registry.shared.table_id ≡ N.registry) × (N.registry.words ≡ 1) × (s.keeper.table_id ≡ N.registry) × (s.keeper.me ≡ (knower s.journal.entries, [])) };
 }
 
 /// Two copies of an event, one for each keeper.
@@ -84,38 +93,24 @@ impl Events {
     }
 }
 
-/// Adds an event with its replies to a journal and to the calls of a pass, into room that was made for them.
-fn note(
-    journal: &mut Journal,
-    calls: &mut Vec<Made>,
-    pass: u64,
-    events: Events,
-    replies: Replies,
-) -> Receipt
-    requires few { length journal.old.entries < entry_limit }
-    requires room { 0 < journal.old.room }
-    requires calls_room { vec_len calls.old < vec_capacity calls.old }
-    ensures number { result.number ≡ length journal.old.entries + 1 }
-    ensures reply { result.reply ≡ replies.reply }
-    ensures journal { journal.new.entries ≡ journal.old.entries ++ entry pass events.entry replies.entry ∷ [] }
-    ensures calls { calls.new.items ≡ calls.old.items ++ made events.made (receipt result.number replies.receipt) ∷ [] }
+/// Lends the tokens of passes to the keeper until it has all, and compares its calls with the journal. All tokens are then
+/// given back.
+fn audit_from<N: Base>(registry: &Registry, keeper: &mut Token, passes: &mut [Pass<N>])
+    requires registry { (registry.now.shared.table_id ≡ N.registry) × (N.registry.words ≡ 1) }
+    requires keeper { (keeper.old.table_id ≡ N.registry) × (keeper.old.me.0.keeps ≡ true) × IsIdleEmpty keeper.old.me.0 }
+    ensures keeper { (keeper.new.table_id ≡ keeper.old.table_id) × (keeper.new.me ≡ keeper.old.me) }
+    ensures passes { passes.new ≡ passes.old }
+    ensures told { IsTold (gathered keeper.old.me.0 (holder (length passes.old) (calls_in passes.old))) }
 {
-    let number = journal.len() as u64 + 1;
-    journal.push(Entry {
-        pass,
-        event: events.entry,
-        reply: replies.entry,
-    });
-    calls.push_reserved(Made {
-        event: events.made,
-        receipt: Receipt {
-            number,
-            reply: replies.receipt,
-        },
-    });
-    Receipt {
-        number,
-        reply: replies.reply,
+    match passes.split_first_mut() {
+        None => look(registry, keeper),
+        Some((pass, rest)) => {
+            let count = pass.calls.len();
+            lend(registry, &mut pass.token, keeper);
+            audit_from(registry, keeper, rest);
+            let part = split(registry, keeper, 1, count);
+            join(registry, &mut pass.token, part);
+        }
     }
 }
 
@@ -125,17 +120,31 @@ impl<N: Base, S: BuildHasher + Copy + Drop> Shared<N, S> {
     ghost use Rattle.gate_shared.specs.Ends.{EndsGood};
     ghost use Rattle.gate_shared.specs.Settling.{AreTheCalls, IsSettled, WhyUnsettled};
 
-    /// The state of the name, with an empty journal.
-    pub fn new(alloc: Global, state: State<S>) -> Shared<N, S>
-        requires { state ≡ N.base }
-        ensures { result ≡ held state [] 0 }
+    /// The state of the name, with an empty journal, and all seats.
+    pub fn new(alloc: Global, state: State<S>, register: Register) -> (Shared<N, S>, Rest<N>)
+        requires base { state ≡ N.base }
+        requires registry { register ≡ N.registry }
+        ensures empty { result.0 ≡ held state [] 0 }
+        ensures seats { result.1 ≡ seat_limit }
     {
-        Shared {
+        let Register {
+            registry,
+            token: mut keeper,
+        } = register;
+        let token = give_up(&registry, &mut keeper);
+        let shared = Shared {
             state,
             journal: Journal::new(alloc),
             passes: 0,
+            registry,
+            keeper,
             of: PhantomData,
-        }
+        };
+        let rest = Rest {
+            token,
+            of: PhantomData,
+        };
+        (shared, rest)
     }
 
     /// Recalls for a proof what holds of the value whenever the lock is taken: it does nothing.
@@ -195,13 +204,33 @@ impl<N: Base, S: BuildHasher + Copy + Drop> Shared<N, S> {
         pass.calls.reserve(1)?;
         let events = Events::of(alloc, event)?;
         match self.state.step_recorded(alloc, event, prepared) {
-            Ok(replies) => Ok(note(
-                &mut self.journal,
-                &mut pass.calls,
-                pass.number,
-                events,
-                replies,
-            )),
+            Ok(replies) => {
+                let number = self.journal.len() as u64 + 1;
+                let made = Made {
+                    event: events.made,
+                    receipt: Receipt {
+                        number,
+                        reply: replies.receipt,
+                    },
+                };
+                enter(
+                    &self.registry,
+                    &mut self.keeper,
+                    &mut pass.token,
+                    pass.number,
+                    &made,
+                );
+                self.journal.push(Entry {
+                    pass: pass.number,
+                    event: events.entry,
+                    reply: replies.entry,
+                });
+                pass.calls.push_reserved(made);
+                Ok(Receipt {
+                    number,
+                    reply: replies.reply,
+                })
+            }
             Err(Memory) => {
                 drop(events);
                 Err(Memory)
@@ -250,22 +279,65 @@ impl<N: Base, S: BuildHasher + Copy + Drop> Shared<N, S> {
         }
     }
 
-    /// A pass of a caller, with no calls and the next number.
-    pub fn enroll(&mut self, alloc: Global, caller: &Caller) -> Result<Pass<N>, Memory>
+    /// One of the seats that are left.
+    pub fn seat(&self, rest: &mut Rest<N>) -> Seat<N>
+        requires { 0 < rest.old }
+        ensures { rest.new + 1 ≡ rest.old }
+    {
+        Seat {
+            token: split(&self.registry, &mut rest.token, 1, 0),
+            of: PhantomData,
+        }
+    }
+
+    /// Puts a seat back to those that are left.
+    pub fn take_back(&self, rest: &mut Rest<N>, seat: Seat<N>)
+        ensures { rest.new ≡ rest.old + 1 }
+    {
+        let Seat { token, .. } = seat;
+        join(&self.registry, &mut rest.token, token);
+    }
+
+    /// A pass of a caller, with no calls and the next number. Out of memory, the seat is handed back.
+    pub fn enroll(
+        &mut self,
+        alloc: Global,
+        seat: Seat<N>,
+        caller: &Caller,
+    ) -> Result<Pass<N>, Seat<N>>
         ensures ok { IfOk result (Enrolls self.old self.new caller.now) }
         ensures err { OnErr result (self.new ≡ self.old) }
         ensures was { IsHeld N.base self.old }
         ensures is { IsHeld N.base self.new }
     {
         self.recall_held();
-        let caller = caller.copy(alloc)?;
-        self.passes = self.passes.saturating_add(1);
-        Ok(Pass {
-            number: self.passes,
-            caller,
-            calls: Vec::new(alloc),
-            of: PhantomData,
-        })
+        match caller.copy(alloc) {
+            Ok(caller) => {
+                let Seat { token, .. } = seat;
+                self.passes = self.passes.saturating_add(1);
+                Ok(Pass {
+                    number: self.passes,
+                    caller,
+                    calls: Vec::new(alloc),
+                    token,
+                    of: PhantomData,
+                })
+            }
+            Err(Memory) => Err(seat),
+        }
+    }
+
+    /// Compares the calls of passes with the journal. Nothing changes.
+    pub(crate) fn audit(&mut self, rest: &mut Rest<N>, passes: &mut Vec<Pass<N>>)
+        ensures same { self.new ≡ self.old }
+        ensures rest { rest.new ≡ rest.old }
+        ensures passes { passes.new.items ≡ passes.old.items }
+        ensures told { IsTold (of_journal (rest.old + length passes.old.items) self.old.journal (calls_in passes.old.items)) }
+    {
+        lend(&self.registry, &mut rest.token, &mut self.keeper);
+        audit_from(&self.registry, &mut self.keeper, passes.as_mut_slice());
+        let seats = give_up(&self.registry, &mut self.keeper);
+        join(&self.registry, &mut rest.token, seats);
     }
 
     /// The owners of the journal's entries, if passes settle with it. A fault hands the passes back.

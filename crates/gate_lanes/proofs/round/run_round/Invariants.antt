@@ -1,4 +1,4 @@
 use Rattle.gate_lanes.proofs.round.run_round.Given as goal
 
 abbrev pub ghosts-run_named : goal.ghosts-run_named
-ghosts-run_named g a = record { base = a.state }
+ghosts-run_named g a = record { base = a.state; registry = a.register }

@@ -2,11 +2,14 @@ use Rattle.std.proofs.Common.{arith}
 use Rattle.std.proofs.lemmas.Result.{err_from_is_err_and}
 use Rattle.gate_prog.specs.LaneJobs.{start_at}
 use Rattle.gate_prog.specs.Printing.{bytes_of}
-use Rattle.gate_prog.proofs.Telling.{few_entries, round_bounded, round_ended, stopped_behind_base, stopped_in_base, stopped_in_end}
+use Rattle.gate_prog.proofs.Telling.{few_entries, leads_on, round_bounded, round_ended, stopped_behind_base, stopped_in_base, stopped_in_end}
 use Rattle.gate_prog.proofs.lanes_job.run_one.Goals as goal
 
-pub end_round-requires : goal.end_round-requires
-end_round-requires g c =
+pub end_round-requires-clause-next : goal.end_round-requires-clause-next
+end_round-requires-clause-next g c = leads_on c.args.start.state (bytes_of c.args.parts.now) c.in_ok-round.round.end c.in_ok-round.round.next c.in_ok-round.ensures
+
+pub end_round-requires-clause-few : goal.end_round-requires-clause-few
+end_round-requires-clause-few g c =
     omega (arith, c.requires, few_entries c.args.start.state (bytes_of c.args.parts.now) c.in_ok-round.round.end c.in_ok-round.round.next c.in_ok-round.ensures)
 
 pub returns-in-Err-clause-stopped : goal.returns-in-Err-clause-stopped
