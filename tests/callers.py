@@ -43,6 +43,10 @@ class Session:
     is_open: bool = True
 
 
+# of an outpoint that a call names, as in Bitcoin Core
+GREATEST_VOUT = 2**31 - 1
+
+
 class Error(Exception):
     """An answer that is no result."""
 
@@ -227,6 +231,8 @@ class CallerModel(Model):
         return self.entry(txid).tx.hex()
 
     def gettxspendingprevout(self, now, points):
+        if any(point["vout"] > GREATEST_VOUT for point in points):
+            raise Error(500, -32602, "Invalid params")
         spenders = {(printed(hash), index): entry.tx.txid() for entry in self.pool for hash, index in entry.spent}
         return [{**point, **{"spendingtxid": spenders[at] for at in [(point["txid"], point["vout"])] if at in spenders}} for point in points]
 

@@ -120,11 +120,11 @@ def on_a_stack(size):
 
 
 def test_small_stacks(gate):
-    """The deepest JSON is answered on a stack of 128 KB, by a run, and by 64 lanes, each on a thread with that stack."""
+    """The deepest JSON is answered by a run on a stack of 128 KB, and by 64 lanes, each on a thread with a stack of 160 KB."""
     head = lines(["times 1 0 0"])
     for depth, reply in ((DEEPEST, RPC % "[]"), (DEEPEST + 1, 'rpc 500 {"error":{"code":-32700,"message":"Parse error"},"id":null,"result":null}')):
         done = gate.run("run", head + "---\n" + nested(depth) + "\n", preexec_fn=on_a_stack(128))
         same("a run, %d deep" % depth, (done.status, done.stdout.decode(), done.stderr), (0, reply + "\n", b""))
-        done = gate.run("lanes", head + ("---\n" + nested(depth) + "\n") * 64, preexec_fn=on_a_stack(128))
+        done = gate.run("lanes", head + ("---\n" + nested(depth) + "\n") * 64, preexec_fn=on_a_stack(160))
         wanted = "".join("lane %d\n%s\n" % (number, reply) for number in range(1, 65)) + "settled 64\n"
         same("64 lanes, %d deep" % depth, (done.status, done.stdout.decode(), done.stderr), (0, wanted, b""))

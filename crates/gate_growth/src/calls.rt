@@ -6,10 +6,9 @@ use crate::events::Events;
 use crate::fault::Fault;
 use crate::table::{Table, make_each, table_text};
 use crate::telling::{tell_call, tell_change, tell_count, tell_look, tell_pass, tell_unmade};
-use gate_bytes::Memory;
 use gate_core::State;
 use gate_message::{Caller, Event};
-use gate_shared::{Base, Pass, SettleFault, Settled, Shared, Unsettled};
+use gate_shared::{Base, Pass, Register, Seat, SettleFault, Settled, Shared, Unsettled};
 use gate_submission::Prepared;
 use std::alloc::Global;
 use std::io::Print;
@@ -24,18 +23,21 @@ enum Call {
 }
 
 /// The number of a pass that was given out.
-fn number_of<N: Base>(made: &Result<Pass<N>, Memory>) -> Option<u64> {
+fn number_of<N: Base>(made: &Result<Pass<N>, Seat<N>>) -> Option<u64> {
     match made {
         Ok(pass) => Some(pass.number()),
-        Err(Memory) => None,
+        Err(_) => None,
     }
 }
 
-/// Keeps a pass that was given out.
-fn keep<N: Base>(passes: &mut Vec<Pass<N>>, made: Result<Pass<N>, Memory>) -> Result<(), Fault> {
+/// Keeps a pass that was given out, or the seat that was handed back.
+fn keep<N: Base>(table: &mut Table<N>, made: Result<Pass<N>, Seat<N>>) -> Result<(), Fault> {
     match made {
-        Ok(pass) => Ok(passes.push(pass)?),
-        Err(Memory) => Ok(()),
+        Ok(pass) => Ok(table.passes.push(pass)?),
+        Err(seat) => {
+            table.shared.take_back(&mut table.rest, seat);
+            Ok(())
+        }
     }
 }
 
@@ -46,11 +48,12 @@ fn enroll<N: Base, R: Print>(
     table: &mut Table<N>,
     caller: &Caller,
 ) -> Result<bool, Fault> {
+    let seat = table.seat()?;
     rt.write_all(b"> enroll\n")?;
-    let made = table.shared.enroll(alloc, caller);
+    let made = table.shared.enroll(alloc, seat, caller);
     let marked = rt.write_all(b"< enroll\n");
     let number = number_of(&made);
-    keep(&mut table.passes, made)?;
+    keep(table, made)?;
     marked?;
     tell_pass(rt, number)
 }
@@ -119,7 +122,7 @@ fn apply_last<N: Base, R: Print>(
     table: &mut Table<N>,
     event: &Event,
 ) -> Result<bool, Fault> {
-    let Table { passes, shared } = table;
+    let Table { passes, shared, .. } = table;
     match passes.last_mut() {
         Some(pass) => apply(rt, alloc, shared, pass, event),
         None => Err(Fault::Call),
@@ -250,12 +253,14 @@ fn call_in<N: Base, R: Print>(
 pub(crate) fn call_last<N: Base, R: Print>(
     rt: &R,
     alloc: Global,
+    register: Register,
     state: State<Colliding>,
     events: &Events,
 ) -> Result<(), Fault>
-    requires { state ≡ N.base }
+    requires base { state ≡ N.base }
+    requires registry { register ≡ N.registry }
 {
-    let mut table: Table<N> = Table::open(alloc, state);
+    let mut table: Table<N> = Table::open(alloc, state, register);
     let result = call_in(rt, alloc, &mut table, events);
     drop(table);
     result
@@ -275,12 +280,14 @@ fn settle_in<N: Base, R: Print>(
 pub(crate) fn settle_all<N: Base, R: Print>(
     rt: &R,
     alloc: Global,
+    register: Register,
     state: State<Colliding>,
     events: &Events,
 ) -> Result<(), Fault>
-    requires { state ≡ N.base }
+    requires base { state ≡ N.base }
+    requires registry { register ≡ N.registry }
 {
-    let mut table: Table<N> = Table::open(alloc, state);
+    let mut table: Table<N> = Table::open(alloc, state, register);
     let result = settle_in(rt, alloc, &mut table, events);
     drop(table);
     result

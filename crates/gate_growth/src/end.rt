@@ -8,7 +8,7 @@ use crate::fault::Fault;
 use crate::table::{Table, make_each, table_text};
 use crate::telling::tell_refusal;
 use gate_core::State;
-use gate_shared::{Base, FinishFault, SettleFault, Settled, Unsettled};
+use gate_shared::{Base, FinishFault, Register, SettleFault, Settled, Unsettled};
 use std::alloc::Global;
 use std::io::Print;
 
@@ -37,8 +37,13 @@ fn tell_end<N: Base, R: Print>(rt: &R, made: &Finished<N>) -> Result<(), Fault> 
 }
 
 fn finish<N: Base>(alloc: Global, table: Table<N>) -> Finished<N> {
-    let Table { passes, shared } = table;
-    shared.finish(alloc, passes)
+    let Table {
+        passes,
+        shared,
+        rest,
+        ..
+    } = table;
+    shared.finish(alloc, rest, passes)
 }
 
 /// The gate that was handed back.
@@ -48,10 +53,21 @@ fn handed_back<N: Base>(made: Finished<N>) -> Option<Table<N>> {
             drop(finished);
             None
         }
-        Err(FinishFault { shared, fault }) => {
+        Err(
+            FinishFault {
+                shared,
+                rest,
+                fault,
+            },
+        ) => {
             let SettleFault { why, passes } = fault;
             drop(why);
-            Some(Table { passes, shared })
+            Some(Table {
+                passes,
+                shared,
+                rest,
+                more: 0,
+            })
         }
     }
 }
@@ -122,12 +138,14 @@ fn begin<N: Base, R: Print>(
 pub(crate) fn finish_all<N: Base, R: Print>(
     rt: &R,
     alloc: Global,
+    register: Register,
     state: State<Colliding>,
     events: &Events,
 ) -> Result<(), Fault>
-    requires { state ≡ N.base }
+    requires base { state ≡ N.base }
+    requires registry { register ≡ N.registry }
 {
-    let mut table: Table<N> = Table::open(alloc, state);
+    let mut table: Table<N> = Table::open(alloc, state, register);
     match begin(rt, alloc, &mut table, events) {
         Ok(before) => finish_told(rt, alloc, table, events, before.as_str()),
         Err(fault) => {

@@ -29,6 +29,7 @@ use crate::step::step_last;
 use gate_core::State;
 use gate_lines::Source;
 use gate_opening::read_opening;
+use gate_shared::Register;
 use std::alloc::Global;
 use std::env;
 use std::io::{BufReader, Print};
@@ -90,9 +91,27 @@ fn make<R: Print>(
 ) -> Result<(), Fault> {
     match kind {
         Kind::Step => step_copy(rt, alloc, state, events),
-        Kind::Calls => call_last::<Brand, _>(rt, alloc, state.copy(alloc)?, events),
-        Kind::Settle => settle_all::<Brand, _>(rt, alloc, state.copy(alloc)?, events),
-        Kind::Finish => finish_all::<Brand, _>(rt, alloc, state.copy(alloc)?, events),
+        Kind::Calls => call_last::<Brand, _>(
+            rt,
+            alloc,
+            Register::new(alloc)?,
+            state.copy(alloc)?,
+            events,
+        ),
+        Kind::Settle => settle_all::<Brand, _>(
+            rt,
+            alloc,
+            Register::new(alloc)?,
+            state.copy(alloc)?,
+            events,
+        ),
+        Kind::Finish => finish_all::<Brand, _>(
+            rt,
+            alloc,
+            Register::new(alloc)?,
+            state.copy(alloc)?,
+            events,
+        ),
     }
 }
 

@@ -1,5 +1,5 @@
 //! What is under the lock of a gate, with the passes that were given out.
-ghost use Rattle.std.specs.Prelude.{◌≡◌};
+ghost use Rattle.std.specs.Prelude.{◌≡◌, ◌≤◌};
 
 use crate::colliding::Colliding;
 use crate::events::Events;
@@ -10,23 +10,43 @@ use gate_core::State;
 use gate_events::event_text;
 use gate_journal::{Entry, Journal};
 use gate_message::{Caller, Event};
-use gate_shared::{Base, Made, Pass, Shared};
+use gate_shared::{Base, Made, Pass, Register, Rest, Seat, Shared};
 use std::alloc::Global;
+
+/// The most passes that are given out.
+const MOST_PASSES: u64 = 1_000_000;
 
 #[derive(Drop)]
 pub(crate) struct Table<N: Base> {
     pub(crate) passes: Vec<Pass<N>>,
     pub(crate) shared: Shared<N, Colliding>,
+    pub(crate) rest: Rest<N>,
+    /// How many more passes may be given out.
+    pub(crate) more: u64,
+    ghost seated: { more ≤ rest },
 }
 
 impl<N: Base> Table<N> {
-    pub(crate) fn open(alloc: Global, state: State<Colliding>) -> Table<N>
-        requires { state ≡ N.base }
+    pub(crate) fn open(alloc: Global, state: State<Colliding>, register: Register) -> Table<N>
+        requires base { state ≡ N.base }
+        requires registry { register ≡ N.registry }
     {
+        let (shared, rest) = Shared::new(alloc, state, register);
         Table {
             passes: Vec::new(alloc),
-            shared: Shared::new(alloc, state),
+            shared,
+            rest,
+            more: MOST_PASSES,
         }
+    }
+
+    /// A seat.
+    pub(crate) fn seat(&mut self) -> Result<Seat<N>, Fault> {
+        if self.more == 0 {
+            return Err(Fault::Call);
+        }
+        self.more -= 1;
+        Ok(self.shared.seat(&mut self.rest))
     }
 }
 
@@ -53,10 +73,17 @@ fn apply_quietly<N: Base>(
 fn called<N: Base>(
     alloc: Global,
     shared: &mut Shared<N, Colliding>,
+    seat: Seat<N>,
     caller: &Caller,
     event: &Event,
 ) -> Result<Pass<N>, Fault> {
-    let mut pass = shared.enroll(alloc, caller)?;
+    let mut pass = match shared.enroll(alloc, seat, caller) {
+        Ok(pass) => pass,
+        Err(seat) => {
+            drop(seat);
+            return Err(Fault::from(Memory));
+        }
+    };
     match apply_quietly(alloc, shared, &mut pass, event) {
         Ok(()) => Ok(pass),
         Err(fault) => {
@@ -69,7 +96,8 @@ fn called<N: Base>(
 /// Makes an event under a pass of its own.
 fn make_one<N: Base>(alloc: Global, table: &mut Table<N>, event: &Event) -> Result<(), Fault> {
     let caller = event.caller(alloc)?;
-    let pass = called(alloc, &mut table.shared, &caller, event)?;
+    let seat = table.seat()?;
+    let pass = called(alloc, &mut table.shared, seat, &caller, event)?;
     table.passes.push(pass)?;
     Ok(())
 }

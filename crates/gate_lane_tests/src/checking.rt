@@ -1,5 +1,6 @@
 //! The order of checks and calls: inputs are checked outside the lock, by several threads and by the check that was handed in.
 ghost use Rattle.std.specs.Prelude.{◌≡◌};
+ghost use Rattle.gate_shared.specs.Tokens.{seat_limit};
 
 use crate::running::{Tells, was_set};
 use gate_bytes::Memory;
@@ -7,7 +8,7 @@ use gate_core::State;
 use gate_lanes::{Lane, LaneEnd, run_lanes};
 use gate_message::Reply;
 use gate_opening::read_opening;
-use gate_shared::{Base, Gate, Pass};
+use gate_shared::{Base, Gate, Pass, Register, Rest};
 use gate_verify::{InputCheck, InputReport, Piece, PolicyCheck, Workers};
 use std::alloc::Global;
 use std::hash::{BuildHasherDefault, FoldHasher};
@@ -170,11 +171,16 @@ fn inputs_are_checked_outside<N: Base + Send + Sync, T: Threads + Wait + Abort +
     rt: &T,
     alloc: Global,
     gate: &Gate<N, Hasher>,
-) -> Result<(), Fail> {
+    rest: &mut Rest<N>,
+) -> Result<(), Fail>
+    requires { rest.old ≡ seat_limit }
+{
     let flags = Flags::new();
     let lanes = two_lanes(alloc, &flags)?;
     let check = Holds(&flags);
-    let (ends, passes) = run_lanes(rt, alloc, gate, &check, lanes, Workers::default())?;
+    // There are more seats than a list of lanes can be long.
+    let _count = lanes.len();
+    let (ends, passes) = run_lanes(rt, alloc, gate, rest, &check, lanes, Workers::default())?;
     assert!(rt; flags.all_came());
     assert!(rt; both_ended(&ends));
     assert!(rt; was_granted(&passes));
@@ -185,12 +191,15 @@ fn inputs_are_checked_outside_over<N: Base + Send + Sync, T: Threads + Wait + Ab
     rt: &T,
     alloc: Global,
     state: State<Hasher>,
+    register: Register,
 ) -> Result<(), Fail>
-    requires { state ≡ N.base }
+    requires base { state ≡ N.base }
+    requires registry { register ≡ N.registry }
 {
-    let gate: Gate<N, Hasher> = Gate::open(alloc, state);
-    let result = inputs_are_checked_outside(rt, alloc, &gate);
+    let (gate, mut rest): (Gate<N, Hasher>, Rest<N>) = Gate::open(alloc, state, register);
+    let result = inputs_are_checked_outside(rt, alloc, &gate, &mut rest);
     drop(gate);
+    drop(rest);
     result
 }
 
@@ -200,5 +209,6 @@ fn an_input_waits_for_a_call(rt: HostRuntime) -> Result<(), Fail> {
     let alloc = rt.alloc();
     let mut text = OPENING;
     let state = read_opening(alloc, BuildHasherDefault::new(), &mut text)?;
-    inputs_are_checked_outside_over::<Brand, _>(&rt, alloc, state)
+    let register = Register::new(alloc)?;
+    inputs_are_checked_outside_over::<Brand, _>(&rt, alloc, state, register)
 }

@@ -4,7 +4,9 @@ ghost use Rattle.std.specs.Prelude.{◌≡◌};
 use crate::passes::{Hasher, called, opened};
 use gate_bytes::Memory;
 use gate_core::{Caller, Event, State};
-use gate_shared::{Base, FinishFault, Gate, Pass, SettleFault, Settled, Unsettled, finish};
+use gate_shared::{
+    Base, FinishFault, Gate, Pass, Register, Rest, Seat, SettleFault, Settled, Unsettled, finish,
+};
 use std::alloc::Global;
 use std::marker::Brand;
 use std::sync::Wait;
@@ -15,12 +17,14 @@ fn floored<N: Base, R: Wait>(
     rt: &R,
     alloc: Global,
     gate: &Gate<N, Hasher>,
+    seat: Seat<N>,
     rate: u64,
 ) -> Result<Pass<N>, Memory> {
     called(
         rt,
         alloc,
         gate,
+        seat,
         &Caller::Operator,
         &Event::SetFloor { rate },
     )
@@ -39,7 +43,12 @@ fn counts_of<N: Base>(fault: &FinishFault<N, Hasher>) -> Option<(u64, u64)> {
 
 /// The gate that is handed back, to go on.
 fn gone_on<N: Base>(fault: FinishFault<N, Hasher>) -> Gate<N, Hasher> {
-    let FinishFault { shared, fault } = fault;
+    let FinishFault {
+        shared,
+        rest,
+        fault,
+    } = fault;
+    drop(rest);
     drop(fault);
     Gate::of(shared)
 }
@@ -49,8 +58,9 @@ fn next_number<N: Base, R: Wait>(
     rt: &R,
     alloc: Global,
     gate: &Gate<N, Hasher>,
+    seat: Seat<N>,
 ) -> Result<Option<u64>, Memory> {
-    let pass = floored(rt, alloc, gate, 6000)?;
+    let pass = floored(rt, alloc, gate, seat, 6000)?;
     let number = pass.last().map(|made| made.receipt.number);
     drop(pass);
     Ok(number)
@@ -61,16 +71,19 @@ fn goes_on<N: Base, R: Wait>(
     rt: &R,
     alloc: Global,
     gate: Gate<N, Hasher>,
+    rest: Rest<N>,
+    seat: Seat<N>,
 ) -> Result<(Option<(u64, u64)>, Option<u64>), Memory> {
-    match finish(alloc, gate, Vec::new(alloc)) {
+    match finish(alloc, gate, rest, Vec::new(alloc)) {
         Ok(finished) => {
             drop(finished);
+            drop(seat);
             Ok((None, None))
         }
         Err(fault) => {
             let counts = counts_of(&fault);
             let gate = gone_on(fault);
-            let number = next_number(rt, alloc, &gate);
+            let number = next_number(rt, alloc, &gate, seat);
             drop(gate);
             Ok((counts, number?))
         }
@@ -81,19 +94,24 @@ fn lacks_a_pass<N: Base, R: Wait>(
     rt: &R,
     alloc: Global,
     state: State<Hasher>,
+    register: Register,
 ) -> Result<(Option<(u64, u64)>, Option<u64>), Memory>
-    requires { state ≡ N.base }
+    requires base { state ≡ N.base }
+    requires registry { register ≡ N.registry }
 {
-    let gate: Gate<N, Hasher> = Gate::open(alloc, state);
-    drop(floored(rt, alloc, &gate, 5000)?);
-    goes_on(rt, alloc, gate)
+    let (gate, mut rest): (Gate<N, Hasher>, Rest<N>) = Gate::open(alloc, state, register);
+    let first = gate.seat(rt, &mut rest);
+    let second = gate.seat(rt, &mut rest);
+    drop(floored(rt, alloc, &gate, first, 5000)?);
+    goes_on(rt, alloc, gate, rest, second)
 }
 
 #[test]
 fn a_gate_goes_on_where_a_pass_is_lacking(rt: HostRuntime) -> Result<(), Fail> {
     let alloc = rt.alloc();
     let state = opened(alloc)?;
-    let told = lacks_a_pass::<Brand, _>(&rt, alloc, state)?;
+    let register = Register::new(alloc)?;
+    let told = lacks_a_pass::<Brand, _>(&rt, alloc, state, register)?;
     assert!(rt; told == (Some((1, 0)), Some(2)));
     Ok(())
 }
@@ -107,9 +125,10 @@ fn count_and_floor(end: &(Settled, State<Hasher>)) -> (u64, u64) {
 fn finished<N: Base>(
     alloc: Global,
     gate: Gate<N, Hasher>,
+    rest: Rest<N>,
     passes: Vec<Pass<N>>,
 ) -> Option<(u64, u64)> {
-    match finish(alloc, gate, passes) {
+    match finish(alloc, gate, rest, passes) {
         Ok(end) => {
             let told = count_and_floor(&end);
             drop(end);
@@ -126,20 +145,24 @@ fn has_its_passes<N: Base, R: Wait>(
     rt: &R,
     alloc: Global,
     state: State<Hasher>,
+    register: Register,
 ) -> Result<Option<(u64, u64)>, Memory>
-    requires { state ≡ N.base }
+    requires base { state ≡ N.base }
+    requires registry { register ≡ N.registry }
 {
-    let gate: Gate<N, Hasher> = Gate::open(alloc, state);
-    let pass = floored(rt, alloc, &gate, 5000)?;
+    let (gate, mut rest): (Gate<N, Hasher>, Rest<N>) = Gate::open(alloc, state, register);
+    let seat = gate.seat(rt, &mut rest);
+    let pass = floored(rt, alloc, &gate, seat, 5000)?;
     let passes = Vec::from_array(alloc, [pass])?;
-    Ok(finished(alloc, gate, passes))
+    Ok(finished(alloc, gate, rest, passes))
 }
 
 #[test]
 fn a_gate_is_finished(rt: HostRuntime) -> Result<(), Fail> {
     let alloc = rt.alloc();
     let state = opened(alloc)?;
-    let told = has_its_passes::<Brand, _>(&rt, alloc, state)?;
+    let register = Register::new(alloc)?;
+    let told = has_its_passes::<Brand, _>(&rt, alloc, state, register)?;
     assert!(rt; told == Some((1, 5000)));
     Ok(())
 }

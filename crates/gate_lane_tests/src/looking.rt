@@ -1,12 +1,13 @@
 //! What is found of a submission's inputs before its call, and reports that are out of date when it comes.
-ghost use Rattle.std.specs.Prelude.{◌≡◌, IfOk};
+ghost use Rattle.std.specs.Prelude.{◌≡◌, ◌<◌, IfOk};
 
+use crate::passes::enrolled;
 use gate_bytes::{Copied, Kept, Memory};
 use gate_core::{State, submission};
 use gate_events::read_event;
 use gate_message::{Caller, Event};
 use gate_opening::read_opening;
-use gate_shared::{Base, CallFault, Gate, Pass, Receipt};
+use gate_shared::{Base, CallFault, Gate, Pass, Receipt, Register, Rest, Seat};
 use gate_submission::Prepared;
 use gate_tx::Coin;
 use gate_verify::{InputCheck, InputReport, Piece, PolicyCheck};
@@ -165,10 +166,11 @@ fn extended<N: Base, T: Wait>(
     rt: &T,
     alloc: Global,
     gate: &Gate<N, Hasher>,
+    seat: Seat<N>,
     line: &str,
 ) -> Result<(), Fail> {
     let event = event(alloc, line)?;
-    let mut pass = gate.enroll(rt, alloc, &Caller::Chain)?;
+    let mut pass = enrolled(rt, alloc, gate, seat, &Caller::Chain)?;
     drop(gate.call(rt, alloc, &mut pass, &event)?);
     Ok(())
 }
@@ -179,6 +181,7 @@ fn is_answered_later<N: Base, T: Wait>(
     alloc: Global,
     gate: &Gate<N, Hasher>,
     pass: &mut Pass<N>,
+    seat: Seat<N>,
     event: &Event,
     case: &Case,
 ) -> Result<bool, Fail> {
@@ -186,7 +189,7 @@ fn is_answered_later<N: Base, T: Wait>(
         return Err(Fail::new("no submission"));
     };
     let prepared = looked(rt, alloc, gate, submission)?;
-    extended(rt, alloc, gate, case.between)?;
+    extended(rt, alloc, gate, seat, case.between)?;
     let made = gate.call_prepared(rt, alloc, pass, event, Some(&prepared));
     drop(prepared);
     let told = is_told(alloc, &made, case.reported);
@@ -199,9 +202,10 @@ fn entered<N: Base, T: Wait>(
     rt: &T,
     alloc: Global,
     gate: &Gate<N, Hasher>,
+    seat: Seat<N>,
 ) -> Result<Pass<N>, Fail> {
     let event = event(alloc, "peer 1 enter 192.0.2.1")?;
-    let mut pass = gate.enroll(rt, alloc, &Caller::Peer(1))?;
+    let mut pass = enrolled(rt, alloc, gate, seat, &Caller::Peer(1))?;
     drop(gate.call(rt, alloc, &mut pass, &event)?);
     Ok(pass)
 }
@@ -211,11 +215,16 @@ fn holds<N: Base, T: Wait>(
     rt: &T,
     alloc: Global,
     gate: &Gate<N, Hasher>,
+    rest: &mut Rest<N>,
     case: &Case,
-) -> Result<bool, Fail> {
+) -> Result<bool, Fail>
+    requires { 1 < rest.old }
+{
     let event = event(alloc, SPENDS)?;
-    let mut pass = entered(rt, alloc, gate)?;
-    let later = is_answered_later(rt, alloc, gate, &mut pass, &event, case)?;
+    let first = gate.seat(rt, rest);
+    let second = gate.seat(rt, rest);
+    let mut pass = entered(rt, alloc, gate, first)?;
+    let later = is_answered_later(rt, alloc, gate, &mut pass, second, &event, case)?;
     Ok(later && is_answered(rt, alloc, gate, &mut pass, &event, case.again)?)
 }
 
@@ -223,13 +232,16 @@ fn holds_over<N: Base, T: Wait>(
     rt: &T,
     alloc: Global,
     state: State<Hasher>,
+    register: Register,
     case: &Case,
 ) -> Result<bool, Fail>
-    requires { state ≡ N.base }
+    requires base { state ≡ N.base }
+    requires registry { register ≡ N.registry }
 {
-    let gate: Gate<N, Hasher> = Gate::open(alloc, state);
-    let result = holds(rt, alloc, &gate, case);
+    let (gate, mut rest): (Gate<N, Hasher>, Rest<N>) = Gate::open(alloc, state, register);
+    let result = holds(rt, alloc, &gate, &mut rest, case);
     drop(gate);
+    drop(rest);
     result
 }
 
@@ -237,7 +249,8 @@ fn holds_over<N: Base, T: Wait>(
 fn a_look_finds_the_coin(rt: HostRuntime) -> Result<(), Fail> {
     let alloc = rt.alloc();
     let state = opened(alloc)?;
-    assert!(rt; holds_over::<Brand, _>(&rt, alloc, state, &NO_BLOCK)?);
+    let register = Register::new(alloc)?;
+    assert!(rt; holds_over::<Brand, _>(&rt, alloc, state, register, &NO_BLOCK)?);
     Ok(())
 }
 
@@ -245,6 +258,7 @@ fn a_look_finds_the_coin(rt: HostRuntime) -> Result<(), Fail> {
 fn a_block_comes_between(rt: HostRuntime) -> Result<(), Fail> {
     let alloc = rt.alloc();
     let state = opened(alloc)?;
-    assert!(rt; holds_over::<Brand, _>(&rt, alloc, state, &SPENT)?);
+    let register = Register::new(alloc)?;
+    assert!(rt; holds_over::<Brand, _>(&rt, alloc, state, register, &SPENT)?);
     Ok(())
 }

@@ -1,14 +1,14 @@
-//! Two users race for one coin; passes settle with the journal of their gate, and with no other.
+//! Two users race for one coin; passes settle with the journal of their gate.
 ghost use Rattle.std.specs.Prelude.{◌≡◌, ◌+◌, ◌<◌, length, IfOk, OnOk};
 
 use gate_admit::{OpeningCoin, Policy, Verdict, Verdicts};
 use gate_bytes::{Copied, Counted, Kept, Memory, Text};
 use gate_core::{Opening, State};
 use gate_journal::{Entry, Journal, replay_check};
-use gate_message::{Call, Caller, Event, Reply, is_same_reply};
+use gate_message::{Call, Caller, Event, Reply};
 use gate_net::Whitelist;
 use gate_rpc::RpcWhitelist;
-use gate_shared::{Base, CallFault, Gate, Pass, Receipt, SettleFault, Unsettled};
+use gate_shared::{Base, CallFault, Gate, Pass, Register, Rest, Seat, SettleFault, Unsettled};
 use gate_tx::{Coin, OutPoint, Txid};
 use std::alloc::Global;
 use std::hash::{BuildHasherDefault, FoldHasher};
@@ -102,15 +102,33 @@ fn opened_twice(alloc: Global) -> Result<(State<Hasher>, State<Hasher>), Fail>
     }
 }
 
+/// A pass of a caller.
+pub(crate) fn enrolled<N: Base, R: Wait>(
+    rt: &R,
+    alloc: Global,
+    gate: &Gate<N, Hasher>,
+    seat: Seat<N>,
+    caller: &Caller,
+) -> Result<Pass<N>, Memory> {
+    match gate.enroll(rt, alloc, seat, caller) {
+        Ok(pass) => Ok(pass),
+        Err(seat) => {
+            drop(seat);
+            Err(Memory)
+        }
+    }
+}
+
 /// The pass of a caller that makes one event.
 pub(crate) fn called<N: Base, R: Wait>(
     rt: &R,
     alloc: Global,
     gate: &Gate<N, Hasher>,
+    seat: Seat<N>,
     caller: &Caller,
     event: &Event,
 ) -> Result<Pass<N>, Memory> {
-    let mut pass = gate.enroll(rt, alloc, caller)?;
+    let mut pass = enrolled(rt, alloc, gate, seat, caller)?;
     drop(gate.call(rt, alloc, &mut pass, event));
     Ok(pass)
 }
@@ -120,9 +138,17 @@ fn left<N: Base, R: Wait>(
     rt: &R,
     alloc: Global,
     gate: &Gate<N, Hasher>,
+    seat: Seat<N>,
     peer: u64,
 ) -> Result<Pass<N>, Memory> {
-    called(rt, alloc, gate, &Caller::Peer(peer), &Event::Leave { peer })
+    called(
+        rt,
+        alloc,
+        gate,
+        seat,
+        &Caller::Peer(peer),
+        &Event::Leave { peer },
+    )
 }
 
 fn user(alloc: Global, name: &str) -> Result<Caller, Memory> {
@@ -134,13 +160,14 @@ fn asked<N: Base, R: Wait>(
     rt: &R,
     alloc: Global,
     gate: &Gate<N, Hasher>,
+    seat: Seat<N>,
     name: &str,
     json: &str,
 ) -> Result<Pass<N>, Memory> {
     let call = Call::read(alloc, name, 5000, json)?;
     let event = Event::Rpc(Counted::new(alloc, call)?);
     let user = user(alloc, name)?;
-    let pass = called(rt, alloc, gate, &user, &event);
+    let pass = called(rt, alloc, gate, seat, &user, &event);
     drop(event);
     pass
 }
@@ -166,9 +193,14 @@ fn raced<N: Base, R: Wait>(
     rt: &R,
     alloc: Global,
     gate: &Gate<N, Hasher>,
-) -> Result<Vec<Pass<N>>, Memory> {
-    let a = asked(rt, alloc, gate, "a", SENDS_A)?;
-    let b = asked(rt, alloc, gate, "b", SENDS_B)?;
+    rest: &mut Rest<N>,
+) -> Result<Vec<Pass<N>>, Memory>
+    requires { 1 < rest.old }
+{
+    let first = gate.seat(rt, rest);
+    let second = gate.seat(rt, rest);
+    let a = asked(rt, alloc, gate, first, "a", SENDS_A)?;
+    let b = asked(rt, alloc, gate, second, "b", SENDS_B)?;
     Ok(Vec::from_array(alloc, [a, b])?)
 }
 
@@ -176,13 +208,16 @@ fn race_settles<N: Base, R: Wait>(
     rt: &R,
     alloc: Global,
     state: State<Hasher>,
+    register: Register,
 ) -> Result<Option<u64>, Memory>
-    requires { state ≡ N.base }
+    requires base { state ≡ N.base }
+    requires registry { register ≡ N.registry }
 {
-    let gate: Gate<N, Hasher> = Gate::open(alloc, state);
-    let passes = raced(rt, alloc, &gate)?;
+    let (gate, mut rest): (Gate<N, Hasher>, Rest<N>) = Gate::open(alloc, state, register);
+    let passes = raced(rt, alloc, &gate, &mut rest)?;
     let count = settled(rt, alloc, &gate, passes);
     drop(gate);
+    drop(rest);
     Ok(count)
 }
 
@@ -190,7 +225,8 @@ fn race_settles<N: Base, R: Wait>(
 fn the_race_settles(rt: HostRuntime) -> Result<(), Fail> {
     let alloc = rt.alloc();
     let state = opened(alloc)?;
-    let count = race_settles::<Brand, _>(&rt, alloc, state)?;
+    let register = Register::new(alloc)?;
+    let count = race_settles::<Brand, _>(&rt, alloc, state, register)?;
     assert!(rt; count == Some(2));
     Ok(())
 }
@@ -221,9 +257,14 @@ fn second<N: Base, R: Wait>(
     rt: &R,
     alloc: Global,
     gate: &Gate<N, Hasher>,
-) -> Result<Vec<Pass<N>>, Memory> {
-    drop(left(rt, alloc, gate, 1)?);
-    let pass = left(rt, alloc, gate, 2)?;
+    rest: &mut Rest<N>,
+) -> Result<Vec<Pass<N>>, Memory>
+    requires { 1 < rest.old }
+{
+    let here = gate.seat(rt, rest);
+    let gone = gate.seat(rt, rest);
+    drop(left(rt, alloc, gate, gone, 1)?);
+    let pass = left(rt, alloc, gate, here, 2)?;
     Ok(Vec::from_array(alloc, [pass])?)
 }
 
@@ -231,13 +272,16 @@ fn a_pass_is_lacking<N: Base, R: Wait>(
     rt: &R,
     alloc: Global,
     state: State<Hasher>,
+    register: Register,
 ) -> Result<Option<(u64, u64)>, Memory>
-    requires { state ≡ N.base }
+    requires base { state ≡ N.base }
+    requires registry { register ≡ N.registry }
 {
-    let gate: Gate<N, Hasher> = Gate::open(alloc, state);
-    let passes = second(rt, alloc, &gate)?;
+    let (gate, mut rest): (Gate<N, Hasher>, Rest<N>) = Gate::open(alloc, state, register);
+    let passes = second(rt, alloc, &gate, &mut rest)?;
     let counts = differing(rt, alloc, &gate, passes);
     drop(gate);
+    drop(rest);
     Ok(counts)
 }
 
@@ -245,99 +289,9 @@ fn a_pass_is_lacking<N: Base, R: Wait>(
 fn counts_differ(rt: HostRuntime) -> Result<(), Fail> {
     let alloc = rt.alloc();
     let state = opened(alloc)?;
-    let counts = a_pass_is_lacking::<Brand, _>(&rt, alloc, state)?;
+    let register = Register::new(alloc)?;
+    let counts = a_pass_is_lacking::<Brand, _>(&rt, alloc, state, register)?;
     assert!(rt; counts == Some((2, 1)));
-    Ok(())
-}
-
-/// Whether a receipt is the last of a pass.
-fn is_last<N: Base>(pass: &Pass<N>, receipt: &Receipt) -> bool {
-    match pass.last() {
-        Some(made) => {
-            made.receipt.number == receipt.number
-                && is_same_reply(&made.receipt.reply, &receipt.reply)
-        }
-        None => false,
-    }
-}
-
-/// Whether a gate lacks the last receipt of a pass, and says which it is.
-fn is_short<N: Base, R: Wait>(
-    rt: &R,
-    alloc: Global,
-    gate: &Gate<N, Hasher>,
-    pass: &mut Pass<N>,
-    event: &Event,
-) -> bool {
-    let result = gate.call(rt, alloc, pass, event);
-    let short = match &result {
-        Err(CallFault::HistoryShort(receipt)) => is_last(pass, receipt),
-        _ => false,
-    };
-    drop(result);
-    short
-}
-
-/// Whether the last receipt of the first of the passes is missing.
-fn is_missing<N: Base, R: Wait>(
-    rt: &R,
-    alloc: Global,
-    gate: &Gate<N, Hasher>,
-    passes: Vec<Pass<N>>,
-) -> bool {
-    let result = gate.settle(rt, alloc, passes);
-    let missing = match &result {
-        Err(
-            SettleFault {
-                why: Unsettled::Missing(receipt),
-                passes,
-            },
-        ) => match passes.first() {
-            Some(pass) => is_last(pass, receipt),
-            None => false,
-        },
-        _ => false,
-    };
-    drop(result);
-    missing
-}
-
-/// Whether a pass of one gate is short at another, and missing there.
-fn is_lacked<N: Base, R: Wait>(
-    rt: &R,
-    alloc: Global,
-    gate: &Gate<N, Hasher>,
-    elsewhere: &Gate<N, Hasher>,
-) -> Result<bool, Memory> {
-    let mut pass = left(rt, alloc, elsewhere, 1)?;
-    let short = is_short(rt, alloc, gate, &mut pass, &Event::Mempool { peer: 1 });
-    let passes = Vec::from_array(alloc, [pass])?;
-    Ok(short && is_missing(rt, alloc, gate, passes))
-}
-
-fn another_gate_lacks_it<N: Base, R: Wait>(
-    rt: &R,
-    alloc: Global,
-    state: State<Hasher>,
-    other: State<Hasher>,
-) -> Result<bool, Memory>
-    requires here { state ≡ N.base }
-    requires there { other ≡ N.base }
-{
-    let gate: Gate<N, Hasher> = Gate::open(alloc, state);
-    let elsewhere: Gate<N, Hasher> = Gate::open(alloc, other);
-    let lacked = is_lacked(rt, alloc, &gate, &elsewhere);
-    drop(gate);
-    drop(elsewhere);
-    lacked
-}
-
-#[test]
-fn passes_belong_to_a_gate(rt: HostRuntime) -> Result<(), Fail> {
-    let alloc = rt.alloc();
-    let (state, other) = opened_twice(alloc)?;
-    let lacked = another_gate_lacks_it::<Brand, _>(&rt, alloc, state, other)?;
-    assert!(rt; lacked);
     Ok(())
 }
 
@@ -360,9 +314,13 @@ fn refuses_others<N: Base, R: Wait>(
     rt: &R,
     alloc: Global,
     gate: &Gate<N, Hasher>,
-) -> Result<bool, Memory> {
+    rest: &mut Rest<N>,
+) -> Result<bool, Memory>
+    requires { 0 < rest.old }
+{
     let user = user(alloc, "a")?;
-    let mut pass = gate.enroll(rt, alloc, &user)?;
+    let seat = gate.seat(rt, rest);
+    let mut pass = enrolled(rt, alloc, gate, seat, &user)?;
     let refused = is_refused(rt, alloc, gate, &mut pass, &Event::Mempool { peer: 1 });
     drop(pass);
     Ok(refused)
@@ -372,12 +330,15 @@ fn a_user_is_no_peer<N: Base, R: Wait>(
     rt: &R,
     alloc: Global,
     state: State<Hasher>,
+    register: Register,
 ) -> Result<bool, Memory>
-    requires { state ≡ N.base }
+    requires base { state ≡ N.base }
+    requires registry { register ≡ N.registry }
 {
-    let gate: Gate<N, Hasher> = Gate::open(alloc, state);
-    let refused = refuses_others(rt, alloc, &gate);
+    let (gate, mut rest): (Gate<N, Hasher>, Rest<N>) = Gate::open(alloc, state, register);
+    let refused = refuses_others(rt, alloc, &gate, &mut rest);
     drop(gate);
+    drop(rest);
     refused
 }
 
@@ -385,7 +346,8 @@ fn a_user_is_no_peer<N: Base, R: Wait>(
 fn calls_are_the_caller_s_own(rt: HostRuntime) -> Result<(), Fail> {
     let alloc = rt.alloc();
     let state = opened(alloc)?;
-    let refused = a_user_is_no_peer::<Brand, _>(&rt, alloc, state)?;
+    let register = Register::new(alloc)?;
+    let refused = a_user_is_no_peer::<Brand, _>(&rt, alloc, state, register)?;
     assert!(rt; refused);
     Ok(())
 }
@@ -466,22 +428,26 @@ fn race_is_replayed<N: Base, R: Wait>(
     rt: &R,
     alloc: Global,
     state: State<Hasher>,
+    register: Register,
     opened: &State<Hasher>,
 ) -> Result<(Option<u64>, Option<u64>), Fail>
-    requires { state ≡ N.base }
+    requires base { state ≡ N.base }
+    requires registry { register ≡ N.registry }
 {
-    let gate: Gate<N, Hasher> = Gate::open(alloc, state);
-    let passes = raced(rt, alloc, &gate)?;
+    let (gate, mut rest): (Gate<N, Hasher>, Rest<N>) = Gate::open(alloc, state, register);
+    let passes = raced(rt, alloc, &gate, &mut rest)?;
     let journal = journal_of(rt, alloc, &gate, passes);
     drop(gate);
+    drop(rest);
     first_illegal(alloc, opened, &journal?)
 }
 
 #[test]
 fn replies_belong_to_their_events(rt: HostRuntime) -> Result<(), Fail> {
     let alloc = rt.alloc();
+    let register = Register::new(alloc)?;
     let (state, first) = opened_twice(alloc)?;
-    let illegal = race_is_replayed::<Brand, _>(&rt, alloc, state, &first);
+    let illegal = race_is_replayed::<Brand, _>(&rt, alloc, state, register, &first);
     drop(first);
     assert!(rt; illegal? == (None, Some(1)));
     Ok(())

@@ -1,14 +1,16 @@
 //! Rounds: the next gate begins with the state that the one before led to, and counts its calls anew.
 use gate_core::State;
-use gate_lanes::{Conclusion, Lane, RoundEnd, run_rounds};
-use gate_lines::LaneFault;
+use gate_lanes::{Conclusion, Lane, RoundEnd, RoundsEnd, run_rounds};
+use gate_lines::{LaneFault, Source};
 use gate_opening::read_opening;
 use gate_testing::Interrupted;
 use gate_verify::{PolicyCheck, Workers};
 use std::alloc::Global;
 use std::hash::{BuildHasherDefault, FoldHasher};
 use std::io::BufReader;
+use std::sync::Wait;
 use std::test::*;
+use std::thread::Threads;
 
 type Hasher = BuildHasherDefault<FoldHasher>;
 
@@ -50,23 +52,43 @@ fn told(round: &RoundEnd<Vec<u8>>, reply: &[u8]) -> bool {
     };
     let settled = match &round.conclusion {
         Conclusion::Settles(settled) => settled.count == 1,
-        Conclusion::Differs | Conclusion::Unknown => false,
+        Conclusion::Unknown => false,
     };
     settled && end.result == Ok(1) && end.writer.as_slice() == reply
+}
+
+/// Runs rounds one after another, from the state of the opening.
+fn ran<T: Threads + Wait + Sync, R: Source + Send + Drop>(
+    rt: &T,
+    alloc: Global,
+    rounds: Vec<Vec<Lane<R, Vec<u8>>>>,
+) -> Result<RoundsEnd<Vec<u8>>, Fail> {
+    let state = opened(alloc)?;
+    Ok(run_rounds(rt, alloc, state, &PolicyCheck, rounds, Workers::default()))
+}
+
+/// A round that sends, and one that lists.
+fn sends_and_lists(alloc: Global) -> Result<Vec<Vec<Lane<&'static [u8], Vec<u8>>>>, Fail> {
+    let sends = round(alloc, SENDS)?;
+    let lists = round(alloc, LISTS)?;
+    Ok(Vec::from_array(alloc, [sends, lists])?)
+}
+
+/// Whether the second round listed what the first one sent.
+fn went_on(ended: &RoundsEnd<Vec<u8>>) -> bool {
+    let [sent, listed] = ended.rounds.as_slice() else {
+        return false;
+    };
+    ended.result.is_ok() && told(sent, SENT) && told(listed, LISTED)
 }
 
 #[test]
 fn a_round_goes_on_from_the_one_before(rt: HostRuntime) -> Result<(), Fail> {
     let alloc = rt.alloc();
-    let state = opened(alloc)?;
-    let rounds = Vec::from_array(alloc, [round(alloc, SENDS)?, round(alloc, LISTS)?])?;
-    let ended = run_rounds(&rt, alloc, state, &PolicyCheck, rounds, Workers::default());
-    assert!(rt; ended.result.is_ok());
-    let [sent, listed] = ended.rounds.as_slice() else {
-        return Err(Fail::new("not two rounds"));
-    };
-    assert!(rt; told(sent, SENT));
-    assert!(rt; told(listed, LISTED));
+    let ended = ran(&rt, alloc, sends_and_lists(alloc)?)?;
+    let has_gone_on = went_on(&ended);
+    drop(ended);
+    assert!(rt; has_gone_on);
     Ok(())
 }
 
@@ -89,24 +111,34 @@ fn settled_broken(round: &RoundEnd<Vec<u8>>) -> bool {
     };
     let settled = match &round.conclusion {
         Conclusion::Settles(settled) => settled.count == 1,
-        Conclusion::Differs | Conclusion::Unknown => false,
+        Conclusion::Unknown => false,
     };
     settled && !round.is_whole() && end.result == Err(LaneFault::Read)
+}
+
+/// Two rounds whose readers break, behind a line that sends and behind one that lists.
+fn broken_rounds(
+    alloc: Global,
+) -> Result<Vec<Vec<Lane<BufReader<Interrupted<'static>>, Vec<u8>>>>, Fail> {
+    let sends = broken_round(alloc, SENDS)?;
+    let lists = broken_round(alloc, LISTS)?;
+    Ok(Vec::from_array(alloc, [sends, lists])?)
+}
+
+/// Whether one round ended, and its lane stopped.
+fn stopped(ended: &RoundsEnd<Vec<u8>>) -> bool {
+    let [round] = ended.rounds.as_slice() else {
+        return false;
+    };
+    ended.result.is_ok() && settled_broken(round)
 }
 
 #[test]
 fn no_round_follows_one_whose_lane_stopped(rt: HostRuntime) -> Result<(), Fail> {
     let alloc = rt.alloc();
-    let state = opened(alloc)?;
-    let rounds = Vec::from_array(
-        alloc,
-        [broken_round(alloc, SENDS)?, broken_round(alloc, LISTS)?],
-    )?;
-    let ended = run_rounds(&rt, alloc, state, &PolicyCheck, rounds, Workers::default());
-    assert!(rt; ended.result.is_ok());
-    let [stopped] = ended.rounds.as_slice() else {
-        return Err(Fail::new("not one round"));
-    };
-    assert!(rt; settled_broken(stopped));
+    let ended = ran(&rt, alloc, broken_rounds(alloc)?)?;
+    let has_stopped = stopped(&ended);
+    drop(ended);
+    assert!(rt; has_stopped);
     Ok(())
 }

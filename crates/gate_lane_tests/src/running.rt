@@ -1,11 +1,12 @@
 //! Lanes over one gate: what they write, that they run at once, and ends that fail.
 ghost use Rattle.std.specs.Prelude.{◌≡◌};
+ghost use Rattle.gate_shared.specs.Tokens.{seat_limit};
 
 use gate_core::State;
 use gate_lanes::{Lane, LaneEnd, run_lanes};
 use gate_lines::LaneFault;
 use gate_opening::read_opening;
-use gate_shared::{Base, Gate, Pass};
+use gate_shared::{Base, Gate, Pass, Register, Rest};
 use gate_testing::{Drops, Interrupted};
 use gate_verify::{PolicyCheck, Workers};
 use std::alloc::{AllocError, Global};
@@ -82,9 +83,22 @@ fn lanes_answer<N: Base + Send + Sync, T: Threads + Wait + Abort + Sync>(
     rt: &T,
     alloc: Global,
     gate: &Gate<N, Hasher>,
-) -> Result<(), Fail> {
+    rest: &mut Rest<N>,
+) -> Result<(), Fail>
+    requires { rest.old ≡ seat_limit }
+{
     let lanes = three_lanes(alloc)?;
-    let (ends, passes) = run_lanes(rt, alloc, gate, &PolicyCheck, lanes, Workers::default())?;
+    // There are more seats than a list of lanes can be long.
+    let _count = lanes.len();
+    let (ends, passes) = run_lanes(
+        rt,
+        alloc,
+        gate,
+        rest,
+        &PolicyCheck,
+        lanes,
+        Workers::default(),
+    )?;
     assert!(rt; three_wrote(&ends));
     assert!(rt; settles(rt, alloc, gate, passes, 3));
     Ok(())
@@ -94,18 +108,26 @@ fn lanes_answer_over<N: Base + Send + Sync, T: Threads + Wait + Abort + Sync>(
     rt: &T,
     alloc: Global,
     state: State<Hasher>,
+    register: Register,
 ) -> Result<(), Fail>
-    requires { state ≡ N.base }
+    requires base { state ≡ N.base }
+    requires registry { register ≡ N.registry }
 {
-    let gate: Gate<N, Hasher> = Gate::open(alloc, state);
-    let result = lanes_answer(rt, alloc, &gate);
+    let (gate, mut rest): (Gate<N, Hasher>, Rest<N>) = Gate::open(alloc, state, register);
+    let result = lanes_answer(rt, alloc, &gate, &mut rest);
     drop(gate);
+    drop(rest);
     result
 }
 
 #[test]
 fn lanes_are_answered(rt: HostRuntime) -> Result<(), Fail> {
-    lanes_answer_over::<Brand, _>(&rt, rt.alloc(), opened(rt.alloc())?)
+    lanes_answer_over::<Brand, _>(
+        &rt,
+        rt.alloc(),
+        opened(rt.alloc())?,
+        Register::new(rt.alloc())?,
+    )
 }
 
 /// A reader whose bytes come once a flag is set, if it has one. After 10,000,000 turns it gives up, and says so.
@@ -202,14 +224,27 @@ fn lanes_run_at_once<N: Base + Send + Sync, T: Threads + Wait + Abort + Sync>(
     rt: &T,
     alloc: Global,
     gate: &Gate<N, Hasher>,
-) -> Result<(), Fail> {
+    rest: &mut Rest<N>,
+) -> Result<(), Fail>
+    requires { rest.old ≡ seat_limit }
+{
     let flags = Flags {
         first: AtomicU64::new(0),
         second: AtomicU64::new(0),
         gave_up: AtomicU64::new(0),
     };
     let lanes = two_lanes(alloc, &flags)?;
-    let (ends, passes) = run_lanes(rt, alloc, gate, &PolicyCheck, lanes, Workers::default())?;
+    // There are more seats than a list of lanes can be long.
+    let _count = lanes.len();
+    let (ends, passes) = run_lanes(
+        rt,
+        alloc,
+        gate,
+        rest,
+        &PolicyCheck,
+        lanes,
+        Workers::default(),
+    )?;
     assert!(rt; both_ended(&ends, &passes, &flags));
     Ok(())
 }
@@ -218,18 +253,26 @@ fn lanes_run_at_once_over<N: Base + Send + Sync, T: Threads + Wait + Abort + Syn
     rt: &T,
     alloc: Global,
     state: State<Hasher>,
+    register: Register,
 ) -> Result<(), Fail>
-    requires { state ≡ N.base }
+    requires base { state ≡ N.base }
+    requires registry { register ≡ N.registry }
 {
-    let gate: Gate<N, Hasher> = Gate::open(alloc, state);
-    let result = lanes_run_at_once(rt, alloc, &gate);
+    let (gate, mut rest): (Gate<N, Hasher>, Rest<N>) = Gate::open(alloc, state, register);
+    let result = lanes_run_at_once(rt, alloc, &gate, &mut rest);
     drop(gate);
+    drop(rest);
     result
 }
 
 #[test]
 fn a_lane_waits_for_another(rt: HostRuntime) -> Result<(), Fail> {
-    lanes_run_at_once_over::<Brand, _>(&rt, rt.alloc(), opened(rt.alloc())?)
+    lanes_run_at_once_over::<Brand, _>(
+        &rt,
+        rt.alloc(),
+        opened(rt.alloc())?,
+        Register::new(rt.alloc())?,
+    )
 }
 
 /// Whether there is one pass, of `calls` calls.
@@ -263,15 +306,54 @@ fn reader_breaks<N: Base + Send + Sync, T: Threads + Wait + Abort + Sync>(
     rt: &T,
     alloc: Global,
     gate: &Gate<N, Hasher>,
-) -> Result<(), Fail> {
+    rest: &mut Rest<N>,
+) -> Result<(), Fail>
+    requires { rest.old ≡ seat_limit }
+{
     let broken = Lane {
         reader: BufReader::new(alloc, Interrupted(TWO_EVENTS))?,
         writer: Vec::new(alloc),
     };
     let lanes = Vec::from_array(alloc, [broken])?;
-    let (ends, passes) = run_lanes(rt, alloc, gate, &PolicyCheck, lanes, Workers::default())?;
+    // There are more seats than a list of lanes can be long.
+    let _count = lanes.len();
+    let (ends, passes) = run_lanes(
+        rt,
+        alloc,
+        gate,
+        rest,
+        &PolicyCheck,
+        lanes,
+        Workers::default(),
+    )?;
     assert!(rt; failed(&ends, LaneFault::Read) && answered(&ends) && one_pass(&passes, 2));
     Ok(())
+}
+
+fn reader_breaks_over<N: Base + Send + Sync, T: Threads + Wait + Abort + Sync>(
+    rt: &T,
+    alloc: Global,
+    state: State<Hasher>,
+    register: Register,
+) -> Result<(), Fail>
+    requires base { state ≡ N.base }
+    requires registry { register ≡ N.registry }
+{
+    let (gate, mut rest): (Gate<N, Hasher>, Rest<N>) = Gate::open(alloc, state, register);
+    let result = reader_breaks(rt, alloc, &gate, &mut rest);
+    drop(gate);
+    drop(rest);
+    result
+}
+
+#[test]
+fn a_reader_breaks(rt: HostRuntime) -> Result<(), Fail> {
+    reader_breaks_over::<Brand, _>(
+        &rt,
+        rt.alloc(),
+        opened(rt.alloc())?,
+        Register::new(rt.alloc())?,
+    )
 }
 
 /// A writer that fills up in the second reply line: its event was called.
@@ -279,40 +361,52 @@ fn writer_fills<N: Base + Send + Sync, T: Threads + Wait + Abort + Sync>(
     rt: &T,
     alloc: Global,
     gate: &Gate<N, Hasher>,
-) -> Result<(), Fail> {
+    rest: &mut Rest<N>,
+) -> Result<(), Fail>
+    requires { rest.old ≡ seat_limit }
+{
     let full = Lane {
         reader: TWO_EVENTS,
         writer: BufWriter::with_capacity(alloc, 0, Drops { left: 6 })?,
     };
     let lanes = Vec::from_array(alloc, [full])?;
-    let (ends, passes) = run_lanes(rt, alloc, gate, &PolicyCheck, lanes, Workers::default())?;
+    // There are more seats than a list of lanes can be long.
+    let _count = lanes.len();
+    let (ends, passes) = run_lanes(
+        rt,
+        alloc,
+        gate,
+        rest,
+        &PolicyCheck,
+        lanes,
+        Workers::default(),
+    )?;
     assert!(rt; failed(&ends, LaneFault::Write) && one_pass(&passes, 2));
     Ok(())
 }
 
-fn ends_fail<N: Base + Send + Sync, T: Threads + Wait + Abort + Sync>(
-    rt: &T,
-    alloc: Global,
-    gate: &Gate<N, Hasher>,
-) -> Result<(), Fail> {
-    reader_breaks(rt, alloc, gate)?;
-    writer_fills(rt, alloc, gate)
-}
-
-fn ends_fail_over<N: Base + Send + Sync, T: Threads + Wait + Abort + Sync>(
+fn writer_fills_over<N: Base + Send + Sync, T: Threads + Wait + Abort + Sync>(
     rt: &T,
     alloc: Global,
     state: State<Hasher>,
+    register: Register,
 ) -> Result<(), Fail>
-    requires { state ≡ N.base }
+    requires base { state ≡ N.base }
+    requires registry { register ≡ N.registry }
 {
-    let gate: Gate<N, Hasher> = Gate::open(alloc, state);
-    let result = ends_fail(rt, alloc, &gate);
+    let (gate, mut rest): (Gate<N, Hasher>, Rest<N>) = Gate::open(alloc, state, register);
+    let result = writer_fills(rt, alloc, &gate, &mut rest);
     drop(gate);
+    drop(rest);
     result
 }
 
 #[test]
-fn ends_that_fail(rt: HostRuntime) -> Result<(), Fail> {
-    ends_fail_over::<Brand, _>(&rt, rt.alloc(), opened(rt.alloc())?)
+fn a_writer_fills(rt: HostRuntime) -> Result<(), Fail> {
+    writer_fills_over::<Brand, _>(
+        &rt,
+        rt.alloc(),
+        opened(rt.alloc())?,
+        Register::new(rt.alloc())?,
+    )
 }
