@@ -124,10 +124,6 @@ fn parameters_have_the_form_of_the_method(rt: HostRuntime) -> Result<(), Fail> {
             NO_ENTRIES,
         ),
         (
-            "{\"method\":\"getrawmempool\",\"params\":[true,false],\"id\":1}",
-            INVALID_PARAMS,
-        ),
-        (
             "{\"method\":\"getrawmempool\",\"params\":[0],\"id\":1}",
             INVALID_PARAMS,
         ),
@@ -156,6 +152,24 @@ fn parameters_have_the_form_of_the_method(rt: HostRuntime) -> Result<(), Fail> {
             "rpc 500 {\"error\":{\"code\":-5,\"message\":\"Transaction not in mempool\"},\"id\":1,\"result\":null}",
         ),
         (
+            "{\"method\":\"sendrawtransaction\",\"params\":[\"zz\"],\"id\":1}",
+            "rpc 500 {\"error\":{\"code\":-22,\"message\":\"tx-decode\",\"rule\":\"A1\"},\"id\":1,\"result\":null}",
+        ),
+    ];
+    for (call, expected) in calls {
+        assert_eq!(rt; answer(rt.alloc(), call)?.as_str(), expected);
+    }
+    Ok(())
+}
+
+#[test]
+fn transactions_and_outpoints_are_asked_for_in_their_form(rt: HostRuntime) -> Result<(), Fail> {
+    let calls = [
+        (
+            "{\"method\":\"getrawmempool\",\"params\":[true,false],\"id\":1}",
+            INVALID_PARAMS,
+        ),
+        (
             "{\"method\":\"getrawtransaction\",\"params\":[\"AAAAAAAAAAAAAAAAAAAAAAAAAAAAAAAAAAAAAAAAAAAAAAAAAAAAAAAAAAAAAAAA\",true],\"id\":1}",
             INVALID_PARAMS,
         ),
@@ -174,10 +188,6 @@ fn parameters_have_the_form_of_the_method(rt: HostRuntime) -> Result<(), Fail> {
         (
             "{\"method\":\"gettxspendingprevout\",\"params\":[[{\"txid\":\"AAAAAAAAAAAAAAAAAAAAAAAAAAAAAAAAAAAAAAAAAAAAAAAAAAAAAAAAAAAAAAAA\",\"vout\":0,\"a\":0}]],\"id\":1}",
             INVALID_PARAMS,
-        ),
-        (
-            "{\"method\":\"sendrawtransaction\",\"params\":[\"zz\"],\"id\":1}",
-            "rpc 500 {\"error\":{\"code\":-22,\"message\":\"tx-decode\",\"rule\":\"A1\"},\"id\":1,\"result\":null}",
         ),
     ];
     for (call, expected) in calls {
