@@ -35,6 +35,7 @@ pub fn readmit<S: BuildHasher + Copy + Drop>(
     ensures decision { IfOk result (λ decision. decision ≡ decision_of Again (standing chain.now pool.old.entries 0 verdicts.now policy.now) prepared.now) }
     ensures entries { IfOk result (λ decision. pool.new.entries ≡ readmitted pool.old.entries prepared.now now decision) }
     ensures err { OnErr result (pool.new.entries ≡ pool.old.entries) }
+    ensures before { pool.new.before ≡ pool.old.before }
 {
     let Some(candidate) = prepared.candidate() else {
         return Ok(Err(Denial::Decode));

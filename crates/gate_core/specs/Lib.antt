@@ -9,6 +9,7 @@ pub mod ChainSteps
 pub mod Steps
 pub mod Submissions
 pub mod Planning
+pub mod Spans
 pub mod Good
 pub mod Runs
 pub mod SessionLaws

@@ -1,5 +1,5 @@
 //! The plans of users' calls.
-ghost use Rattle.std.specs.Prelude.{◌≡◌, IfOk};
+ghost use Rattle.std.specs.Prelude.{◌≡◌, IfOk, OnOk};
 ghost use Rattle.std.specs.Option.{option_copied};
 ghost use Rattle.gate_core.specs.Submissions.{StandsFor, submitted_by, submitted_in};
 ghost use Rattle.gate_rpc.specs.Calls.{request_of};
@@ -9,6 +9,7 @@ ghost use Rattle.gate_query.specs.Answers.{tested};
 ghost use Rattle.gate_query.specs.Queries.{tested_list};
 ghost use Rattle.gate_core.specs.World.{World, standing_of};
 ghost use Rattle.gate_core.specs.Planning.{Fits, Plans, world_of};
+ghost use Rattle.gate_pool.specs.Moves.{IsMarked};
 
 use crate::parts::Parts;
 use crate::planning::{Change, Plan};
@@ -101,6 +102,7 @@ impl<S: BuildHasher + Copy + Drop> Parts<S> {
         ensures ok { IfOk result (Plans (world_of self.old) (rpc_step (world_of self.old) call.now.user call.now.time (request_of call.now.json))) }
         ensures fits { IfOk result (λ plan. Fits plan.change self.new.sessions self.new.pool) }
         ensures same { world_of self.new ≡ world_of self.old }
+        ensures marked { IsMarked self.old.pool → OnOk result (IsMarked self.new.pool) }
     {
         if self.bars(call) {
             return answered(alloc, RpcReply::NotAllowed);
@@ -122,6 +124,7 @@ impl<S: BuildHasher + Copy + Drop> Parts<S> {
         ensures ok { IfOk result (Plans (world_of self.old) (commanded (world_of self.old) now request.now.id request.now.command)) }
         ensures fits { IfOk result (λ plan. Fits plan.change self.new.sessions self.new.pool) }
         ensures same { world_of self.new ≡ world_of self.old }
+        ensures marked { IsMarked self.old.pool → OnOk result (IsMarked self.new.pool) }
     {
         let id = &request.id;
         match &request.command {
@@ -200,6 +203,7 @@ impl<S: BuildHasher + Copy + Drop> Parts<S> {
         ensures ok { IfOk result (Plans (world_of self.old) (told (world_of self.old) id.now (tested_list (standing_of (world_of self.old)) now transactions.now))) }
         ensures change { IfOk result (λ plan. plan.change ≡ Change.Nothing) }
         ensures same { world_of self.new ≡ world_of self.old }
+        ensures marked { IsMarked self.old.pool → OnOk result (IsMarked self.new.pool) }
     {
         let under = Conditions {
             chain: &self.chain,
@@ -210,6 +214,7 @@ impl<S: BuildHasher + Copy + Drop> Parts<S> {
             budget: self.budget,
         };
         let outcome = test_list(alloc, &under, &mut self.pool, transactions)?;
+        self.pool.mark();
         telling(alloc, id, outcome)
     }
 
@@ -225,6 +230,7 @@ impl<S: BuildHasher + Copy + Drop> Parts<S> {
         ensures ok { IfOk result (Plans (world_of self.old) (commanded (world_of self.old) now id.now (Command.SendRawTransaction transaction.now))) }
         ensures fits { IfOk result (λ plan. Fits plan.change self.new.sessions self.new.pool) }
         ensures same { world_of self.new ≡ world_of self.old }
+        ensures marked { IsMarked self.old.pool → OnOk result (IsMarked self.new.pool) }
     {
         let Some(txid) = transaction.txid() else {
             return telling(alloc, id, Err(RpcError::Denied(Denial::Decode)));

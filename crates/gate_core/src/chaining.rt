@@ -1,5 +1,5 @@
 //! Events of the chain's caller.
-ghost use Rattle.std.specs.Prelude.{◌≡◌, Some, true, is_some, IfOk, OnErr};
+ghost use Rattle.std.specs.Prelude.{◌≡◌, Some, true, is_some, IfOk, OnOk, OnErr};
 ghost use Rattle.gate_bytes.specs.Order.{first_failing};
 ghost use Rattle.gate_pool.specs.Pool.{entry_by_txid};
 ghost use Rattle.gate_message.specs.Callers.{caller_of};
@@ -8,6 +8,7 @@ ghost use Rattle.gate_message.specs.declared.caller.Caller.TheVariants.{Chain as
 ghost use Rattle.gate_core.specs.ChainSteps.{chained, coin_rules, coin_step, verdict_step, forget_step};
 ghost use Rattle.gate_core.specs.Planning.{world_of};
 ghost use Rattle.gate_core.specs.Steps.{step_of};
+ghost use Rattle.gate_pool.specs.Moves.{IsMarked};
 
 use crate::parts::Parts;
 use gate_admit::{OpeningCoin, Pool, VerdictRow};
@@ -43,6 +44,7 @@ impl<S: BuildHasher + Copy + Drop> Parts<S> {
         requires { caller_of event.now ≡ TheChain }
         ensures ok { IfOk result (λ outcome. (chain_reply outcome, world_of self.new) ≡ step_of (world_of self.old) event.now) }
         ensures err { OnErr result (world_of self.new ≡ world_of self.old) }
+        ensures before { IsMarked self.old.pool → OnOk result (self.new.pool.before ≡ self.old.pool.entries) }
     {
         match event {
             Event::Chain {
@@ -67,6 +69,7 @@ impl<S: BuildHasher + Copy + Drop> Parts<S> {
     ) -> Result<ChainOutcome, Memory>
         ensures ok { IfOk result (λ outcome. (chain_reply outcome, world_of self.new) ≡ chained (world_of self.old) disconnect now blocks.now) }
         ensures err { OnErr result (world_of self.new ≡ world_of self.old) }
+        ensures before { IsMarked self.old.pool → OnOk result (self.new.pool.before ≡ self.old.pool.entries) }
     {
         match chain_event(
             alloc,
@@ -81,7 +84,10 @@ impl<S: BuildHasher + Copy + Drop> Parts<S> {
             self.budget,
         ) {
             Ok(moved) => Ok(ChainOutcome::Moved(moved)),
-            Err(ChainFault::Denied(denial)) => Ok(ChainOutcome::Refused(denial)),
+            Err(ChainFault::Denied(denial)) => {
+                self.pool.mark();
+                Ok(ChainOutcome::Refused(denial))
+            }
             Err(ChainFault::Memory) => Err(Memory),
         }
     }
@@ -101,6 +107,7 @@ impl<S: BuildHasher + Copy + Drop> Parts<S> {
     fn learn_coin(&mut self, alloc: Global, coin: &OpeningCoin) -> Result<ChainOutcome, Memory>
         ensures ok { IfOk result (λ outcome. (chain_reply outcome, world_of self.new) ≡ coin_step (world_of self.old) coin.now) }
         ensures err { OnErr result (world_of self.new ≡ world_of self.old) }
+        ensures before { IsMarked self.old.pool → OnOk result (self.new.pool.before ≡ self.old.pool.entries) }
     {
         if self.pool.entry(&coin.outpoint.txid).is_some() {
             let denial = self.denial_of_entry_coin(coin);
@@ -117,6 +124,7 @@ impl<S: BuildHasher + Copy + Drop> Parts<S> {
     fn learn_verdict(&mut self, row: VerdictRow) -> Result<ChainOutcome, Memory>
         ensures ok { IfOk result (λ outcome. (chain_reply outcome, world_of self.new) ≡ verdict_step (world_of self.old) row) }
         ensures err { OnErr result (world_of self.new ≡ world_of self.old) }
+        ensures before { IsMarked self.old.pool → OnOk result (self.new.pool.before ≡ self.old.pool.entries) }
     {
         match self.verdicts.learn(row) {
             Ok(()) => Ok(ChainOutcome::Learnt),
@@ -130,6 +138,7 @@ impl<S: BuildHasher + Copy + Drop> Parts<S> {
     fn forget(&mut self, alloc: Global, blocks: u64) -> Result<ChainOutcome, Memory>
         ensures ok { IfOk result (λ outcome. (chain_reply outcome, world_of self.new) ≡ forget_step (world_of self.old) blocks) }
         ensures err { OnErr result (world_of self.new ≡ world_of self.old) }
+        ensures before { IsMarked self.old.pool → OnOk result (self.new.pool.before ≡ self.old.pool.entries) }
     {
         let confirmed = self
             .verdicts

@@ -15,8 +15,10 @@ mod planning;
 mod session;
 mod sharing;
 mod state;
+mod stepping;
 mod submitting;
 mod switches;
+mod tracked;
 
 pub use gate_message::{Call, Caller, Event, PeerDenial, Replies, Reply, Switch, Then};
 pub use laws::{
@@ -31,3 +33,4 @@ pub use session::Session;
 pub use state::{State, StepFault};
 pub use submitting::submission;
 pub use switches::Switches;
+pub use tracked::Tracked;

@@ -1,5 +1,5 @@
 //! The parts of a state, and its step in two: a plan that takes all memory and changes nothing, and its commit.
-ghost use Rattle.std.specs.Prelude.{◌≡◌, ◌≢◌, IfOk};
+ghost use Rattle.std.specs.Prelude.{◌≡◌, ◌≢◌, IfOk, OnOk};
 ghost use Rattle.std.specs.Option.{option_copied};
 ghost use Rattle.gate_core.specs.Submissions.{StandsFor, submission_of};
 ghost use Rattle.gate_message.specs.Callers.{caller_of};
@@ -8,6 +8,7 @@ ghost use Rattle.gate_message.specs.declared.reply.Reply.{Reply};
 ghost use Rattle.gate_core.specs.Steps.{step_of};
 ghost use Rattle.gate_message.specs.Replies.{settled};
 ghost use Rattle.gate_core.specs.Planning.{Fits, Plans, made_by, world_of};
+ghost use Rattle.gate_pool.specs.Moves.{IsMarked};
 
 use crate::planning::{Change, Plan};
 use crate::session::Sessions;
@@ -56,6 +57,7 @@ impl<S: BuildHasher + Copy + Drop> Parts<S> {
         ensures ok { IfOk result (Plans (world_of self.old) (step_of (world_of self.old) event.now)) }
         ensures fits { IfOk result (λ plan. Fits plan.change self.new.sessions self.new.pool) }
         ensures same { world_of self.new ≡ world_of self.old }
+        ensures marked { IsMarked self.old.pool → OnOk result (IsMarked self.new.pool) }
     {
         match event {
             Event::Enter { peer, address } => self.entering(*peer, address),
@@ -92,7 +94,8 @@ impl<S: BuildHasher + Copy + Drop> Parts<S> {
     /// which takes the place of the reply that was planned.
     pub(crate) fn commit(&mut self, change: Change) -> Option<Denial>
         requires { Fits change self.old.sessions self.old.pool }
-        ensures { (reply : Reply) → (settled reply result, world_of self.new) ≡ made_by reply change (world_of self.old) }
+        ensures made { (reply : Reply) → (settled reply result, world_of self.new) ≡ made_by reply change (world_of self.old) }
+        ensures before { self.new.pool.before ≡ self.old.pool.before }
     {
         match change {
             Change::Nothing => (),
@@ -109,7 +112,8 @@ impl<S: BuildHasher + Copy + Drop> Parts<S> {
     /// Enters what was granted, and returns its denial if it does not stay in the pool.
     fn admit(&mut self, coming: Coming) -> Option<Denial>
         requires { Fits (Change.Admit coming) self.old.sessions self.old.pool }
-        ensures { (reply : Reply) → (settled reply result, world_of self.new) ≡ made_by reply (Change.Admit coming) (world_of self.old) }
+        ensures made { (reply : Reply) → (settled reply result, world_of self.new) ≡ made_by reply (Change.Admit coming) (world_of self.old) }
+        ensures before { self.new.pool.before ≡ self.old.pool.before }
     {
         match commit_submission(
             &mut self.pool,

@@ -1,5 +1,5 @@
 //! The plans of peers' events.
-ghost use Rattle.std.specs.Prelude.{◌≡◌, ◌<◌, ◌≤◌, ◌^◌, None, IfOk};
+ghost use Rattle.std.specs.Prelude.{◌≡◌, ◌<◌, ◌≤◌, ◌^◌, None, IfOk, OnOk};
 ghost use Rattle.gate_chain.specs.Times.{tip_of};
 ghost use Rattle.gate_bytes.specs.Order.{first_failing};
 ghost use Rattle.gate_core.specs.World.{flags_at};
@@ -8,6 +8,7 @@ ghost use Rattle.gate_core.specs.PeerSteps.{entering_step, leaving_step, submiss
 ghost use Rattle.gate_pool.specs.Pool.{Pooled};
 ghost use Rattle.gate_core.specs.Sessions.{Seated, rate_after};
 ghost use Rattle.gate_core.specs.Planning.{Fits, Plans, world_of};
+ghost use Rattle.gate_pool.specs.Moves.{IsMarked};
 
 use crate::parts::Parts;
 use crate::planning::{Change, Plan};
@@ -57,6 +58,7 @@ impl<S: BuildHasher + Copy + Drop> Parts<S> {
         ensures ok { IfOk result (Plans (world_of self.old) (entering_step (world_of self.old) peer address.now)) }
         ensures fits { IfOk result (λ plan. Fits plan.change self.new.sessions self.new.pool) }
         ensures same { world_of self.new ≡ world_of self.old }
+        ensures marked { IsMarked self.old.pool → OnOk result (IsMarked self.new.pool) }
     {
         if self.sessions.is_known(peer) {
             return Ok(self.denying(peer, PeerDenial::PeerKnown));
@@ -86,6 +88,7 @@ impl<S: BuildHasher + Copy + Drop> Parts<S> {
         ensures ok { IfOk result (Plans (world_of self.old) (listing_step (world_of self.old) peer)) }
         ensures fits { IfOk result (λ plan. (sessions : Seated) (pool : Pooled) → Fits plan.change sessions pool) }
         ensures same { world_of self.new ≡ world_of self.old }
+        ensures marked { IsMarked self.old.pool → OnOk result (IsMarked self.new.pool) }
     {
         match self.denial_of_listing(peer) {
             Some(denial) => Ok(self.denying(peer, denial)),
@@ -133,6 +136,7 @@ impl<S: BuildHasher + Copy + Drop> Parts<S> {
         ensures ok { IfOk result (Plans (world_of self.old) (submission_step (world_of self.old) peer now transaction.now)) }
         ensures fits { IfOk result (λ plan. Fits plan.change self.new.sessions self.new.pool) }
         ensures same { world_of self.new ≡ world_of self.old }
+        ensures marked { IsMarked self.old.pool → OnOk result (IsMarked self.new.pool) }
     {
         match self.denial_of_submission(peer, transaction) {
             Some(denial) => Ok(self.denying(peer, denial)),
@@ -186,6 +190,7 @@ impl<S: BuildHasher + Copy + Drop> Parts<S> {
         ensures ok { IfOk result (Plans (world_of self.old) (submitted (world_of self.old) peer now transaction.now)) }
         ensures fits { IfOk result (λ plan. Fits plan.change self.new.sessions self.new.pool) }
         ensures same { world_of self.new ≡ world_of self.old }
+        ensures marked { IsMarked self.old.pool → OnOk result (IsMarked self.new.pool) }
     {
         let Some(txid) = transaction.txid() else {
             return Ok(self.denying(peer, PeerDenial::Admission(Denial::Decode)));

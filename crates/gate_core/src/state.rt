@@ -1,10 +1,7 @@
 //! The state, and the one step that changes it.
-ghost use Rattle.std.specs.Prelude.{◌≡◌, ◌≢◌, [], IfOk, OnErr};
+ghost use Rattle.std.specs.Prelude.{◌≡◌, [], IfOk, OnErr};
 ghost use Rattle.std.specs.Option.{option_copied, option_map};
 ghost use Rattle.gate_core.specs.Submissions.{StandsFor, submission_of};
-ghost use Rattle.gate_message.specs.Callers.{caller_of};
-ghost use Rattle.gate_message.specs.Replies.{chain_reply};
-ghost use Rattle.gate_message.specs.declared.caller.Caller.TheVariants.{Chain as TheChain};
 ghost use Rattle.gate_chain.specs.History.{opened_from};
 ghost use Rattle.gate_chain.specs.Opening.{open_fault_from, IsRefusedFor};
 ghost use Rattle.gate_core.specs.World.{opened_world};
@@ -16,13 +13,12 @@ ghost use Rattle.gate_core.specs.Sessions.{session_of, status_of};
 
 use crate::opening::Opening;
 use crate::parts::Parts;
-use crate::planning::Plan;
 use crate::session::{Session, Sessions};
 use crate::sharing::LastListing;
 use crate::switches::Switches;
 use gate_admit::{Chain, Floor, OpenFault, OpeningCoin, Policy, Pool, Prepared, Verdicts};
 use gate_bytes::{Kept, Memory};
-use gate_message::{Caller, ChainOutcome, Event, Replies, Reply};
+use gate_message::{Event, Replies, Reply};
 use gate_net::Whitelist;
 use gate_rpc::RpcWhitelist;
 use std::alloc::Global;
@@ -46,7 +42,7 @@ impl From<Memory> for StepFault {
 /// Everything that the gate knows: the chain, the pool with its floor, the sessions and the settings.
 #[derive(Drop)]
 pub struct State<S: BuildHasher + Copy + Drop> {
-    parts: Parts<S>,
+    pub(crate) parts: Parts<S>,
 }
 
 impl<S: BuildHasher + Copy + Drop> Model for State<S> {
@@ -134,79 +130,13 @@ impl<S: BuildHasher + Copy + Drop> State<S> {
         State::opened(alloc, hasher, opening)
     }
 
-    /// The step of any event but the chain's: a plan, and its commit.
-    fn plan_and_commit(&mut self, alloc: Global, event: &Event) -> Result<Reply, Memory>
-        requires planned { caller_of event.now ≢ TheChain }
-        ensures ok { IfOk result (λ reply. (reply, self.new) ≡ step_of self.old event.now) }
-        ensures err { OnErr result (self.new ≡ self.old) }
-    {
-        let Plan { reply, change } = self.parts.plan(alloc, event, None)?;
-        let denial = self.parts.commit(change);
-        Ok(reply.settled(denial))
-    }
-
-    /// The step of any event but the chain's, with copies of the reply, which are made between the plan and its commit.
-    /// `prepared` may stand for the event's submission.
-    fn plan_and_record(
-        &mut self,
-        alloc: Global,
-        event: &Event,
-        prepared: Option<&Prepared>,
-    ) -> Result<Replies, Memory>
-        requires planned { caller_of event.now ≢ TheChain }
-        requires prepared { StandsFor (option_copied prepared) (submission_of event.now) }
-        ensures ok { IfOk result (λ replies. (replies.reply, self.new) ≡ step_of self.old event.now) }
-        ensures copies { IfOk result AreCopies }
-        ensures err { OnErr result (self.new ≡ self.old) }
-    {
-        let Plan { reply, change } = self.parts.plan(alloc, event, prepared)?;
-        let replies = Replies::of(alloc, reply)?;
-        let denial = self.parts.commit(change);
-        Ok(replies.settled(denial))
-    }
-
-    /// The step of an event of the chain's caller. Its outcome holds no memory, so that its reply, and any copies, are made
-    /// once all is done.
-    fn follow(&mut self, alloc: Global, event: &Event) -> Result<ChainOutcome, Memory>
-        requires { caller_of event.now ≡ TheChain }
-        ensures ok { IfOk result (λ outcome. (chain_reply outcome, self.new) ≡ step_of self.old event.now) }
-        ensures err { OnErr result (self.new ≡ self.old) }
-    {
-        self.parts.follow(alloc, event)
-    }
-
     /// Makes one step, and returns the reply to the event. Only running out of memory can prevent it; the state is then
     /// what it was.
     pub fn apply(&mut self, alloc: Global, event: &Event) -> Result<Reply, Memory>
         ensures ok { IfOk result (λ reply. (reply, self.new) ≡ step_of self.old event.now) }
         ensures err { OnErr result (self.new ≡ self.old) }
     {
-        if event.is_of(&Caller::Chain) {
-            let outcome = self.follow(alloc, event)?;
-            Ok(Reply::of_chain(outcome))
-        } else {
-            self.plan_and_commit(alloc, event)
-        }
-    }
-
-    /// The step of any event, with copies of the reply. `prepared` may stand for the event's submission.
-    fn record(
-        &mut self,
-        alloc: Global,
-        event: &Event,
-        prepared: Option<&Prepared>,
-    ) -> Result<Replies, Memory>
-        requires { StandsFor (option_copied prepared) (submission_of event.now) }
-        ensures ok { IfOk result (λ replies. (replies.reply, self.new) ≡ step_of self.old event.now) }
-        ensures copies { IfOk result AreCopies }
-        ensures err { OnErr result (self.new ≡ self.old) }
-    {
-        if event.is_of(&Caller::Chain) {
-            let outcome = self.follow(alloc, event)?;
-            Ok(Replies::of_chain(outcome))
-        } else {
-            self.plan_and_record(alloc, event, prepared)
-        }
+        self.parts.apply(alloc, event)
     }
 
     /// Makes one step as `apply` does, and keeps a good state good. After `Memory` the state is what it was.
@@ -237,7 +167,7 @@ impl<S: BuildHasher + Copy + Drop> State<S> {
         ensures err { OnErr result (self.new ≡ self.old) }
     {
         event.recall_spelled();
-        let replies = self.record(alloc, event, prepared)?;
+        let replies = self.parts.record(alloc, event, prepared)?;
         Ok(replies)
     }
 

@@ -8,6 +8,7 @@ pub mod Root
 pub mod Indexing
 pub mod Closing
 pub mod Counting
+pub mod Vacating
 pub mod Placing
 pub mod Ranks
 pub mod Finding

@@ -1,11 +1,12 @@
 -- What the slots hold.
-use Rattle.std.specs.Prelude.{◌≡◌, ◌<◌, ◌++◌, ℕ, Bool, true, not, List, [], Contains, Option, length, cond, map, filter, find}
-use Rattle.std.specs.List.{filter_map}
+use Rattle.std.specs.Prelude.{◌≡◌, ◌≢◌, ◌<◌, ◌++◌, ℕ, Bool, true, not, List, [], Contains, Option, None, Some, length, cond, map, filter, find, if◌then◌else◌}
+use Rattle.std.specs.List.{filter_map, AllPairs}
 use Rattle.std.specs.Global.{Vec}
 use Rattle.std.specs.Option.{option_map, unwrap_or}
 use Rattle.gate_graph.specs.Families.{among}
 use Rattle.std.specs.Str.{bytes_eq}
 use Rattle.gate_graph.specs.Family.{Node, steps_of, reaches}
+use Rattle.gate_graph.specs.declared.held.Gone.{Gone}
 use Rattle.gate_graph.specs.declared.held.Held.{Held}
 use Rattle.gate_graph.specs.declared.held.Totals.{Totals}
 use Rattle.gate_graph.specs.Slots.{entries_of, at, Indexes}
@@ -54,6 +55,14 @@ ids_at spots places = map (id_at spots) places
 abbrev pub spots_of : {T : Type 0} → List (Option (Held T)) → List (Option (List ℕ))
 spots_of slots = map (option_map (λ h. h.id)) slots
 
+-- a place, which is empty if the id that stood there passes a test; and places of which each is
+abbrev pub unless : (List ℕ → Bool) → Option (List ℕ) → Option (List ℕ)
+unless test None = None
+unless test (Some id) = if test id then None else Some id
+
+abbrev pub vacated : (List ℕ → Bool) → List (Option (List ℕ)) → List (Option (List ℕ))
+vacated test places = map (unless test) places
+
 -- each id has the place of its node, and `n` nodes stand there
 pub record IsPlaced {T : Type 0} (slots : List (Option (Held T))) (n : ℕ) (look : List ℕ → Option ℕ) : Type 0 where
   pub places : Indexes has_id slots look
@@ -68,9 +77,12 @@ module _ {T : Type 0} where
   abbrev pub load_of : List (Held T) → List ℕ → Option T
   load_of hs id = option_map (λ h. h.load) (find (λ h. has_id h id) hs)
 
-  -- what the nodes of some ids carry, in the order of the ids
-  abbrev pub loads_of : List (List ℕ) → List (Held T) → List T
-  loads_of ids hs = filter_map (load_of hs) ids
+  -- what the node at a place carries, with the place; and what those at some places carry, in the order of the places
+  abbrev pub gone_from : List (Option (List ℕ)) → List (Held T) → ℕ → Option (Gone T)
+  gone_from spots hs place = option_map (λ load. record { place = place; load = load }) (load_of hs (id_at spots place))
+
+  abbrev pub all_gone : List (Option (List ℕ)) → List (Held T) → List ℕ → List (Gone T)
+  all_gone spots hs places = filter_map (gone_from spots hs) places
 
   -- the nodes alone
   abbrev pub nodes_in : List (Node × T) → List Node
@@ -106,9 +118,11 @@ pub record Carried (T : Type 0) : Type 0 where
 abbrev pub load_in : {T : Type 0} → List (Node × T) → List ℕ → Option T
 load_in g id = option_map (λ p. p.1) (find (λ p. bytes_eq p.0.id id) g)
 
--- a list that grew by what the node of an id and those below it carry, and by nothing else
-pub record AreGone {T : Type 0} (g : List (Node × T)) (id : List ℕ) (before after : List T) : Type 0 where
-  pub more : List T
+-- a list that grew by what the node of an id and those below it carry, each with the place at which it stood, and by nothing
+-- else
+pub record AreGone {T : Type 0} (g : List (Node × T)) (places : List (Option (List ℕ))) (id : List ℕ) (before after : List (Gone T)) : Type 0 where
+  pub more : List (Gone T)
   pub is : after ≡ before ++ more
-  pub all : (p : Node × T) → Contains g p → reaches (steps_of (nodes_in g)) id p.0.id ≡ true → Contains more p.1
-  pub only : (load : T) → Contains more load → (p : Node × T) × Contains g p × (reaches (steps_of (nodes_in g)) id p.0.id ≡ true) × (p.1 ≡ load)
+  pub all : (p : Node × T) → Contains g p → reaches (steps_of (nodes_in g)) id p.0.id ≡ true → (x : Gone T) × Contains more x × (at places x.place ≡ Some p.0.id) × (x.load ≡ p.1)
+  pub only : (x : Gone T) → Contains more x → (p : Node × T) × Contains g p × (reaches (steps_of (nodes_in g)) id p.0.id ≡ true) × (at places x.place ≡ Some p.0.id) × (x.load ≡ p.1)
+  pub once : AllPairs (λ (x : Gone T) (y : Gone T). x.place ≢ y.place) more

@@ -44,6 +44,15 @@ pub struct Held<T: Drop> {
     pub load: T,
 }
 
+/// What a node that was taken out carried, and the place at which it stood.
+#[derive(Drop)]
+pub struct Gone<T: Drop> {
+    /// Where it stood among the nodes, holes counted.
+    pub place: usize,
+    /// What it carried.
+    pub load: T,
+}
+
 impl<T: Drop> Held<T> {
     /// What the node is ranked by: its own fee over its size, or the fees over the sizes of all that is below it, itself
     /// among them, whichever is greater.

@@ -40,7 +40,7 @@ mod weigh;
 
 pub use fault::GraphFault;
 pub use graph::Graph;
-pub use held::{Held, Sums, Totals};
+pub use held::{Gone, Held, Sums, Totals};
 pub use id::{Id, NodeId};
 pub use law::{
     families_have_each_once, nodes_join_families, reaching_is_leading, roots_come_and_go,

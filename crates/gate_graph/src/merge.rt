@@ -116,6 +116,7 @@ pub(crate) fn settle_between<T: Drop, S: BuildHasher + Drop>(
     requires stands { is_some (at slots.old.spots place) ≡ true }
     requires adds { AddsNoChain slots.old.held (id_at slots.old.spots place) }
     ensures loaded { loaded slots.new.held ≡ loaded slots.old.held }
+    ensures spots { slots.new.spots ≡ slots.old.spots }
     ensures weighed { IsWeighed slots.new.held }
     ensures tables { AreTables slots.new links.now scratch.new }
 {

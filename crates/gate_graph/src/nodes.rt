@@ -2,16 +2,17 @@ ghost use Rattle.std.specs.Prelude.{◌≡◌, ◌≤◌, ◌<◌, ◌+◌, ◌+
 ghost use Rattle.std.specs.Option.{option_copied, option_map};
 ghost use Rattle.std.specs.Vec.{vec_capacity};
 ghost use Rattle.gate_graph.specs.Families.{among, children_of, has, ids_of, is_root, with_parent, without_parent};
-ghost use Rattle.gate_graph.specs.Family.{Node};
+ghost use Rattle.std.specs.Str.{bytes_eq};
+ghost use Rattle.gate_graph.specs.Family.{Node, reaches, steps_of};
 ghost use Rattle.gate_graph.specs.Leading.{are_led};
-ghost use Rattle.gate_graph.specs.Holding.{without_below, without_one, node_of, nodes_in, load_in, loaded, spots_of, AreGone};
+ghost use Rattle.gate_graph.specs.Holding.{without_below, without_one, node_of, nodes_in, load_in, loaded, spots_of, vacated, AreGone};
 ghost use Rattle.gate_graph.specs.Ranks.{least_of};
 ghost use Rattle.gate_graph.specs.Slots.{at, entries_of};
 ghost use Rattle.gate_graph.specs.Weighing.{totals_of};
 
 use crate::copy::{copy_each, scratch_for};
 use crate::find::{children, find, in_order};
-use crate::held::{Held, Sums, Totals};
+use crate::held::{Gone, Held, Sums, Totals};
 use crate::id::{Id, NodeId};
 use crate::links::Links;
 use crate::name::{name_each, unname};
@@ -49,7 +50,8 @@ impl<T: Drop, S: BuildHasher + Copy + Drop> Model for Nodes<T, S> {
 impl<T: Drop, S: BuildHasher + Copy + Drop> Nodes<T, S> {
     /// No nodes, in tables that hash by `hasher`.
     pub fn new(alloc: Global, hasher: S) -> Nodes<T, S>
-        ensures { result.nodes ≡ [] }
+        ensures nodes { result.nodes ≡ [] }
+        ensures places { result.places ≡ [] }
     {
         Nodes {
             slots: Slots::new(alloc, hasher),
@@ -168,6 +170,7 @@ impl<T: Drop, S: BuildHasher + Copy + Drop> Nodes<T, S> {
     /// Takes the memory to put one node that names this many parents.
     pub fn reserve(&mut self, parents: usize) -> Result<(), Memory>
         ensures nodes { self.new.nodes ≡ self.old.nodes }
+        ensures places { self.new.places ≡ self.old.places }
         ensures room { OnOk result (parents < self.new.room) }
     {
         self.room = 0;
@@ -193,7 +196,8 @@ impl<T: Drop, S: BuildHasher + Copy + Drop> Nodes<T, S> {
     pub fn put(&mut self, id: NodeId, parents: Vec<NodeId>, size: u64, fee: u64, load: T)
         requires room { length parents.items < self.old.room }
         requires new { has (nodes_in self.old.nodes) id ≡ false }
-        ensures { self.new.nodes ≡ self.old.nodes ++ (record { id = id; size = size; fee = fee; parents = parents.items }, load) ∷ [] }
+        ensures nodes { self.new.nodes ≡ self.old.nodes ++ (record { id = id; size = size; fee = fee; parents = parents.items }, load) ∷ [] }
+        ensures places { self.new.places ≡ self.old.places ++ Some id ∷ [] }
     {
         self.room = 0;
         let none = Sums {
@@ -216,12 +220,14 @@ impl<T: Drop, S: BuildHasher + Copy + Drop> Nodes<T, S> {
     }
 
     /// Takes out the node of an id, if there is one, and all nodes below that id, and puts what they carry at the end
-    /// of a list with room. It takes no memory, and keeps the room that was taken.
-    pub fn take_family(&mut self, id: &NodeId, gone: &mut Vec<T>)
+    /// of a list with room, each with the place at which it stood. Their places are empty then, and the others stand
+    /// where they stood. It takes no memory, and keeps the room that was taken.
+    pub fn take_family(&mut self, id: &NodeId, gone: &mut Vec<Gone<T>>)
         requires { vec_len gone.old + length self.old.nodes ≤ vec_capacity gone.old }
         ensures room { self.new.room ≡ self.old.room }
         ensures left { self.new.nodes ≡ without_below self.old.nodes id.now }
-        ensures gone { AreGone self.old.nodes id.now gone.old.items gone.new.items }
+        ensures places { self.new.places ≡ vacated (reaches (steps_of (nodes_in self.old.nodes)) id.now) self.old.places }
+        ensures gone { AreGone self.old.nodes self.old.places id.now gone.old.items gone.new.items }
         ensures capacity { vec_capacity gone.new ≡ vec_capacity gone.old }
     {
         take_family(
@@ -233,12 +239,14 @@ impl<T: Drop, S: BuildHasher + Copy + Drop> Nodes<T, S> {
         );
     }
 
-    /// Takes out a node alone, and returns what it carries: nodes that name it stay. It takes no memory, and gives up
-    /// the room that was taken. If the node names no node, this takes a walk over its descendants; else the totals of
-    /// all its ancestors and descendants are found afresh.
-    pub fn take_one(&mut self, id: &NodeId) -> Option<T>
+    /// Takes out a node alone, and returns what it carries, with the place at which it stood, which is empty then:
+    /// nodes that name it stay. It takes no memory, and gives up the room that was taken. If the node names no node,
+    /// this takes a walk over its descendants; else the totals of all its ancestors and descendants are found afresh.
+    pub fn take_one(&mut self, id: &NodeId) -> Option<Gone<T>>
         ensures left { self.new.nodes ≡ without_one self.old.nodes id.now }
-        ensures load { result ≡ load_in self.old.nodes id.now }
+        ensures places { self.new.places ≡ vacated (λ x. bytes_eq x id.now) self.old.places }
+        ensures load { option_map (λ gone. gone.load) result ≡ load_in self.old.nodes id.now }
+        ensures place { IfSome result (λ gone. at self.old.places gone.place ≡ Some id.now) }
     {
         self.room = 0;
         take_one(&mut self.slots, &mut self.links, &mut self.scratch, id)

@@ -1,5 +1,5 @@
 //! Nodes put below those that they name and above those that name them.
-ghost use Rattle.std.specs.Prelude.{◌≡◌, ◌≤◌, ◌<◌, ◌^◌, ◌+◌, ◌++◌, ◌∷◌, [], true, false, is_some, length};
+ghost use Rattle.std.specs.Prelude.{◌≡◌, ◌≤◌, ◌<◌, ◌^◌, ◌+◌, ◌++◌, ◌∷◌, [], Some, true, false, is_some, length};
 ghost use Rattle.std.specs.Vec.{vec_capacity};
 ghost use Rattle.gate_graph.specs.Families.{has};
 ghost use Rattle.gate_graph.specs.Holding.{id_at, nodes_of, loaded};
@@ -42,6 +42,7 @@ pub(crate) fn settle<T: Drop, S: BuildHasher + Drop>(
     requires stands { is_some (at slots.old.spots place) ≡ true }
     requires last { IsLeafLast slots.old.held (id_at slots.old.spots place) weight.size weight.fee }
     ensures loaded { loaded slots.new.held ≡ loaded slots.old.held }
+    ensures spots { slots.new.spots ≡ slots.old.spots }
     ensures weighed { IsWeighed slots.new.held }
     ensures tables { AreTables slots.new links.now scratch.new }
 {
@@ -89,6 +90,7 @@ fn settle_root<T: Drop, S: BuildHasher + Drop>(
     requires last { IsNewLast slots.old.held (id_at slots.old.spots place) }
     requires root { IsRoot (nodes_of slots.old.held) (id_at slots.old.spots place) }
     ensures loaded { loaded slots.new.held ≡ loaded slots.old.held }
+    ensures spots { slots.new.spots ≡ slots.old.spots }
     ensures weighed { IsWeighed slots.new.held }
     ensures tables { AreTables slots.new links.now scratch.new }
 {
@@ -142,6 +144,7 @@ fn settle_named<T: Drop, S: BuildHasher + Drop>(
     requires stands { is_some (at slots.old.spots place) ≡ true }
     requires last { IsNewLast slots.old.held (id_at slots.old.spots place) }
     ensures loaded { loaded slots.new.held ≡ loaded slots.old.held }
+    ensures spots { slots.new.spots ≡ slots.old.spots }
     ensures weighed { IsWeighed slots.new.held }
     ensures tables { AreTables slots.new links.now scratch.new }
 {
@@ -175,6 +178,7 @@ pub(crate) fn put_node<T: Drop, S: BuildHasher + Drop>(
     requires paid { held.fee < 2 ^ 64 }
     requires empty { held.totals.below ≡ record { count = 0; size = 0; fees = 0 } }
     ensures loaded { loaded slots.new.held ≡ loaded (slots.old.held ++ held ∷ []) }
+    ensures spots { slots.new.spots ≡ slots.old.spots ++ Some held.id ∷ [] }
     ensures weighed { IsWeighed slots.new.held }
     ensures tables { AreTables slots.new links.new scratch.new }
 {

@@ -1,16 +1,19 @@
 //! Nodes taken out, alone or with all that is below them, without memory.
-ghost use Rattle.std.specs.Prelude.{◌≡◌, ◌==◌, ◌≤◌, ◌<◌, ◌+◌, ◌++◌, ◌∷◌, [], IsTrue, None, not, true, is_some, Some, ℕ, List, filter, length, slice_set, vec_len};
+ghost use Rattle.std.specs.Prelude.{◌≡◌, ◌==◌, ◌≤◌, ◌<◌, ◌+◌, ◌++◌, ◌∷◌, [], IfSome, IsTrue, None, not, true, is_some, Some, ℕ, List, filter, length, slice_set, vec_len};
 ghost use Rattle.std.specs.Vec.{vec_capacity};
-ghost use Rattle.gate_graph.specs.Families.{has, are_apart};
+ghost use Rattle.std.specs.Option.{option_map};
+ghost use Rattle.std.specs.Str.{bytes_eq};
+ghost use Rattle.gate_graph.specs.Family.{reaches, steps_of};
+ghost use Rattle.gate_graph.specs.Families.{among, has, are_apart};
 ghost use Rattle.std.specs.List.{list_all};
-ghost use Rattle.gate_graph.specs.Holding.{has_id, id_at, ids_at, nodes_of, loaded, left_of, load_of, loads_of, without_below, without_one, AreGone};
+ghost use Rattle.gate_graph.specs.Holding.{has_id, id_at, ids_at, nodes_of, loaded, left_of, load_of, all_gone, vacated, without_below, without_one, AreGone};
 ghost use Rattle.gate_graph.specs.Slots.{at};
 ghost use Rattle.gate_graph.specs.Keeping.{AreTables};
 ghost use Rattle.gate_graph.specs.Linking.{IsLinked, AreWithout};
 ghost use Rattle.gate_graph.specs.Walking.{AreClear, AreStanding};
 ghost use Rattle.gate_graph.specs.Weighing.{AreSmall, IsRoot, IsWeighed};
 
-use crate::held::{Held, Weight};
+use crate::held::{Gone, Held, Weight};
 use crate::id::NodeId;
 use crate::links::Links;
 use crate::refresh::refresh_each;
@@ -43,9 +46,11 @@ fn pull_one<T: Drop, S: BuildHasher + Drop>(
     ensures fewer { length slots.new.held < length slots.old.held }
     ensures linked { IsLinked (nodes_of slots.new.held) links.new }
     ensures spots { slots.new.spots ≡ slice_set slots.old.spots place None }
+    ensures vacated { slots.new.spots ≡ vacated (λ x. bytes_eq x (id_at slots.old.spots place)) slots.old.spots }
     ensures slots_room { slots.new.room ≡ slots.old.room }
     ensures links_room { links.new.room ≡ links.old.room }
 {
+    let _len = slots.len();
     let held = slots.pull(place);
     let Held {
         id,
@@ -57,11 +62,12 @@ fn pull_one<T: Drop, S: BuildHasher + Drop>(
     load
 }
 
-/// Takes out each of these nodes, and puts what it carries at the end of a list with room. No totals change.
+/// Takes out each of these nodes, and puts what it carries at the end of a list with room, with its place. No totals
+/// change.
 fn pull_each<T: Drop, S: BuildHasher + Drop>(
     slots: &mut Slots<T, S>,
     links: &mut Links<S>,
-    gone: &mut Vec<T>,
+    gone: &mut Vec<Gone<T>>,
     places: &[usize],
 )
     requires room { vec_len gone.old + length slots.old.held ≤ vec_capacity gone.old }
@@ -70,25 +76,28 @@ fn pull_each<T: Drop, S: BuildHasher + Drop>(
     requires standing { AreStanding slots.old.spots places.now }
     ensures left { slots.new.held ≡ left_of (ids_at slots.old.spots places.now) slots.old.held }
     ensures linked { IsLinked (nodes_of slots.new.held) links.new }
-    ensures gone { gone.new.items ≡ gone.old.items ++ loads_of (ids_at slots.old.spots places.now) slots.old.held }
-    ensures spots { length slots.new.spots ≡ length slots.old.spots }
+    ensures gone { gone.new.items ≡ gone.old.items ++ all_gone slots.old.spots slots.old.held places.now }
+    ensures spots { slots.new.spots ≡ vacated (among (ids_at slots.old.spots places.now)) slots.old.spots }
     ensures slots_room { slots.new.room ≡ slots.old.room }
     ensures links_room { links.new.room ≡ links.old.room }
     ensures capacity { vec_capacity gone.new ≡ vec_capacity gone.old }
 {
     for place in places {
         let load = pull_one(slots, links, *place);
-        gone.push_reserved(load);
+        gone.push_reserved(Gone {
+            place: *place,
+            load,
+        });
     }
 }
 
 /// Takes out the node of an id, if there is one, and all nodes below that id, and puts what they carry at the end of a
-/// list with room. The nodes that are left keep the totals of their families as these are now.
+/// list with room, each with its place. The nodes that are left keep the totals of their families as these are now.
 pub(crate) fn take_family<T: Drop, S: BuildHasher + Drop>(
     slots: &mut Slots<T, S>,
     links: &mut Links<S>,
     scratch: &mut Scratch,
-    gone: &mut Vec<T>,
+    gone: &mut Vec<Gone<T>>,
     id: &NodeId,
 )
     requires clear { AreClear (length slots.old.spots) scratch.old.marks.items }
@@ -106,14 +115,15 @@ pub(crate) fn take_family<T: Drop, S: BuildHasher + Drop>(
     ensures small { AreSmall (nodes_of slots.new.held) }
     ensures clear { AreClear (length slots.new.spots) scratch.new.marks.items }
     ensures marks { vec_capacity scratch.new.marks ≡ vec_capacity scratch.old.marks }
-    ensures spots { length slots.new.spots ≡ length slots.old.spots }
+    ensures spots { slots.new.spots ≡ vacated (reaches (steps_of (nodes_of slots.old.held)) id.now) slots.old.spots }
     ensures found { vec_capacity scratch.new.found ≡ vec_capacity scratch.old.found }
     ensures above { vec_capacity scratch.new.above ≡ vec_capacity scratch.old.above }
     ensures slots_room { slots.new.room ≡ slots.old.room }
     ensures links_room { links.new.room ≡ links.old.room }
-    ensures gone { AreGone (loaded slots.old.held) id.now gone.old.items gone.new.items }
+    ensures gone { AreGone (loaded slots.old.held) slots.old.spots id.now gone.old.items gone.new.items }
     ensures capacity { vec_capacity gone.new ≡ vec_capacity gone.old }
 {
+    let _len = slots.len();
     walk_below(slots, links, &mut scratch.marks, &mut scratch.found, id);
     lower_above_each(
         slots,
@@ -146,6 +156,7 @@ fn take_alone<T: Drop, S: BuildHasher + Drop>(
     requires stands { is_some (at slots.old.spots place) ≡ true }
     ensures left { loaded slots.new.held ≡ without_one (loaded slots.old.held) (id_at slots.old.spots place) }
     ensures load { load_of slots.old.held (id_at slots.old.spots place) ≡ Some result }
+    ensures spots { slots.new.spots ≡ vacated (λ x. bytes_eq x (id_at slots.old.spots place)) slots.old.spots }
     ensures weighed { IsWeighed slots.new.held }
     ensures tables { AreTables slots.new links.new scratch.new }
 {
@@ -194,6 +205,7 @@ fn take_root<T: Drop, S: BuildHasher + Drop>(
     requires root { IsRoot (nodes_of slots.old.held) (id_at slots.old.spots place) }
     ensures left { loaded slots.new.held ≡ without_one (loaded slots.old.held) (id_at slots.old.spots place) }
     ensures load { load_of slots.old.held (id_at slots.old.spots place) ≡ Some result }
+    ensures spots { slots.new.spots ≡ vacated (λ x. bytes_eq x (id_at slots.old.spots place)) slots.old.spots }
     ensures weighed { IsWeighed slots.new.held }
     ensures tables { AreTables slots.new links.new scratch.new }
 {
@@ -239,28 +251,51 @@ fn names_none<T: Drop, S: BuildHasher + Drop>(slots: &Slots<T, S>, ids: &[NodeId
     ids.iter().all(|id| !slots.contains(id))
 }
 
-/// Takes out a node alone, and returns what it carries; none for an id that is no node's. Totals change by differences
-/// if the node names no node, and else are found afresh.
+/// Takes out a node alone, and returns what it carries. Totals change by differences if the node names no node, and else
+/// are found afresh.
+fn take_standing<T: Drop, S: BuildHasher + Drop>(
+    slots: &mut Slots<T, S>,
+    links: &mut Links<S>,
+    scratch: &mut Scratch,
+    place: usize,
+) -> T
+    requires tables { AreTables slots.old links.old scratch.old }
+    requires weighed { IsWeighed slots.old.held }
+    requires stands { is_some (at slots.old.spots place) ≡ true }
+    ensures left { loaded slots.new.held ≡ without_one (loaded slots.old.held) (id_at slots.old.spots place) }
+    ensures load { load_of slots.old.held (id_at slots.old.spots place) ≡ Some result }
+    ensures spots { slots.new.spots ≡ vacated (λ x. bytes_eq x (id_at slots.old.spots place)) slots.old.spots }
+    ensures weighed { IsWeighed slots.new.held }
+    ensures tables { AreTables slots.new links.new scratch.new }
+{
+    if is_root(slots, place) {
+        take_root(slots, links, scratch, place)
+    } else {
+        take_alone(slots, links, scratch, place)
+    }
+}
+
+/// Takes out a node alone, and returns what it carries, with its place; none for an id that is no node's.
 pub(crate) fn take_one<T: Drop, S: BuildHasher + Drop>(
     slots: &mut Slots<T, S>,
     links: &mut Links<S>,
     scratch: &mut Scratch,
     id: &NodeId,
-) -> Option<T>
+) -> Option<Gone<T>>
     requires tables { AreTables slots.old links.old scratch.old }
     requires weighed { IsWeighed slots.old.held }
     ensures left { loaded slots.new.held ≡ without_one (loaded slots.old.held) id.now }
-    ensures load { result ≡ load_of slots.old.held id.now }
+    ensures load { option_map (λ gone. gone.load) result ≡ load_of slots.old.held id.now }
+    ensures place { IfSome result (λ gone. at slots.old.spots gone.place ≡ Some id.now) }
+    ensures spots { slots.new.spots ≡ vacated (λ x. bytes_eq x id.now) slots.old.spots }
     ensures weighed { IsWeighed slots.new.held }
     ensures tables { AreTables slots.new links.new scratch.new }
 {
+    let _len = slots.len();
     match slots.place(id) {
         Some(place) => {
-            if is_root(slots, place) {
-                Some(take_root(slots, links, scratch, place))
-            } else {
-                Some(take_alone(slots, links, scratch, place))
-            }
+            let load = take_standing(slots, links, scratch, place);
+            Some(Gone { place, load })
         }
         None => None,
     }

@@ -27,7 +27,7 @@ use Rattle.gate_pool.proofs.Entries.{Id, Contains-map, Contains-from_map}
 use Rattle.gate_pool.proofs.Walking.{Contains-from_filter, same_id}
 
 -- an id stands somewhere
-stands_at : (spots : List (Option Id)) (x : Id) → Contains (entries_of spots) x → (i : ℕ) × (at spots i ≡ Some x)
+pub stands_at : (spots : List (Option Id)) (x : Id) → Contains (entries_of spots) x → (i : ℕ) × (at spots i ≡ Some x)
 stands_at [] x m = not_in_none x m
 stands_at (None ∷ spots) x m = let w = stands_at spots x m in (suc w.0, w.1)
 stands_at (Some y ∷ spots) x m =
@@ -190,12 +190,15 @@ module _ (entries : List Admitted) (spots : List (Option Id)) (is : entries_of s
   one_spot (Some y ∷ ss) h (suc i) zero x p q = absurd (pairs_head (λ (a : Id) (b : Id). a ≢ b) y (entries_of ss) h x (stands_among ss i x p) (same_Some y x q))
   one_spot (Some y ∷ ss) h (suc i) (suc j) x p q = ap suc (one_spot ss (pairs_tail (λ (a : Id) (b : Id). a ≢ b) y (entries_of ss) h) i j x p q)
 
-  number_at : (i : ℕ) (x : Id) → at spots i ≡ Some x → number_in spots x ≡ i
+  pub one_place : (i j : ℕ) (x : Id) → at spots i ≡ Some x → at spots j ≡ Some x → i ≡ j
+  one_place = one_spot spots (subst (AllPairs (λ (a : Id) (b : Id). a ≢ b)) (sym is) (once entries distinct))
+
+  pub number_at : (i : ℕ) (x : Id) → at spots i ≡ Some x → number_in spots x ≡ i
   number_at i x e = by (place_in spots x) refl
     where
       by : (o : Option ℕ) → place_in spots x ≡ o → unwrap_or o 0 ≡ i
       by None k = absurd (true≢false (sym (place_some spots x i e) ∙ ap is_some k))
-      by (Some p) k = one_spot spots (subst (AllPairs (λ (a : Id) (b : Id). a ≢ b)) (sym is) (once entries distinct)) p i x (place_stands spots x p k) e
+      by (Some p) k = one_place p i x (place_stands spots x p k) e
 
   follow : Follow (number_in spots) entries
   follow = Follow-listing (number_in spots) entries (subst (Rises (number_in spots)) is (Rises-spots (number_in spots) spots 0 (λ i x e. number_at i x e ∙ from_none i)))

@@ -1,14 +1,17 @@
 -- Those that go with an id, or alone, and the children of an id.
-use Rattle.std.proofs.Common.{◌≡◌, Bool, true, false, not, List, [], ◌∷◌, ◌++◌, length, Some, None, refl, sym, ap, ◌∙◌, subst, inl, inr, true≢false, arith}
+use Rattle.std.proofs.Common.{◌≡◌, Bool, true, false, not, ◌||◌, List, [], ◌∷◌, map, Some, None, refl, sym, ap, ◌∙◌, subst, inl, inr, true≢false, arith}
 use Rattle.std.specs.Prelude.{Contains}
 use Rattle.std.specs.List.{list_any}
+use Rattle.std.specs.Str.{bytes_eq}
 use Rattle.std.specs.Cmp.Lexicographic.{bytes_decides}
 use Rattle.std.proofs.Math.Bool.{or-false}
 use Rattle.std.proofs.lemmas.Bool.{false_from_ne_true, not-true}
 use Rattle.gate_tx.specs.Ids.{txid_of}
 use Rattle.gate_tx.specs.declared.OutPoint.{OutPoint}
-use Rattle.gate_graph.specs.Family.{Node, steps_of, reaches}
-use Rattle.gate_graph.specs.Holding.{nodes_in, AreGone}
+use Rattle.gate_graph.specs.Family.{Node, reaches}
+use Rattle.gate_graph.specs.declared.held.Gone.{Gone}
+use Rattle.gate_graph.specs.Holding.{AreGone}
+use Rattle.gate_graph.specs.Slots.{at}
 use Rattle.gate_graph.proofs.Filters.{Contains-map, Contains-from_map, Contains-from_filter}
 use Rattle.gate_bytes.proofs.Members.{Contains-cons_cases, Contains-head, not_in_none}
 use Rattle.gate_graph.proofs.Reaching.{reaches-same}
@@ -21,58 +24,72 @@ use Rattle.gate_pool.proofs.Conflicts.{find_absent}
 use Rattle.gate_pool.proofs.Entries.{Id, find_some, find_none}
 use Rattle.gate_pool.proofs.Found.{AreLeaving}
 use Rattle.gate_pool.proofs.Ids.{same_entry, same_spender}
-
-no_items : {X : Type 0} (xs : List X) → length xs ≡ 0 → xs ≡ []
-no_items [] e = refl
-no_items (x ∷ xs) e = absurd (omega (arith, e))
+use Rattle.gate_pool.proofs.Seats.{Spots, Log, AreTaken}
 
 was_true : (b : Bool) → not b ≡ false → b ≡ true
 was_true true h = refl
 was_true false h = sym h
 
--- what goes with an id
-pub leaving_family : (nodes : List (Node × Admitted)) (x : Id) (before after : List Admitted) → IsCarried nodes → AreGone nodes x before after → length before ≡ 0
-    → AreLeaving (λ e. not (reaches (steps (entries_in nodes)) x (txid_of e.tx))) (entries_in nodes) after
-leaving_family nodes x before after k gone none = record {
-  all = λ e c n.
-      let there : Contains nodes (node_of e, e) = subst (λ l. Contains l (node_of e, e)) (sym k.is) (Contains-map (λ (d : Admitted). (node_of d, d)) es e c) in
-      let led : reaches (steps_of (nodes_in nodes)) x (txid_of e.tx) ≡ true = ap (λ s. reaches s x (txid_of e.tx)) (steps_are nodes k) ∙ was_true _ n in
-      subst (λ l. Contains l e) (sym is) (gone.all (node_of e, e) there led);
+-- the entries in a log
+abbrev pub loads_in : Log → List Admitted
+loads_in log = map (λ x. x.load) log
+
+pub any_loads : (t : Admitted → Bool) (log : Log) → list_any (λ x. t x.load) log ≡ list_any t (loads_in log)
+any_loads t [] = refl
+any_loads t (x ∷ log) = ap (λ b. t x.load || b) (any_loads t log)
+
+-- what was taken with its places is what leaves
+pub leaving_taken : (test : Id → Bool) (es : List Admitted) (spots : Spots) (more : Log) → AreTaken test es spots more → AreLeaving (λ e. not (test (txid_of e.tx))) es (loads_in more)
+leaving_taken test es spots more taken = record {
+  all = λ e c n. let w = taken.all e c (was_true _ n) in subst (Contains (loads_in more)) w.3 (Contains-map (λ (x : Gone Admitted). x.load) more w.0 w.1);
   only = λ e c.
-      let w = gone.only e (subst (λ l. Contains l e) is c) in
+      let v = Contains-from_map (λ (x : Gone Admitted). x.load) more e c in
+      let w = taken.only v.0 v.1 in
+      let same : w.0 ≡ e = sym w.4 ∙ v.2 in
+      (subst (Contains es) same w.1, ap not (ap (λ (d : Admitted). test (txid_of d.tx)) (sym same) ∙ w.2));
+}
+
+-- what goes with an id
+pub taken_family : (nodes : List (Node × Admitted)) (places : Spots) (x : Id) (before after : Log) → IsCarried nodes → (gone : AreGone nodes places x before after) → AreTaken (reaches (steps (entries_in nodes)) x) (entries_in nodes) places gone.more
+taken_family nodes places x before after k gone = record {
+  all = λ e c t.
+      let there : Contains nodes (node_of e, e) = subst (λ l. Contains l (node_of e, e)) (sym k.is) (Contains-map (λ (d : Admitted). (node_of d, d)) es e c) in
+      gone.all (node_of e, e) there (ap (λ s. reaches s x (txid_of e.tx)) (steps_are nodes k) ∙ t);
+  only = λ y c.
+      let w = gone.only y c in
       let v = Contains-from_map (λ (d : Admitted). (node_of d, d)) es w.0 (subst (λ l. Contains l w.0) k.is w.1) in
-      let same : v.0 ≡ e = ap (λ (p : Node × Admitted). p.1) v.2 ∙ w.3 in
-      let led : reaches (steps es) x (txid_of v.0.tx) ≡ true = ap (λ (p : Node × Admitted). reaches (steps es) x p.0.id) v.2 ∙ ap (λ s. reaches s x w.0.0.id) (sym (steps_are nodes k)) ∙ w.2 in
-      (subst (Contains es) same v.1, ap not (subst (λ (d : Admitted). reaches (steps es) x (txid_of d.tx) ≡ true) same led));
+      let id : txid_of v.0.tx ≡ w.0.0.id = ap (λ (p : Node × Admitted). p.0.id) v.2 in
+      (v.0, v.1, ap (reaches (steps es) x) id ∙ ap (λ s. reaches s x w.0.0.id) (sym (steps_are nodes k)) ∙ w.2, w.3 ∙ ap Some (sym id), w.4 ∙ sym (ap (λ (p : Node × Admitted). p.1) v.2));
+  once = gone.once;
 }
   where
     es : List Admitted
     es = entries_in nodes
 
-    is : after ≡ gone.more
-    is = gone.is ∙ ap (λ l. l ++ gone.more) (no_items before none)
-
 -- one that goes alone
-pub leaving_one : (es : List Admitted) (x : Id) (e : Admitted) → AreDistinct es → entry_by_txid es x ≡ Some e → AreLeaving (λ d. not (has_txid d x)) es (e ∷ [])
-leaving_one es x e distinct found = record {
-  all = λ a c n.
-      let same : a ≡ e = same_entry es distinct a e c w.0 ((bytes_decides (txid_of a.tx) x).0 (was_true _ n) ∙ sym ((bytes_decides (txid_of e.tx) x).0 w.1)) in
-      subst (Contains (e ∷ [])) (sym same) (Contains-head e []);
-  only = λ a c.
-      elim (Contains-cons_cases e [] a c) [
-        | inl same ↦ (subst (Contains es) same w.0, ap (λ (d : Admitted). not (has_txid d x)) (sym same) ∙ ap not w.1)
-        | inr n ↦ not_in_none a n
+pub taken_one : (es : List Admitted) (places : Spots) (x : Id) (g : Gone Admitted) → AreDistinct es → entry_by_txid es x ≡ Some g.load → at places g.place ≡ Some x → AreTaken (λ y. bytes_eq y x) es places (g ∷ [])
+taken_one es places x g distinct found place = record {
+  all = λ e c t.
+      let same : txid_of e.tx ≡ x = (bytes_decides (txid_of e.tx) x).0 t in
+      (g, Contains-head g [], place ∙ ap Some (sym same), same_entry es distinct g.load e w.0 c ((bytes_decides (txid_of g.load.tx) x).0 w.1 ∙ sym same));
+  only = λ y c.
+      elim (Contains-cons_cases g [] y c) [
+        | inl same ↦ subst (λ (z : Gone Admitted). (e : Admitted) × Contains es e × (bytes_eq (txid_of e.tx) x ≡ true) × (at places z.place ≡ Some (txid_of e.tx)) × (z.load ≡ e)) same
+            (g.load, w.0, w.1, place ∙ ap Some (sym ((bytes_decides (txid_of g.load.tx) x).0 w.1)), refl)
+        | inr n ↦ not_in_none y n
       ];
+  once = λ i j d lt within. absurd (omega (arith, lt, within));
 }
   where
-    w : Contains es e × (has_txid e x ≡ true)
-    w = find_some (λ (d : Admitted). has_txid d x) es e found
+    w : Contains es g.load × (has_txid g.load x ≡ true)
+    w = find_some (λ (d : Admitted). has_txid d x) es g.load found
 
 -- no entry has the id
-pub leaving_none : (es : List Admitted) (x : Id) → entry_by_txid es x ≡ None → AreLeaving (λ d. not (has_txid d x)) es []
-leaving_none es x none = record {
-  all = λ a c n. absurd (true≢false (sym (was_true _ n) ∙ find_none (λ (d : Admitted). has_txid d x) es none a c));
-  only = λ a c. not_in_none a c;
+pub taken_none : (es : List Admitted) (places : Spots) (x : Id) → entry_by_txid es x ≡ None → AreTaken (λ y. bytes_eq y x) es places []
+taken_none es places x none = record {
+  all = λ e c t. absurd (true≢false (sym t ∙ find_none (λ (d : Admitted). has_txid d x) es none e c));
+  only = λ y c. not_in_none y c;
+  once = λ i j d lt within. absurd (omega (arith, within));
 }
 
 -- one is asked alone

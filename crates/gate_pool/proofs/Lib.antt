@@ -22,3 +22,6 @@ pub mod Weighed
 pub mod Children
 pub mod Readiness
 pub mod Earliest
+pub mod Seats
+pub mod Departing
+pub mod Arriving

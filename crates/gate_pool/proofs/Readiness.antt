@@ -43,10 +43,9 @@ IsReady-same ready same places more arrived room = record {
 }
 
 -- without room for another
-pub HasRoom-none : {count nodes wtxid_spare point_spare parents leaving gone : ℕ} → leaving ≡ 0 → count ≤ gone → HasRoom 0 count nodes wtxid_spare point_spare parents leaving gone
-HasRoom-none none room = record {
-  none = none;
-  gone_room = room;
+pub HasRoom-none : {count nodes wtxid_spare point_spare parents left log : ℕ} → count + left ≤ log → HasRoom 0 count nodes wtxid_spare point_spare parents left log
+HasRoom-none room = record {
+  log_room = room;
   next = λ l. absurd (omega (arith, l));
   nodes_room = omega arith;
   wtxids = λ l. absurd (omega (arith, l));

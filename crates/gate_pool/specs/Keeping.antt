@@ -31,12 +31,11 @@ pub record IsIndexed (entries : List Admitted) (by_wtxid : List ℕ → Option (
   pub points : (point : OutPoint) → by_point point ≡ option_map (λ e. txid_of e.tx) (spender_of entries point)
   pub distinct : AreDistinct entries
 
--- of `count` entries none is on its way out, and there is room to take out all; one more, of fewer inputs than `room`, has a
--- place in each index and among the nodes
-pub record HasRoom (room count nodes wtxid_spare point_spare parents leaving gone : ℕ) : Type 0 where
-  pub none : leaving ≡ 0
-  pub gone_room : count ≤ gone
-  pub next : 0 < room → count + 1 ≤ gone
+-- there is room for all `count` entries in the log of `left` ones that have left; one more, of fewer inputs than `room`, has a
+-- place in each index and among the nodes, and there too
+pub record HasRoom (room count nodes wtxid_spare point_spare parents left log : ℕ) : Type 0 where
+  pub log_room : count + left ≤ log
+  pub next : 0 < room → count + left + 1 ≤ log
   pub nodes_room : room ≤ nodes
   pub wtxids : 0 < room → 0 < wtxid_spare
   pub points : room ≤ point_spare + 1

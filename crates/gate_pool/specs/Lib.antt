@@ -1,4 +1,5 @@
 pub mod Pool
+pub mod Moves
 pub mod Family
 pub mod Removal
 pub mod Scores
@@ -6,4 +7,6 @@ pub mod Distinct
 pub mod Search
 pub mod Keeping
 pub mod Places
+pub mod Log
+pub mod Leaving
 pub mod Arrivals

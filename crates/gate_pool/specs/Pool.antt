@@ -30,10 +30,12 @@ pub record IsBounded (entry : Admitted) : Type 0 where
 abbrev pub is_before : ℕ → Admitted → Bool
 is_before time e = nat_lt e.time time
 
--- a pool: its entries in order of admission, and the room that was taken beforehand: an entry of fewer inputs than `room`
--- enters without memory. Room is no part of what a pool holds: only a call that says so keeps it, and one that fails may lose it
+-- a pool: its entries in order of admission, those that it had when its log began, and the room that was taken beforehand: an
+-- entry of fewer inputs than `room` enters without memory. Room is no part of what a pool holds: only a call that says so keeps
+-- it, and one that fails may lose it
 pub record Pooled : Type 0 where
   pub entries : List Admitted
+  pub before : List Admitted
   pub room : ℕ
 
 -- the outpoints that a transaction spends, input by input

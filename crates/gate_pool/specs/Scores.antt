@@ -1,5 +1,5 @@
 -- What an entry is worth: its feerate or that of its descendants, whichever is greater, as an exact fraction.
-use Rattle.std.specs.Prelude.{ℕ, ◌*◌, ◌^◌, ◌<◌, ◌≤◌, List, Option}
+use Rattle.std.specs.Prelude.{◌*◌, ◌^◌, ◌<◌, ◌≤◌, List, Option}
 use Rattle.std.specs.Option.{option_map}
 use Rattle.gate_tx.specs.Ids.{txid_of}
 use Rattle.gate_tx.specs.Money.{max_money}

@@ -43,6 +43,7 @@ impl<S: BuildHasher + Copy + Drop> Pool<S> {
         requires { IsNew self.old.entries entry }
         ensures ok { OnOk result (self.new.entries ≡ self.old.entries ++ entry ∷ []) }
         ensures err { OnErr result (self.new.entries ≡ self.old.entries) }
+        ensures before { self.new.before ≡ self.old.before }
     {
         self.reserve(entry.transaction().inputs().len())?;
         self.replace(entry);
@@ -68,6 +69,7 @@ impl<S: BuildHasher + Copy + Drop> Pool<S> {
         ensures removed { IfOk result (λ txids. txids.items ≡ listing_of (family_of_entry self.old.entries txid.now)) }
         ensures ok { OnOk result (self.new.entries ≡ without_entry self.old.entries txid.now) }
         ensures err { OnErr result (self.new.entries ≡ self.old.entries) }
+        ensures before { self.new.before ≡ self.old.before }
     {
         let alloc = self.allocator();
         if self.entry(txid).is_none() {

@@ -9,6 +9,7 @@ mod changes;
 mod choice;
 mod closures;
 mod entry;
+mod moves;
 mod naming;
 mod places;
 mod pool;

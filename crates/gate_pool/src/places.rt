@@ -10,6 +10,7 @@ ghost use Rattle.gate_pool.specs.Places.{written};
 ghost use Rattle.indexmap.specs.IndexMap.{get, spare};
 
 use crate::entry::Entry;
+use gate_graph::Gone;
 use gate_tx::{OutPoint, TxIn, Txid, Wtxid};
 use indexmap::IndexMap;
 use std::hash::BuildHasher;
@@ -67,18 +68,18 @@ pub(crate) fn drop_entry<S: BuildHasher>(
     drop_points(spent, entry.transaction().inputs());
 }
 
-/// Removes the witness id of each of these entries, and each outpoint that they spend.
+/// Removes the witness id of each of these entries, which have left, and each outpoint that they spend.
 pub(crate) fn drop_each<S: BuildHasher>(
     wtxids: &mut IndexMap<Wtxid, Txid, S>,
     spent: &mut IndexMap<OutPoint, Txid, S>,
-    entries: &[Entry],
+    left: &[Gone<Entry>],
 )
-    ensures wtxids { (id : List ℕ) → get bytes_eq wtxids.new id ≡ cond (list_any (λ e. has_wtxid e id) entries.now) None (get bytes_eq wtxids.old id) }
-    ensures points { (point : Point) → get point_eq spent.new point ≡ cond (list_any (λ e. has_point e point) entries.now) None (get point_eq spent.old point) }
+    ensures wtxids { (id : List ℕ) → get bytes_eq wtxids.new id ≡ cond (list_any (λ x. has_wtxid x.load id) left.now) None (get bytes_eq wtxids.old id) }
+    ensures points { (point : Point) → get point_eq spent.new point ≡ cond (list_any (λ x. has_point x.load point) left.now) None (get point_eq spent.old point) }
     ensures wtxid_room { spare wtxids.old ≤ spare wtxids.new }
     ensures point_room { spare spent.old ≤ spare spent.new }
 {
-    for entry in entries {
-        drop_entry(wtxids, spent, entry);
+    for gone in left {
+        drop_entry(wtxids, spent, &gone.load);
     }
 }

@@ -7,6 +7,7 @@ ghost use Rattle.gate_pool.specs.Pool.{Admitted, entry_by_txid, entry_by_wtxid, 
 ghost use Rattle.gate_pool.specs.Family.{names, spends_one_of, totals_of, without_family, without_below, entered, OfThese};
 ghost use Rattle.gate_pool.specs.Scores.{AreBounded, least_of};
 ghost use Rattle.gate_pool.specs.Distinct.{AreDistinct};
+ghost use Rattle.gate_pool.specs.Moves.{departed, arrived};
 
 use crate::arrivals::Arrivals;
 use crate::choice::Test;
@@ -49,7 +50,8 @@ impl<S: BuildHasher + Copy + Drop> Model for Pool<S> {
 impl<S: BuildHasher + Copy + Drop> Pool<S> {
     /// A pool without entries, whose tables hash by `hasher`.
     pub fn new(alloc: Global, hasher: S) -> Result<Pool<S>, Memory>
-        ensures { IfOk result (λ pool. pool.entries ≡ []) }
+        ensures entries { IfOk result (λ pool. pool.entries ≡ []) }
+        ensures before { IfOk result (λ pool. pool.before ≡ []) }
     {
         Ok(Pool {
             store: Store::new(alloc, hasher),
@@ -137,6 +139,7 @@ impl<S: BuildHasher + Copy + Drop> Pool<S> {
     /// lost.
     pub fn reserve(&mut self, inputs: usize) -> Result<(), Memory>
         ensures entries { self.new.entries ≡ self.old.entries }
+        ensures before { self.new.before ≡ self.old.before }
         ensures room { OnOk result (inputs < self.new.room) }
     {
         let Some(places) = self.store.count().checked_add(1) else {
@@ -154,7 +157,8 @@ impl<S: BuildHasher + Copy + Drop> Pool<S> {
         requires room { length entry.tx.inputs < self.old.room }
         requires txid { entry_by_txid self.old.entries (txid_of entry.tx) ≡ None }
         requires wtxid { entry_by_wtxid self.old.entries (wtxid_of entry.tx) ≡ None }
-        ensures { self.new.entries ≡ entered self.old.entries entry }
+        ensures entries { self.new.entries ≡ entered self.old.entries entry }
+        ensures before { self.new.before ≡ self.old.before }
     {
         self.arrivals.push(&entry);
         self.store.take_conflicts(entry.transaction().inputs());
@@ -165,7 +169,8 @@ impl<S: BuildHasher + Copy + Drop> Pool<S> {
     /// Takes out the entry of an id and all that is below the id. It takes no memory, and gives up the room that was
     /// taken.
     pub fn take_family(&mut self, txid: &Txid)
-        ensures { self.new.entries ≡ without_family self.old.entries txid.now }
+        ensures entries { self.new.entries ≡ without_family self.old.entries txid.now }
+        ensures before { self.new.before ≡ self.old.before }
     {
         self.store.take_out(&node_id(txid));
         self.least = self.store.settle();
@@ -174,7 +179,8 @@ impl<S: BuildHasher + Copy + Drop> Pool<S> {
     /// Takes out the entry of an id alone: entries that spend its outputs stay. It takes no memory, and gives up the
     /// room that was taken.
     pub fn remove_root(&mut self, txid: &Txid)
-        ensures { self.new.entries ≡ filter (λ e. not (has_txid e txid.now)) self.old.entries }
+        ensures entries { self.new.entries ≡ filter (λ e. not (has_txid e txid.now)) self.old.entries }
+        ensures before { self.new.before ≡ self.old.before }
     {
         self.store.take_one(txid);
         self.least = self.store.settle();
@@ -183,7 +189,8 @@ impl<S: BuildHasher + Copy + Drop> Pool<S> {
     /// Takes out the entries that spend what one of the inputs spends, and all that is below them. It takes no memory,
     /// and gives up the room that was taken. The entries are found by index, not by a search of the pool.
     pub fn take_spenders(&mut self, inputs: &[TxIn])
-        ensures { self.new.entries ≡ without_below (spends_one_of inputs.now) self.old.entries }
+        ensures entries { self.new.entries ≡ without_below (spends_one_of inputs.now) self.old.entries }
+        ensures before { self.new.before ≡ self.old.before }
     {
         self.store.take_conflicts(inputs);
         self.least = self.store.settle();
@@ -193,7 +200,8 @@ impl<S: BuildHasher + Copy + Drop> Pool<S> {
     /// below them. It takes no memory, and gives up the room that was taken. The entries are found by index, not by a
     /// search of the pool.
     pub fn take_children(&mut self, txid: &Txid)
-        ensures { self.new.entries ≡ without_below (λ e. names e txid.now) self.old.entries }
+        ensures entries { self.new.entries ≡ without_below (λ e. names e txid.now) self.old.entries }
+        ensures before { self.new.before ≡ self.old.before }
     {
         self.store.take_children(txid);
         self.least = self.store.settle();
@@ -202,7 +210,8 @@ impl<S: BuildHasher + Copy + Drop> Pool<S> {
     /// Takes out the entries that pass a test and all that is below them. It takes no memory, and gives up the room
     /// that was taken.
     pub fn take_below<T: Test>(&mut self, test: &T)
-        ensures { self.new.entries ≡ without_below (T.chosen test.now) self.old.entries }
+        ensures entries { self.new.entries ≡ without_below (T.chosen test.now) self.old.entries }
+        ensures before { self.new.before ≡ self.old.before }
     {
         self.store.choose(test, &mut self.chosen);
         self.store.take_chosen(self.chosen.as_slice());
@@ -212,7 +221,8 @@ impl<S: BuildHasher + Copy + Drop> Pool<S> {
     /// Takes out the entries that were admitted before a second and all that is below them. It takes no memory, and
     /// gives up the room that was taken. The oldest entry is known at once, so that this costs what is taken out.
     pub fn take_before(&mut self, time: u64)
-        ensures { self.new.entries ≡ without_below (is_before time) self.old.entries }
+        ensures entries { self.new.entries ≡ without_below (is_before time) self.old.entries }
+        ensures before { self.new.before ≡ self.old.before }
     {
         self.store.take_before(&mut self.arrivals, time);
         self.least = self.store.settle();
@@ -235,9 +245,37 @@ impl<S: BuildHasher + Copy + Drop> Pool<S> {
         self.least.as_ref()
     }
 
-    /// A pool with the same entries, whose tables hash alike. The transactions are shared, and the totals are copied.
+    /// Begins the log of what leaves the pool anew: what is an entry now was there when it began. It takes no memory, and
+    /// gives up the room that was taken. Only this lets go of what left, and closes the holes that it left, if they are
+    /// more than half of all places, by a walk over these.
+    pub fn mark(&mut self)
+        ensures entries { self.new.entries ≡ self.old.entries }
+        ensures before { self.new.before ≡ self.old.entries }
+    {
+        self.store.mark();
+    }
+
+    /// The ids of the entries that were there when the log began and that no entry has now, in order of admission. It
+    /// costs what has left since, and the sort of that.
+    pub fn departed(&self, alloc: Global) -> Result<Vec<Txid>, Memory>
+        ensures { IfOk result (λ txids. txids.items ≡ departed self.now.before self.now.entries) }
+    {
+        self.store.departed(alloc)
+    }
+
+    /// The ids of the entries that are there now and that no entry had when the log began, in order of admission. It
+    /// costs what has left and come since.
+    pub fn arrived(&self, alloc: Global) -> Result<Vec<Txid>, Memory>
+        ensures { IfOk result (λ txids. txids.items ≡ arrived self.now.before self.now.entries) }
+    {
+        self.store.arrived(alloc)
+    }
+
+    /// A pool with the same entries, whose tables hash alike. The transactions are shared, and the totals are copied. Its
+    /// log begins with it.
     pub fn copy(&self, alloc: Global) -> Result<Pool<S>, Memory>
-        ensures { IfOk result (λ pool. pool.entries ≡ self.now.entries) }
+        ensures entries { IfOk result (λ pool. pool.entries ≡ self.now.entries) }
+        ensures before { IfOk result (λ pool. pool.before ≡ self.now.entries) }
     {
         let chosen = Vec::with_capacity(alloc, self.store.count())?;
         let arrivals = self.store.arrivals(alloc)?;

@@ -13,18 +13,20 @@ ghost use Rattle.gate_pool.specs.Keeping.{IsNew};
 ghost use Rattle.gate_pool.specs.Family.{names, children_of, spends_one_of, totals_of, without_family, without_below, AreIdsOf, OfThese};
 ghost use Rattle.gate_pool.specs.Scores.{AreBounded, least_of};
 ghost use Rattle.gate_pool.specs.Distinct.{AreDistinct};
+ghost use Rattle.gate_pool.specs.Moves.{departed, arrived};
 ghost use Rattle.gate_pool.specs.Removal.{PassesSpenders};
 ghost use Rattle.gate_pool.specs.Search.{IsChild};
 
 use crate::arrivals::Arrivals;
 use crate::choice::Test;
 use crate::entry::Entry;
+use crate::moves::{sort_by_seat, txids_at, txids_beside, txids_left};
 use crate::naming::{list_parents, node_id, txids_of};
 use crate::places::{drop_each, drop_entry, put_entry};
 use crate::reading::{choose, index_each, sort_by_place, txids_in};
 use crate::scores::Score;
 use gate_bytes::{Kept, Memory};
-use gate_graph::{NodeId, Nodes, Totals};
+use gate_graph::{Gone, NodeId, Nodes, Totals};
 use gate_tx::{OutPoint, TxIn, Txid, Wtxid};
 use indexmap::IndexMap;
 use std::alloc::Global;
@@ -42,8 +44,11 @@ pub(crate) struct Store<S: BuildHasher + Copy + Drop> {
     spent: IndexMap<OutPoint, Txid, S>,
     /// Room for the ids that the next entry names.
     parents: Vec<NodeId>,
-    /// Room for entries that are taken out; it is empty between calls.
-    gone: Vec<Entry>,
+    /// The log: the entries that left since the pool was marked, in the order in which they left. There is room in it
+    /// for all entries.
+    gone: Vec<Gone<Entry>>,
+    /// How many places there were when the log began. Places stay where they are until it begins anew.
+    mark: usize,
     room: usize,
 }
 
@@ -55,22 +60,29 @@ impl<S: BuildHasher + Copy + Drop> Model for Store<S> {
     ghost use Rattle.indexmap.specs.IndexMap.{get, spare};
     ghost use Rattle.gate_pool.specs.Pool.{Pooled};
     ghost use Rattle.gate_pool.specs.Keeping.{entries_in, IsCarried, IsIndexed, HasRoom};
+    ghost use Rattle.gate_pool.specs.Log.{before_of, IsLog};
 
     ghost Value = { Pooled };
 
-    ghost view = { λ s. record { entries = entries_in s.nodes.nodes; room = s.room } };
+    ghost view = { λ s. record {
+      entries = entries_in s.nodes.nodes;
+      before = before_of (entries_in s.nodes.nodes) s.nodes.places s.gone.items s.mark;
+      room = s.room;
+    } };
 
     ghost invariant = { λ s.
         IsCarried s.nodes.nodes
         × IsIndexed (entries_in s.nodes.nodes) (get bytes_eq s.wtxids) (get point_eq s.spent)
         × HasRoom s.room (length (entries_in s.nodes.nodes)) s.nodes.room (spare s.wtxids) (spare s.spent)
-        (vec_capacity s.parents) (vec_len s.gone) (vec_capacity s.gone) };
+        (vec_capacity s.parents) (vec_len s.gone) (vec_capacity s.gone)
+        × IsLog (entries_in s.nodes.nodes) s.nodes.places s.gone.items s.mark };
 }
 
 impl<S: BuildHasher + Copy + Drop> Store<S> {
     /// No entries, in tables that hash by `hasher`.
     pub(crate) fn new(alloc: Global, hasher: S) -> Store<S>
         ensures entries { result.entries ≡ [] }
+        ensures before { result.before ≡ [] }
         ensures room { result.room ≡ 0 }
     {
         Store {
@@ -79,6 +91,7 @@ impl<S: BuildHasher + Copy + Drop> Store<S> {
             spent: IndexMap::with_hasher(alloc, hasher),
             parents: Vec::new(alloc),
             gone: Vec::new(alloc),
+            mark: 0,
             room: 0,
         }
     }
@@ -210,6 +223,25 @@ impl<S: BuildHasher + Copy + Drop> Store<S> {
         choose(self.nodes.as_slice(), test, chosen);
     }
 
+    /// The ids of the entries that have left since the log began and that no entry has, in order of admission.
+    pub(crate) fn departed(&self, alloc: Global) -> Result<Vec<Txid>, Memory>
+        ensures { IfOk result (λ txids. txids.items ≡ departed self.now.before self.now.entries) }
+    {
+        let _slots = self.nodes.as_slice();
+        let mut seats = self.seats_left(alloc, self.gone.as_slice(), self.mark)?;
+        sort_by_seat(seats.as_mut_slice());
+        txids_at(alloc, seats.as_slice())
+    }
+
+    /// The ids of the entries that have come since the log began and that no entry had then, in order of admission.
+    pub(crate) fn arrived(&self, alloc: Global) -> Result<Vec<Txid>, Memory>
+        ensures { IfOk result (λ txids. txids.items ≡ arrived self.now.before self.now.entries) }
+    {
+        let left = txids_left(alloc, self.hasher(), self.gone.as_slice(), self.mark)?;
+        let slots = self.nodes.as_slice();
+        txids_beside(alloc, &slots[self.mark..], &left)
+    }
+
     /// The state that the hashers are made from.
     pub(crate) fn hasher(&self) -> S {
         *self.wtxids.hasher()
@@ -229,6 +261,7 @@ impl<S: BuildHasher + Copy + Drop> Store<S> {
     /// Takes the memory for an entry of this many inputs.
     pub(crate) fn reserve(&mut self, inputs: usize) -> Result<(), Memory>
         ensures entries { self.new.entries ≡ self.old.entries }
+        ensures before { self.new.before ≡ self.old.before }
         ensures room { OnOk result (inputs < self.new.room) }
     {
         self.room = 0;
@@ -250,8 +283,10 @@ impl<S: BuildHasher + Copy + Drop> Store<S> {
     pub(crate) fn put(&mut self, entry: Entry)
         requires room { length entry.tx.inputs < self.old.room }
         requires new { IsNew self.old.entries entry }
-        ensures { self.new.entries ≡ self.old.entries ++ entry ∷ [] }
+        ensures entries { self.new.entries ≡ self.old.entries ++ entry ∷ [] }
+        ensures before { self.new.before ≡ self.old.before }
     {
+        let _slots = self.nodes.as_slice();
         self.room = 0;
         entry.recall_bounds();
         put_entry(&mut self.wtxids, &mut self.spent, &entry);
@@ -267,11 +302,13 @@ impl<S: BuildHasher + Copy + Drop> Store<S> {
     /// Takes out the entry of an id and all that is below the id.
     pub(crate) fn take_out(&mut self, id: &NodeId)
         ensures rest { self.new.entries ≡ without_family self.old.entries id.now }
+        ensures before { self.new.before ≡ self.old.before }
         ensures room { self.new.room ≡ self.old.room }
     {
+        let _slots = self.nodes.as_slice();
+        let count = self.gone.len();
         self.nodes.take_family(id, &mut self.gone);
-        drop_each(&mut self.wtxids, &mut self.spent, self.gone.as_slice());
-        self.gone.clear();
+        drop_each(&mut self.wtxids, &mut self.spent, &self.gone[count..]);
     }
 
     /// Takes out the entry that spends an outpoint, and all below it.
@@ -279,6 +316,7 @@ impl<S: BuildHasher + Copy + Drop> Store<S> {
         ensures rest { (test : Admitted → Bool) → PassesSpenders test point.now → without_below test self.new.entries ≡ without_below test self.old.entries }
         ensures gone { spender_of self.new.entries point.now ≡ None }
         ensures still { (p : Point) → spender_of self.old.entries p ≡ None → spender_of self.new.entries p ≡ None }
+        ensures before { self.new.before ≡ self.old.before }
         ensures room { self.new.room ≡ self.old.room }
     {
         self.recall_distinct();
@@ -295,6 +333,7 @@ impl<S: BuildHasher + Copy + Drop> Store<S> {
     pub(crate) fn take_conflicts(&mut self, inputs: &[TxIn])
         ensures rest { self.new.entries ≡ without_below (spends_one_of inputs.now) self.old.entries }
         ensures gone { (i : Input) → Contains inputs.now i → spender_of self.new.entries i.prevout ≡ None }
+        ensures before { self.new.before ≡ self.old.before }
         ensures room { self.new.room ≡ self.old.room }
     {
         for input in inputs {
@@ -312,7 +351,8 @@ impl<S: BuildHasher + Copy + Drop> Store<S> {
 
     /// Takes out the entries that spend outputs of a transaction, whether that is an entry or not, and all below them.
     pub(crate) fn take_children(&mut self, txid: &Txid)
-        ensures { self.new.entries ≡ without_below (λ e. names e txid.now) self.old.entries }
+        ensures entries { self.new.entries ≡ without_below (λ e. names e txid.now) self.old.entries }
+        ensures before { self.new.before ≡ self.old.before }
     {
         let id = node_id(txid);
         while let Some(child) = self.child(&id) {
@@ -322,7 +362,8 @@ impl<S: BuildHasher + Copy + Drop> Store<S> {
 
     /// Takes out the entries that were chosen, and all below them.
     pub(crate) fn take_chosen(&mut self, chosen: &[NodeId])
-        ensures { (test : Admitted → Bool) → chosen.now ≡ listing_of (filter test self.old.entries) → self.new.entries ≡ without_below test self.old.entries }
+        ensures entries { (test : Admitted → Bool) → chosen.now ≡ listing_of (filter test self.old.entries) → self.new.entries ≡ without_below test self.old.entries }
+        ensures before { self.new.before ≡ self.old.before }
     {
         for id in chosen {
             self.take_out(id);
@@ -334,6 +375,7 @@ impl<S: BuildHasher + Copy + Drop> Store<S> {
         ensures rest { without_below (is_before time) self.new.entries ≡ without_below (is_before time) self.old.entries }
         ensures fewer { (e : Admitted) → Contains self.new.entries e → Contains self.old.entries e }
         ensures late { (e : Admitted) → Contains self.new.entries e → txid_of e.tx ≡ txid.now → time ≤ e.time }
+        ensures before { self.new.before ≡ self.old.before }
     {
         self.recall_distinct();
         match self.entry(txid) {
@@ -352,6 +394,7 @@ impl<S: BuildHasher + Copy + Drop> Store<S> {
         requires { HaveArrived self.old.entries arrivals.old.list }
         ensures rest { self.new.entries ≡ without_below (is_before time) self.old.entries }
         ensures arrived { HaveArrived self.new.entries arrivals.new.list }
+        ensures before { self.new.before ≡ self.old.before }
     {
         while let Some(txid) = arrivals.take_before(time) {
             self.take_early(&txid, time);
@@ -360,39 +403,49 @@ impl<S: BuildHasher + Copy + Drop> Store<S> {
 
     /// Takes out the entry of an id alone.
     pub(crate) fn take_one(&mut self, txid: &Txid)
-        ensures { self.new.entries ≡ filter (λ e. not (has_txid e txid.now)) self.old.entries }
+        ensures entries { self.new.entries ≡ filter (λ e. not (has_txid e txid.now)) self.old.entries }
+        ensures before { self.new.before ≡ self.old.before }
     {
+        let _slots = self.nodes.as_slice();
         self.room = 0;
         match self.nodes.take_one(&node_id(txid)) {
-            Some(entry) => drop_entry(&mut self.wtxids, &mut self.spent, &entry),
+            Some(gone) => {
+                drop_entry(&mut self.wtxids, &mut self.spent, &gone.load);
+                self.gone.push_reserved(gone);
+            }
             None => {}
         }
     }
 
-    /// Closes holes if they are more than half of all places, gives up the room that was taken, and returns the least
-    /// score.
+    /// Gives up the room that was taken, and returns the least score.
     pub(crate) fn settle(&mut self) -> Option<Score>
         ensures entries { self.new.entries ≡ self.old.entries }
+        ensures before { self.new.before ≡ self.old.before }
         ensures room { self.new.room ≡ 0 }
         ensures value { result ≡ least_of self.old.entries }
         ensures bounded { IfSome result (λ score. AreBounded score.family) }
     {
-        self.tidy();
+        self.room = 0;
         self.least()
     }
 
-    /// Closes holes if they are more than half of all places, and gives up the room that was taken.
-    fn tidy(&mut self)
+    /// Begins the log anew. It closes holes if they are more than half of all places, and gives up the room that was
+    /// taken.
+    pub(crate) fn mark(&mut self)
         ensures entries { self.new.entries ≡ self.old.entries }
+        ensures before { self.new.before ≡ self.old.entries }
         ensures room { self.new.room ≡ 0 }
     {
         self.room = 0;
+        self.gone.clear();
         self.nodes.tidy();
+        self.mark = self.nodes.as_slice().len();
     }
 
     /// A copy of the entries, in tables that hash alike. The transactions are shared, and the totals are copied.
     pub(crate) fn copy(&self, alloc: Global) -> Result<Store<S>, Memory>
         ensures entries { IfOk result (λ copy. copy.entries ≡ self.now.entries) }
+        ensures before { IfOk result (λ copy. copy.before ≡ self.now.entries) }
         ensures room { IfOk result (λ copy. copy.room ≡ 0) }
     {
         let mut wtxids = IndexMap::with_hasher(alloc, self.hasher());
@@ -401,12 +454,14 @@ impl<S: BuildHasher + Copy + Drop> Store<S> {
         index_each(self.nodes.as_slice(), &mut wtxids, &mut spent)?;
         let gone = Vec::with_capacity(alloc, self.count())?;
         let nodes = self.nodes.copy(alloc)?;
+        let mark = nodes.as_slice().len();
         Ok(Store {
             nodes,
             wtxids,
             spent,
             parents: Vec::new(alloc),
             gone,
+            mark,
             room: 0,
         })
     }

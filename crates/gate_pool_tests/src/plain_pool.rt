@@ -45,9 +45,43 @@ fn is_found(found: &Option<Vec<Txid>>, wanted: &[Txid], most: usize) -> bool {
 #[derive(Drop)]
 pub struct Plain {
     pub rows: Vec<Row>,
+    /// The ids of the rows when the list was marked.
+    pub before: Vec<Txid>,
 }
 
 impl Plain {
+    /// Writes down which rows there are now.
+    pub fn mark(&mut self) -> Result<(), Memory> {
+        self.before.clear();
+        for row in self.rows.as_slice() {
+            self.before.push(row.txid)?;
+        }
+        Ok(())
+    }
+
+    /// Whether a pool tells what left and what came since both were marked as the two listings do.
+    pub fn agrees_on_moves<S: BuildHasher + Copy + Drop>(
+        &self,
+        alloc: Global,
+        pool: &Pool<S>,
+    ) -> Result<bool, Memory> {
+        let mut left = Vec::new(alloc);
+        for txid in self.before.as_slice() {
+            if !self.has(txid) {
+                left.push(*txid)?;
+            }
+        }
+        let mut came = Vec::new(alloc);
+        for row in self.rows.as_slice() {
+            if !self.before.contains(&row.txid) {
+                came.push(row.txid)?;
+            }
+        }
+        let departed = pool.departed(alloc)?;
+        let arrived = pool.arrived(alloc)?;
+        Ok(departed.as_slice() == left.as_slice() && arrived.as_slice() == came.as_slice())
+    }
+
     /// Takes out the rows that spend from the ids, and the descendants of those rows.
     fn drop_below(&mut self, mut ids: Vec<Txid>) -> Result<(), Memory> {
         for _ in 0..self.rows.len() {

@@ -156,7 +156,20 @@ fn order_agrees<S: BuildHasher + Copy + Drop>(
     agrees
 }
 
-/// Whether a copy of the pool has the same listing as the list, and puts the ids of all its entries in that order.
+/// Whether a pool that was copied agrees with the list, and tells of nothing that moved.
+fn copied_agrees<S: BuildHasher + Copy + Drop>(
+    alloc: Global,
+    copy: &Pool<S>,
+    plain: &Plain,
+    made: &[Made],
+) -> Result<bool, Memory> {
+    let still = copy.departed(alloc)?.as_slice().is_empty()
+        && copy.arrived(alloc)?.as_slice().is_empty();
+    Ok(still && order_agrees(alloc, copy, plain, made)?)
+}
+
+/// Whether a copy of the pool has the same listing as the list, puts the ids of all its entries in that order, and tells
+/// of nothing that moved.
 fn copy_agrees<S: BuildHasher + Copy + Drop>(
     alloc: Global,
     pool: &Pool<S>,
@@ -164,7 +177,7 @@ fn copy_agrees<S: BuildHasher + Copy + Drop>(
     made: &[Made],
 ) -> Result<bool, Memory> {
     let copy = pool.copy(alloc)?;
-    let agrees = order_agrees(alloc, &copy, plain, made);
+    let agrees = copied_agrees(alloc, &copy, plain, made);
     drop(copy);
     agrees
 }
@@ -202,6 +215,19 @@ fn edit_drawn<S: BuildHasher + Copy + Drop>(
         }
         _ => Ok(()),
     }
+}
+
+/// Marks pool and list, now and then, so that several edits are told at once.
+fn mark_some<S: BuildHasher + Copy + Drop>(
+    draw: &mut Draw,
+    pool: &mut Pool<S>,
+    plain: &mut Plain,
+) -> Result<(), Memory> {
+    if draw.below(6) < 2 {
+        pool.mark();
+        plain.mark()?;
+    }
+    Ok(())
 }
 
 /// Makes an edit, and now and then one of another kind. Says whether pool and list took out the same ids in the first.
@@ -242,7 +268,8 @@ fn all_agree<S: BuildHasher + Copy + Drop>(
             && plain.agrees_on_each(alloc, pool)?
             && least == plain.least(alloc)?
             && made.iter().all(|one| plain.agrees(pool, &one.row))
-            && plain.is_listed(alloc, pool)?,
+            && plain.is_listed(alloc, pool)?
+            && plain.agrees_on_moves(alloc, pool)?,
     )
 }
 
@@ -255,6 +282,7 @@ fn edit_often<S: BuildHasher + Copy + Drop>(
     plain: &mut Plain,
 ) -> Result<Option<u32>, Memory> {
     for number in 0..300 {
+        mark_some(draw, pool, plain)?;
         let same = edit_some(alloc, draw, made, pool, plain)?;
         if !same || !all_agree(alloc, draw, made, pool, plain)? {
             return Ok(Some(number));
@@ -273,6 +301,7 @@ fn edit_beside<S: BuildHasher + Copy + Drop>(
 ) -> Result<Option<u32>, Memory> {
     let mut plain = Plain {
         rows: Vec::new(alloc),
+        before: Vec::new(alloc),
     };
     let first = edit_often(alloc, draw, made, pool, &mut plain);
     drop(plain);

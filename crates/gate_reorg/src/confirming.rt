@@ -49,7 +49,8 @@ pub(crate) fn ids_of<S: BuildHasher + Copy + Drop>(
 /// entries that spend an outpoint that it spends, with all below them. It takes no memory.
 #[tactic(auto, unfolding(crate::specs::Reorganisation::confirmed))]
 fn confirm<S: BuildHasher + Copy + Drop>(pool: &mut Pool<S>, transaction: &Identified)
-    ensures { pool.new.entries ≡ confirmed pool.old.entries transaction.now }
+    ensures entries { pool.new.entries ≡ confirmed pool.old.entries transaction.now }
+    ensures before { pool.new.before ≡ pool.old.before }
 {
     pool.remove_root(&transaction.txid());
     pool.take_spenders(transaction.transaction().inputs());
@@ -60,7 +61,8 @@ fn confirm_block<S: BuildHasher + Copy + Drop>(
     pool: &mut Pool<S>,
     transactions: &[Counted<Identified>],
 )
-    ensures { pool.new.entries ≡ all_confirmed pool.old.entries transactions.now }
+    ensures entries { pool.new.entries ≡ all_confirmed pool.old.entries transactions.now }
+    ensures before { pool.new.before ≡ pool.old.before }
 {
     for transaction in transactions {
         confirm(pool, transaction.get());
@@ -73,7 +75,8 @@ pub(crate) fn confirm_all<S: BuildHasher + Copy + Drop>(
     pool: &mut Pool<S>,
     blocks: &[Option<Block>],
 )
-    ensures { pool.new.entries ≡ all_confirmed pool.old.entries (transactions_of (present blocks.now)) }
+    ensures entries { pool.new.entries ≡ all_confirmed pool.old.entries (transactions_of (present blocks.now)) }
+    ensures before { pool.new.before ≡ pool.old.before }
 {
     for block in blocks {
         if let Some(block) = block {

@@ -6,6 +6,7 @@ ghost use Rattle.gate_chain.specs.Connecting.{Tells};
 ghost use Rattle.gate_chain.specs.declared.ChainDenial.TheVariants.{BlockDecode as Unreadable};
 ghost use Rattle.gate_chain.specs.Times.{tip_of};
 ghost use Rattle.gate_block.specs.Switching.{switched, switch_rules};
+ghost use Rattle.gate_pool.specs.Moves.{IsMarked};
 ghost use Rattle.gate_admit.specs.Good.{limits_for};
 ghost use Rattle.gate_admit.specs.Standing.{standing};
 ghost use Rattle.gate_reorg.specs.Reorganisation.{all_confirmed};
@@ -64,7 +65,8 @@ impl<S: BuildHasher + Copy + Drop> Draft<S> {
         under: &Terms<'_, S>,
         change: &Switched<'_, '_>,
     ) -> Result<(), Memory>
-        ensures { OnOk result (left_by under.now change.now self.old.pool.entries self.old.floor ≡ drafted self.new) }
+        ensures left { OnOk result (left_by under.now change.now self.old.pool.entries self.old.floor ≡ drafted self.new) }
+        ensures before { self.new.pool.before ≡ self.old.pool.before }
     {
         let new = ids_of(alloc, self.pool.hasher(), change.new)?;
         confirm_all(&mut self.pool, change.new);
@@ -102,7 +104,8 @@ fn redraft<S: BuildHasher + Copy + Drop>(
     pool: &Pool<S>,
     floor: &Floor,
 ) -> Result<Draft<S>, Memory>
-    ensures { IfOk result (λ draft. left_by under.now change.now pool.now.entries floor.now ≡ drafted draft) }
+    ensures left { IfOk result (λ draft. left_by under.now change.now pool.now.entries floor.now ≡ drafted draft) }
+    ensures before { IfOk result (λ draft. draft.pool.before ≡ pool.now.entries) }
 {
     let mut draft = Draft {
         pool: pool.copy(alloc)?,
@@ -143,6 +146,7 @@ fn follow_up<S: BuildHasher + Copy + Drop>(
 ) -> Result<(Draft<S>, Moved), Memory>
     ensures draft { IfOk result (λ found. left_by under.now change.now pool.now.entries floor.now ≡ drafted found.0) }
     ensures moved { IfOk result (λ found. found.1 ≡ moved_from (tip_of under.now.chain.now) pool.now.entries found.0.pool.entries) }
+    ensures before { IfOk result (λ found. found.0.pool.before ≡ pool.now.entries) }
 {
     let draft = redraft(alloc, under, change, pool, floor)?;
     match moved(alloc, under.chain.tip(), pool, &draft.pool) {
@@ -167,6 +171,7 @@ impl<'a, S: BuildHasher + Copy + Drop> Changing<'a, S> {
         ensures entries { OnOk result (self.new.pool.now.entries ≡ all_confirmed self.old.pool.now.entries (transactions_of (present new.now))) }
         ensures floor { self.new.floor.now ≡ self.old.floor.now }
         ensures moved { IfOk result (λ moved. moved ≡ moved_between self.old self.new) }
+        ensures before { IsMarked self.old.pool.now → OnOk result (self.new.pool.now.before ≡ self.old.pool.now.entries) }
         ensures chain_kept { OnErr result (self.new.chain.now ≡ self.old.chain.now) }
         ensures pool_kept { OnErr result (self.new.pool.now.entries ≡ self.old.pool.now.entries) }
         ensures passes { OnOk result (first_failing (switch_rules self.old.chain.now 0 blocks.items) ≡ None) }
@@ -196,6 +201,7 @@ impl<'a, S: BuildHasher + Copy + Drop> Changing<'a, S> {
         ensures chain { OnOk result (self.new.chain.now ≡ switched self.old.chain.now depth blocks.items) }
         ensures pool { OnOk result (left_after self.old self.new.chain.now depth (transactions_of (present new.now)) ≡ held self.new) }
         ensures moved { IfOk result (λ moved. moved ≡ moved_between self.old self.new) }
+        ensures before { IsMarked self.old.pool.now → OnOk result (self.new.pool.now.before ≡ self.old.pool.now.entries) }
         ensures chain_kept { OnErr result (self.new.chain.now ≡ self.old.chain.now) }
         ensures pool_kept { OnErr result (self.new.pool.now.entries ≡ self.old.pool.now.entries) }
         ensures floor_kept { OnErr result (self.new.floor.now ≡ self.old.floor.now) }
@@ -237,6 +243,7 @@ impl<'a, S: BuildHasher + Copy + Drop> Changing<'a, S> {
     ) -> Result<Moved, ChainFault>
         ensures same { HoldsTheSame self.old self.new }
         ensures ok { IfOk result (λ moved. event_in self.old disconnect (present blocks.now) ≡ happened_in self.new moved) }
+        ensures before { IsMarked self.old.pool.now → OnOk result (self.new.pool.now.before ≡ self.old.pool.now.entries) }
         ensures chain_kept { OnErr result (self.new.chain.now ≡ self.old.chain.now) }
         ensures pool_kept { OnErr result (self.new.pool.now.entries ≡ self.old.pool.now.entries) }
         ensures floor_kept { OnErr result (self.new.floor.now ≡ self.old.floor.now) }
@@ -259,7 +266,7 @@ impl<'a, S: BuildHasher + Copy + Drop> Changing<'a, S> {
 ///
 /// A denial names the first rule that fails: C1, and then those of `switch`. If the event fails, nothing has changed.
 /// If it disconnects no block, it costs what the new blocks confirm and contradict; else it works on a copy of the
-/// pool.
+/// pool. What has moved in the pool is then what this event moved.
 pub fn chain_event<S: BuildHasher + Copy + Drop>(
     alloc: Global,
     chain: &mut Chain<S>,
@@ -277,12 +284,14 @@ pub fn chain_event<S: BuildHasher + Copy + Drop>(
     ensures chain_kept { OnErr result (chain.new ≡ chain.old) }
     ensures pool_kept { OnErr result (pool.new.entries ≡ pool.old.entries) }
     ensures floor_kept { OnErr result (floor.new ≡ floor.old) }
+    ensures before { OnOk result (pool.new.before ≡ pool.old.entries) }
     ensures passes { OnOk result (first_failing (event_rules chain.old disconnect blocks.now) ≡ None) }
     ensures denied { IfErr result (λ fault. Tells fault (first_failing (event_rules chain.old disconnect blocks.now))) }
     // If chain and pool were good and the transactions are told apart by their ids, chain and pool stay good.
     ensures good { IsReadyFor (limits_for policy.now budget) chain.old pool.old.entries (present blocks.now) →
         StaysGood (limits_for policy.now budget) chain.new pool.new.entries }
 {
+    pool.mark();
     let mut changing = Changing {
         chain,
         pool,

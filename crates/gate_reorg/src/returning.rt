@@ -25,7 +25,8 @@ fn try_again<S: BuildHasher + Copy + Drop>(
     pool: &mut Pool<S>,
     transaction: &Counted<Identified>,
 ) -> Result<(), Memory>
-    ensures { OnOk result (pool.new.entries ≡ tried_again (terms_of under.now) pool.old.entries transaction.now) }
+    ensures entries { OnOk result (pool.new.entries ≡ tried_again (terms_of under.now) pool.old.entries transaction.now) }
+    ensures before { pool.new.before ≡ pool.old.before }
 {
     let txid = transaction.get().txid();
     let prepared = Prepared::of(alloc, transaction.copy(alloc)?)?;
@@ -52,8 +53,9 @@ fn return_block<S: BuildHasher + Copy + Drop>(
     new: &IndexSet<Txid, S>,
     transactions: &[Counted<Identified>],
 ) -> Result<(), Memory>
-    ensures { (landed : List Tx) → HasIdsOf new.now landed →
+    ensures entries { (landed : List Tx) → HasIdsOf new.now landed →
         OnOk result (pool.new.entries ≡ returns_of under.now pool.old.entries landed transactions.now) }
+    ensures before { pool.new.before ≡ pool.old.before }
 {
     for transaction in transactions {
         if !new.contains(&transaction.get().txid()) {
@@ -71,8 +73,9 @@ pub(crate) fn return_all<S: BuildHasher + Copy + Drop>(
     new: &IndexSet<Txid, S>,
     gone: &[Block],
 ) -> Result<(), Memory>
-    ensures { (landed : List Tx) → HasIdsOf new.now landed →
+    ensures entries { (landed : List Tx) → HasIdsOf new.now landed →
         OnOk result (pool.new.entries ≡ returns_of under.now pool.old.entries landed (transactions_of gone.now)) }
+    ensures before { pool.new.before ≡ pool.old.before }
 {
     for block in gone {
         return_block(alloc, under, pool, new, block.transactions())?;

@@ -173,7 +173,8 @@ pub(crate) fn take_premature<S: BuildHasher + Copy + Drop>(
     chain: &Chain<S>,
     pool: &mut Pool<S>,
 ) -> Result<(), Memory>
-    ensures { OnOk result (pool.new.entries ≡ without_premature chain.now pool.old.entries) }
+    ensures entries { OnOk result (pool.new.entries ≡ without_premature chain.now pool.old.entries) }
+    ensures before { pool.new.before ≡ pool.old.before }
 {
     pool.recall_distinct();
     let ids = premature_ids(alloc, chain, pool)?;

@@ -16,7 +16,8 @@ pub fn trim<S: BuildHasher + Copy + Drop>(
     budget: u64,
 )
     requires { step ≤ largest_step }
-    ensures { trim_of step budget pool.old.entries floor.old ≡ record { entries = pool.new.entries; floor = floor.new } }
+    ensures trimmed { trim_of step budget pool.old.entries floor.old ≡ record { entries = pool.new.entries; floor = floor.new } }
+    ensures before { pool.new.before ≡ pool.old.before }
 {
     while pool.size() > u128::from(budget) {
         let Some(score) = pool.least() else {
@@ -38,6 +39,7 @@ pub fn try_trim<S: BuildHasher + Copy + Drop>(
     requires { step ≤ largest_step }
     ensures done { IsOk result }
     ensures trimmed { trim_of step budget pool.old.entries floor.old ≡ record { entries = pool.new.entries; floor = floor.new } }
+    ensures before { pool.new.before ≡ pool.old.before }
 {
     trim(pool, floor, step, budget);
     Ok(())

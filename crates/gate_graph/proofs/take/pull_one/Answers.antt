@@ -1,9 +1,11 @@
-use Rattle.std.proofs.Common.{sym, ap, subst, arith, length, ◌≡◌}
+use Rattle.std.proofs.Common.{sym, ap, subst, arith, length, ◌≡◌, ◌∙◌}
 use Rattle.std.specs.Option.{option_map}
 use Rattle.gate_graph.specs.Holding.{id_at, nodes_of}
 use Rattle.gate_graph.specs.Linking.{IsLinked, AreWithout}
 use Rattle.gate_graph.proofs.Holdings.{find_is}
+use Rattle.gate_graph.proofs.Placing.{spot_some}
 use Rattle.gate_graph.proofs.Pulling.{IsLinked-pulled, pulled_fewer}
+use Rattle.gate_graph.proofs.Vacating.{once_spots, set_vacates}
 use Rattle.gate_graph.proofs.take.pull_one.Goals as goal
 
 pub returns-clause-linked : goal.returns-clause-linked
@@ -22,3 +24,9 @@ returns-clause-fewer g c =
 
 pub returns-clause-load : goal.returns-clause-load
 returns-clause-load g c = ap (option_map (λ h. h.load)) c.pull-held.ensures.taken
+
+pub returns-clause-vacated : goal.returns-clause-vacated
+returns-clause-vacated g c =
+    let spots = c.args.slots.now.spots in
+    c.pull-held.ensures.spots
+    ∙ set_vacates spots c.args.place (id_at spots c.args.place) (once_spots (nodes_of c.args.slots.now.held) spots c.requires.apart c.len-len.ensures.ids) (spot_some spots c.args.place c.requires.stands)

@@ -1,13 +1,17 @@
-use Rattle.std.proofs.Common.{length, ◌++◌, ◌∙◌, sym, ap, subst}
-use Rattle.gate_graph.specs.Families.{are_apart}
-use Rattle.gate_graph.specs.Holding.{ids_at, nodes_of, loaded, left_of}
+use Rattle.std.proofs.Common.{◌≡◌, length, ◌++◌, ◌∙◌, sym, ap, subst}
+use Rattle.std.proofs.lemmas.List.{length-map}
+use Rattle.gate_graph.specs.Family.{reaches, steps_of}
+use Rattle.gate_graph.specs.Families.{among, are_apart}
+use Rattle.gate_graph.specs.Holding.{ids_at, nodes_of, loaded, left_of, all_gone, unless, vacated}
 use Rattle.gate_graph.specs.Walking.{AreClear, AreStanding}
 use Rattle.gate_graph.proofs.Marking.{ids_same}
 use Rattle.gate_graph.specs.Weighing.{IsCounted, IsWeighed}
 use Rattle.gate_graph.proofs.Loading.{small_left}
-use Rattle.gate_graph.specs.Holding.{loads_of}
 use Rattle.gate_graph.proofs.Going.{gone_with}
 use Rattle.gate_graph.proofs.Leaving.{IsCounted-start, IsWeighed-left, apart_left, loaded_left}
+use Rattle.gate_graph.proofs.Vacating.{vacated_same, stands_node}
+use Rattle.gate_graph.proofs.take.take_family.Given.{Over}
+use Rattle.gate_graph.proofs.take.take_family.Goals.{After-pull_each}
 use Rattle.gate_graph.proofs.take.take_family.Goals as goal
 
 pub lower_above_each-requires-clause-counted : goal.lower_above_each-requires-clause-counted
@@ -56,10 +60,10 @@ returns-clause-gone g c =
     let hs = c.args.slots.now.held in
     let hs' = c.lower_above_each.new.slots.held in
     let spots = c.args.slots.now.spots in
-    let ids = ids_at spots c.walk_below.new.found.items in
-    gone_with hs hs' c.args.id.now ids c.args.gone.now.items c.pull_each.new.gone.items
-    (ap are_apart c.lower_above_each.ensures.counted.nodes ∙ c.requires.apart) c.lower_above_each.ensures.loaded c.walk_below.ensures.led
-    (c.pull_each.ensures.gone ∙ ap (λ l. c.args.gone.now.items ++ loads_of l hs') (ids_same spots c.lower_above_each.new.slots.spots c.as_slice-2.result.now c.walk_below.new.found.items c.lower_above_each.ensures.spots c.as_slice-2.ensures.value))
+    let found = c.walk_below.new.found.items in
+    gone_with hs hs' spots c.args.id.now found c.args.gone.now.items c.pull_each.new.gone.items
+    (ap are_apart c.lower_above_each.ensures.counted.nodes ∙ c.requires.apart) c.lower_above_each.ensures.loaded c.walk_below.ensures.standing c.walk_below.ensures.led
+    (c.pull_each.ensures.gone ∙ (λ i. c.args.gone.now.items ++ all_gone (c.lower_above_each.ensures.spots i) hs' (c.as_slice-2.ensures.value i)))
 
 pub lower_above_each-requires-clause-standing : goal.lower_above_each-requires-clause-standing
 lower_above_each-requires-clause-standing g c = subst (AreStanding c.args.slots.now.spots) (sym c.as_slice.ensures.value) c.walk_below.ensures.standing
@@ -68,9 +72,20 @@ pub pull_each-requires-clause-standing : goal.pull_each-requires-clause-standing
 pull_each-requires-clause-standing g c =
     subst (λ s. AreStanding s c.as_slice-2.result.now) (sym c.lower_above_each.ensures.spots) (subst (AreStanding c.args.slots.now.spots) (sym c.as_slice-2.ensures.value) c.walk_below.ensures.standing)
 
-pub returns-clause-clear : goal.returns-clause-clear
-returns-clause-clear g c =
-    subst (λ n. AreClear n c.lower_above_each.new.marks.items) (sym (c.pull_each.ensures.spots ∙ ap length c.lower_above_each.ensures.spots)) c.lower_above_each.ensures.clear
+-- where an id stands there is a node
+spots_are : (g : Over) (c : After-pull_each g) → c.pull_each.new.slots.spots ≡ vacated (reaches (steps_of (nodes_of c.args.slots.now.held)) c.args.id.now) c.args.slots.now.spots
+spots_are g c =
+    let spots = c.args.slots.now.spots in
+    let ns = nodes_of c.args.slots.now.held in
+    c.pull_each.ensures.spots
+    ∙ (λ i. vacated (among (ids_at (c.lower_above_each.ensures.spots i) (c.as_slice-2.ensures.value i))) (c.lower_above_each.ensures.spots i))
+    ∙ vacated_same (among (ids_at spots c.walk_below.new.found.items)) (reaches (steps_of ns) c.args.id.now) spots (λ x k. c.walk_below.ensures.led x (stands_node ns spots x c.len-len.ensures.ids k))
 
 pub returns-clause-spots : goal.returns-clause-spots
-returns-clause-spots g c = c.pull_each.ensures.spots ∙ ap length c.lower_above_each.ensures.spots
+returns-clause-spots g c = spots_are g (goal.at.returns-clause-spots g c).After-pull_each
+
+pub returns-clause-clear : goal.returns-clause-clear
+returns-clause-clear g c =
+    let spots = c.args.slots.now.spots in
+    subst (λ n. AreClear n c.lower_above_each.new.marks.items)
+    (sym (ap length (spots_are g (goal.at.returns-clause-clear g c).After-pull_each) ∙ length-map spots (unless (reaches (steps_of (nodes_of c.args.slots.now.held)) c.args.id.now)))) c.lower_above_each.ensures.clear

@@ -7,10 +7,10 @@ use Rattle.indexmap.specs.IndexMap.{get, spare}
 use Rattle.gate_pool.specs.Pool.{has_wtxid, has_point}
 use Rattle.gate_pool.proofs.places.drop_each.Given as goal
 
-abbrev pub invariant-loop-entry : goal.invariant-loop-entry
-invariant-loop-entry g l = record {
-  wtxids : (id : List ℕ) → get bytes_eq l.wtxids id ≡ cond (list_any (λ e. has_wtxid e id) (take l.entry-index l.entries)) None (get bytes_eq l.fn.wtxids id);
-  points : (point : OutPoint) → get point_eq l.spent point ≡ cond (list_any (λ e. has_point e point) (take l.entry-index l.entries)) None (get point_eq l.fn.spent point);
+abbrev pub invariant-loop-gone : goal.invariant-loop-gone
+invariant-loop-gone g l = record {
+  wtxids : (id : List ℕ) → get bytes_eq l.wtxids id ≡ cond (list_any (λ x. has_wtxid x.load id) (take l.gone-index l.left)) None (get bytes_eq l.fn.wtxids id);
+  points : (point : OutPoint) → get point_eq l.spent point ≡ cond (list_any (λ x. has_point x.load point) (take l.gone-index l.left)) None (get point_eq l.fn.spent point);
   wtxid_room : spare l.fn.wtxids ≤ spare l.wtxids;
   point_room : spare l.fn.spent ≤ spare l.spent;
 }

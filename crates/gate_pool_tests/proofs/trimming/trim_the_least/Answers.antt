@@ -7,4 +7,4 @@ returns g c =
     let budget = c.args.budget in
     let entries = c.args.pool.now.entries in
     let floor = c.args.floor.now in
-    subst (Trims 1000 budget entries floor) c.trim.ensures (c.trimming_takes_the_least.ensures 1000 budget entries floor)
+    subst (Trims 1000 budget entries floor) c.trim.ensures.trimmed (c.trimming_takes_the_least.ensures 1000 budget entries floor)

@@ -63,7 +63,7 @@ invariant_of-self g c =
     let n : Node = record { id = node; size = c.args.size; fee = c.args.fee; parents = c.in_ok-above.above.items } in
     let m : Node = record { id = x; size = c.args.size; fee = c.args.fee; parents = ps } in
     let same : n ≡ m = λ i. record { id = c.new-node.ensures i; size = c.args.size; fee = c.args.fee; parents = c.in_ok-above.ensures i } in
-    let is : nodes_in c.put.new.self.nodes ≡ with_above ns m cs = ap nodes_in c.put.ensures ∙ nodes_pushed ready n _ ∙ ap (λ l. l ++ n ∷ []) c.in-Ok.ensures.ok ∙ ap (λ k. with_above ns k cs) same in
+    let is : nodes_in c.put.new.self.nodes ≡ with_above ns m cs = ap nodes_in c.put.ensures.nodes ∙ nodes_pushed ready n _ ∙ ap (λ l. l ++ n ∷ []) c.in-Ok.ensures.ok ∙ ap (λ k. with_above ns k cs) same in
     subst IsGraph (sym is) (IsGraph-with_above ns m cs c.self.invariant fits.new fits.parents fits.children fits.apart)
 
 pub returns-in-Ok-clause-ok : goal.returns-in-Ok-clause-ok
@@ -81,7 +81,7 @@ returns-in-Ok-clause-ok g c =
     let n : Node = record { id = node; size = c.args.size; fee = c.args.fee; parents = c.in_ok-above.above.items } in
     let m : Node = record { id = x; size = c.args.size; fee = c.args.fee; parents = ps } in
     let same : n ≡ m = λ i. record { id = c.new-node.ensures i; size = c.args.size; fee = c.args.fee; parents = c.in_ok-above.ensures i } in
-    let is : nodes_in c.put.new.self.nodes ≡ with_above ns m cs = ap nodes_in c.put.ensures ∙ nodes_pushed ready n _ ∙ ap (λ l. l ++ n ∷ []) c.in-Ok.ensures.ok ∙ ap (λ k. with_above ns k cs) same in
+    let is : nodes_in c.put.new.self.nodes ≡ with_above ns m cs = ap nodes_in c.put.ensures.nodes ∙ nodes_pushed ready n _ ∙ ap (λ l. l ++ n ∷ []) c.in-Ok.ensures.ok ∙ ap (λ k. with_above ns k cs) same in
     is ∙ ap (λ s. with_above s m cs) c.self.view_is
 
 pub unname-requires : goal.unname-requires

@@ -1,5 +1,8 @@
-use Rattle.std.proofs.Common.{arith}
-use Rattle.gate_graph.proofs.Loading.{fewer_left}
+use Rattle.std.proofs.Common.{length, ap, sym, subst, ◌∙◌, arith}
+use Rattle.std.proofs.lemmas.List.{length-map}
+use Rattle.gate_graph.specs.Family.{reaches, steps_of}
+use Rattle.gate_graph.specs.Holding.{Carried, nodes_of, nodes_in, unless, vacated, AreGone}
+use Rattle.gate_graph.proofs.Loading.{fewer_left, nodes_loaded}
 use Rattle.gate_graph.proofs.nodes.Nodes.take_family.Goals as goal
 
 pub invariant_of-self : goal.invariant_of-self
@@ -21,6 +24,16 @@ invariant_of-self g c =
       },
       record {
         clear = c.take_family.ensures.clear;
-        more = λ l. omega (arith, c.self.invariant.2.more l, c.take_family.ensures.spots, c.take_family.ensures.marks);
+        more = λ l. omega (arith, c.self.invariant.2.more l, ap length c.take_family.ensures.spots, length-map c.self.inside.slots.spots (unless (reaches (steps_of (nodes_of c.self.inside.slots.held)) c.args.id.now)), c.take_family.ensures.marks);
       },
     )
+
+pub returns-clause-places : goal.returns-clause-places
+returns-clause-places g c =
+    c.take_family.ensures.spots
+    ∙ ap (λ ns. vacated (reaches (steps_of ns) c.args.id.now) c.self.inside.slots.spots) (sym (nodes_loaded c.self.inside.slots.held))
+    ∙ ap (λ (l : Carried g.row.T.Denot). vacated (reaches (steps_of (nodes_in l.nodes)) c.args.id.now) l.places) c.self.view_is
+
+pub returns-clause-gone : goal.returns-clause-gone
+returns-clause-gone g c =
+    subst (λ (l : Carried g.row.T.Denot). AreGone l.nodes l.places c.args.id.now c.args.gone.now.items c.take_family.new.gone.items) c.self.view_is c.take_family.ensures.gone

@@ -27,7 +27,7 @@ invariant_of-self g c =
     let e = c.args.entry in
     let old = c.self.inside.store.entries in
     let rest : c.take_conflicts.new.self.entries ≡ without_below (spends_one_of e.tx.inputs) old = rw (c.inputs.ensures, c.transaction.ensures) at c.take_conflicts.ensures.rest in
-    let left : c.settle-self-inside.new.self.entries ≡ c.take_conflicts.new.self.entries ++ e ∷ [] = c.settle-self-inside.ensures.entries ∙ c.put.ensures in
+    let left : c.settle-self-inside.new.self.entries ≡ c.take_conflicts.new.self.entries ++ e ∷ [] = c.settle-self-inside.ensures.entries ∙ c.put.ensures.entries in
     record {
       chosen_room = omega (arith, c.self.invariant.next, c.self.ranges, shorter (λ (d : Admitted). not (is_below_some (spends_one_of e.tx.inputs) old d)) old, ap length rest, ap length left, length-append c.take_conflicts.new.self.entries (e ∷ []), c.requires.room, ap (λ (p : Pooled). p.room) c.self.view_is);
       next = λ l. absurd (omega (arith, l, c.settle-self-inside.ensures.room));
@@ -37,8 +37,8 @@ invariant_of-self g c =
       bounded = c.settle-self-inside.ensures.bounded;
     }
 
-pub returns : goal.returns
-returns g c =
+pub returns-clause-entries : goal.returns-clause-entries
+returns-clause-entries g c =
     let e = c.args.entry in
-    c.settle-self-inside.ensures.entries ∙ c.put.ensures ∙ ap (λ l. l ++ e ∷ []) (rw (c.inputs.ensures, c.transaction.ensures) at c.take_conflicts.ensures.rest)
+    c.settle-self-inside.ensures.entries ∙ c.put.ensures.entries ∙ ap (λ l. l ++ e ∷ []) (rw (c.inputs.ensures, c.transaction.ensures) at c.take_conflicts.ensures.rest)
     ∙ ap (λ (p : Pooled). entered p.entries e) c.self.view_is

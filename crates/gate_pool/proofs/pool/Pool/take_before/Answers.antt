@@ -20,5 +20,5 @@ invariant_of-self g c =
       bounded = settled.bounded;
     }
 
-pub returns : goal.returns
-returns g c = c.settle-self-inside.ensures.entries ∙ c.take_before.ensures.rest ∙ ap (λ (p : Pooled). without_below (is_before c.args.time) p.entries) c.self.view_is
+pub returns-clause-entries : goal.returns-clause-entries
+returns-clause-entries g c = c.settle-self-inside.ensures.entries ∙ c.take_before.ensures.rest ∙ ap (λ (p : Pooled). without_below (is_before c.args.time) p.entries) c.self.view_is

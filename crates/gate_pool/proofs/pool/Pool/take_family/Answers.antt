@@ -13,5 +13,5 @@ invariant_of-self g c =
     let x = c.args.txid.now in
     IsReady-filter (λ (e : Admitted). not (reaches (steps es) x (txid_of e.tx))) c.self.invariant (c.take_out.ensures.rest ∙ ap (without_family es) c.node_id.ensures) c.settle-self-inside.ensures.entries c.settle-self-inside.ensures.room refl (c.settle-self-inside.ensures.value ∙ ap least_of (sym c.settle-self-inside.ensures.entries)) c.settle-self-inside.ensures.bounded
 
-pub returns : goal.returns
-returns g c = c.settle-self-inside.ensures.entries ∙ c.take_out.ensures.rest ∙ (λ i. without_family (c.self.view_is i).entries (c.node_id.ensures i))
+pub returns-clause-entries : goal.returns-clause-entries
+returns-clause-entries g c = c.settle-self-inside.ensures.entries ∙ c.take_out.ensures.rest ∙ (λ i. without_family (c.self.view_is i).entries (c.node_id.ensures i))

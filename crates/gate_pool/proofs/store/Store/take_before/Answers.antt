@@ -1,9 +1,8 @@
-use Rattle.std.proofs.Common.{◌≡◌, ◌≤◌, ℕ, false, sym, ap, subst, ◌∙◌, arith}
+use Rattle.std.proofs.Common.{◌≡◌, ◌≤◌, ℕ, false, sym, ◌∙◌, arith}
 use Rattle.std.specs.Prelude.{nat_lt}
 use Rattle.std.proofs.lemmas.Bool.Decides.{nat_tests}
-use Rattle.gate_pool.specs.Arrivals.{arrival_of, HaveArrived}
-use Rattle.gate_pool.specs.Pool.{Admitted, is_before}
-use Rattle.gate_pool.specs.Family.{without_below}
+use Rattle.gate_pool.specs.Arrivals.{arrival_of}
+use Rattle.gate_pool.specs.Pool.{is_before}
 use Rattle.gate_pool.proofs.Conflicts.{find_absent}
 use Rattle.gate_pool.proofs.Earliest.{HaveArrived-taken, taken_falls}
 use Rattle.gate_pool.proofs.Removals.{without_below-none}
@@ -18,6 +17,7 @@ loop-txid-smaller g c = taken_falls c.in-Some.ensures.some
 pub loop-txid-preserved : goal.loop-txid-preserved
 loop-txid-preserved g c = record {
   rest = c.take_early.ensures.rest ∙ c.loop-txid.invariant.rest;
+  before = c.take_early.ensures.before ∙ c.loop-txid.invariant.before;
   arrived = HaveArrived-taken c.loop-txid.self.entries c.take_early.new.self.entries c.loop-txid.invariant.arrived c.in-Some.ensures.some c.take_early.ensures.fewer c.take_early.ensures.late;
 }
 

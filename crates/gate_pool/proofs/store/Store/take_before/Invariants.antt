@@ -7,6 +7,7 @@ use Rattle.gate_pool.proofs.store.Store.take_before.Given as goal
 abbrev pub invariant-loop-txid : goal.invariant-loop-txid
 invariant-loop-txid g l = record {
   rest : without_below (is_before l.time) l.self.entries ≡ without_below (is_before l.time) l.fn.self.entries;
+  before : l.self.before ≡ l.fn.self.before;
   arrived : HaveArrived l.self.entries l.arrivals.list;
 }
 

@@ -24,6 +24,7 @@ loop-input-preserved g c =
             | inl old ↦ taken.still i.prevout (inv.gone i old)
             | inr same ↦ subst (λ (y : TxIn). spender_of c.take_spender.new.self.entries y.prevout ≡ None) same taken.gone
           ];
+      before = taken.before ∙ inv.before;
       room = taken.room ∙ inv.room;
     }
 

@@ -9,5 +9,6 @@ abbrev pub invariant-loop-input : goal.invariant-loop-input
 invariant-loop-input g l = record {
   rest : without_below (spends_one_of l.inputs) l.self.entries ≡ without_below (spends_one_of l.inputs) l.fn.self.entries;
   gone : (i : TxIn) → Contains (take l.input-index l.inputs) i → spender_of l.self.entries i.prevout ≡ None;
+  before : l.self.before ≡ l.fn.self.before;
   room : l.self.room ≡ l.fn.self.room;
 }
