@@ -4,8 +4,8 @@
 #![tactic(auto)]
 
 use gate_causes::{Behind, Heard, Limit, Place, Watched, digits_told, refusal_told};
-use gate_explain::{Telling, run_gate_explained};
-use gate_prog::{ArgsFault, Asked, Job, LaneFault, Workers, read_args, run_job};
+use gate_explain::{Explaining, Telling};
+use gate_prog::{ArgsFault, Asked, Job, LaneFault, Workers, read_args, run_gate, run_job};
 use std::alloc::{AllocError, AllocFailed, Global};
 use std::fs::Files;
 use std::hash::RandomState;
@@ -153,7 +153,8 @@ fn run<
     let alloc = rt.alloc();
     let job = &asked.job;
     // One worker, which reads no line ahead, is the usual.
-    let workers = asked.workers.or(Workers::new(1)).unwrap_or_default();
+    let one = Workers::new(1).unwrap_or_default();
+    let workers = asked.workers.unwrap_or(one);
     // Peers choose txids and outpoints: since they can't know the keys, they can't make the hashes collide.
     let Ok(hasher) = RandomState::new(rt) else {
         return Err(Fault::Random);
@@ -174,7 +175,9 @@ fn run<
                 progress: terminals.error,
                 length: input_length(rt),
             };
-            run_gate_explained(rt, alloc, hasher, telling, &mut watched, &mut heard)
+            let onlooker = Explaining::new(rt, alloc, telling);
+            // The line that was read last is the one that is explained, so none is read ahead.
+            run_gate(rt, alloc, hasher, one, &onlooker, &mut watched, &mut heard)
         }
         _ => run_job(rt, alloc, hasher, workers, job, &mut watched, &mut heard),
     };

@@ -1,15 +1,15 @@
 //! `gate run --explain`: what it says of replies on standard error, and of the run at its end.
 //!
-//! The main clauses are those of [`run_gate_explained`]: what it writes is what `gate run` writes.
+//! It is an onlooker of `gate run`, so what is written is what `gate run` writes.
 #![tactic(auto)]
 
 mod denied;
-mod lane;
+mod explaining;
 mod progress;
 mod quantity;
 mod tally;
 mod telling;
 mod told;
 
-pub use lane::run_gate_explained;
+pub use explaining::Explaining;
 pub use telling::Telling;

@@ -1,5 +1,6 @@
 //! How far a long run has come.
 use crate::telling::Telling;
+use std::cell::Cell;
 use std::time::{Clock, Instant};
 
 /// This many events pass between two looks at the clock.
@@ -9,11 +10,11 @@ const EVENTS: u64 = 100;
 const SECONDS: u64 = 5;
 
 /// When a run began, and when its next line of progress is due.
-#[derive(Clone, Copy)]
+#[derive(Drop)]
 pub(crate) struct Progress {
     /// `None` if no progress is reported.
-    begun: Option<Instant>,
-    next: u64,
+    begun: Cell<Option<Instant>>,
+    next: Cell<u64>,
 }
 
 /// The percent of an input of this length that were read; `None` if the length is 0.
@@ -23,34 +24,36 @@ fn percent(bytes: u64, length: u64) -> Option<u64> {
 }
 
 impl Progress {
-    /// The run begins now. Without a clock no progress is reported.
-    pub(crate) fn begin<T: Clock>(rt: &T, telling: &Telling<'_>) -> Progress {
-        let begun = if telling.progress {
-            Instant::now(rt).ok()
-        } else {
-            None
-        };
+    /// The progress of a run that hasn't begun: none is reported.
+    pub(crate) fn new() -> Progress {
         Progress {
-            begun,
-            next: SECONDS,
+            begun: Cell::new(None),
+            next: Cell::new(SECONDS),
+        }
+    }
+
+    /// The run begins now. Without a clock no progress is reported.
+    pub(crate) fn begin<T: Clock>(&self, rt: &T, telling: &Telling<'_>) {
+        if telling.progress {
+            self.begun.set(Instant::now(rt).ok());
         }
     }
 
     /// The seconds since the beginning, if a line is due after this many events.
-    fn due<T: Clock>(&mut self, rt: &T, events: u64) -> Option<u64> {
+    fn due<T: Clock>(&self, rt: &T, events: u64) -> Option<u64> {
         if events % EVENTS != 0 {
             return None;
         }
-        let seconds = self.begun?.elapsed(rt).ok()?.as_secs();
-        if seconds < self.next {
+        let seconds = self.begun.get()?.elapsed(rt).ok()?.as_secs();
+        if seconds < self.next.get() {
             return None;
         }
-        self.next = seconds.saturating_add(SECONDS);
+        self.next.set(seconds.saturating_add(SECONDS));
         Some(seconds)
     }
 
     /// Reports the progress of a run after this many events, if a line is due.
-    pub(crate) fn tell<T: Clock + Eprint>(&mut self, rt: &T, telling: &Telling<'_>, events: u64) {
+    pub(crate) fn tell<T: Clock + Eprint>(&self, rt: &T, telling: &Telling<'_>, events: u64) {
         let Some(seconds) = self.due(rt, events) else {
             return;
         };

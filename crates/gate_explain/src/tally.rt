@@ -7,74 +7,74 @@ use gate_message::{Event, Reply};
 use gate_rpc::{RpcReply, RpcResult};
 use gate_rules::rules;
 use std::alloc::Global;
+use std::cell::Cell;
 
 /// How often a rule was named.
-#[derive(Clone, Copy)]
+#[derive(Drop)]
 struct Count {
     rule: &'static str,
-    times: u64,
+    times: Cell<u64>,
 }
 
 /// How many coins and verdicts were learnt, and how many blocks were forgotten.
-#[derive(Clone, Copy)]
+#[derive(Drop)]
 struct Learning {
-    coins: u64,
-    verdicts: u64,
-    blocks: u64,
+    coins: Cell<u64>,
+    verdicts: Cell<u64>,
+    blocks: Cell<u64>,
 }
 
 impl Learning {
     fn new() -> Learning {
         Learning {
-            coins: 0,
-            verdicts: 0,
-            blocks: 0,
+            coins: Cell::new(0),
+            verdicts: Cell::new(0),
+            blocks: Cell::new(0),
         }
     }
 
     /// Counts what an event of the chain taught or let forget, by its reply.
-    fn count(&mut self, event: &Event, reply: &Reply) {
+    fn count(&self, event: &Event, reply: &Reply) {
         match (event, reply) {
-            (Event::LearnCoin(_), Reply::Set) => one_more(&mut self.coins),
-            (Event::LearnVerdict(_), Reply::Set) => one_more(&mut self.verdicts),
-            (_, Reply::Forgotten { blocks, .. }) => {
-                self.blocks = self.blocks.saturating_add(*blocks);
-            }
+            (Event::LearnCoin(_), Reply::Set) => add(&self.coins, 1),
+            (Event::LearnVerdict(_), Reply::Set) => add(&self.verdicts, 1),
+            (_, Reply::Forgotten { blocks, .. }) => add(&self.blocks, *blocks),
             _ => {}
         }
     }
 
     /// Appends the counts, if one of them is not 0.
-    fn push_text(self, text: &mut String) -> Result<(), Memory> {
-        if self.coins > 0 || self.verdicts > 0 || self.blocks > 0 {
+    fn push_text(&self, text: &mut String) -> Result<(), Memory> {
+        let (coins, verdicts, blocks) = (self.coins.get(), self.verdicts.get(), self.blocks.get());
+        if coins > 0 || verdicts > 0 || blocks > 0 {
             write!(
                 text,
                 ", learnt {} and {}, forgot {}",
-                Quantity::new(self.coins, "coin", "coins"),
-                Quantity::new(self.verdicts, "verdict", "verdicts"),
-                Quantity::new(self.blocks, "block", "blocks")
+                Quantity::new(coins, "coin", "coins"),
+                Quantity::new(verdicts, "verdict", "verdicts"),
+                Quantity::new(blocks, "block", "blocks")
             )?;
         }
         Ok(())
     }
 }
 
-/// The totals of the events of a run.
+/// The totals of the events of a run, which grow while it is lent.
 #[derive(Drop)]
 pub(crate) struct Tally {
     alloc: Global,
-    events: u64,
-    admitted: u64,
-    replaced: u64,
-    denied: u64,
+    events: Cell<u64>,
+    admitted: Cell<u64>,
+    replaced: Cell<u64>,
+    denied: Cell<u64>,
     learning: Learning,
-    faults: u64,
+    faults: Cell<u64>,
     /// The count of each rule, in the order of the rules.
     counts: Vec<Count>,
 }
 
-fn one_more(count: &mut u64) {
-    *count = count.saturating_add(1);
+fn add(count: &Cell<u64>, more: u64) {
+    count.set(count.get().saturating_add(more));
 }
 
 /// Whether a reply says that a transaction entered.
@@ -108,7 +108,7 @@ fn no_counts(alloc: Global) -> Result<Vec<Count>, Memory> {
     for rule in table.as_slice() {
         counts.push(Count {
             rule: rule.name,
-            times: 0,
+            times: Cell::new(0),
         })?;
     }
     Ok(counts)
@@ -123,45 +123,45 @@ impl Tally {
         };
         Tally {
             alloc,
-            events: 0,
-            admitted: 0,
-            replaced: 0,
-            denied: 0,
+            events: Cell::new(0),
+            admitted: Cell::new(0),
+            replaced: Cell::new(0),
+            denied: Cell::new(0),
             learning: Learning::new(),
-            faults: 0,
+            faults: Cell::new(0),
             counts,
         }
     }
 
     /// How many events there were.
     pub(crate) fn events(&self) -> u64 {
-        self.events
+        self.events.get()
     }
 
     /// Counts an event by its reply. How many entries a user's transaction replaced is known from the explanation alone.
-    pub(crate) fn count(&mut self, event: &Event, explained: &Option<Explained>, reply: &Reply) {
-        one_more(&mut self.events);
+    pub(crate) fn count(&self, event: &Event, explained: &Option<Explained>, reply: &Reply) {
+        add(&self.events, 1);
         self.learning.count(event, reply);
         if lets_enter(reply) {
-            one_more(&mut self.admitted);
-            self.replaced = self.replaced.saturating_add(replaced_by(explained, reply));
+            add(&self.admitted, 1);
+            add(&self.replaced, replaced_by(explained, reply));
         }
         if let Some(rule) = rule_in(reply) {
-            one_more(&mut self.denied);
+            add(&self.denied, 1);
             self.count_rule(rule);
         }
     }
 
     /// Counts an event in whose step memory ran out.
-    pub(crate) fn count_fault(&mut self) {
-        one_more(&mut self.events);
-        one_more(&mut self.faults);
+    pub(crate) fn count_fault(&self) {
+        add(&self.events, 1);
+        add(&self.faults, 1);
     }
 
-    fn count_rule(&mut self, rule: RuleName) {
-        for count in self.counts.as_mut_slice() {
+    fn count_rule(&self, rule: RuleName) {
+        for count in self.counts.as_slice() {
             if rule.is(count.rule) {
-                one_more(&mut count.times);
+                add(&count.times, 1);
                 return;
             }
         }
@@ -171,9 +171,10 @@ impl Tally {
     fn rules_text(&self) -> Result<String, Memory> {
         let mut text = String::new(self.alloc);
         for count in self.counts.as_slice() {
-            if count.times > 0 {
+            let times = count.times.get();
+            if times > 0 {
                 let before = if text.is_empty() { " (" } else { ", " };
-                write!(text, "{before}{} {}", count.rule, count.times)?;
+                write!(text, "{before}{} {times}", count.rule)?;
             }
         }
         if !text.is_empty() {
@@ -188,14 +189,15 @@ impl Tally {
         let rules = self.rules_text()?;
         let mut text = format!(in self.alloc;
             "{}: {} admitted, {} replaced, {} denied{rules}",
-            Quantity::new(self.events, "event", "events"),
-            self.admitted,
-            self.replaced,
-            self.denied
+            Quantity::new(self.events.get(), "event", "events"),
+            self.admitted.get(),
+            self.replaced.get(),
+            self.denied.get()
         )?;
         self.learning.push_text(&mut text)?;
-        if self.faults > 0 {
-            write!(text, ", {} out of memory", self.faults)?;
+        let faults = self.faults.get();
+        if faults > 0 {
+            write!(text, ", {faults} out of memory")?;
         }
         Ok(text)
     }

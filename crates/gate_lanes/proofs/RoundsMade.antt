@@ -1,13 +1,14 @@
 -- Rounds, one more.
-use Rattle.std.proofs.Common.{◌≡◌, ℕ, ◌+◌, ◌<◌, ◌≤◌, true, false, List, [], ◌∷◌, ◌++◌, length, map, Option, None, Some, IsErr, IsOk, OnOk, Result, Ok, Err, is_err, is_ok, if◌then◌else◌, inl, inr, refl, sym, ap, subst, ◌∙◌, append-nil, arith}
+use Rattle.std.proofs.Common.{◌≡◌, ℕ, ◌+◌, ◌<◌, ◌≤◌, true, false, List, [], ◌∷◌, ◌++◌, length, map, Option, None, Some, IsOk, OnOk, Result, Ok, Err, is_err, is_ok, if◌then◌else◌, inl, inr, refl, sym, ap, subst, ◌∙◌, append-nil, append_assoc, arith}
 use Rattle.std.specs.List.{All}
 use Rattle.std.proofs.lemmas.Bool.{true≢false}
 use Rattle.std.proofs.lemmas.List.{map-append}
 use Rattle.std.proofs.lemmas.List.Elements.{All-cons, All-head, All-map, All-nil, All-tail}
+use Rattle.gate_bytes.specs.declared.memory.Memory.{Memory}
 use Rattle.gate_lines.specs.declared.fault.LaneFault.{LaneFault}
 use Rattle.gate_core.specs.World.{World}
 use Rattle.gate_lanes.specs.Ends.{AreWhole, Given, Left, left}
-use Rattle.gate_lanes.specs.Rounds.{Concludes, IsNextState, RoundLeft, RoundRan, RoundsRan, RoundsSettled}
+use Rattle.gate_lanes.specs.Rounds.{IsNextState, RoundLeft, RoundRan, RoundsRan}
 
 -- the next round begins with a state by one and the same reading of what a whole round is
 goes_on_as : (A B : Type 0) → (A → B) → (B → A) → (led next : Option World) → IsNextState A led next → IsNextState B led next
@@ -27,33 +28,6 @@ goes_on {E} after result ends led next h =
     goes_on_as (All (λ end. IsOk (result end)) ends) (AreWhole (map f ends)) (λ all. All-map (λ (end : Left). IsOk end.result) f ends all)
     (λ all. all_unmapped (λ (end : Left). IsOk end.result) f ends all) led next h
 
-pub settled_push : (w mid next : World) (lanes : List (List Given)) (more : List Given) (rounds : List RoundLeft) (round : RoundLeft) → RoundsSettled w lanes rounds mid
-    → RoundRan mid more round (Some next) → RoundsSettled w (lanes ++ more ∷ []) (rounds ++ round ∷ []) next
-settled_push w mid next [] more [] round all one = (next, subst (λ (v : World). RoundRan v more round (Some next)) all one, refl)
-settled_push w mid next [] more (r ∷ rs) round all one = absurd all
-settled_push w mid next (l ∷ ls) more [] round all one = absurd all
-settled_push w mid next (l ∷ ls) more (r ∷ rs) round (v, first, rest) one = (v, first, settled_push v mid next ls more rs round rest one)
-
-settled_all : {M : Type 0} (w last : World) (lanes : List (List Given)) (rounds : List RoundLeft) (result : Result (Unit {0}) M) → RoundsSettled w lanes rounds last → IsOk result → RoundsRan w lanes rounds result
-settled_all w last [] [] result all ok = ok
-settled_all w last [] (r ∷ rs) result all ok = absurd all
-settled_all w last (l ∷ ls) [] result all ok = absurd all
-settled_all w last (l ∷ ls) (r ∷ rs) result (v, first, rest) ok = inl (v, first, settled_all v last ls rs result rest ok)
-
-settled_stop : {M : Type 0} (w mid : World) (lanes : List (List Given)) (more : List Given) (later : List (List Given)) (rounds : List RoundLeft) (round : RoundLeft) (result : Result (Unit {0}) M)
-    → RoundsSettled w lanes rounds mid → RoundRan mid more round None → IsOk result → RoundsRan w (lanes ++ more ∷ later) (rounds ++ round ∷ []) result
-settled_stop w mid [] more later [] round result all one ok = inr (subst (λ (v : World). RoundRan v more round None) all one, refl, ok)
-settled_stop w mid [] more later (r ∷ rs) round result all one ok = absurd all
-settled_stop w mid (l ∷ ls) more later [] round result all one ok = absurd all
-settled_stop w mid (l ∷ ls) more later (r ∷ rs) round result (v, first, rest) one ok = inl (v, first, settled_stop v mid ls more later rs round result rest one ok)
-
-settled_short : {M : Type 0} (w mid : World) (lanes : List (List Given)) (more : List Given) (later : List (List Given)) (rounds : List RoundLeft) (result : Result (Unit {0}) M)
-    → RoundsSettled w lanes rounds mid → IsErr result → RoundsRan w (lanes ++ more ∷ later) rounds result
-settled_short w mid [] more later [] result all err = err
-settled_short w mid [] more later (r ∷ rs) result all err = absurd all
-settled_short w mid (l ∷ ls) more later [] result all err = absurd all
-settled_short w mid (l ∷ ls) more later (r ∷ rs) result (v, first, rest) err = inl (v, first, settled_short v mid ls more later rs result rest err)
-
 -- ---- rounds as a loop takes them
 
 -- there is room for one more
@@ -68,37 +42,42 @@ one_added {E} {U} {F} left old roomy new end r u same ok items =
     let grown : new ≡ roomy ++ end ∷ [] = items ∙ ap (λ (x : Result U F). if is_ok x then roomy ++ end ∷ [] else roomy) ok in
     ap (map left) (grown ∙ ap (λ (es : List E). es ++ end ∷ []) same) ∙ map-append left old (end ∷ [])
 
-pub settled_next : {L : Type 0} (given : L → List Given) (w mid next : World) (done : List L) (lanes : L) (ended new : List RoundLeft) (round : RoundLeft) (after : Option World)
-    → RoundsSettled w (map given done) ended mid → RoundRan mid (given lanes) round after → after ≡ Some next → new ≡ ended ++ round ∷ []
-    → RoundsSettled w (map given (done ++ lanes ∷ [])) new next
-settled_next given w mid next done lanes ended new round after so ran leads grown =
-    let one : RoundRan mid (given lanes) round (Some next) = subst (λ (o : Option World). RoundRan mid (given lanes) round o) leads ran in
-    subst (λ (ls : List (List Given)). RoundsSettled w ls new next) (sym (map-append given done (lanes ∷ [])))
-    (subst (λ (rs : List RoundLeft). RoundsSettled w (map given done ++ given lanes ∷ []) rs next) (sym grown)
-    (settled_push w mid next (map given done) (given lanes) ended round so one))
+-- whatever comes of the rounds of the lanes that are left, comes of those of all lanes behind the rounds that ended
+abbrev pub Leads : {L : Type 0} → (L → List Given) → World → List L → List RoundLeft → World → List L → Type 0
+Leads given w all ended now rest = (more : List RoundLeft) (result : Result (Unit {0}) Memory) → RoundsRan now (map given rest) more result → RoundsRan w (map given all) (ended ++ more) result
 
-pub settled_done : {L M : Type 0} (given : L → List Given) (w last : World) (done all : List L) (ended : List RoundLeft) (result : Result (Unit {0}) M) → done ≡ all
-    → RoundsSettled w (map given done) ended last → IsOk result → RoundsRan w (map given all) ended result
-settled_done given w last done all ended result same so ok =
-    subst (λ (ls : List (List Given)). RoundsRan w ls ended result) (ap (map given) same) (settled_all w last (map given done) ended result so ok)
+pub leads_none : {L : Type 0} (given : L → List Given) (w : World) (all rest : List L) (ended : List RoundLeft) → rest ≡ all → ended ≡ [] → Leads given w all ended w rest
+leads_none {L} given w all rest ended same none = λ more result h.
+    subst (λ (rs : List RoundLeft). RoundsRan w (map given all) (rs ++ more) result) (sym none) (subst (λ (ls : List L). RoundsRan w (map given ls) more result) same h)
+
+-- a round that leads on
+pub leads_next : {L : Type 0} (given : L → List Given) (w now next : World) (all rest later : List L) (lanes : L) (ended new : List RoundLeft) (round : RoundLeft) (after : Option World)
+    → Leads given w all ended now rest → rest ≡ lanes ∷ later → RoundRan now (given lanes) round after → after ≡ Some next → new ≡ ended ++ round ∷ [] → Leads given w all new next later
+leads_next {L} given w now next all rest later lanes ended new round after so parts ran leads grown = λ more result h.
+    let one : RoundRan now (given lanes) round (Some next) = subst (λ (o : Option World). RoundRan now (given lanes) round o) leads ran in
+    let begun : RoundsRan now (map given rest) (round ∷ more) result = subst (λ (ls : List L). RoundsRan now (map given ls) (round ∷ more) result) (sym parts) (inl (next, one, h)) in
+    subst (λ (rs : List RoundLeft). RoundsRan w (map given all) rs result) (sym (append_assoc ended (round ∷ []) more) ∙ ap (λ (rs : List RoundLeft). rs ++ more) (sym grown)) (so (round ∷ more) result begun)
 
 -- a round that is the last
-pub settled_stops : {L M : Type 0} (given : L → List Given) (w mid : World) (all done later : List L) (lanes : L) (ended new : List RoundLeft) (round : RoundLeft) (after : Option World) (result : Result (Unit {0}) M)
-    → all ≡ done ++ lanes ∷ later → RoundsSettled w (map given done) ended mid → RoundRan mid (given lanes) round after → after ≡ None → new ≡ ended ++ round ∷ [] → IsOk result
-    → RoundsRan w (map given all) new result
-settled_stops given w mid all done later lanes ended new round after result parts so ran leads grown ok =
-    let one : RoundRan mid (given lanes) round None = subst (λ (o : Option World). RoundRan mid (given lanes) round o) leads ran in
-    subst (λ (ls : List (List Given)). RoundsRan w ls new result) (sym (ap (map given) parts ∙ map-append given done (lanes ∷ later)))
-    (subst (λ (rs : List RoundLeft). RoundsRan w (map given done ++ given lanes ∷ map given later) rs result) (sym grown)
-    (settled_stop w mid (map given done) (given lanes) (map given later) ended round result so one ok))
+pub leads_stop : {L : Type 0} (given : L → List Given) (w now : World) (all rest later : List L) (lanes : L) (ended new : List RoundLeft) (round : RoundLeft) (after : Option World)
+    → Leads given w all ended now rest → rest ≡ lanes ∷ later → RoundRan now (given lanes) round after → after ≡ None → new ≡ ended ++ round ∷ [] → RoundsRan {M = Memory} w (map given all) new (Ok tt)
+leads_stop {L} given w now all rest later lanes ended new round after so parts ran none grown =
+    let one : RoundRan now (given lanes) round None = subst (λ (o : Option World). RoundRan now (given lanes) round o) none ran in
+    subst (λ (rs : List RoundLeft). RoundsRan {M = Memory} w (map given all) rs (Ok tt)) (sym grown)
+    (so (round ∷ []) (Ok tt) (subst (λ (ls : List L). RoundsRan {M = Memory} now (map given ls) (round ∷ []) (Ok tt)) (sym parts) (inr (one, refl, refl))))
 
 -- a round in which memory ran out
-pub settled_shorts : {L M : Type 0} (given : L → List Given) (w mid : World) (all done later : List L) (lanes : L) (ended new : List RoundLeft) (result : Result (Unit {0}) M)
-    → all ≡ done ++ lanes ∷ later → RoundsSettled w (map given done) ended mid → new ≡ ended → IsErr result → RoundsRan w (map given all) new result
-settled_shorts given w mid all done later lanes ended new result parts so same err =
-    subst (λ (ls : List (List Given)). RoundsRan w ls new result) (sym (ap (map given) parts ∙ map-append given done (lanes ∷ later)))
-    (subst (λ (rs : List RoundLeft). RoundsRan w (map given done ++ given lanes ∷ map given later) rs result) (sym same)
-    (settled_short w mid (map given done) (given lanes) (map given later) ended result so err))
+pub leads_short : {L : Type 0} (given : L → List Given) (w now : World) (all rest later : List L) (lanes : L) (ended new : List RoundLeft) (fault : Memory)
+    → Leads given w all ended now rest → rest ≡ lanes ∷ later → new ≡ ended → RoundsRan w (map given all) new (Err fault)
+leads_short {L} given w now all rest later lanes ended new fault so parts same =
+    subst (λ (rs : List RoundLeft). RoundsRan w (map given all) rs (Err fault)) (append-nil ended ∙ sym same)
+    (so [] (Err fault) (subst (λ (ls : List L). RoundsRan now (map given ls) [] (Err fault)) (sym parts) refl))
+
+pub leads_done : {L : Type 0} (given : L → List Given) (w now : World) (all rest : List L) (ended : List RoundLeft)
+    → Leads given w all ended now rest → rest ≡ [] → RoundsRan {M = Memory} w (map given all) ended (Ok tt)
+leads_done {L} given w now all rest ended so none =
+    subst (λ (rs : List RoundLeft). RoundsRan {M = Memory} w (map given all) rs (Ok tt)) (append-nil ended)
+    (so [] (Ok tt) (subst (λ (ls : List L). RoundsRan {M = Memory} now (map given ls) [] (Ok tt)) (sym none) refl))
 
 pub nothing_left : {X : Type 0} (l : List X) → length l ≡ 0 → l ≡ []
 nothing_left [] h = refl
@@ -107,6 +86,3 @@ nothing_left (x ∷ xs) h = absurd (omega arith)
 -- what was taken of a list, and what is left of it
 pub some_done : {X : Type 0} (done left more begun all : List X) → left ≡ more → done ++ left ≡ begun → begun ≡ all → all ≡ done ++ more
 some_done done left more begun all same parts is = sym (ap (λ xs. done ++ xs) (sym same) ∙ parts ∙ is)
-
-pub all_done : {X : Type 0} (done left begun all : List X) → left ≡ [] → done ++ left ≡ begun → begun ≡ all → done ≡ all
-all_done done left begun all none parts is = sym (append-nil done) ∙ ap (λ xs. done ++ xs) (sym none) ∙ parts ∙ is

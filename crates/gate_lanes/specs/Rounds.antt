@@ -61,14 +61,6 @@ RoundRan w lanes round next = (passes : List PassView) × (led : Option World)
 abbrev pub rounds_given : {R W : Type 0} → (R → Option (List ℕ)) → (W → Option (List ℕ)) → List (Vec (Lane R W)) → List (List Given)
 rounds_given remaining contents rounds = map (λ lanes. all_given remaining contents lanes.items) rounds
 
--- from this state the rounds of these lanes settled one after another, each whole and on the state that the round before led to,
--- and the last leads to this state
-abbrev pub RoundsSettled : World → List (List Given) → List RoundLeft → World → Type 0
-RoundsSettled w [] [] last = last ≡ w
-RoundsSettled w [] (round ∷ rounds) last = ⊥
-RoundsSettled w (lanes ∷ more) [] last = ⊥
-RoundsSettled w (lanes ∷ more) (round ∷ rounds) last = (next : World) × RoundRan w lanes round (Some next) × RoundsSettled next more rounds last
-
 -- From this state the rounds of these lanes ran one after another, each on the state that the round before led to. No round ran
 -- after one that is not known to settle or is not whole, nor after these if memory ran out in the next.
 abbrev pub RoundsRan : {M : Type 0} → World → List (List Given) → List RoundLeft → Result (Unit {0}) M → Type 0

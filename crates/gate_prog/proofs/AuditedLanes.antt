@@ -1,7 +1,10 @@
 -- The journals that lanes print are legal ones for an audit.
 use Rattle.std.proofs.Common.{◌≡◌, ◌≢◌, ℕ, zero, suc, ◌+◌, ◌-◌, ◌<◌, ◌≤◌, ◌==◌, nat_lt, nat_le, Bool, true, false, if◌then◌else◌, List, [], ◌∷◌, ◌++◌, length, take, get_or, map, Option, Some, None, IsOk, Result, Ok, Err, inl, inr, refl, sym, ap, ap₂, subst, ◌∙◌, append_assoc, append-nil, arith}
 use Rattle.std.specs.List.{All, cons_option}
+use Rattle.std.specs.Global.{Vec}
+use Rattle.std.specs.Io.KnownBytes.{Appends}
 use Rattle.std.specs.Prelude.{slice_get}
+use Rattle.std.proofs.KnownBytes.{Appends-trans}
 use Rattle.std.proofs.lemmas.List.Elements.{All-cons, All-head, All-nil, All-tail}
 use Rattle.std.proofs.lemmas.Bool.{false≢true, leb-true, true≢false}
 use Rattle.std.proofs.lemmas.Option.{none-some, same_Some, slice_get-get_or}
@@ -17,12 +20,14 @@ use Rattle.gate_events.proofs.SpelledTexts.{texts_spell}
 use Rattle.gate_journal.specs.Legal.{AreLegalRounds, entry, entry_limit, events_of, joined, replies_of, state_after}
 use Rattle.gate_journal.specs.Legal.{IsLegal as IsLegalJournal}
 use Rattle.gate_journal.specs.declared.Entry.{Entry}
-use Rattle.gate_lanes.specs.Ends.{Left, LaneRan, LanesRan, lane_over}
+use Rattle.gate_lanes.specs.Ends.{Left, LaneRan, LanesRan, all_left, lane_over}
 use Rattle.gate_lanes.specs.LaneReplies.{RepliesAsTheRun}
 use Rattle.gate_lanes.specs.Parts.{rounds_of}
-use Rattle.gate_lanes.specs.Rounds.{Concludes}
+use Rattle.gate_lanes.specs.Rounds.{Concludes, left_by}
 use Rattle.gate_lanes.specs.declared.round.Conclusion.{Conclusion}
 use Rattle.gate_lanes.specs.declared.round.Conclusion.TheVariants as conclusions
+use Rattle.gate_lanes.specs.declared.round.RoundEnd.{RoundEnd}
+use Rattle.gate_lanes.specs.declared.lane.LaneEnd.{LaneEnd}
 use Rattle.gate_lane.specs.LaneEvents.{lane_events, with_event}
 use Rattle.gate_lanes.specs.LaneCalls.{Answer, HasCalls, calls_made}
 use Rattle.gate_lanes.proofs.LaneReplies.{lanes_reply_as_the_run}
@@ -39,10 +44,11 @@ use Rattle.gate_shared.specs.declared.settle.Owner.{Owner}
 use Rattle.gate_shared.specs.declared.settle.Settled.{Settled}
 use Rattle.gate_prog.specs.Jobs.{LanesDone, LanesPrinted}
 use Rattle.gate_prog.proofs.JournalLines.{IsSpelled, Shows, shown, shows_base, shows_both, shows_end, shows_lanes, shows_none}
-use Rattle.gate_prog.specs.LaneJobs.{GoOn, GoesOn, RoundsTell, Start, first_start}
-use Rattle.gate_prog.specs.LaneLines.{asked_lines, base_text, count_before, entries_by, journal_lines, lanes_text, settled_line, told_lines}
+use Rattle.gate_prog.specs.LaneJobs.{Answered, RoundsTold, behind_this, round_text}
+use Rattle.gate_prog.specs.LaneLines.{asked_lines, base_text, count_before, journal_lines, lanes_text, settled_line, told_lines}
 use Rattle.gate_prog.specs.PrintedJournals.{LanesAreAudited, PrintedRound, base_lines, behind_round, end_lines, entries_in, rounds_journal, rounds_text}
 use Rattle.gate_prog.specs.PrintedReplies.{GateLanesAreRuns, ReplyAsRuns}
+use Rattle.gate_prog.specs.Printing.{texts_of}
 use Rattle.std.proofs.lemmas.List.{append_cancel_left}
 
 -- ---- the calls of a lane
@@ -256,69 +262,75 @@ base_same : (before : Option ℕ) → base_text before ≡ unlines (base_lines b
 base_same None = refl
 base_same (Some count) = refl
 
--- a round that went on, as it is printed
-record Printed (journal : Bool) (start : Start) (lanes : List (List ℕ)) (text : List ℕ) (next : Start) : Type 0 where
-  round : PrintedRound
-  is : text ≡ unlines (base_lines start.behind) ++ (lanes_text 1 round.texts ++ unlines (end_lines journal round))
-  sound : IsSound start.state round.entries
-  replied : RepliesAsTheRun start.state (events_of round.entries) lanes round.texts
-  state : next.state ≡ state_after start.state round.entries
-  behind : next.behind ≡ behind_round start.behind round
+written : (ends : List (LaneEnd (Vec ℕ))) → map (λ (end : Left). end.after) (all_left (λ (list : Vec ℕ). Some list.items) ends) ≡ map Some (texts_of ends)
+written [] = refl
+written (end ∷ ends) = ap (λ (rest : List (Option (List ℕ))). Some end.writer.items ∷ rest) (written ends)
 
-printed_one : (journal : Bool) (start : Start) (lanes : List (List ℕ)) (text : List ℕ) (next : Start) → GoesOn journal start lanes text next → Printed journal start lanes text next
-printed_one journal start lanes text next goes = settled goes.round.conclusion refl concludes goes.tells.told goes.behind
+-- a round that settled, as it is printed
+record Printed (journal : Bool) (w : World) (behind : Option ℕ) (lanes : List (List ℕ)) (end : RoundEnd (Vec ℕ)) (next : World) : Type 0 where
+  round : PrintedRound
+  is : round_text journal behind end ≡ unlines (base_lines behind) ++ (lanes_text 1 round.texts ++ unlines (end_lines journal round))
+  sound : IsSound w round.entries
+  replied : RepliesAsTheRun w (events_of round.entries) lanes round.texts
+  state : next ≡ state_after w round.entries
+  behind_it : behind_this behind end.conclusion ≡ behind_round behind round
+
+printed_one : (journal : Bool) (w : World) (behind : Option ℕ) (lanes : List (List ℕ)) (end : RoundEnd (Vec ℕ)) (next : World) → Answered w lanes end (Some next) → Printed journal w behind lanes end next
+printed_one journal w behind lanes end next ran = settled end.conclusion refl concludes
   where
     passes : List PassView
-    passes = goes.tells.ran.0
+    passes = ran.0
 
-    concludes : Concludes start.state passes goes.round.conclusion (Some next.state)
-    concludes = subst (λ (o : Option World). Concludes start.state passes goes.round.conclusion o) goes.tells.ran.4.1 goes.tells.ran.3
+    texts : List (List ℕ)
+    texts = texts_of end.ends.items
 
-    settled : (conclusion : Conclusion) → goes.round.conclusion ≡ conclusion → Concludes start.state passes conclusion (Some next.state)
-        → goes.told ≡ lanes_text 1 goes.tells.texts ++ unlines (told_lines journal conclusion)
-        → next.behind ≡ Some (count_before start.behind + entries_by conclusion) → Printed journal start lanes text next
-    settled (conclusions.Settles s) same to told behind = record {
-      round = record { texts = goes.tells.texts; entries = s.journal.entries };
-      is = goes.is ∙ ap₂ (λ (xs ys : List ℕ). xs ++ ys) (base_same start.behind)
-          (told ∙ ap (λ (n : ℕ). lanes_text 1 goes.tells.texts ++ unlines (settled_line n ∷ asked_lines journal s.journal.entries)) to.settles.1.1);
+    concludes : Concludes w passes end.conclusion (Some next)
+    concludes = subst (λ (o : Option World). Concludes w passes end.conclusion o) ran.4.1 ran.3
+
+    settled : (conclusion : Conclusion) → end.conclusion ≡ conclusion → Concludes w passes conclusion (Some next) → Printed journal w behind lanes end next
+    settled (conclusions.Settles s) same to = record {
+      round = record { texts = texts; entries = s.journal.entries };
+      is = ap₂ (λ (xs ys : List ℕ). xs ++ ys) (base_same behind)
+          (ap (λ (c : Conclusion). lanes_text 1 texts ++ unlines (told_lines journal c)) same
+          ∙ ap (λ (n : ℕ). lanes_text 1 texts ++ unlines (settled_line n ∷ asked_lines journal s.journal.entries)) to.settles.1.1);
       sound = record {
         legal = to.settles.0;
         few = to.few;
-        told = entries_spelled s.journal.entries passes s.owners to.settles.1.2 (passes_spelled lanes goes.round.ends passes goes.tells.ran.2 goes.tells.ran.4.0);
+        told = entries_spelled s.journal.entries passes s.owners to.settles.1.2
+            (passes_spelled lanes (all_left (λ (list : Vec ℕ). Some list.items) end.ends.items) passes ran.2 ran.4.0);
       };
-      replied = lanes_reply_as_the_run start.state next.state lanes goes.tells.texts goes.round s goes.tells.ran same goes.tells.written;
+      replied = lanes_reply_as_the_run w next lanes texts (left_by (λ (list : Vec ℕ). Some list.items) end) s ran same (written end.ends.items);
       state = to.leads;
-      behind = behind ∙ ap (λ (n : ℕ). Some (count_before start.behind + n)) to.settles.1.1;
+      behind_it = ap (λ (c : Conclusion). behind_this behind c) same ∙ ap (λ (n : ℕ). Some (count_before behind + n)) to.settles.1.1;
     }
-    settled conclusions.Unknown same to told behind = absurd to
+    settled conclusions.Unknown same to = absurd to
 
-record PrintedAll (journal : Bool) (start : Start) (rounds : List (List (List ℕ))) (text : List ℕ) : Type 0 where
+record PrintedAll (journal : Bool) (w : World) (behind : Option ℕ) (rounds : List (List (List ℕ))) (before after : Option (List ℕ)) : Type 0 where
   printed : List PrintedRound
   count : length printed ≡ length rounds
-  is : text ≡ rounds_text journal start.behind printed
-  sound : AreSound start.state printed
-  replied : ReplyAsRuns start.state rounds printed
+  wrote : Appends before after (rounds_text journal behind printed)
+  sound : AreSound w printed
+  replied : ReplyAsRuns w rounds printed
 
-printed_all : (journal : Bool) (start : Start) (rounds : List (List (List ℕ))) (text : List ℕ) (last : Start) → GoOn journal start rounds text last → PrintedAll journal start rounds text
-printed_all journal start [] text last (none, same) = record { printed = []; count = refl; is = none; sound = tt; replied = tt }
-printed_all journal start (lanes ∷ rounds) text last (next, front, rest, goes, on, is) =
-    let one = printed_one journal start lanes front next goes in
-    let more = printed_all journal next rounds rest last on in
-    let base = unlines (base_lines start.behind) in
-    let told = lanes_text 1 one.round.texts in
-    let end = unlines (end_lines journal one.round) in
+printed_all : (journal : Bool) (w : World) (behind : Option ℕ) (rounds : List (List (List ℕ))) (before after : Option (List ℕ)) → RoundsTold journal w behind rounds before after
+    → PrintedAll journal w behind rounds before after
+printed_all journal w behind [] before after wrote = record { printed = []; count = refl; wrote = wrote; sound = tt; replied = tt }
+printed_all journal w behind (lanes ∷ rounds) before after (next, later, middle, here, told) =
+    let one = printed_one journal w behind lanes here.0 next here.1 in
+    let more = printed_all journal next later rounds middle after told in
+    let rest = rounds_text journal (behind_round behind one.round) more.printed in
+    let base = unlines (base_lines behind) in
+    let texts = lanes_text 1 one.round.texts in
+    let ending = unlines (end_lines journal one.round) in
+    let wrote_rest : Appends middle after rest = subst (λ (b : Option ℕ). Appends middle after (rounds_text journal b more.printed)) (here.2 ∙ one.behind_it) more.wrote in
     record {
       printed = one.round ∷ more.printed;
       count = ap suc more.count;
-      is = is ∙ ap₂ (λ (xs ys : List ℕ). xs ++ ys) one.is (more.is ∙ ap (λ (b : Option ℕ). rounds_text journal b more.printed) one.behind)
-          ∙ append_assoc base (told ++ end) (rounds_text journal (behind_round start.behind one.round) more.printed)
-          ∙ ap (λ (l : List ℕ). base ++ l) (append_assoc told end (rounds_text journal (behind_round start.behind one.round) more.printed));
-      sound = (one.sound, subst (λ (w : World). AreSound w more.printed) one.state more.sound);
-      replied = (one.replied, subst (λ (w : World). ReplyAsRuns w rounds more.printed) one.state more.replied);
+      wrote = subst (Appends before after) (append_assoc base (texts ++ ending) rest ∙ ap (λ (l : List ℕ). base ++ l) (append_assoc texts ending rest))
+          (Appends-trans before middle after (base ++ (texts ++ ending)) rest (subst (Appends before middle) one.is here.3) wrote_rest);
+      sound = (one.sound, subst (λ (v : World). AreSound v more.printed) one.state more.sound);
+      replied = (one.replied, subst (λ (v : World). ReplyAsRuns v rounds more.printed) one.state more.replied);
     }
-
-told_all : (journal : Bool) (w : World) (rounds : List (List (List ℕ))) (printed : List ℕ) → RoundsTell journal w rounds printed 0 → PrintedAll journal (first_start w) rounds printed
-told_all journal w rounds printed (last, on, status) = printed_all journal (first_start w) rounds printed last on
 
 -- the lines of what is printed that are a journal's
 shows_rounds : (before : Option ℕ) (w : World) (rounds : List (List (List ℕ))) (printed : List PrintedRound) → AreSound w printed → ReplyAsRuns w rounds printed
@@ -338,31 +350,24 @@ shows_rounds before w (lanes ∷ rounds) (round ∷ more) sound runs =
     (shows_rounds (behind_round before round) (state_after w round.entries) rounds more sound.1 runs.1)))
 
 -- what `gate lanes` writes of the rounds behind an opening
-record PrintedLanes (journal : Bool) (w : World) (rest before after : List ℕ) : Type 0 where
-  printed : List ℕ
-  all : PrintedAll journal (first_start w) (rounds_of rest) printed
-  wrote : after ≡ before ++ printed
-
 printed_lanes : (text rest before after : List ℕ) (w : World) (journal : Bool) → spelled text ≡ Ok w → text ≡ opening_part text ++ rest
-    → LanesPrinted journal (Some text) (Some before) (Some after) 0 → PrintedLanes journal w rest before after
+    → LanesPrinted journal (Some text) (Some before) (Some after) 0 → PrintedAll journal w None (rounds_of rest) (Some before) (Some after)
 printed_lanes text rest before after w journal is parted done =
     let d : LanesDone journal text (Ok w) (Some before) (Some after) 0 = subst (λ (r : Result World OpeningFault). LanesDone journal text r (Some before) (Some after) 0) is done in
-    let same : d.0 ≡ rest = append_cancel_left (opening_part text) d.0 rest (sym d.2 ∙ parted) in
-    let tells : RoundsTell journal w (rounds_of rest) d.1 0 = subst (λ (t : List ℕ). RoundsTell journal w (rounds_of t) d.1 0) same d.4 in
-    record { printed = d.1; all = told_all journal w (rounds_of rest) d.1 tells; wrote = d.5 }
+    let same : d.0 ≡ rest = append_cancel_left (opening_part text) d.0 rest (sym d.1 ∙ parted) in
+    printed_all journal w None (rounds_of rest) (Some before) (Some after)
+    (subst (λ (t : List ℕ). RoundsTold journal w None (rounds_of t) (Some before) (Some after)) same d.3)
 
 pub lanes_are_audited : LanesAreAudited
 lanes_are_audited text rest before after w workers explain is parted done =
-    let p = printed_lanes text rest before after w true is parted done in
-    let all = p.all in (
+    let all = printed_lanes text rest before after w true is parted done in (
       all.printed,
       all.count,
-      p.wrote ∙ ap (λ (l : List ℕ). before ++ l) all.is,
+      all.wrote,
       shown (rounds_text true None all.printed) (rounds_journal None all.printed) (shows_rounds None w (rounds_of rest) all.printed all.sound all.replied),
       λ n within. journal_legal w (take n all.printed) (sound_front n w all.printed all.sound) within,
     )
 
 pub gate_lanes_are_runs : GateLanesAreRuns
 gate_lanes_are_runs text rest before after w workers journal explain is parted done =
-    let p = printed_lanes text rest before after w journal is parted done in
-    let all = p.all in (all.printed, p.wrote ∙ ap (λ (l : List ℕ). before ++ l) all.is, all.replied)
+    let all = printed_lanes text rest before after w journal is parted done in (all.printed, all.wrote, all.replied)

@@ -2,6 +2,7 @@
 ghost use Rattle.std.specs.Prelude.{◌≡◌, ◌≢◌, [], true, IfOk, IfErr, OnOk, IsErrOf};
 ghost use Rattle.gate_prog.specs.Lanes.{LaneDone, LaneUnread, StoppedBy};
 
+use crate::onlooker::Onlooker;
 use gate_bytes::Memory;
 use gate_core::State;
 use gate_lane::{Answers, set_answer, set_text};
@@ -12,13 +13,14 @@ use std::alloc::Global;
 use std::hash::BuildHasher;
 use std::thread::Threads;
 
-/// The way to answer events by steps of a state.
+/// The way to answer events by steps of a state, with somebody who looks on.
 #[derive(Drop)]
-struct Stepping {
+struct Stepping<'a, O> {
     alloc: Global,
+    onlooker: &'a O,
 }
 
-impl<S: BuildHasher + Copy + Drop> Answers<State<S>> for Stepping {
+impl<S: BuildHasher + Copy + Drop, O: Onlooker<S>> Answers<State<S>> for Stepping<'_, O> {
     ghost use Rattle.gate_prog.specs.Lanes.{Steps};
 
     ghost answers = { Steps };
@@ -30,9 +32,16 @@ impl<S: BuildHasher + Copy + Drop> Answers<State<S>> for Stepping {
         event: &Event,
         reply: &mut String,
     ) -> Result<(), Memory> {
+        let sight = self.onlooker.before(state, event);
         match state.step(self.alloc, event) {
-            Ok(answer) => set_answer(self.alloc, &answer, reply),
-            Err(_) => set_text(reply, "fault memory"),
+            Ok(answer) => {
+                self.onlooker.after(sight, state, event, Some(&answer));
+                set_answer(self.alloc, &answer, reply)
+            }
+            Err(_) => {
+                self.onlooker.after(sight, state, event, None);
+                set_text(reply, "fault memory")
+            }
         }
     }
 }
@@ -60,15 +69,26 @@ pub fn run_lane<S: BuildHasher + Copy + Drop, R: Source, W: Sink>(
     ensures steady_reader { R.steady ≡ true → IfErr result (λ fault. fault ≢ LaneFault.Read) }
     ensures steady_writer { W.steady ≡ true → IfErr result (λ fault. fault ≢ LaneFault.Write) }
 {
-    gate_lane::run_lane(alloc, &Stepping { alloc }, state, reader, writer)
+    let answers = Stepping {
+        alloc,
+        onlooker: &(),
+    };
+    gate_lane::run_lane(alloc, &answers, state, reader, writer)
 }
 
-/// Runs a lane as [`run_lane`] does, and finds what its lines spell on as many threads as there are workers: lines that wait
-/// in the reader's memory are read ahead. One worker reads none ahead.
-pub fn run_lane_on<T: Threads + Sync, S: BuildHasher + Copy + Drop, R: Source, W: Sink>(
+/// Runs a lane as [`run_lane`] does, with somebody who looks on, and finds what its lines spell on as many threads as there
+/// are workers: lines that wait in the reader's memory are read ahead. One worker reads none ahead.
+pub fn run_lane_on<
+    T: Threads + Sync,
+    S: BuildHasher + Copy + Drop,
+    O: Onlooker<S>,
+    R: Source,
+    W: Sink,
+>(
     rt: &T,
     alloc: Global,
     workers: Workers,
+    onlooker: &O,
     state: &mut State<S>,
     reader: &mut R,
     writer: &mut W,
@@ -85,17 +105,10 @@ pub fn run_lane_on<T: Threads + Sync, S: BuildHasher + Copy + Drop, R: Source, W
     ensures steady_reader { R.steady ≡ true → IfErr result (λ fault. fault ≢ LaneFault.Read) }
     ensures steady_writer { W.steady ≡ true → IfErr result (λ fault. fault ≢ LaneFault.Write) }
 {
+    let answers = Stepping { alloc, onlooker };
     let threads = workers.count();
     if threads == 1 {
-        return run_lane(alloc, state, reader, writer);
+        return gate_lane::run_lane(alloc, &answers, state, reader, writer);
     }
-    gate_lane::run_lane_ahead(
-        rt,
-        alloc,
-        &Stepping { alloc },
-        state,
-        reader,
-        writer,
-        threads,
-    )
+    gate_lane::run_lane_ahead(rt, alloc, &answers, state, reader, writer, threads)
 }

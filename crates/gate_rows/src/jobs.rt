@@ -65,7 +65,15 @@ fn runs<R: AllocGlobal + Threads + Sync>(
     for workers in some_workers() {
         let mut reader = input;
         let mut written = Vec::new(rt.alloc());
-        let found = run_gate(rt, rt.alloc(), hasher(), workers, &mut reader, &mut written)?;
+        let found = run_gate(
+            rt,
+            rt.alloc(),
+            hasher(),
+            workers,
+            &(),
+            &mut reader,
+            &mut written,
+        )?;
         if found != status || written.as_slice() != text.as_bytes() {
             return Ok(false);
         }
@@ -184,6 +192,7 @@ fn a_reader_that_breaks(rt: HostRuntime) -> Result<(), Fail> {
             rt.alloc(),
             hasher(),
             workers,
+            &(),
             &mut reader,
             &mut written,
         );
@@ -201,7 +210,7 @@ fn run_halves<R: AllocGlobal + Threads + Sync>(
     writer: &mut BufWriter<Writes>,
 ) -> Result<u8, Fail> {
     let mut reader = BufReader::new(rt.alloc(), halves)?;
-    Ok(run_gate(rt, rt.alloc(), hasher(), workers, &mut reader, writer)?)
+    Ok(run_gate(rt, rt.alloc(), hasher(), workers, &(), &mut reader, writer)?)
 }
 
 /// The replies to the first part go out in one write before the second is read, and no reply is left in the buffer.
@@ -232,7 +241,15 @@ fn run_into<R: AllocGlobal + Threads + Sync>(
 ) -> Result<(Result<u8, LaneFault>, usize), Fail> {
     let mut reader: &[u8] = b"times 1 0 0\n---\npeer 1 leave\npeer 1 leave\npeer 1 leave\n";
     let mut writer = BufWriter::with_capacity(rt.alloc(), 0, Drops { left })?;
-    let end = run_gate(rt, rt.alloc(), hasher(), workers, &mut reader, &mut writer);
+    let end = run_gate(
+        rt,
+        rt.alloc(),
+        hasher(),
+        workers,
+        &(),
+        &mut reader,
+        &mut writer,
+    );
     Ok((end, reader.len()))
 }
 

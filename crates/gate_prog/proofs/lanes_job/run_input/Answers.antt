@@ -1,4 +1,4 @@
-use Rattle.std.proofs.Common.{ℕ}
+use Rattle.std.proofs.Common.{ℕ, None}
 use Rattle.std.proofs.KnownBytes.{Appends-nil}
 use Rattle.gate_lines.specs.declared.fault.LaneFault.TheVariants as faults
 use Rattle.gate_prog.specs.Printing.{lists_of}
@@ -19,7 +19,7 @@ returns-in-Ok-clause-stopped g c =
 
 pub returns-in-Ok-clause-past : goal.returns-in-Ok-clause-past
 returns-in-Ok-clause-past g c = λ steady kind.
-    none_unread c.run_rounds.result (λ _. RoundsStopped c.args.options.journal c.args.state (lists_of c.as_slice.result.now) (g.W.Write.contents c.args.writer.now)
+    none_unread c.run_rounds.result (λ _. RoundsStopped c.args.options.journal c.args.state None (lists_of c.as_slice.result.now) (g.W.Write.contents c.args.writer.now)
     (g.W.Write.contents c.run_rounds.new.writer)) _ c.run_rounds.ensures.stopped kind
 
 pub returns-in-Err-clause-stopped : goal.returns-in-Err-clause-stopped
