@@ -65,12 +65,18 @@ uint32_t gate_answer(struct gate *gate, const uint8_t *line, size_t line_size, u
 /* Gives the reply to the last line once more. */
 uint32_t gate_reply(struct gate *gate, uint8_t *out, size_t room, size_t *size);
 
+/* Gives what the last line moved in the pool: a line `- TXID` for each entry that left, and then a line `+ TXID` for each that
+   came, both in order of admission. What left and came back by one line is in neither, and so is what came and left again.
+   Nothing has moved, and `*size` is 0, in a handle that was opened or copied just now, and after a line that is no event or was
+   not answered. This call changes nothing: after GATE_BUFFER_TOO_SMALL and GATE_OUT_OF_MEMORY it can be made again. */
+uint32_t gate_changes(struct gate *gate, uint8_t *out, size_t room, size_t *size);
+
 /* Closes a handle and frees what it holds. A closed one stays closed. */
 void gate_close(struct gate *gate);
 
 /* Opens a second handle, which is closed, with a copy of what the first one holds: the same state and the same last reply. Both answer
    alike from then on, and neither knows what the other is asked. It takes time and memory as the state is large; only
-   transactions, which never change, are shared. */
+   transactions, which never change, are shared. What the last line moved is told by the first one alone. */
 uint32_t gate_copy(struct gate *gate, struct gate *copy);
 
 /* Reads a line, which is given without its newline, into an event, in the place of what that holds. A transaction is decoded

@@ -52,7 +52,7 @@ public:
     const char *what() const noexcept override { return "out of memory in the text of a reply"; }
 };
 
-// The text is no reply line.
+// The text is no reply line, or has a line that tells of no change.
 class NotAReply : public std::invalid_argument {
 public:
     explicit NotAReply(std::string_view text) : std::invalid_argument("no reply line: " + std::string(text.substr(0, 80))) {}
@@ -93,6 +93,15 @@ struct Reply {
 
     // Reads a reply line, with its newline or without it. Throws NotAReply if it is none.
     static Reply parse(std::string_view line);
+};
+
+// What a line moved in the pool: the txids of the entries that left and of those that came, both in order of admission.
+struct Changes {
+    std::vector<std::string> departed;
+    std::vector<std::string> arrived;
+
+    // Reads the lines that gate_changes gives. Throws NotAReply if one of them is none.
+    static Changes parse(std::string_view lines);
 };
 
 namespace detail {
@@ -295,6 +304,21 @@ inline Reply Reply::parse(std::string_view line) {
     return reply;
 }
 
+inline Changes Changes::parse(std::string_view lines) {
+    Changes changes;
+    for (std::string_view left = lines, line; !left.empty(); left.remove_prefix(line.size() + 1)) {
+        line = left.substr(0, left.find('\n'));
+        detail::Words words(line);
+        std::string_view sign;
+        std::string txid;
+        if (line.size() == left.size() || !words.word(sign) || !words.txid(txid) || !words.is_over()) throw NotAReply(line);
+        if (sign == "+") changes.arrived.push_back(txid);
+        else if (sign == "-" && changes.arrived.empty()) changes.departed.push_back(txid);
+        else throw NotAReply(line);
+    }
+    return changes;
+}
+
 // Keys that nobody knows.
 inline gate_keys random_keys() {
     std::random_device device;
@@ -414,7 +438,15 @@ public:
 
     // The reply to the last line once more.
     std::string reply() {
-        return text_of([this](uint8_t *to, size_t room, size_t *size) { return gate_reply(&handle, to, room, size); });
+        const auto call = [this](uint8_t *to, size_t room, size_t *size) { return gate_reply(&handle, to, room, size); };
+        return text_of(call, call);
+    }
+
+    // What the last line moved in the pool. What left and came back by one line is in neither list. Nothing has moved in a gate that
+    // was opened or copied just now, nor by a line that is no event or was not answered.
+    Changes changes() {
+        const auto call = [this](uint8_t *to, size_t room, size_t *size) { return gate_changes(&handle, to, room, size); };
+        return Changes::parse(text_of(call, call));
     }
 
     bool is_answered() const { return answered; }
@@ -428,17 +460,17 @@ private:
     template <typename Call>
     std::string answer_by(Call call) {
         answered = false;
-        return text_of([&](uint8_t *to, size_t room, size_t *size) {
+        const auto first = [&](uint8_t *to, size_t room, size_t *size) {
             const uint32_t status = call(to, room, size);
             answered = status == GATE_DONE || status == GATE_BUFFER_TOO_SMALL || status == GATE_REPLY_KEPT;
             return status;
-        });
+        };
+        return text_of(first, [this](uint8_t *to, size_t room, size_t *size) { return gate_reply(&handle, to, room, size); });
     }
 
-    template <typename Call>
-    std::string text_of(Call call) {
+    template <typename Call, typename Again>
+    static std::string text_of(Call call, Again again) {
         std::string out;
-        const auto again = [this](uint8_t *to, size_t room, size_t *size) { return gate_reply(&handle, to, room, size); };
         const uint32_t status = detail::fill(out, call, again);
         if (status != GATE_DONE) detail::raise(status);
         return out;

@@ -14,6 +14,7 @@ ID = printed(number_hash(1))
 SCRIPT = "00142222222222222222222222222222222222222222"
 SUMMARY = re.compile(r"gate: \d+ events?: ")
 DENIED = re.compile(r"gate: line \d+: [APUC]\d+ ")
+MOVED = re.compile(r"gate: line \d+: [-+] [0-9a-f]{64}$")
 STRANGE = "the caller is not that of the lane, which is the caller of its first event; is a line --- missing?"
 
 
@@ -283,7 +284,7 @@ def test_lines_with_a_form(gate):
     """Nothing is told of lines that have a form, of comments and of empty lines."""
     for name in ("first-path.txt", "permissions.txt", "policies.txt", "rpc.txt", "replacement.txt", "reorganisation.txt", "living-chain.txt"):
         done = gate.run("run --explain", example(name))
-        said = [line for line in done.stderr.decode().splitlines() if not SUMMARY.match(line) and not DENIED.match(line)]
+        said = [line for line in done.stderr.decode().splitlines() if not any(it.match(line) for it in (SUMMARY, DENIED, MOVED))]
         same("standard error of " + name, said, [])
         same("standard output of " + name, done.stdout, gate.run("run", example(name)).stdout)
     for words, name in (("lanes --explain", "lanes.txt"), ("audit --explain", "journal.txt"), ("audit --explain", "rounds-journal.txt")):

@@ -183,7 +183,7 @@ def test_the_table_in_python(gate):
     for line, (name, parameters, has_status) in zip(lines[2:], interface.calls()):
         types = [it for _, kind in parameters for it in CTYPES[kind]]
         same(name, line, "%s %s %s" % (name, types, "c_uint" if has_status else None))
-    same("how many calls", len(lines), 12)
+    same("how many calls", len(lines), 13)
 
 
 def test_faults_in_cpp(gate):

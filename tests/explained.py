@@ -1,4 +1,4 @@
-"""`gate run --explain`: the figures behind each denial, and what came of the events, on standard error."""
+"""`gate run --explain`: the figures behind each denial, what each event moved, and what came of the events, on standard error."""
 
 import os
 import re
@@ -6,11 +6,13 @@ import subprocess
 import tempfile
 import time
 
+import examples
 from bitcoin import Input, Output, Transaction, coin, number_hash, padded, payment, printed
 from failing import each_growth
 from gate import ROOT, SECONDS, as_bytes, lines, same, same_lines, true
 from heights import block
 from kinds import heavy
+from moves import MOVED, Explaining, asked_often, rows
 
 TIMES = "times 101 1000 600"
 OPENING = [TIMES, "verdict * ok", "bloom 1"]
@@ -28,8 +30,8 @@ def sent(tx):
 
 
 def said_of(gate, opening, events):
-    """The lines on standard error but for the last, each with its event's line, and the last line. Standard output is what it is
-    without `--explain`."""
+    """The lines on standard error but for the last and for what moved, each with its event's line, and the last line. Standard
+    output is what it is without `--explain`."""
     text = lines(opening) + "---\n" + lines(events)
     done, plain = gate.run("run --explain", text), gate.run("run", text)
     same("standard output and status", (done.stdout, done.status), (plain.stdout, plain.status))
@@ -40,7 +42,8 @@ def said_of(gate, opening, events):
     told = []
     for line in said[:-1]:
         start = next(it for it in numbers if line.startswith(it))
-        told.append((numbers[start], line[len(start):]))
+        if not MOVED.fullmatch(line.encode()):
+            told.append((numbers[start], line[len(start):]))
     return told, said[-1]
 
 
@@ -343,10 +346,46 @@ def test_the_example(gate):
     """The example of a replacement, of which one try is a satoshi short."""
     with open(os.path.join(ROOT, "examples", "replacement.txt"), "rb") as file:
         done = gate.run("run --explain", file.read())
+    parent, child, instead = (it.txid() for it in (examples.PARENT, examples.CHILD, examples.spending(examples.COIN, 99670)))
     same("standard error", done.stderr.decode().splitlines(), [
+        "gate: line 10: + " + parent,
+        "gate: line 12: + " + child,
         "gate: line 14: A42 329 - 220 = 109, needs 110",
+        "gate: line 16: - " + parent,
+        "gate: line 16: - " + child,
+        "gate: line 16: + " + instead,
         "gate: 6 events: 3 admitted, 2 replaced, 1 denied (A42 1), 0 lines refused; pool: 1 entry, 110 of 300000000 virtual bytes, floor 0",
     ])
+
+
+def test_what_moves(gate):
+    """What is told of each line of random streams is what the listings before and behind it show."""
+    asked_often(Explaining(gate.program, seconds=gate.seconds))
+
+
+@heavy
+def test_what_moves_in_rows(gate):
+    """The same of each row; its output is that of the row."""
+    rows(Explaining(gate.program, seconds=gate.seconds))
+
+
+@heavy
+def test_what_moves_without_memory(gate):
+    """Whichever growth of memory is refused beside an event, nothing is told but what it moved, and nothing of one that was not answered."""
+    first, second = payment(1, 99000), payment(1, 90000)
+    events = [ENTER, sent(first), sent(second)]
+    opening = OPENING + [coin(1)]
+    text, at = lines(opening) + "---\n" + lines(events), len(opening) + 1 + len(events)
+    wanted = ["gate: line %d: %s" % (at, change) for change in ("- " + first.txid(), "+ " + second.txid())]
+    refused = 0
+    for growth, done in each_growth(gate.program, "run --explain", text, line=at):
+        if done.status:
+            continue
+        told = [line for line in done.stderr.decode().splitlines() if line.startswith("gate: line %d: " % at)]
+        is_fault = done.stdout.decode().splitlines()[-1] == "fault memory"
+        same("growth %d" % growth, told, [] if is_fault else [line for line in wanted if line in told])
+        refused += 1
+    true("%d growths were refused" % refused, refused >= 3)
 
 
 def test_the_summary(gate):

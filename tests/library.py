@@ -4,10 +4,12 @@ Each host is a stand-in for the program: it does `run` and `check -` by the libr
 The library is that of `make lib`. Where it, or what makes a host, is not on this machine, the test says so.
 """
 
+import contextlib
 import functools
 import glob
 import importlib
 import os
+import re
 import shutil
 import subprocess
 import sys
@@ -15,6 +17,7 @@ import tempfile
 
 from gate import ROOT, Differs, Gate, NotTried, same, true
 from kinds import long
+from moves import Watching, asked_often, rows
 
 LIBRARY = os.path.join(ROOT, "crates", "gate_c", "out", "library")
 HOSTS = os.path.join(ROOT, "tests", "hosts")
@@ -184,20 +187,35 @@ def does_examples(gate, host, **more):
         same(name, (found.returncode, found.stdout, found.stderr), (wanted.status, wanted.stdout, wanted.stderr))
 
 
+@contextlib.contextmanager
+def hosted(gate, **more):
+    """Sets the variables that hosts read."""
+    before = dict(os.environ)
+    os.environ.update(surroundings(gate, **more))
+    try:
+        yield
+    finally:
+        os.environ.clear()
+        os.environ.update(before)
+
+
 def does_tests(gate, host, files):
     """The host passes the program's own tests of these files."""
-    stand_in, before = Gate(host, says_causes=False), dict(os.environ)
-    os.environ.update(surroundings(gate))
-    try:
+    stand_in = Gate(host, says_causes=False)
+    with hosted(gate):
         for file in files:
             tests = vars(importlib.import_module(file))
             names = [name for name in tests if name.startswith("test_")]
             true("no tests in " + file, names)
             for name in names:
                 tests[name](stand_in)
-    finally:
-        os.environ.clear()
-        os.environ.update(before)
+
+
+def tells_changes(gate, host, **more):
+    """The host tells of each line of random streams and of rows what the listings before and behind it show."""
+    with hosted(gate, **more):
+        asked_often(Watching(host, says_causes=False))
+        rows(Watching(host, says_causes=False))
 
 
 def test_rows_in_c(gate):
@@ -250,12 +268,44 @@ def test_streams_in_python(gate):
     does_tests(gate, in_python(), ("random_streams",))
 
 
+def test_changes_in_c(gate):
+    """A host in C is asked after each line what it moved: that is the difference of the listings before and behind it."""
+    tells_changes(gate, in_c())
+
+
+def test_changes_in_c_with_little_room(gate):
+    """The same where the buffer has five bytes, so that what moved is asked for once more."""
+    tells_changes(gate, in_c(), ROOM="5")
+
+
+def test_changes_of_events(gate):
+    """The same of lines that threads read before they are answered."""
+    tells_changes(gate, with_threads(), THREADS="2")
+
+
+def test_changes_in_cpp(gate):
+    """What lines moved, in C++."""
+    tells_changes(gate, in_cpp())
+
+
+def test_changes_in_rust(gate):
+    """What lines moved, in Rust."""
+    tells_changes(gate, in_rust())
+
+
+def test_changes_in_python(gate):
+    """What lines moved, in Python."""
+    tells_changes(gate, in_python())
+
+
 def test_failing_allocations(gate):
-    """Each allocation of an opening and of lines fails in turn: nothing is lost, and no memory is left at the end."""
-    host = with_c("failing", "failing_allocations.c", *WRAPPED)
+    """Each allocation of an opening, of lines and of what they moved fails in turn: nothing is lost, and no memory is left at the end."""
+    host, in_changes = with_c("failing", "failing_allocations.c", *WRAPPED), 0
     for name in EXAMPLES:
         told = done_by([host, os.path.join(ROOT, "examples", name)])
         true("few allocations: " + told, int(told.split()[0]) > 20)
+        in_changes += int(re.search(r"(\d+) in what a line moved", told)[1])
+    true("%d allocations in what lines moved" % in_changes, in_changes > 10)
 
 
 def test_threads(gate):
@@ -310,8 +360,8 @@ def is_installed(prefix, version):
     """Each file is in its place, and the package for Python finds the library from there."""
     headers = ["include/gate.h", "include/gate.hpp", "lib/pkgconfig/gate.pc", "lib/cmake/gate/gate-config.cmake", "lib/cmake/gate/gate-config-version.cmake"]
     libraries = ["lib/libgate_c.a", "lib/libgate_c.so", "lib/libgate_c.so.0"]
-    package = ["share/gate/python/" + it for it in ("pyproject.toml", "setup.py", "gate/__init__.py", "gate/library.py", "gate/replies.py", "gate/py.typed")]
-    crate = ["share/gate/rust/" + it for it in ("Cargo.toml", "build.rs", "src/lib.rs", "src/calls.rs", "src/reply.rs")]
+    package = ["share/gate/python/" + it for it in ("pyproject.toml", "setup.py", "gate/__init__.py", "gate/changes.py", "gate/library.py", "gate/replies.py", "gate/py.typed")]
+    crate = ["share/gate/rust/" + it for it in ("Cargo.toml", "build.rs", "src/lib.rs", "src/calls.rs", "src/changes.rs", "src/reply.rs")]
     for it in headers + libraries + package + crate:
         true(it + " is not installed", os.path.isfile(os.path.join(prefix, it)))
     same("the link", os.readlink(os.path.join(prefix, "lib", "libgate_c.so")), "libgate_c.so.0")

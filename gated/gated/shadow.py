@@ -58,7 +58,7 @@ class Explainer:
         self._one = asyncio.Semaphore(1)
 
     async def explained(self, segment: Path, entries: int) -> str:
-        """What standard error says of the last of so many entries; nothing if it says nothing."""
+        """What standard error says first of the last of so many entries, before what that moved; nothing if it says nothing."""
         async with self._one:
             with tempfile.TemporaryFile() as lines:
                 try:
@@ -68,7 +68,7 @@ class Explainer:
                     log.warning("no figures: %s", str(error) or "the program takes more than %d seconds" % EXPLAIN_SECONDS)
                     return ""
         head = "gate: line %d: " % count
-        return next((it[len(head) :] for it in reversed(said.splitlines()) if it.startswith(head)), "")
+        return next((it[len(head) :] for it in said.splitlines() if it.startswith(head)), "")
 
     async def _said(self, lines: IO[bytes]) -> str:
         """What standard error says of these lines. The program ends with whoever asks."""

@@ -15,6 +15,33 @@ OPENING = "times 101 1000 600\nverdict * ok\nbloom 1\n"
 LIMIT = 16777216
 
 
+COIN = "coin 0100000000000000010000000000000001000000000000000100000000000000 0 100000 0 plain 0014%s\n" % (20 * "22")
+# a payment of that coin, and one that replaces it, by what they pay out, with their txids
+PAYMENT = "peer 1 tx 5000 0200000001%s0000000000fdffffff01%s0000000000160014%s00000000"
+PAYMENTS = {
+    "b88201": "9a79b51068b9f1590818e911ed23344ec9d7856eec805212b3646aa6d2ed52f1",
+    "d07e01": "9f1367d4d60d678f1d5680a17f36c4d3ad36f6cd59c4a4df872365f28f7e0862",
+}
+
+
+def moves():
+    """What a line moved is told until the next one, and not by a copy."""
+    first, second = PAYMENTS.values()
+    lines = [PAYMENT % (4 * "0000000000000001", value, 20 * "22") for value in PAYMENTS]
+    with gate.Gate(OPENING + COIN) as one:
+        assert one.answer("peer 1 enter 192.0.2.1") == "entered none\n" and one.changes() == gate.Changes()
+        assert one.ask(lines[0]).txid == first and one.changes() == gate.Changes((), (first,))
+        with one.copy() as copy:
+            assert copy.changes() == gate.Changes()
+            assert copy.ask(gate.Event(lines[1])).replaced == 1
+            assert one.changes() == gate.Changes((), (first,)) and copy.changes() == gate.Changes((first,), (second,))
+        assert one.ask("peer 1 mempool").txids == (first,) and one.changes() == gate.Changes()
+        assert one.ask(lines[1]).txid == second and one.changes() == one.changes() == gate.Changes((first,), (second,))
+        raised(gate.LineTooLong, one.answer, "x" * (LIMIT + 1))
+        assert one.changes() == gate.Changes()
+    assert raised(gate.NotOpen, one.changes).status == gate.Status.NOT_OPEN
+
+
 def raised(kind, call, *given):
     try:
         call(*given)
@@ -44,6 +71,7 @@ def main():
     assert raised(gate.NotOpen, one.answer, "peer 1 mempool").status == gate.Status.NOT_OPEN
     assert isinstance(raised(gate.GateError, one.reply), gate.NotOpen)
     one.close()
+    moves()
     with gate.Gate(OPENING) as shared, ThreadPoolExecutor(8) as threads:
         replies = threads.map(lambda peer: shared.answer("peer %d enter 192.0.2.1" % peer), range(1000))
         assert list(replies) == ["entered none\n"] * 1000

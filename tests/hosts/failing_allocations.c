@@ -1,6 +1,6 @@
-/* Fails each allocation in turn, in the opening, in the lines of a file, of which each second one is read before it is answered, and in
-   a copy of the handle: the call says so, nothing is lost, and asked
-   again it gives what it gives undisturbed. Linked with --wrap of malloc, realloc and free. */
+/* Fails each allocation in turn, in the opening, in the lines of a file, of which each second one is read before it is answered, in what
+   each line moved, and in a copy of the handle: the call says so, nothing is lost, and asked again it gives what it gives undisturbed.
+   Linked with --wrap of malloc, realloc and free. */
 #define _GNU_SOURCE
 #include "gate.h"
 
@@ -33,9 +33,27 @@ void __wrap_free(void *block) {
     __real_free(block);
 }
 
-static uint8_t text[1 << 20], out[1 << 20], wanted[1 << 20];
-static size_t ends[10000];
-static long opened, unread, unmade, kept, uncopied;
+enum { ROOM = 1 << 20, LINES = 10000 };
+
+/* Texts one behind another, as the run in which nothing fails has them, and where each of them ends. */
+struct texts {
+    uint8_t bytes[ROOM];
+    size_t ends[LINES];
+};
+
+static uint8_t text[ROOM], out[ROOM];
+static struct texts replies, moves;
+static long opened, unread, unmade, kept, untold, uncopied;
+
+/* Whether what was put into the buffer is the text of this line. The run in which nothing fails notes it. */
+static int is_undisturbed(struct texts *texts, long number, long line, size_t size) {
+    const size_t from = line > 0 ? texts->ends[line - 1] : 0;
+    if (number == 0) {
+        memcpy(texts->bytes + from, out, size);
+        texts->ends[line] = from + size;
+    }
+    return texts->ends[line] - from == size && memcmp(texts->bytes + from, out, size) == 0;
+}
 
 /* Answers a line, or an event in its place. */
 static uint32_t answer(struct gate *gate, struct gate_event *event, int is_read, const uint8_t *line, size_t length, size_t *size) {
@@ -49,7 +67,7 @@ static int holds(long number, uint8_t *events, uint8_t *end) {
     const struct gate_keys keys = {1, 2};
     struct gate gate = GATE_CLOSED, copy = GATE_CLOSED;
     struct gate_event event = GATE_CLOSED;
-    size_t size = 0, from = 0;
+    size_t size = 0;
     long line = 0;
     blocks = 0;
     until = number;
@@ -78,19 +96,22 @@ static int holds(long number, uint8_t *events, uint8_t *end) {
         if (status == GATE_OUT_OF_MEMORY) {
             unmade++;
             HOLDS(gate.is_open && size == 0 && (!is_read || event.is_open));
+            HOLDS(gate_changes(&gate, out, sizeof out, &size) == GATE_DONE && size == 0);
             status = answer(&gate, &event, is_read, at, (size_t)(stop - at), &size);
         } else if (status == GATE_REPLY_KEPT) {
             kept++;
             HOLDS(gate.is_open && size == 0);
             status = gate_reply(&gate, out, sizeof out, &size);
         }
-        HOLDS(status == GATE_DONE);
-        if (number == 0) {
-            memcpy(wanted + from, out, size);
-            ends[line] = from + size;
+        HOLDS(status == GATE_DONE && is_undisturbed(&replies, number, line, size));
+        status = gate_changes(&gate, out, sizeof out, &size);
+        if (status == GATE_OUT_OF_MEMORY) {
+            untold++;
+            HOLDS(gate.is_open && size == 0);
+            status = gate_changes(&gate, out, sizeof out, &size);
         }
-        HOLDS(ends[line] - from == size && memcmp(wanted + from, out, size) == 0);
-        from = ends[line++];
+        HOLDS(status == GATE_DONE && is_undisturbed(&moves, number, line, size));
+        line++;
     }
     status = gate_copy(&gate, &copy);
     if (status == GATE_OUT_OF_MEMORY) {
@@ -101,10 +122,10 @@ static int holds(long number, uint8_t *events, uint8_t *end) {
     HOLDS(status == GATE_DONE && gate.is_open && copy.is_open);
     gate_event_close(&event);
     gate_close(&gate);
+    HOLDS(gate_changes(&copy, out, sizeof out, &size) == GATE_DONE && size == 0);
     status = gate_reply(&copy, out, sizeof out, &size);
     if (status == GATE_REPLY_KEPT) status = gate_reply(&copy, out, sizeof out, &size);
-    from = line > 1 ? ends[line - 2] : 0;
-    HOLDS(status == GATE_DONE && (line == 0 || (ends[line - 1] - from == size && memcmp(wanted + from, out, size) == 0)));
+    HOLDS(status == GATE_DONE && (line == 0 || is_undisturbed(&replies, number, line - 1, size)));
     gate_close(&copy);
     HOLDS(!gate.is_open && !event.is_open && !copy.is_open && blocks == 0);
     return 1;
@@ -122,6 +143,7 @@ int main(int count, char **words) {
     for (until = 0; until == 0; number++)
         if (!holds(number, events, end)) return 1;
     /* the last one was not met */
-    printf("%ld allocations: %ld in the opening, %ld in reading, %ld before a step, %ld behind one, %ld in a copy\n", number - 2, opened, unread, unmade, kept, uncopied);
+    printf("%ld allocations: %ld in the opening, %ld in reading, %ld before a step, %ld behind one, %ld in what a line moved, %ld in a copy\n",
+           number - 2, opened, unread, unmade, kept, untold, uncopied);
     return opened > 0 && unread > 0 && unmade > 0 && uncopied > 0 ? 0 : 1;
 }

@@ -2,7 +2,8 @@
 
    `end S` ends with status S, and nothing changes. `keep TEXT` is answered by TEXT, which only gate_reply gives. A line that is
    empty or begins with # asks for nothing. The opening `refuse` is refused, and `end S` ends with status S too. So does reading
-   `fail S` into an event, and copying a handle whose last reply is `fail S`. */
+   `fail S` into an event, and copying a handle whose last reply is `fail S`, or asking it for changes. What a line moved is its reply,
+   with newlines for its semicolons: nothing in a copy, and after a line that ends with a status. */
 #include "gate.h"
 
 #include <stdlib.h>
@@ -11,6 +12,7 @@
 struct session {
     uint8_t *reply;
     size_t size;
+    bool has_moved;
 };
 
 static size_t open_handles;
@@ -60,11 +62,24 @@ uint32_t gate_reply(struct gate *gate, uint8_t *out, size_t room, size_t *size) 
     return put(GATE_DONE, session->reply ? session->reply : (const uint8_t *)"", session->size, out, room, size);
 }
 
+uint32_t gate_changes(struct gate *gate, uint8_t *out, size_t room, size_t *size) {
+    *size = 0;
+    if (!gate->is_open) return GATE_NOT_OPEN;
+    const struct session *session = gate->slot.session;
+    if (begins(session->reply, session->size, "fail ")) return status_behind(session->reply, session->size);
+    if (!session->has_moved) return GATE_DONE;
+    const uint32_t status = gate_reply(gate, out, room, size);
+    for (size_t at = 0; status == GATE_DONE && at < *size; at++)
+        if (out[at] == ';') out[at] = '\n';
+    return status;
+}
+
 uint32_t gate_answer(struct gate *gate, const uint8_t *line, size_t line_size, uint8_t *out, size_t room, size_t *size) {
     *size = 0;
     if (!gate->is_open) return GATE_NOT_OPEN;
-    if (begins(line, line_size, "end ")) return status_behind(line, line_size);
     struct session *session = gate->slot.session;
+    session->has_moved = !begins(line, line_size, "end ");
+    if (!session->has_moved) return status_behind(line, line_size);
     const int is_kept = begins(line, line_size, "keep "), is_silent = line_size == 0 || line[0] == '#';
     const size_t from = is_kept ? strlen("keep ") : 0, length = is_silent ? 0 : line_size - from + 1;
     free(session->reply);

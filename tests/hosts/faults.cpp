@@ -115,6 +115,34 @@ static void events() {
     HOLDS(fake_open_handles() == 4);
 }
 
+static void changes() {
+    const std::string one(64, 'a'), other(64, 'b'), third(64, 'c');
+    Gate gate("");
+    HOLDS(gate.changes().departed.empty() && gate.changes().arrived.empty());
+    gate.answer("- " + one + ";- " + other + ";+ " + third);
+    for (int at = 0; at < 2; at++) {
+        const gate_c::Changes moved = gate.changes();
+        HOLDS(moved.departed == (std::vector<std::string>{one, other}) && moved.arrived == std::vector<std::string>{third});
+    }
+    HOLDS(gate.copy().changes().departed.empty() && gate.changes().departed.size() == 2);
+    HOLDS(fault_of([&] { gate.answer("end 7"); }) == GATE_LINE_TOO_LONG && gate.changes().departed.empty());
+    gate.answer("# a comment");
+    HOLDS(gate.changes().arrived.empty());
+    gate.answer("+ " + one + ";+ " + other);
+    HOLDS(gate.changes().departed.empty() && gate.changes().arrived == (std::vector<std::string>{one, other}));
+    gate.answer("- " + one);
+    HOLDS(gate.changes().departed == std::vector<std::string>{one} && gate.changes().arrived.empty());
+    for (const std::string &text : {"+ " + one, "+ " + one + "\n- " + one + "\n", "* " + one + "\n", "+" + one + "\n", "+ " + one + " \n",
+                                    "+ " + one.substr(1) + "\n", "+ " + one + "\n\n", std::string("\n"), std::string("+"), std::string("set\n")}) {
+        HOLDS(fault_of([&] { gate_c::Changes::parse(text); }) == 97);
+    }
+    gate.answer("set");
+    HOLDS(fault_of([&] { gate.changes(); }) == 97);
+    gate.answer("fail 3");
+    HOLDS(fault_of([&] { gate.changes(); }) == 99);
+    HOLDS(fault_of([] { Gate().changes(); }) == GATE_NOT_OPEN);
+}
+
 static void calls() {
     Gate gate("");
     const std::optional<gate_c::Reply> reply = gate.ask("denied A7 close bad-txns-txouttotal-toolarge");
@@ -130,6 +158,7 @@ int main() {
     moves();
     faults();
     events();
+    changes();
     calls();
     HOLDS(fake_open_handles() == 0);
     return failed;

@@ -18,6 +18,31 @@ def fault_of(kind, call, *given):
     raise AssertionError("%s was not raised" % kind.__name__)
 
 
+def moves():
+    one, other, third = (64 * digit for digit in "abc")
+    with gate.Gate("") as opened:
+        assert opened.changes() == gate.Changes() == ((), ())
+        opened.answer("- %s;- %s;+ %s" % (one, other, third))
+        for _ in range(2):
+            moved = opened.changes()
+            assert (moved.departed, moved.arrived) == ((one, other), (third,))
+        with opened.copy() as copy:
+            assert copy.changes() == gate.Changes()
+        assert opened.changes() == moved
+        assert fault_of(gate.LineTooLong, opened.answer, "end 7") and opened.changes() == gate.Changes()
+        opened.answer("+ %s;+ %s" % (one, other))
+        assert opened.changes() == gate.Changes((), (one, other))
+        opened.answer("# a comment")
+        assert opened.changes() == gate.Changes()
+        for lines in ("+ %s", "+ %s\n- %s\n", "* %s\n", "+%s\n", "+ %s \n", "+ %s0\n", "+ %s\n\n", "\n%s", "set\n%s"):
+            fault_of(gate.NotAReply, gate.Changes.parse, lines.replace("%s", one))
+        opened.answer("set")
+        fault_of(gate.NotAReply, opened.changes)
+        opened.answer("fail 3")
+        assert isinstance(fault_of(gate.OutOfMemory, opened.changes), MemoryError)
+    fault_of(gate.NotOpen, opened.changes)
+
+
 def main():
     open_handles = ctypes.CDLL(os.environ["GATE_LIBRARY"]).fake_open_handles
     open_handles.restype = ctypes.c_size_t
@@ -57,6 +82,7 @@ def main():
     assert isinstance(fault_of(gate.NotOpen, one.copy), gate.GateError)
     assert fault_of(gate.NotOpen, one.answer, "set").status == gate.Status.NOT_OPEN
     one.close()
+    moves()
     gate.Gate("")
     assert open_handles() == 0, "a gate that nobody names is closed"
     assert gate.check("00" + "x" * 1000) == gate.Check(True, "00" + "x" * 1000)

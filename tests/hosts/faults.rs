@@ -1,6 +1,6 @@
 //! The crate on the library of fake_library.c: errors, replies in their parts, gates that are dropped.
 
-use gate::{check, version, Check, Error, Event, Gate, Keys, NotAReply, Reply, Rule, Then};
+use gate::{check, version, Changes, Check, Error, Event, Gate, Keys, NotAReply, Reply, Rule, Then, Txid};
 
 extern "C" {
     fn fake_open_handles() -> usize;
@@ -76,6 +76,45 @@ fn events() {
     assert_eq!(open_handles(), 5);
 }
 
+fn changes() {
+    let [one, other, third] = ["a", "b", "c"].map(|digit| digit.repeat(64));
+    let ids = |texts: &[&String]| texts.iter().map(|text| text.parse().expect("a txid")).collect::<Vec<Txid>>();
+    let mut gate = open_gate();
+    assert_eq!(gate.changes(), Ok(Changes::default()));
+    gate.answer(format!("- {one};- {other};+ {third}")).expect("a reply");
+    let moved = Changes { departed: ids(&[&one, &other]), arrived: ids(&[&third]) };
+    for _ in 0..2 {
+        assert_eq!(gate.changes().as_ref(), Ok(&moved));
+    }
+    assert_eq!(moved.to_string(), format!("- {one}\n- {other}\n+ {third}\n"));
+    assert_eq!(gate.copy().expect("a copy").changes(), Ok(Changes::default()));
+    assert_eq!(gate.changes(), Ok(moved));
+    assert_eq!(gate.answer("end 7"), Err(Error::LineTooLong));
+    assert_eq!(gate.changes(), Ok(Changes::default()));
+    gate.answer(format!("+ {one}")).expect("a reply");
+    assert_eq!(gate.changes(), Ok(Changes { departed: vec![], arrived: ids(&[&one]) }));
+    gate.answer("# a comment").expect("no reply");
+    assert_eq!(gate.changes(), Ok(Changes::default()));
+    let short = &one[1..];
+    for text in [
+        format!("+ {one}"),
+        format!("+ {one}\n- {one}\n"),
+        format!("* {one}\n"),
+        format!("+{one}\n"),
+        format!("+ {one} \n"),
+        format!("+ {short}\n"),
+        format!("+ {one}\n\n"),
+        "\n".to_string(),
+        "set\n".to_string(),
+    ] {
+        assert!(text.parse::<Changes>().is_err(), "{:?}", text);
+    }
+    gate.answer("set").expect("a reply");
+    assert_eq!(gate.changes(), Err(Error::UnknownReply(NotAReply("set\n".to_string()))));
+    gate.answer("fail 3").expect("a reply");
+    assert_eq!(gate.changes(), Err(Error::OutOfMemory));
+}
+
 fn calls() {
     let reply = open_gate().ask("denied A7 close bad-txns-txouttotal-toolarge").expect("a reply").expect("a reply");
     let rule = Rule { letter: 'A', number: 7 };
@@ -91,6 +130,7 @@ fn main() {
     moves();
     faults();
     events();
+    changes();
     calls();
     assert_eq!(open_handles(), 0);
 }

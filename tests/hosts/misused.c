@@ -35,6 +35,69 @@ static uint32_t answer(struct gate *gate, const char *line, size_t room) {
     return gate_answer(gate, bytes(line), strlen(line), out, room, &size);
 }
 
+static uint32_t changes(struct gate *gate, size_t room) {
+    mark();
+    return gate_changes(gate, out, room, &size);
+}
+
+/* A transaction of 82 bytes that pays 1,000 satoshi, and one that replaces it and pays 2,000, with their txids. */
+#define SPENDS "02000000010000000000000001000000000000000100000000000000010000000000000001" "0000000000fdffffff01"
+#define PAYS "0000000000160014" "2222222222222222222222222222222222222222" "00000000"
+#define FIRST "9a79b51068b9f1590818e911ed23344ec9d7856eec805212b3646aa6d2ed52f1"
+#define SECOND "9f1367d4d60d678f1d5680a17f36c4d3ad36f6cd59c4a4df872365f28f7e0862"
+
+/* What a line moved: told as often as it is asked, until another line comes; not by a copy; nothing by what is no event. */
+static void moves(const struct gate_keys *keys, const char *longest) {
+    const char *opening = "times 101 1000 600\nverdict * ok\n"
+                          "coin 0100000000000000010000000000000001000000000000000100000000000000 0 100000 0 plain 0014" "2222222222222222222222222222222222222222\n";
+    const char *first = "peer 1 tx 5000 " SPENDS "b88201" PAYS, *second = "peer 1 tx 5000 " SPENDS "d07e01" PAYS;
+    const char *came = "+ " FIRST "\n", *replaced = "- " FIRST "\n+ " SECOND "\n";
+    struct gate gate = GATE_CLOSED, copy = GATE_CLOSED;
+    struct gate_event event = GATE_CLOSED;
+    HOLDS(changes(&gate, ROOM) == GATE_NOT_OPEN && is_untouched() && size == 0 && !gate.is_open);
+    HOLDS(gate_open(&gate, keys, bytes(opening), strlen(opening), out, ROOM, &size) == GATE_DONE);
+    HOLDS(changes(&gate, ROOM) == GATE_DONE && is_untouched() && size == 0);
+    HOLDS(answer(&gate, "peer 1 enter 192.0.2.1", ROOM) == GATE_DONE);
+    HOLDS(changes(&gate, ROOM) == GATE_DONE && is_untouched() && size == 0);
+
+    /* no room for the reply, nor for what moved, which is there all the same */
+    HOLDS(answer(&gate, first, 0) == GATE_BUFFER_TOO_SMALL && is_untouched());
+    HOLDS(changes(&gate, 66) == GATE_BUFFER_TOO_SMALL && is_untouched() && size == 67);
+    HOLDS(changes(&gate, 67) == GATE_DONE && is_text(came) && out[67] == 0x55);
+    mark();
+    HOLDS(gate_reply(&gate, out, ROOM, &size) == GATE_DONE && is_text("admitted " FIRST " fee 1000 vsize 82 replaced 0\n"));
+    HOLDS(changes(&gate, ROOM) == GATE_DONE && is_text(came));
+
+    /* a copy, which has moved nothing, and the one that it is of, which tells its own; then each by itself, by a line and by an event */
+    HOLDS(gate_copy(&gate, &copy) == GATE_DONE);
+    HOLDS(changes(&copy, ROOM) == GATE_DONE && is_untouched() && size == 0);
+    HOLDS(changes(&gate, ROOM) == GATE_DONE && is_text(came));
+    HOLDS(gate_read(&event, bytes(second), strlen(second)) == GATE_DONE);
+    HOLDS(gate_answer_event(&copy, &event, out, ROOM, &size) == GATE_DONE);
+    HOLDS(changes(&copy, ROOM) == GATE_DONE && is_text(replaced));
+    HOLDS(changes(&gate, ROOM) == GATE_DONE && is_text(came));
+    HOLDS(answer(&gate, second, ROOM) == GATE_DONE);
+    HOLDS(changes(&gate, ROOM) == GATE_DONE && is_text(replaced));
+
+    /* an event that is closed changes nothing; one that is denied, a comment, an empty line and lines without a form moved nothing */
+    gate_event_close(&event);
+    HOLDS(gate_answer_event(&gate, &event, out, ROOM, &size) == GATE_NOT_OPEN);
+    HOLDS(changes(&gate, ROOM) == GATE_DONE && is_text(replaced));
+    const char *others[] = {second, "# a comment", "", "nonsense", longest, "peer 1 leave"};
+    for (size_t at = 0; at < sizeof others / sizeof *others; at++) {
+        struct gate next = GATE_CLOSED;
+        HOLDS(gate_open(&next, keys, bytes(opening), strlen(opening), out, ROOM, &size) == GATE_DONE);
+        HOLDS(answer(&next, "peer 1 enter 192.0.2.1", ROOM) == GATE_DONE && answer(&next, second, ROOM) == GATE_DONE);
+        HOLDS(changes(&next, ROOM) == GATE_DONE && is_text("+ " SECOND "\n"));
+        HOLDS(answer(&next, others[at], ROOM) == (others[at] == longest ? GATE_LINE_TOO_LONG : GATE_DONE));
+        HOLDS(changes(&next, ROOM) == GATE_DONE && is_untouched() && size == 0);
+        gate_close(&next);
+    }
+    gate_close(&gate);
+    gate_close(&copy);
+    HOLDS(changes(&gate, ROOM) == GATE_NOT_OPEN && is_untouched() && size == 0);
+}
+
 int main(void) {
     const struct gate_keys keys = {3, 4};
     const char *opening = "budget 100000\ntimes 101 1000 600\nverdict * ok\nbloom 1\n";
@@ -86,6 +149,7 @@ int main(void) {
     char *longest = malloc(LIMIT + 2);
     memset(longest, 'x', LIMIT + 1);
     longest[LIMIT + 1] = 0;
+    moves(&keys, longest);
     HOLDS(answer(&gate, longest, ROOM) == GATE_LINE_TOO_LONG && is_untouched() && size == 0);
     mark();
     HOLDS(gate_reply(&gate, out, ROOM, &size) == GATE_DONE && is_text("denied P3 keep peer-known\n"));

@@ -1,6 +1,7 @@
 /* `gate run`, `gate check -` and `gate --version`, as `version`, by the library. Other words go to the program that the variable GATE names.
 
-   The variable ROOM has the bytes of the buffer, from 1; every reply without room comes by gate_reply. */
+   The variable ROOM has the bytes of the buffer, from 1; every reply without room comes by gate_reply. If the variable CHANGES is set,
+   what stands behind the reply to a line is what the line moved, and a line `=`. */
 #include "gate.h"
 
 #include <stdio.h>
@@ -37,14 +38,29 @@ static uint8_t *behind_opening(uint8_t *text, uint8_t *end) {
     return end;
 }
 
-/* Prints the reply that had no room. */
-static uint32_t print_greater(struct gate *gate, size_t size) {
+typedef uint32_t call(struct gate *gate, uint8_t *to, size_t has_room, size_t *size);
+
+/* Prints the text that a call put into the buffer, or, if that had no room, the text that another call gives. */
+static uint32_t print(struct gate *gate, uint32_t status, size_t size, call *again) {
+    if (status != GATE_BUFFER_TOO_SMALL) {
+        fwrite(out, 1, size, stdout);
+        return status;
+    }
     uint8_t *greater = malloc(size);
-    size_t again = 0;
-    uint32_t status = gate_reply(gate, greater, size, &again);
-    if (status == GATE_DONE && again == size) fwrite(greater, 1, size, stdout);
+    size_t told = 0;
+    status = again(gate, greater, size, &told);
+    if (status == GATE_DONE && told == size) fwrite(greater, 1, size, stdout);
     free(greater);
-    return again == size ? status : GATE_BUFFER_TOO_SMALL;
+    return told == size ? status : GATE_BUFFER_TOO_SMALL;
+}
+
+/* Prints what the last line moved. */
+static uint32_t print_changes(struct gate *gate) {
+    size_t size = 0;
+    uint32_t status = gate_changes(gate, out, room, &size);
+    status = print(gate, status, size, gate_changes);
+    fputs("=\n", stdout);
+    return status;
 }
 
 static int run(void) {
@@ -72,8 +88,8 @@ static int run(void) {
             fputs("refused L2 line-too-long\n", stdout);
             break;
         }
-        if (status == GATE_BUFFER_TOO_SMALL) status = print_greater(&gate, written);
-        else fwrite(out, 1, written, stdout);
+        status = print(&gate, status, written, gate_reply);
+        if (status == GATE_DONE && getenv("CHANGES")) status = print_changes(&gate);
         if (status != GATE_DONE) return 91;
     }
     gate_close(&gate);

@@ -1,4 +1,5 @@
 // `gate run`, `gate check -` and `gate --version`, as `version`, by the class for C++. Other words go to the program that the variable GATE names.
+// If the variable CHANGES is set, what stands behind the reply to a line is what the line moved, and a line `=`.
 #include "gate.hpp"
 
 #include <algorithm>
@@ -12,6 +13,13 @@ static constexpr long LINES = 1000000;
 
 static std::string everything() {
     return std::string(std::istreambuf_iterator<char>(std::cin), std::istreambuf_iterator<char>());
+}
+
+static void print_changes(gate_c::Gate &gate) {
+    const gate_c::Changes moved = gate.changes();
+    for (const std::string &txid : moved.departed) std::cout << "- " << txid << "\n";
+    for (const std::string &txid : moved.arrived) std::cout << "+ " << txid << "\n";
+    std::cout << "=\n";
 }
 
 static int run() {
@@ -34,6 +42,7 @@ static int run() {
             if (!gate.is_answered() || gate.reply() != reply) return 92;
             if (!reply.empty()) gate_c::Reply::parse(reply);
             std::cout << reply;
+            if (std::getenv("CHANGES")) print_changes(gate);
             at = stop + 1;
         }
     } catch (const gate_c::OpeningRefused &fault) {

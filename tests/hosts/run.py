@@ -1,6 +1,6 @@
 #!/usr/bin/env python3
 """`gate run`, `gate check -` and `gate --version`, as `version`, by the package for Python. Other words go to the program that
-the variable GATE names.
+the variable GATE names. If the variable CHANGES is set, what stands behind the reply to a line is what the line moved, and a line `=`.
 """
 
 import os
@@ -23,6 +23,12 @@ def parted(text):
     return b"".join(line + b"\n" for line in lines[:end]), lines[end:]
 
 
+def changes_of(opened):
+    moved = opened.changes()
+    told = ["- " + txid for txid in moved.departed] + ["+ " + txid for txid in moved.arrived] + ["="]
+    return "".join(line + "\n" for line in told)
+
+
 def run(out):
     opening, lines = parted(sys.stdin.buffer.read())
     try:
@@ -35,6 +41,8 @@ def run(out):
                 assert opened.reply() == reply
                 assert not reply or gate.Reply.parse(reply).line + "\n" == reply
                 out.write(reply.encode())
+                if "CHANGES" in os.environ:
+                    out.write(changes_of(opened).encode())
         assert not opened.is_open
     except gate.OpeningRefused as refused:
         out.write(b"%s\n" % str(refused).encode())

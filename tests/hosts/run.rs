@@ -1,5 +1,6 @@
 //! `gate run`, `gate check -` and `gate --version`, as `version`, by the crate for Rust. Other words go to the program that
-//! the variable GATE names.
+//! the variable GATE names. If the variable CHANGES is set, what stands behind the reply to a line is what the line moved, and a
+//! line `=`.
 
 use gate::{Error, Gate, Keys, Reply};
 use std::io::{stdin, stdout, BufWriter, Read, Write};
@@ -43,6 +44,7 @@ fn run() -> i32 {
 }
 
 fn answer_all(mut gate: Gate, events: &[u8], out: &mut impl Write) -> i32 {
+    let tells_changes = std::env::var_os("CHANGES").is_some();
     for (number, line) in events.split_inclusive(|byte| *byte == b'\n').enumerate() {
         if number == LINES {
             out.write_all(b"refused L3 too-many-lines\n").expect("an output");
@@ -53,6 +55,9 @@ fn answer_all(mut gate: Gate, events: &[u8], out: &mut impl Write) -> i32 {
                 assert_eq!(gate.reply().as_ref(), Ok(&reply));
                 assert!(reply.is_empty() || reply.parse::<Reply>().map(|parts| parts.to_string() + "\n").as_ref() == Ok(&reply));
                 out.write_all(reply.as_bytes()).expect("an output");
+                if tells_changes {
+                    writeln!(out, "{}=", gate.changes().expect("changes")).expect("an output");
+                }
             }
             Err(Error::LineTooLong) => {
                 out.write_all(b"refused L2 line-too-long\n").expect("an output");

@@ -1,7 +1,8 @@
 /* `gate run` by the library with several threads: they read lines at the same time, and hold one lock while they answer.
 
    The variable THREADS has their number, 4 if it is not set. A thread takes the next lines, reads them into events, and answers these
-   when all lines before them are answered. Other words than `run` go to the program that the variable GATE names. */
+   when all lines before them are answered. Other words than `run` go to the program that the variable GATE names. If the variable
+   CHANGES is set, what stands behind the reply to a line is what the line moved, and a line `=`. */
 #include "gate.h"
 
 #include <pthread.h>
@@ -72,18 +73,30 @@ static int take(struct block *block) {
     return block->count > 0;
 }
 
-/* Prints the reply to an event. The lock is held. */
-static uint32_t answer(struct gate_event *event) {
-    size_t size = 0;
-    uint32_t status = gate_answer_event(&gate, event, out, sizeof out, &size);
+typedef uint32_t call(struct gate *asked, uint8_t *to, size_t room, size_t *size);
+
+/* Prints the text that a call put into the buffer, or, if that had no room, the text that another call gives. */
+static uint32_t print(uint32_t status, size_t size, call *again) {
     if (status != GATE_BUFFER_TOO_SMALL) {
         fwrite(out, 1, size, stdout);
         return status;
     }
     uint8_t *greater = malloc(size);
-    status = gate_reply(&gate, greater, size, &size);
+    status = again(&gate, greater, size, &size);
     fwrite(greater, 1, size, stdout);
     free(greater);
+    return status;
+}
+
+/* Prints the reply to an event. The lock is held. */
+static uint32_t answer(struct gate_event *event) {
+    size_t size = 0;
+    uint32_t status = gate_answer_event(&gate, event, out, sizeof out, &size);
+    status = print(status, size, gate_reply);
+    if (status != GATE_DONE || !getenv("CHANGES")) return status;
+    status = gate_changes(&gate, out, sizeof out, &size);
+    status = print(status, size, gate_changes);
+    fputs("=\n", stdout);
     return status;
 }
 

@@ -15,7 +15,7 @@ use Rattle.gate_c.specs.Answers.{Answered, EventAnswered, Steps}
 use Rattle.gate_c.specs.declared.session.Session.{Session}
 use Rattle.gate_c.specs.Calls.{AnswerPut, AnswerRepeated, LineCalled}
 use Rattle.gate_c.specs.Readings.{IsRead, ReadingAnswered, Reads}
-use Rattle.gate_c.specs.Sessions.{OpeningKept}
+use Rattle.gate_c.specs.Sessions.{MovesSince, OpeningKept}
 
 one_line : (old new : World) (line reply : List ℕ) (event : Option Event) → is_skipped line ≡ false → line_event line ≡ event
     → lane.EventAnswered Steps old event reply new → LineAnswered Steps old line (reply ∷ []) new
@@ -41,15 +41,19 @@ reading_answered old new line (readings.Event event) answer reads answered = lin
 
 -- an answer to what a line asks for, which is then put, is one to the line
 pub line_called : (old mid new : Session) (line : List ℕ) (reading : Reading) (before after : List ℕ) (size status : ℕ) → IsRead line reading
-    → ReadingAnswered old.state reading mid.answer mid.state → OpeningKept old mid → AnswerRepeated mid new before after size status
-    → LineCalled old line new before after size status
-line_called old mid new line reading before after size status read answered kept repeated =
-    let state : new.state ≡ mid.state = repeated.0.1 in
+    → ReadingAnswered old.tracked.world reading mid.answer mid.tracked.world → OpeningKept old mid → MovesSince old mid
+    → AnswerRepeated mid new before after size status → LineCalled old line new before after size status
+line_called old mid new line reading before after size status read answered kept moves repeated =
+    let state : new.tracked.world ≡ mid.tracked.world = repeated.0.1 in
     let answer : new.answer ≡ mid.answer = repeated.0.2 in
-    let there : Answered old.state line mid.answer mid.state = reading_answered old.state mid.state line reading mid.answer read.1 answered in
-    inl (
-      read.0,
-      subst (λ (a : Answer). Answered old.state line a new.state) (sym answer) (subst (λ (w : World). Answered old.state line mid.answer w) (sym state) there),
-      repeated.0.0 ∙ kept,
-      subst (λ (a : Answer). AnswerPut a before after size status) (sym answer) repeated.1,
+    let there : Answered old.tracked.world line mid.answer mid.tracked.world =
+    reading_answered old.tracked.world mid.tracked.world line reading mid.answer read.1 answered in (
+      repeated.1 ∙ moves,
+      inl (
+        read.0,
+        subst (λ (a : Answer). Answered old.tracked.world line a new.tracked.world) (sym answer)
+            (subst (λ (w : World). Answered old.tracked.world line mid.answer w) (sym state) there),
+        repeated.0.0 ∙ kept,
+        subst (λ (a : Answer). AnswerPut a before after size status) (sym answer) repeated.2,
+      ),
     )

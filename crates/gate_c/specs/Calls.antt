@@ -11,9 +11,10 @@ use Rattle.gate_c.specs.declared.reading.Reading.{Reading}
 use Rattle.gate_c.specs.declared.session.Session.{Session}
 use Rattle.gate_c.specs.declared.status.Status.TheVariants as statuses
 use Rattle.gate_c.specs.Answers.{answer_lines, Answered}
+use Rattle.gate_c.specs.Changes.{change_text}
 use Rattle.gate_c.specs.Outputs.{NothingPut, OutOfMemory, TextPut}
 use Rattle.gate_c.specs.Readings.{IsRead, ReadingAnswered}
-use Rattle.gate_c.specs.Sessions.{AnswerKept, IsOpened, OpeningKept}
+use Rattle.gate_c.specs.Sessions.{AnswerKept, IsOpened, MovesKept, MovesSince, OpeningKept, Rests}
 use Rattle.gate_c.specs.Statuses.{code_of, done}
 
 -- ---- a check
@@ -32,12 +33,14 @@ AnswerPut answer before after size status =
     TextPut done (unlines (answer_lines answer)) before after size status
     ⊎ NothingPut (code_of statuses.ReplyKept) before after size status
 
--- a line within the limits is answered, and its answer is kept; or nothing has changed; the opening is the same after every call
+-- a line within the limits is answered, and its answer is kept; or nothing has changed; the opening is the same after every
+-- call, and what has moved is what this line moved
 abbrev pub LineCalled : Session → List ℕ → Session → List ℕ → List ℕ → ℕ → ℕ → Type 0
-LineCalled old line new before after size status =
-    ((length line ≤ line_limit) × Answered old.state line new.answer new.state × OpeningKept old new × AnswerPut new.answer before after size status)
+LineCalled old line new before after size status = MovesSince old new × (
+    ((length line ≤ line_limit) × Answered old.tracked.world line new.answer new.tracked.world × OpeningKept old new
+    × AnswerPut new.answer before after size status)
     ⊎ (AnswerKept old new × OutOfMemory before after size status)
-    ⊎ (AnswerKept old new × (line_limit < length line) × NothingPut (code_of statuses.LineTooLong) before after size status)
+    ⊎ (AnswerKept old new × (line_limit < length line) × NothingPut (code_of statuses.LineTooLong) before after size status))
 
 -- a closed handle stays closed
 abbrev pub AnswerCalled : Option Session → List ℕ → Option Session → List ℕ → List ℕ → ℕ → ℕ → Type 0
@@ -47,12 +50,25 @@ AnswerCalled (Some old) line (Some new) before after size status = LineCalled ol
 
 -- the last answer is put once more, and nothing else changes
 abbrev pub AnswerRepeated : Session → Session → List ℕ → List ℕ → ℕ → ℕ → Type 0
-AnswerRepeated old new before after size status = AnswerKept old new × AnswerPut old.answer before after size status
+AnswerRepeated old new before after size status = AnswerKept old new × MovesKept old new × AnswerPut old.answer before after size status
 
 abbrev pub ReplyCalled : Option Session → Option Session → List ℕ → List ℕ → ℕ → ℕ → Type 0
 ReplyCalled None new before after size status = (new ≡ None) × NothingPut (code_of statuses.NotOpen) before after size status
 ReplyCalled (Some old) None before after size status = ⊥
 ReplyCalled (Some old) (Some new) before after size status = AnswerRepeated old new before after size status
+
+-- ---- what a line moved
+
+-- the lines of what the last line moved are put, or memory ran out in their text
+abbrev pub ChangesPut : Session → List ℕ → List ℕ → ℕ → ℕ → Type 0
+ChangesPut session before after size status =
+    TextPut done (change_text session.tracked.before session.tracked.world.pool) before after size status
+    ⊎ OutOfMemory before after size status
+
+-- nothing changes behind the handle
+abbrev pub ChangesCalled : Option Session → Option Session → List ℕ → List ℕ → ℕ → ℕ → Type 0
+ChangesCalled None new before after size status = (new ≡ None) × NothingPut (code_of statuses.NotOpen) before after size status
+ChangesCalled (Some old) new before after size status = (new ≡ Some old) × ChangesPut old before after size status
 
 -- ---- a line that is read before it is answered
 
@@ -69,11 +85,12 @@ HoldsLine line (Some reading) = IsRead line reading
 abbrev pub ReadCalled : Option Reading → List ℕ → Option Reading → ℕ → Type 0
 ReadCalled old line new status = ((status ≡ done) × HoldsLine line new) ⊎ ((new ≡ old) × Unread line status)
 
--- what a line asks for is answered, and its answer is kept; or nothing has changed; the opening is the same after every call
+-- what a line asks for is answered, and its answer is kept; or nothing has changed; the opening is the same after every call,
+-- and what has moved is what this line moved
 abbrev pub ReadingCalled : Session → Reading → Session → List ℕ → List ℕ → ℕ → ℕ → Type 0
-ReadingCalled old reading new before after size status =
-    (ReadingAnswered old.state reading new.answer new.state × OpeningKept old new × AnswerPut new.answer before after size status)
-    ⊎ (AnswerKept old new × OutOfMemory before after size status)
+ReadingCalled old reading new before after size status = MovesSince old new × (
+    (ReadingAnswered old.tracked.world reading new.answer new.tracked.world × OpeningKept old new × AnswerPut new.answer before after size status)
+    ⊎ (AnswerKept old new × OutOfMemory before after size status))
 
 -- what a line asks for is answered by a handle that is open
 abbrev pub OpenCalledBy : Option Session → Reading → Option Session → List ℕ → List ℕ → ℕ → ℕ → Type 0
@@ -88,10 +105,11 @@ EventCalled old (Some reading) new before after size status = OpenCalledBy old r
 
 -- ---- a copy
 
--- the second handle holds a session with the same opening, the same state and the same last answer; or memory ran out
+-- the second handle holds a session with the same opening, the same state and the same last answer, in which nothing has
+-- moved; or memory ran out
 abbrev pub CopyMade : Session → Option Session → ℕ → Type 0
 CopyMade old None status = status ≡ code_of statuses.OutOfMemory
-CopyMade old (Some copy) status = (status ≡ done) × AnswerKept old copy
+CopyMade old (Some copy) status = (status ≡ done) × AnswerKept old copy × Rests copy
 
 -- the first handle is as before; so is the second one, unless a copy is made
 abbrev pub CopyCalled : Option Session → Option Session → Option Session → Option Session → ℕ → Type 0

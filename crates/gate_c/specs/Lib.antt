@@ -2,6 +2,7 @@ pub mod Statuses
 pub mod Answers
 pub mod Readings
 pub mod Reached
+pub mod Changes
 pub mod Sessions
 pub mod Slots
 pub mod EventSlots

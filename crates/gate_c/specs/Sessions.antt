@@ -5,11 +5,23 @@ use Rattle.gate_opening.specs.Said.{spelled}
 use Rattle.gate_c.specs.declared.answer.Answer.TheVariants as answers
 use Rattle.gate_c.specs.declared.session.Session.{Session}
 
--- the session of the state that an opening spells, which is a good one; no line is answered yet
+-- nothing has moved
+abbrev pub Rests : Session → Type 0
+Rests session = session.tracked.before ≡ session.tracked.world.pool
+
+-- what has moved in the second session is what moved since the first
+abbrev pub MovesSince : Session → Session → Type 0
+MovesSince old new = new.tracked.before ≡ old.tracked.world.pool
+
+-- what has moved is as before
+abbrev pub MovesKept : Session → Session → Type 0
+MovesKept old new = new.tracked.before ≡ old.tracked.before
+
+-- the session of the state that an opening spells, which is a good one; no line is answered yet, and nothing has moved
 abbrev pub IsOpened : List ℕ → Session → Type 0
 IsOpened opening session =
-    (spelled opening ≡ Ok session.opened.value) × (session.state ≡ session.opened.value)
-    × IsGoodWorld session.state × (session.answer ≡ answers.Nothing)
+    (spelled opening ≡ Ok session.opened.value) × (session.tracked.world ≡ session.opened.value)
+    × IsGoodWorld session.tracked.world × (session.answer ≡ answers.Nothing) × Rests session
 
 -- the state that the opening gave is as before
 abbrev pub OpeningKept : Session → Session → Type 0
@@ -17,4 +29,4 @@ OpeningKept old new = new.opened.value ≡ old.opened.value
 
 -- nothing of what the session knows has changed: its opening, its state and its last answer
 abbrev pub AnswerKept : Session → Session → Type 0
-AnswerKept old new = OpeningKept old new × (new.state ≡ old.state) × (new.answer ≡ old.answer)
+AnswerKept old new = OpeningKept old new × (new.tracked.world ≡ old.tracked.world) × (new.answer ≡ old.answer)

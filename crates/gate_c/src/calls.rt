@@ -1,8 +1,8 @@
 //! What a call does behind its handle.
-ghost use Rattle.std.specs.Prelude.{◌≡◌, ◌≤◌, List, ℕ, MatchResult};
-ghost use Rattle.gate_c.specs.Calls.{AnswerRepeated, CheckCalled, LineCalled, Opened, ReadingCalled, RefusalPut, Unopened, Unread};
+ghost use Rattle.std.specs.Prelude.{◌≡◌, ◌≤◌, List, ℕ, IfOk, MatchResult};
+ghost use Rattle.gate_c.specs.Calls.{AnswerRepeated, ChangesPut, CheckCalled, LineCalled, Opened, ReadingCalled, RefusalPut, Unopened, Unread};
 ghost use Rattle.gate_c.specs.Readings.{IsRead};
-ghost use Rattle.gate_c.specs.Sessions.{AnswerKept};
+ghost use Rattle.gate_c.specs.Sessions.{AnswerKept, Rests};
 ghost use Rattle.gate_c.specs.Statuses.{code_of};
 
 use crate::keys::Keys;
@@ -63,6 +63,16 @@ pub fn repeat_answer(
     }
 }
 
+/// Puts the lines of what the last line moved into the buffer.
+pub fn tell_changes(alloc: Global, session: &Session, out: &mut [u8], size: &mut usize) -> Status
+    ensures { ChangesPut session.now out.old out.new size.new (code_of result) }
+{
+    match session.changes(alloc) {
+        Ok(text) => put_text(Status::Done, text.as_bytes(), out, size),
+        Err(_) => put_nothing(Status::OutOfMemory, size),
+    }
+}
+
 /// Reads a line, unless it is too long.
 pub fn read_line(alloc: Global, line: &[u8]) -> Result<Reading, Status>
     ensures { MatchResult result (λ reading. IsRead line.now reading) (λ status. Unread line.now (code_of status)) }
@@ -114,13 +124,17 @@ pub fn answer_line(
 {
     match read_line(alloc, line) {
         Ok(reading) => answer_reading(alloc, session, &reading, out, size),
-        Err(status) => put_nothing(status, size),
+        Err(status) => {
+            session.rest();
+            put_nothing(status, size)
+        }
     }
 }
 
 /// A copy of a session.
 pub fn copy_session(alloc: Global, session: &Session) -> Result<Box<Session, Global>, Status>
-    ensures { MatchResult result (λ copy. AnswerKept session.now copy.value) (λ status. status ≡ Status.OutOfMemory) }
+    ensures same { MatchResult result (λ copy. AnswerKept session.now copy.value) (λ status. status ≡ Status.OutOfMemory) }
+    ensures rests { IfOk result (λ copy. Rests copy.value) }
 {
     match session.copy(alloc) {
         Ok(copy) => boxed(alloc, copy),

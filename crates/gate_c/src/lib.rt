@@ -5,13 +5,14 @@
 #![tactic(auto)]
 
 ghost use Rattle.std.specs.Prelude.{◌≡◌, List, ℕ, None, codes};
-ghost use Rattle.gate_c.specs.Calls.{AnswerCalled, CheckCalled, CopyCalled, EventCalled, HoldsLine, OpenCalled, OpenCalledBy, ReadCalled, ReplyCalled};
+ghost use Rattle.gate_c.specs.Calls.{AnswerCalled, ChangesCalled, CheckCalled, CopyCalled, EventCalled, HoldsLine, OpenCalled, OpenCalledBy, ReadCalled, ReplyCalled};
 ghost use Rattle.gate_c.specs.Outputs.{TextPut};
 ghost use Rattle.gate_c.specs.Readings.{IsRead};
 ghost use Rattle.gate_c.specs.Statuses.{code_of, done};
 
 mod answer;
 mod calls;
+mod changes;
 mod handle;
 mod keys;
 mod output;
@@ -21,7 +22,8 @@ mod session;
 mod status;
 
 use calls::{
-    answer_line, answer_reading, check_input, copy_session, open_session, read_event, repeat_answer,
+    answer_line, answer_reading, check_input, copy_session, open_session, read_event,
+    repeat_answer, tell_changes,
 };
 use gate_prog::VERSION;
 use handle::{Gate, GateEvent};
@@ -91,6 +93,27 @@ pub extern "C" fn gate_reply(
     match gate.take(alloc) {
         Some(mut session) => {
             let status = repeat_answer(alloc, &mut session, out, size);
+            gate.put(session);
+            status.code()
+        }
+        None => put_nothing(Status::NotOpen, size).code(),
+    }
+}
+
+/// Puts the lines of what the last line moved in the pool into the buffer: `- TXID` for each entry that left, and then
+/// `+ TXID` for each that came, both in order of admission. What left and came back within one event is in neither.
+#[unsafe(no_mangle)]
+pub extern "C" fn gate_changes(
+    alloc: Global,
+    gate: &mut Gate,
+    out: &mut [u8],
+    size: &mut usize,
+) -> u32
+    ensures { ChangesCalled gate.old.slot.session gate.new.slot.session out.old out.new size.new result }
+{
+    match gate.take(alloc) {
+        Some(session) => {
+            let status = tell_changes(alloc, &session, out, size);
             gate.put(session);
             status.code()
         }

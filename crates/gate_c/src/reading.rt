@@ -7,7 +7,7 @@ ghost use Rattle.gate_c.specs.Reached.{IsReached};
 
 use crate::answer::Answer;
 use gate_bytes::Memory;
-use gate_core::{State, StepFault};
+use gate_core::{StepFault, Tracked};
 use gate_events::event_on;
 use gate_lines::asks_nothing;
 use gate_message::{Event, Reply};
@@ -25,13 +25,14 @@ pub enum Reading {
 }
 
 /// The step of an event.
-fn step(alloc: Global, state: &mut State<RandomState>, event: &Event) -> Result<Reply, Memory>
-    ensures made { IfOk result (λ reply. (reply, state.new) ≡ step_of state.old event.now) }
-    ensures good { IfOk result (λ reply. StepGives state.old event.now reply state.new) }
-    ensures reached { (opened : World) → IsReached opened state.old → IsReached opened state.new }
-    ensures err { OnErr result (state.new ≡ state.old) }
+fn step(alloc: Global, tracked: &mut Tracked<RandomState>, event: &Event) -> Result<Reply, Memory>
+    ensures made { IfOk result (λ reply. (reply, tracked.new.world) ≡ step_of tracked.old.world event.now) }
+    ensures good { IfOk result (λ reply. StepGives tracked.old.world event.now reply tracked.new.world) }
+    ensures reached { (opened : World) → IsReached opened tracked.old.world → IsReached opened tracked.new.world }
+    ensures err { OnErr result (tracked.new.world ≡ tracked.old.world) }
+    ensures moves { tracked.new.before ≡ tracked.old.world.pool }
 {
-    match state.step(alloc, event) {
+    match tracked.step(alloc, event) {
         Ok(reply) => Ok(reply),
         Err(StepFault::Memory) => Err(Memory),
     }
@@ -53,16 +54,28 @@ impl Reading {
         }
     }
 
-    /// The answer to what the line asks for. If memory runs out, the state is unchanged.
-    pub fn answer(&self, alloc: Global, state: &mut State<RandomState>) -> Result<Answer, Memory>
-        ensures ok { IfOk result (λ answer. ReadingAnswered state.old self.now answer state.new) }
-        ensures reached { (opened : World) → IsReached opened state.old → IsReached opened state.new }
-        ensures err { OnErr result (state.new ≡ state.old) }
+    /// The answer to what the line asks for. If memory runs out, the state is unchanged. What has moved is then what this
+    /// line moves: nothing, if it asks for no event.
+    pub fn answer(
+        &self,
+        alloc: Global,
+        tracked: &mut Tracked<RandomState>,
+    ) -> Result<Answer, Memory>
+        ensures ok { IfOk result (λ answer. ReadingAnswered tracked.old.world self.now answer tracked.new.world) }
+        ensures reached { (opened : World) → IsReached opened tracked.old.world → IsReached opened tracked.new.world }
+        ensures err { OnErr result (tracked.new.world ≡ tracked.old.world) }
+        ensures moves { tracked.new.before ≡ tracked.old.world.pool }
     {
         match self {
-            Reading::Nothing => Ok(Answer::Nothing),
-            Reading::BadLine => Ok(Answer::BadLine),
-            Reading::Event(event) => Ok(Answer::Reply(step(alloc, state, event)?)),
+            Reading::Nothing => {
+                tracked.rest();
+                Ok(Answer::Nothing)
+            }
+            Reading::BadLine => {
+                tracked.rest();
+                Ok(Answer::BadLine)
+            }
+            Reading::Event(event) => Ok(Answer::Reply(step(alloc, tracked, event)?)),
         }
     }
 }

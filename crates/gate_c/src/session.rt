@@ -1,4 +1,5 @@
-//! What an open handle leads to: a state, the one that its opening gave, and the answer to the last line.
+//! What an open handle leads to: a state, the one that its opening gave, and the answer to the last line with what that
+//! moved.
 ghost use Rattle.std.specs.Prelude.{◌≡◌, ◌≢◌, IfOk, IfErr, OnOk, OnErr, Ok, Err, ℕ, string_bytes};
 ghost use Rattle.gate_core.specs.Good.{IsGoodWorld};
 ghost use Rattle.gate_lines.specs.Lines.{unlines};
@@ -7,11 +8,12 @@ ghost use Rattle.gate_c.specs.Answers.{answer_lines};
 ghost use Rattle.gate_c.specs.Reached.{IsReached};
 
 use crate::answer::Answer;
+use crate::changes::moved_text;
 use crate::keys::Keys;
 use crate::reading::Reading;
 use crate::remembered::Remembered;
 use gate_bytes::Memory;
-use gate_core::State;
+use gate_core::{State, Tracked};
 use gate_opening::{OpeningFault, OpeningToken, read_opening};
 use std::alloc::Global;
 use std::hash::RandomState;
@@ -19,7 +21,8 @@ use std::hash::RandomState;
 /// A gate that was opened, and has answered lines.
 #[derive(Drop)]
 pub struct Session {
-    pub state: State<RandomState>,
+    /// The state, and what the last line moved.
+    pub tracked: Tracked<RandomState>,
     /// The state that the opening gave. It is there for clauses alone, and takes no memory.
     pub opened: Remembered<State<RandomState>>,
     /// The answer to the last line.
@@ -27,7 +30,7 @@ pub struct Session {
     /// The memory in which the text of the last answer is made.
     pub text: String,
     // The state is the end of a run from the one that the opening gave, whatever lines were answered.
-    ghost reached: { IsReached opened.value state },
+    ghost reached: { IsReached opened.value tracked.world },
 }
 
 /// The state that an opening spells.
@@ -49,7 +52,8 @@ fn read_state(
 
 impl Session {
     ghost use Rattle.gate_c.specs.Readings.{ReadingAnswered};
-    ghost use Rattle.gate_c.specs.Sessions.{AnswerKept, IsOpened, OpeningKept};
+    ghost use Rattle.gate_c.specs.Changes.{change_text};
+    ghost use Rattle.gate_c.specs.Sessions.{AnswerKept, IsOpened, MovesKept, MovesSince, OpeningKept, Rests};
 
     /// Opens the session of the state that an opening spells.
     pub fn open(alloc: Global, keys: &Keys, opening: &[u8]) -> Result<Session, OpeningFault>
@@ -64,32 +68,34 @@ impl Session {
         let state = read_state(alloc, hasher, opening)?;
         let opened = Remembered::of(&state);
         Ok(Session {
-            state,
+            tracked: Tracked::new(state),
             opened,
             answer: Answer::Nothing,
             text: String::new(alloc),
         })
     }
 
-    /// A session with the same state, the same opening and the same last answer.
+    /// A session with the same state, the same opening and the same last answer. It has nothing to tell of what moved.
     pub fn copy(&self, alloc: Global) -> Result<Session, Memory>
-        ensures { IfOk result (AnswerKept self.now) }
+        ensures same { IfOk result (AnswerKept self.now) }
+        ensures rests { IfOk result Rests }
     {
         Ok(Session {
-            state: self.state.copy(alloc)?,
+            tracked: self.tracked.copy(alloc)?,
             opened: self.opened.copy(),
             answer: self.answer.copy(alloc)?,
             text: String::new(alloc),
         })
     }
 
-    /// Answers what a line asks for. If memory runs out, nothing is changed.
+    /// Answers what a line asks for. If memory runs out, nothing is changed. What has moved is then what this line moves.
     pub fn answer(&mut self, alloc: Global, reading: &Reading) -> Result<(), Memory>
-        ensures ok { OnOk result (ReadingAnswered self.old.state reading.now self.new.answer self.new.state) }
+        ensures ok { OnOk result (ReadingAnswered self.old.tracked.world reading.now self.new.answer self.new.tracked.world) }
         ensures opened { OpeningKept self.old self.new }
         ensures err { OnErr result (AnswerKept self.old self.new) }
+        ensures moves { MovesSince self.old self.new }
     {
-        let answer = reading.answer(alloc, &mut self.state)?;
+        let answer = reading.answer(alloc, &mut self.tracked)?;
         self.answer = answer;
         Ok(())
     }
@@ -97,8 +103,26 @@ impl Session {
     /// Replaces the text that was made last with that of the last answer, with its newline.
     pub fn write(&mut self, alloc: Global) -> Result<(), Memory>
         ensures kept { AnswerKept self.old self.new }
+        ensures moves { MovesKept self.old self.new }
         ensures text { OnOk result (string_bytes self.new.text ≡ unlines (answer_lines self.old.answer)) }
     {
         self.answer.write(alloc, &mut self.text)
+    }
+
+    /// Lets a line that can't be read have moved nothing.
+    pub fn rest(&mut self)
+        ensures kept { AnswerKept self.old self.new }
+        ensures moves { MovesSince self.old self.new }
+    {
+        self.tracked.rest();
+    }
+
+    /// The lines of what the last line moved.
+    pub fn changes(&self, alloc: Global) -> Result<String, Memory>
+        ensures { IfOk result (λ text. string_bytes text ≡ change_text self.now.tracked.before self.now.tracked.world.pool) }
+    {
+        let departed = self.tracked.departed(alloc)?;
+        let arrived = self.tracked.arrived(alloc)?;
+        moved_text(alloc, departed.as_slice(), arrived.as_slice())
     }
 }

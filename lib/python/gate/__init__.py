@@ -16,10 +16,12 @@ import secrets
 import threading
 from typing import Any, Callable, NamedTuple, Optional, Union
 
+from .changes import Changes
 from .library import EventHandle, Handle, Keys, Status, library
 from .replies import Kind, NotAReply, Reply, Then
 
 __all__ = [
+    "Changes",
     "Check",
     "Event",
     "Gate",
@@ -198,6 +200,13 @@ class Gate:
         with self._lock:
             status, reply = self._buffer.fill(self._library.gate_reply, ctypes.byref(self._handle))
         return _text_of(status, reply, status == Status.DONE)
+
+    def changes(self) -> Changes:
+        """What the last line moved in the pool. What left and came back by one line is in neither list. Nothing has moved in a
+        gate that was opened or copied just now, nor by a line that is no event or was not answered."""
+        with self._lock:
+            status, lines = self._buffer.fill(self._library.gate_changes, ctypes.byref(self._handle))
+        return Changes.parse(_text_of(status, lines, status == Status.DONE))
 
     @property
     def is_open(self) -> bool:

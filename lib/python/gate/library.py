@@ -55,6 +55,7 @@ def _parameters() -> list[tuple[str, list[Any]]]:
         ("gate_open", [handle, ctypes.POINTER(Keys), text, count, *buffer]),
         ("gate_answer", [handle, text, count, *buffer]),
         ("gate_reply", [handle, *buffer]),
+        ("gate_changes", [handle, *buffer]),
         ("gate_copy", [handle, handle]),
         ("gate_read", [event, text, count]),
         ("gate_answer_event", [handle, event, *buffer]),

@@ -41,7 +41,7 @@ class Then(enum.Enum):
 
 
 class NotAReply(ValueError):
-    """The text is no reply line."""
+    """The text is no reply line, or tells of no change."""
 
 
 @dataclass(frozen=True)

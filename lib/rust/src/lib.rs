@@ -14,12 +14,15 @@
 #![warn(missing_docs)]
 
 mod calls;
+mod changes;
 mod reply;
 
 pub use calls::Keys;
+pub use changes::Changes;
 pub use reply::{NotAReply, Reply, Rule, Then, Txid};
 
-use calls::{gate_answer, gate_answer_event, gate_check, gate_close, gate_copy, gate_event_close, gate_open, gate_read, gate_reply, gate_version};
+use calls::{gate_answer, gate_answer_event, gate_changes, gate_check, gate_close, gate_copy};
+use calls::{gate_event_close, gate_open, gate_read, gate_reply, gate_version};
 use calls::{EventHandle, EventSlot, Handle, Slot, Status};
 use std::collections::hash_map::RandomState;
 use std::fmt;
@@ -42,7 +45,8 @@ pub enum Error {
     LineTooLong,
     /// The line is answered, and memory ran out in the text of its reply, which [`Gate::reply`] gives.
     ReplyKept,
-    /// The line is answered, and this crate does not know the form of its reply: the library is of another version.
+    /// The line is answered, and this crate does not know the form of its reply, or of what it moved: the library is of another
+    /// version.
     UnknownReply(NotAReply),
     /// The call ended with a status that is not one of its own: the library is of another version.
     UnknownStatus(u32),
@@ -239,6 +243,14 @@ impl Gate {
         let gate: *mut Handle = &mut self.0;
         let call = |out: &mut [u8], size: &mut usize| unsafe { gate_reply(gate, out.as_mut_ptr(), out.len(), size) };
         reply_of(text_of(call, call)?)
+    }
+
+    /// What the last line moved in the pool. What left and came back by one line is in neither list. Nothing has moved in a gate
+    /// that was opened or copied just now, nor by a line that is no event or was not answered.
+    pub fn changes(&mut self) -> Result<Changes, Error> {
+        let gate: *mut Handle = &mut self.0;
+        let call = |out: &mut [u8], size: &mut usize| unsafe { gate_changes(gate, out.as_mut_ptr(), out.len(), size) };
+        Ok(reply_of(text_of(call, call)?)?.parse()?)
     }
 }
 

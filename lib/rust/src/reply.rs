@@ -6,7 +6,7 @@ use std::str::FromStr;
 /// The greatest number of a line.
 const GREATEST_NUMBER: u64 = 9_007_199_254_740_991;
 
-/// The text is no reply line.
+/// The text is no reply line, or tells of no change.
 #[derive(Clone, Debug, PartialEq, Eq)]
 pub struct NotAReply(pub String);
 

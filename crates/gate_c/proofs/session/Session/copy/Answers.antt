@@ -6,6 +6,6 @@ use Rattle.gate_c.proofs.session.Session.copy.Goals as goal
 pub invariant_of-result : goal.invariant_of-result
 invariant_of-result c = record {
   reached =
-      subst (λ (opened : World). IsReached opened c.in_ok-copy.field-0) (sym c.copy-2.ensures)
-      (subst (IsReached c.args.self.now.opened.value) (sym c.in_ok-copy.ensures) c.args.self.now.reached);
+      subst (λ (opened : World). IsReached opened c.in_ok-copy.field-0.world) (sym c.copy-2.ensures)
+      (subst (IsReached c.args.self.now.opened.value) (sym c.in_ok-copy.ensures.world) c.args.self.now.reached);
 }

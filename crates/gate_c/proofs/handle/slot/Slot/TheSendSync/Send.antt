@@ -16,7 +16,7 @@ use Rattle.std_alloc.proofs.SendSync.{lies, quiet}
 use Rattle.std_alloc.proofs.string.String.TheSendSync as string
 use Rattle.std_heap.proofs.Global.TheSendSync as handle
 use Rattle.std_heap.proofs.GlobalAllocator.TheSendSync as allocator
-use Rattle.gate_core.proofs.state.State.TheSendSync as state
+use Rattle.gate_core.proofs.tracked.Tracked.TheSendSync as tracked
 use Rattle.gate_c.proofs.answer.Answer.TheSendSync as answer
 use Rattle.gate_c.specs.Slots.{slot_owns}
 use Rattle.gate_c.specs.contracts.handle.slot.Slot.{the_row, the_type}
@@ -28,7 +28,7 @@ remembered : (R : RattleType) → IsSend (Remembered.the_row R)
 remembered R = record { owned = λ d vs. ((λ vss. (tt, ((λ uss. (tt, tt)), tt))), tt); leaving = λ k f vs. tt }
 
 session : IsSend Session.the_row
-session = declared_send Session.the_type (search (sendable, as_row_send, remembered, state.the_send, random.the_send, answer.the_send, string.the_send, handle.the_send, allocator.the_frees) depth 20)
+session = declared_send Session.the_type (search (sendable, as_row_send, remembered, tracked.the_send, random.the_send, answer.the_send, string.the_send, handle.the_send, allocator.the_frees) depth 20)
 
 owned : (alloc : Global) (at : Ptr) (s : Option Session.the_row.Denot) → Keyless (slot_owns alloc at s)
 owned alloc at None = tt
