@@ -1,4 +1,4 @@
-"""Whether what embeds the library declares what crates/gate_c defines: the ten calls with their parameters, and the statuses.
+"""Whether what embeds the library declares what crates/gate_c defines: the eleven calls with their parameters, and the statuses.
 
 One table of both is read from crates/gate_c/src (`calls`, `statuses`): lib.rt has the calls, status.rt the statuses. The texts
 of lib/gate.h, lib/rust and lib/python are compared with it here, in each language's own types; tests/embedding.py has the
@@ -113,7 +113,7 @@ def in_python():
 def faults():
     """All that is amiss."""
     names = {name for name, _, _ in calls()}
-    if len(names) != 10 or not statuses():
+    if len(names) != 11 or not statuses():
         yield "%s has %d calls and %d statuses, which is not what tools/interface.py reads" % (SOURCES, len(names), len(statuses()))
         return
     yield from in_c()
