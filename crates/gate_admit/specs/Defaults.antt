@@ -15,7 +15,7 @@ use Rattle.gate_standard.specs.declared.Denial.{Denial}
 use Rattle.gate_standard.specs.declared.Denial.TheVariants.{MultiOpReturn, TxSizeSmall, MempoolMinFee, MinRelayFee, LowerFee, LowerDifference}
 use Rattle.gate_pool.specs.Pool.{Admitted, size_of}
 use Rattle.gate_pool.specs.Family.{ancestors_of, descendants_of}
-use Rattle.gate_pool.specs.declared.Sums.{Sums}
+use Rattle.gate_graph.specs.declared.held.Sums.{Sums}
 use Rattle.gate_rbf.specs.Paying.{amount_rules}
 use Rattle.gate_trim.specs.Expiry.{is_stale}
 use Rattle.gate_trim.specs.Trimming.{raised}

@@ -40,9 +40,9 @@ fn is_limited<V: FamilyView>(
     let wide = u128::from(policy.ancestors_size());
     let deep = u128::from(policy.most_descendants_size());
     Ok(
-        (above.count <= most_above)
+        (above.count <= most_above as u64)
             & (above.size <= wide)
-            & (below.count <= most_below)
+            & (below.count <= most_below as u64)
             & (below.size <= deep),
     )
 }

@@ -111,7 +111,7 @@ fn is_within<S: BuildHasher + Copy + Drop>(
     ensures { OfThese pool.now.entries above.now.ids.items (λ these. above.now.sums ≡ sums_of these → result ≡ is_within limits pool.now.entries these vsize) }
 {
     let sums = above.sums;
-    if sums.count >= limits.ancestors {
+    if sums.count >= limits.ancestors as u64 {
         return false;
     }
     if sums.count > 0 && sums.size + u128::from(vsize) > limits.ancestors_size {

@@ -1,9 +1,8 @@
 //! The families of a transaction: its ancestors, and what it would replace.
 ghost use Rattle.std.specs.Prelude.{◌≡◌, Bool, IfOk, filter, length};
-ghost use Rattle.gate_pool.specs.Family.{AreIdsOf, ancestors_above, conflicts_of, descendants_of, fees_of, replaced_of};
+ghost use Rattle.gate_pool.specs.Family.{AreIdsOf, OfThese, ancestors_above, conflicts_of, descendants_of, fees_of, replaced_of};
 ghost use Rattle.gate_pool.specs.Pool.{Admitted};
 ghost use Rattle.gate_pool.specs.Search.{IsEntry};
-ghost use Rattle.gate_rbf.specs.Gathering.{ForEntriesOf};
 ghost use Rattle.gate_rbf.specs.Replacing.{descendant_count};
 ghost use Rattle.gate_figures.specs.Figures.{allowed_ancestors, crowded};
 
@@ -86,7 +85,7 @@ fn count_below<S: BuildHasher + Copy + Drop>(pool: &Pool<S>, id: &Txid) -> u64
 /// counts twice.
 fn count_below_all<S: BuildHasher + Copy + Drop>(pool: &Pool<S>, ids: &[Txid]) -> u128
     requires { (test : Admitted → Bool) × AreIdsOf ids.now (filter test pool.now.entries) }
-    ensures { ForEntriesOf ids.now pool.now.entries (λ some. result ≡ descendant_count pool.now.entries some) }
+    ensures { OfThese pool.now.entries ids.now (λ some. result ≡ descendant_count pool.now.entries some) }
 {
     pool.recall_distinct();
     let mut sum: u128 = 0;

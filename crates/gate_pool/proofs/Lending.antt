@@ -10,7 +10,7 @@ use Rattle.gate_bytes.proofs.Members.{Contains-cons_cases, Contains-head, Contai
 use Rattle.gate_pool.specs.Pool.{Admitted, entry_by_txid, listing_of}
 use Rattle.gate_pool.specs.Family.{AreIdsOf, sums_of}
 use Rattle.gate_pool.specs.Search.{AreLent}
-use Rattle.gate_pool.specs.declared.closures.Sums.{Sums}
+use Rattle.gate_graph.specs.declared.held.Sums.{Sums}
 use Rattle.gate_pool.proofs.Adding.{DifferById, weight, weigh, weighed, found_by_id, length-ones}
 use Rattle.gate_pool.proofs.Entries.{Id}
 

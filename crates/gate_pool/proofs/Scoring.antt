@@ -8,7 +8,7 @@ use Rattle.gate_tx.specs.Ids.{txid_of}
 use Rattle.gate_ranking.specs.Rate.{rate_cmp}
 use Rattle.gate_graph.specs.Family.{Node}
 use Rattle.gate_graph.specs.declared.held.Held.{Held}
-use Rattle.gate_graph.specs.declared.held.Sums.{Sums as NodeSums}
+use Rattle.gate_graph.specs.declared.held.Sums.{Sums}
 use Rattle.gate_graph.specs.declared.held.Totals.{Totals}
 use Rattle.gate_graph.specs.Families.{descendants_of as nodes_below}
 use Rattle.gate_graph.specs.Holding.{nodes_in, node_of as held_node}
@@ -16,18 +16,17 @@ use Rattle.gate_graph.specs.Ranks.{rate_in, rate_with, least_of as least_node}
 use Rattle.gate_graph.specs.Weighing.{sums_of as node_sums, totals_of}
 use Rattle.gate_graph.proofs.Least.{least_in, least_map}
 use Rattle.gate_pool.specs.Pool.{Admitted, IsBounded, size_of}
-use Rattle.gate_pool.specs.Family.{node_of, descendants_of, summed, fees_of}
+use Rattle.gate_pool.specs.Family.{node_of, descendants_of, sums_of, fees_of}
 use Rattle.gate_pool.specs.Keeping.{carried}
 use Rattle.gate_pool.specs.Scores.{AreBounded, rate_of, score_from, score_of, least_entry, least_of}
-use Rattle.gate_pool.specs.declared.closures.Sums.{Sums}
 use Rattle.gate_pool.proofs.Bounding.{family_bounded}
 use Rattle.gate_pool.proofs.Carrying.{nodes_in_carried, below_are, sizes_of, fees_in}
 
 -- what nodes of entries come to
-pub sums_are : (es : List Admitted) → node_sums (map node_of es) ≡ summed es
+pub sums_are : (es : List Admitted) → node_sums (map node_of es) ≡ sums_of es
 sums_are es = λ i. record { count = length-map es node_of i; size = sizes_of es i; fees = fees_in es i }
 
-pub family_is : (es : List Admitted) (x : List ℕ) → node_sums (nodes_below (map node_of es) x) ≡ summed (descendants_of es x)
+pub family_is : (es : List Admitted) (x : List ℕ) → node_sums (nodes_below (map node_of es) x) ≡ sums_of (descendants_of es x)
 family_is es x = ap node_sums (below_are es x) ∙ sums_are (descendants_of es x)
 
 -- what a least node is of
@@ -56,8 +55,8 @@ module _ (es : List Admitted) where
           }
 
   -- its totals are those of its entry
-  below_is : (h : Held Admitted) → IsLeastHeld es h → h.totals ≡ totals_of (map node_of es) h.id → h.totals.below ≡ summed (descendants_of es (txid_of h.load.tx))
-  below_is h least totals = ap (λ (t : Totals). t.below) totals ∙ family_is es h.id ∙ ap (λ x. summed (descendants_of es x)) least.id
+  below_is : (h : Held Admitted) → IsLeastHeld es h → h.totals ≡ totals_of (map node_of es) h.id → h.totals.below ≡ sums_of (descendants_of es (txid_of h.load.tx))
+  below_is h least totals = ap (λ (t : Totals). t.below) totals ∙ family_is es h.id ∙ ap (λ x. sums_of (descendants_of es x)) least.id
 
   pub least_found : (h : Held Admitted) → Some (held_node h, h.load) ≡ least_node (carried es) → h.totals ≡ totals_of (map node_of es) h.id → Some (score_from h.load h.totals.below) ≡ least_of es
   unfolding score_of
@@ -69,7 +68,7 @@ module _ (es : List Admitted) where
       → AreBounded (score_from h.load h.totals.below).family
   least_bounded all few h is totals =
       let least = least_held h is in
-      subst (λ (s : NodeSums). AreBounded (score_from h.load s).family) (sym (below_is h least totals)) (family_bounded es all few h.load (least_in rate_cmp (rate_of es) es h.load least.entry))
+      subst (λ (s : Sums). AreBounded (score_from h.load s).family) (sym (below_is h least totals)) (family_bounded es all few h.load (least_in rate_cmp (rate_of es) es h.load least.entry))
 
   pub no_least : None ≡ least_node (carried es) → None ≡ least_of es
   no_least is = by (least_entry es) (least_carried ∙ sym is)

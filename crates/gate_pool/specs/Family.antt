@@ -7,10 +7,9 @@ use Rattle.gate_tx.specs.Tx.{Tx}
 use Rattle.gate_tx.specs.Ids.{txid_of}
 use Rattle.gate_tx.specs.Coins.{spends}
 use Rattle.gate_graph.specs.Family.{Node, steps_of, reaches}
-use Rattle.gate_graph.specs.declared.held.Sums.{Sums as NodeSums}
+use Rattle.gate_graph.specs.declared.held.Sums.{Sums}
 use Rattle.gate_graph.specs.declared.held.Totals.{Totals}
 use Rattle.gate_pool.specs.Pool.{Admitted, has_txid, size_of}
-use Rattle.gate_pool.specs.declared.closures.Sums.{Sums}
 
 -- an entry as a node: its parents are the transactions whose outputs it spends, in the pool or not
 abbrev pub node_of : Admitted → Node
@@ -105,10 +104,6 @@ fees_of entries = sum_by (λ e. e.fee) entries
 abbrev pub sums_of : List Admitted → Sums
 sums_of entries = record { count = length entries; size = size_of entries; fees = fees_of entries }
 
--- the number of entries, and the sums of their sizes and fees, in the form that nodes keep
-abbrev pub summed : List Admitted → NodeSums
-summed entries = record { count = length entries; size = size_of entries; fees = fees_of entries }
-
 -- the totals of an id: the sums of its ancestors and of its descendants, each with its own entry
 abbrev pub totals_of : List Admitted → List ℕ → Totals
-totals_of entries txid = record { above = summed (ancestors_of entries txid); below = summed (descendants_of entries txid) }
+totals_of entries txid = record { above = sums_of (ancestors_of entries txid); below = sums_of (descendants_of entries txid) }

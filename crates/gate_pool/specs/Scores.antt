@@ -6,32 +6,31 @@ use Rattle.gate_tx.specs.Money.{max_money}
 use Rattle.gate_ranking.specs.Lesser.{least_by}
 use Rattle.gate_ranking.specs.Rate.{Fraction, rate_cmp}
 use Rattle.gate_graph.specs.Ranks.{rate_with}
-use Rattle.gate_graph.specs.declared.held.Sums.{Sums as NodeSums}
+use Rattle.gate_graph.specs.declared.held.Sums.{Sums}
 use Rattle.gate_pool.specs.Pool.{Admitted}
-use Rattle.gate_pool.specs.Family.{descendants_of, summed}
-use Rattle.gate_pool.specs.declared.closures.Sums.{Sums}
+use Rattle.gate_pool.specs.Family.{descendants_of, sums_of}
 use Rattle.gate_pool.specs.declared.scores.Score.{Score}
 
 -- what an entry is ranked by: its own fee over its size, or the fees over the sizes of its descendants, itself among them, if
 -- that is more; rates compare by cross products
 abbrev pub rate_of : List Admitted → Admitted → Fraction
-rate_of entries e = rate_with e.fee e.vsize (summed (descendants_of entries (txid_of e.tx)))
+rate_of entries e = rate_with e.fee e.vsize (sums_of (descendants_of entries (txid_of e.tx)))
 
 -- the entry that ranks least, of equal ones the last
 abbrev pub least_entry : List Admitted → Option Admitted
 least_entry entries = least_by rate_cmp (rate_of entries) entries
 
 -- an entry's score, if its descendants, itself among them, have these sums: what it is ranked by, and the sums
-abbrev pub score_from : Admitted → NodeSums → Score
+abbrev pub score_from : Admitted → Sums → Score
 score_from e family = record {
   txid = txid_of e.tx;
   fees = (rate_with e.fee e.vsize family).fees;
   size = (rate_with e.fee e.vsize family).size;
-  family = record { count = family.count; size = family.size; fees = family.fees };
+  family = family;
 }
 
 unfoldable pub score_of : List Admitted → Admitted → Score
-score_of entries e = score_from e (summed (descendants_of entries (txid_of e.tx)))
+score_of entries e = score_from e (sums_of (descendants_of entries (txid_of e.tx)))
 
 -- the score of the entry that ranks least
 abbrev pub least_of : List Admitted → Option Score

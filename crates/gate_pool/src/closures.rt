@@ -1,5 +1,6 @@
 //! Families over any view of a pool: found by walking from entry to entry, so that no search goes through the pool.
 ghost use Rattle.std.specs.Prelude.{◌≡◌, ◌<◌, ◌^◌, ◌≤◌, None, [], ◌∷◌, IfOk, IfSome, OnOk, length, vec_len};
+ghost use Rattle.gate_tx.specs.Ids.{txid_of};
 ghost use Rattle.gate_tx.specs.Money.{max_money};
 ghost use Rattle.gate_pool.specs.Pool.{largest_vsize};
 ghost use Rattle.gate_pool.specs.Family.{ancestors_of, ancestors_above, parents_above, AreIdsOf, OfThese, BelowThese, sums_of};
@@ -8,20 +9,10 @@ ghost use Rattle.gate_pool.specs.Search.{parents_of, AreLent, IsEntry, IsFound};
 use crate::entry::Entry;
 use crate::view::FamilyView;
 use gate_bytes::Memory;
+use gate_graph::Sums;
 use gate_tx::{TxIn, Txid};
 use std::alloc::Global;
 use std::marker::Model;
-
-/// The number of some entries, and the sums of their sizes and fees.
-#[derive(Clone, Copy, Debug, PartialEq, Eq)]
-pub struct Sums {
-    /// How many there are.
-    pub count: usize,
-    /// Their sizes, added up, in virtual bytes.
-    pub size: u128,
-    /// Their fees, added up, in satoshi.
-    pub fees: u128,
-}
 
 /// Entries above a transaction: their ids, each once, and their sums.
 #[derive(Drop)]
@@ -30,21 +21,9 @@ pub struct Above {
     pub sums: Sums,
 }
 
-impl From<gate_graph::Sums> for Sums {
-    ghost from_gives = { λ nodes sums. sums ≡ record { count = nodes.count; size = nodes.size; fees = nodes.fees } };
-
-    fn from(sums: gate_graph::Sums) -> Sums {
-        Sums {
-            count: sums.count as usize,
-            size: sums.size,
-            fees: sums.fees,
-        }
-    }
-}
-
 /// An entry that was found: contracts see the entry.
 #[derive(Drop)]
-struct Lent<'a> {
+pub struct Lent<'a> {
     entry: &'a Entry,
 }
 
@@ -57,10 +36,22 @@ impl<'a> Model for Lent<'a> {
 }
 
 impl<'a> Lent<'a> {
-    fn of(entry: &'a Entry) -> Lent<'a>
+    pub fn of(entry: &'a Entry) -> Lent<'a>
         ensures { result ≡ entry.now }
     {
         Lent { entry }
+    }
+
+    pub fn entry(&self) -> &'a Entry
+        ensures { result.now ≡ self.now }
+    {
+        self.entry
+    }
+
+    pub fn txid(&self) -> Txid
+        ensures { result ≡ txid_of self.now.tx }
+    {
+        self.entry.txid()
     }
 
     fn inputs(&self) -> &'a [TxIn]

@@ -20,9 +20,10 @@ mod view;
 
 pub use choice::Test;
 pub use closures::{
-    Above, Sums, add_up, ancestors, ancestors_with, descendants, family_above, parents,
+    Above, Lent, add_up, ancestors, ancestors_with, descendants, family_above, parents,
 };
 pub use entry::{Entry, MAX_VSIZE};
+pub use gate_graph::Sums;
 pub use pool::Pool;
 pub use scores::Score;
 pub use view::FamilyView;

@@ -2,8 +2,8 @@ ghost use Rattle.std.specs.Prelude.{◌≡◌};
 ghost use Rattle.gate_graph.specs.Ranks.{rate_with};
 ghost use Rattle.gate_pool.specs.Scores.{score_from};
 
-use crate::closures::Sums;
 use crate::entry::Entry;
+use gate_graph::Sums;
 use gate_ranking::Rate;
 use gate_tx::Txid;
 
@@ -22,7 +22,7 @@ pub struct Score {
 
 /// A fee over a size, or the fees of a family over its size if that is more.
 #[tactic(auto, unfolding(gate_graph::specs::Ranks::rate_with))]
-fn rate_of(fee: u64, vsize: u64, family: &gate_graph::Sums) -> Rate
+fn rate_of(fee: u64, vsize: u64, family: &Sums) -> Rate
     ensures { result ≡ rate_with fee vsize family.now }
 {
     let own = Rate::new(u128::from(fee), u128::from(vsize));
@@ -32,7 +32,7 @@ fn rate_of(fee: u64, vsize: u64, family: &gate_graph::Sums) -> Rate
 
 impl Score {
     /// The score of an entry whose descendants, itself among them, have these sums.
-    pub(crate) fn of(entry: &Entry, family: &gate_graph::Sums) -> Score
+    pub(crate) fn of(entry: &Entry, family: &Sums) -> Score
         ensures { result ≡ score_from entry.now family.now }
     {
         let rate = rate_of(entry.fee(), entry.vsize(), family);
@@ -40,7 +40,7 @@ impl Score {
             txid: entry.txid(),
             fees: rate.fees(),
             size: rate.size(),
-            family: Sums::from(*family),
+            family: *family,
         }
     }
 }

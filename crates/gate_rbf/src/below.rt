@@ -1,8 +1,7 @@
 //! What leaves with entries that are replaced.
 ghost use Rattle.std.specs.Prelude.{Bool, IfOk, filter};
 ghost use Rattle.gate_pool.specs.Pool.{Admitted};
-ghost use Rattle.gate_pool.specs.Family.{is_among, all_below, AreIdsOf};
-ghost use Rattle.gate_rbf.specs.Gathering.{GivesAllBelow};
+ghost use Rattle.gate_pool.specs.Family.{is_among, all_below, AreIdsOf, BelowThese};
 
 use crate::gathered::put;
 use gate_bytes::Memory;
@@ -37,7 +36,7 @@ pub(crate) fn with_descendants<S: BuildHasher + Copy + Drop>(
     roots: &[Txid],
 ) -> Result<Vec<Txid>, Memory>
     requires { (test : Admitted → Bool) × AreIdsOf roots.now (filter test pool.now.entries) }
-    ensures { GivesAllBelow pool.now.entries roots.now result }
+    ensures { BelowThese pool.now.entries roots.now (λ below. IfOk result (λ ids. AreIdsOf ids.items below)) }
 {
     let found = descendants(alloc, pool, roots, pool.count())?;
     Ok(found.unwrap())

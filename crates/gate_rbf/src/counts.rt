@@ -1,9 +1,8 @@
 //! A39: the entries that a replacement conflicts with have at most 100 descendants.
 ghost use Rattle.std.specs.Prelude.{◌≡◌, ◌<◌, ◌≤◌, Bool, None, IfOk, IfSome, filter, length, not, nat_lt};
 ghost use Rattle.gate_pool.specs.Pool.{Admitted};
-ghost use Rattle.gate_pool.specs.Family.{conflicts_of, descendants_of, AreIdsOf};
+ghost use Rattle.gate_pool.specs.Family.{conflicts_of, descendants_of, AreIdsOf, OfThese};
 ghost use Rattle.gate_pool.specs.Search.{IsEntry};
-ghost use Rattle.gate_rbf.specs.Gathering.{ForEntriesOf};
 ghost use Rattle.gate_rbf.specs.Replacing.{descendant_count};
 
 use crate::direct::DirectConflicts;
@@ -28,7 +27,7 @@ fn count_below<S: BuildHasher + Copy + Drop>(pool: &Pool<S>, id: &Txid) -> u64
 /// of them counts twice.
 fn has_few_descendants<S: BuildHasher + Copy + Drop>(pool: &Pool<S>, ids: &[Txid]) -> bool
     requires { (test : Admitted → Bool) × AreIdsOf ids.now (filter test pool.now.entries) }
-    ensures { ForEntriesOf ids.now pool.now.entries (λ some. result ≡ not (nat_lt 100 (descendant_count pool.now.entries some))) }
+    ensures { OfThese pool.now.entries ids.now (λ some. result ≡ not (nat_lt 100 (descendant_count pool.now.entries some))) }
 {
     pool.recall_distinct();
     let mut left = MAX_DESCENDANTS;

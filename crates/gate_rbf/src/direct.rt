@@ -4,72 +4,44 @@ ghost use Rattle.std.specs.List.{list_any};
 ghost use Rattle.gate_tx.specs.Ids.{txid_of};
 ghost use Rattle.gate_standard.specs.Amounts.{feerate};
 ghost use Rattle.gate_pool.specs.Pool.{Admitted, has_txid};
-ghost use Rattle.gate_pool.specs.Family.{is_conflict, is_among, conflicts_of, AreIdsOf};
+ghost use Rattle.gate_pool.specs.Family.{is_conflict, is_among, conflicts_of, AreIdsOf, OfThese};
 ghost use Rattle.gate_rbf.specs.Direct.{AreThese};
-ghost use Rattle.gate_rbf.specs.Gathering.{ForEntriesOf};
 ghost use Rattle.gate_rbf.specs.Replacing.{signals, is_firm_conflict};
 
 use crate::gathered::put;
 use crate::signalling::signals;
 use gate_bytes::Memory;
-use gate_pool::{Entry, Pool};
+use gate_pool::{Lent, Pool};
 use gate_standard::rate_of;
 use gate_tx::{Transaction, Txid};
 use std::alloc::Global;
 use std::hash::BuildHasher;
 use std::marker::Model;
 
-/// An entry that spends what a transaction spends: contracts see the entry.
-#[derive(Drop)]
-pub(crate) struct Rival<'a> {
-    entry: &'a Entry,
+fn has_other_id(rival: &Lent<'_>, txid: &Txid) -> bool
+    ensures { result ≡ not (has_txid rival.now txid.now) }
+{
+    rival.txid() != *txid
 }
 
-impl<'a> Model for Rival<'a> {
-    ghost use Rattle.gate_pool.specs.Pool.{Admitted};
-
-    ghost Value = { Admitted };
-
-    ghost view = { λ r. r.entry.now };
+fn is_among(rival: &Lent<'_>, ids: &[Txid]) -> bool
+    ensures { result ≡ is_among ids.now rival.now }
+{
+    ids.contains(&rival.txid())
 }
 
-impl<'a> Rival<'a> {
-    fn of(entry: &'a Entry) -> Rival<'a>
-        ensures { result ≡ entry.now }
-    {
-        Rival { entry }
-    }
+/// Whether the entry's own transaction doesn't signal that it may be replaced.
+fn is_firm(rival: &Lent<'_>) -> bool
+    ensures { result ≡ not (signals rival.now.tx) }
+{
+    !signals(rival.entry().transaction())
+}
 
-    fn txid(&self) -> Txid
-        ensures { result ≡ txid_of self.now.tx }
-    {
-        self.entry.txid()
-    }
-
-    fn has_other_id(&self, txid: &Txid) -> bool
-        ensures { result ≡ not (has_txid self.now txid.now) }
-    {
-        self.entry.txid() != *txid
-    }
-
-    fn is_among(&self, ids: &[Txid]) -> bool
-        ensures { result ≡ is_among ids.now self.now }
-    {
-        ids.contains(&self.entry.txid())
-    }
-
-    /// Whether the entry's own transaction doesn't signal that it may be replaced.
-    fn is_firm(&self) -> bool
-        ensures { result ≡ not (signals self.now.tx) }
-    {
-        !signals(self.entry.transaction())
-    }
-
-    fn pays_at_least(&self, rate: u128) -> bool
-        ensures { result ≡ nat_le rate (feerate self.now.fee self.now.vsize) }
-    {
-        rate <= rate_of(self.entry.fee(), self.entry.vsize())
-    }
+fn pays_at_least(rival: &Lent<'_>, rate: u128) -> bool
+    ensures { result ≡ nat_le rate (feerate rival.now.fee rival.now.vsize) }
+{
+    let entry = rival.entry();
+    rate <= rate_of(entry.fee(), entry.vsize())
 }
 
 /// The entries of which each spends an outpoint that the transaction spends, once for each such outpoint.
@@ -77,14 +49,14 @@ fn find_rivals<'a, S: BuildHasher + Copy + Drop>(
     alloc: Global,
     pool: &'a Pool<S>,
     tx: &Transaction,
-) -> Result<Vec<Rival<'a>>, Memory>
+) -> Result<Vec<Lent<'a>>, Memory>
     ensures { IfOk result (λ found. AreThese found.items (conflicts_of pool.now.entries tx.now)) }
 {
     pool.recall_distinct();
     let mut found = Vec::new(alloc);
     for input in tx.inputs() {
         match pool.spender(&input.prevout) {
-            Some(spender) => found.push(Rival::of(spender))?,
+            Some(spender) => found.push(Lent::of(spender))?,
             None => {}
         }
     }
@@ -92,7 +64,7 @@ fn find_rivals<'a, S: BuildHasher + Copy + Drop>(
 }
 
 /// The ids of the entries that were found, each once. None if there are more than `most`.
-fn ids_of(alloc: Global, found: &[Rival<'_>], most: usize) -> Result<Option<Vec<Txid>>, Memory>
+fn ids_of(alloc: Global, found: &[Lent<'_>], most: usize) -> Result<Option<Vec<Txid>>, Memory>
     ensures found { IfOk result (λ ids. IfSome ids (λ ids. AreIdsOf ids.items found.now)) }
     ensures many { IfOk result (λ ids. ids ≡ None → (some : List Admitted) → AreThese found.now some → most < length some) }
 {
@@ -112,7 +84,7 @@ fn ids_of(alloc: Global, found: &[Rival<'_>], most: usize) -> Result<Option<Vec<
 pub struct DirectConflicts<'a, S: BuildHasher + Copy + Drop> {
     pool: &'a Pool<S>,
     tx: &'a Transaction,
-    found: Vec<Rival<'a>>,
+    found: Vec<Lent<'a>>,
 }
 
 impl<'a, S: BuildHasher + Copy + Drop> Model for DirectConflicts<'a, S> {
@@ -161,7 +133,7 @@ impl<'a, S: BuildHasher + Copy + Drop> DirectConflicts<'a, S> {
     pub fn has_firm(&self) -> bool
         ensures { result ≡ list_any (is_firm_conflict self.now.tx) self.now.entries }
     {
-        self.found.iter().any(|rival| rival.is_firm())
+        self.found.iter().any(|rival| is_firm(rival))
     }
 
     /// The id of the only conflict, if there is exactly one.
@@ -173,7 +145,7 @@ impl<'a, S: BuildHasher + Copy + Drop> DirectConflicts<'a, S> {
         match self.found.first() {
             Some(rival) => {
                 let txid = rival.txid();
-                if self.found.iter().any(|other| other.has_other_id(&txid)) {
+                if self.found.iter().any(|other| has_other_id(other, &txid)) {
                     return None;
                 }
                 Some(txid)
@@ -184,10 +156,10 @@ impl<'a, S: BuildHasher + Copy + Drop> DirectConflicts<'a, S> {
 
     /// Whether one of the entries with these ids is a conflict.
     pub fn has_one_of(&self, ids: &[Txid]) -> bool
-        ensures { ForEntriesOf ids.now self.now.entries (λ some. result ≡ list_any (is_conflict self.now.tx) some) }
+        ensures { OfThese self.now.entries ids.now (λ some. result ≡ list_any (is_conflict self.now.tx) some) }
     {
         self.pool.recall_distinct();
-        self.found.iter().any(|rival| rival.is_among(ids))
+        self.found.iter().any(|rival| is_among(rival, ids))
     }
 
     /// Whether one of the conflicts pays at least the feerate of this fee, in satoshi, for this size, in virtual bytes:
@@ -197,7 +169,7 @@ impl<'a, S: BuildHasher + Copy + Drop> DirectConflicts<'a, S> {
         ensures { result ≡ list_any (λ (c : Admitted). nat_le (feerate fee vsize) (feerate c.fee c.vsize)) (conflicts_of self.now.entries self.now.tx) }
     {
         let rate = rate_of(fee, vsize);
-        self.found.iter().any(|rival| rival.pays_at_least(rate))
+        self.found.iter().any(|rival| pays_at_least(rival, rate))
     }
 
     /// The ids of the conflicts, each once. None if there are more than `most`.

@@ -30,7 +30,7 @@ impl<'a, S: BuildHasher + Copy + Drop> DirectConflicts<'a, S> {
     {
         let only = self.only()?;
         match self.pool().totals(&only) {
-            Some(totals) => Some(Sums::from(totals.below)),
+            Some(totals) => Some(totals.below),
             None => None,
         }
     }
@@ -77,7 +77,7 @@ impl<'a, S: BuildHasher + Copy + Drop> DirectConflicts<'a, S> {
         }
         let sums = self.replaced_sums(alloc, ids.as_slice())?;
         match check_amounts(rate, fee, vsize, sums.fees) {
-            Ok(()) => Ok(Ok(sums.count as u64)),
+            Ok(()) => Ok(Ok(sums.count)),
             Err(denial) => Ok(Err(denial)),
         }
     }

@@ -2,9 +2,9 @@
 ghost use Rattle.std.specs.Prelude.{◌≡◌, ◌&&◌, IfOk};
 ghost use Rattle.std.specs.List.{list_any};
 ghost use Rattle.gate_pool.specs.Pool.{Admitted};
-ghost use Rattle.gate_pool.specs.Family.{is_among, names};
+ghost use Rattle.gate_pool.specs.Family.{is_among, names, OfThese};
 ghost use Rattle.gate_rbf.specs.Replacing.{adds_parent};
-ghost use Rattle.gate_rbf.specs.Gathering.{ForEntriesOf, is_new};
+ghost use Rattle.gate_rbf.specs.Gathering.{is_new};
 
 use gate_bytes::Memory;
 use gate_pool::{Pool, parents};
@@ -47,7 +47,7 @@ pub(crate) fn adds_parents<S: BuildHasher + Copy + Drop>(
     direct: &[Txid],
     tx: &Transaction,
 ) -> Result<bool, Memory>
-    ensures { ForEntriesOf direct.now pool.now.entries (λ some. IfOk result (λ adds. adds ≡ list_any (adds_parent pool.now.entries some) tx.now.inputs)) }
+    ensures { OfThese pool.now.entries direct.now (λ some. IfOk result (λ adds. adds ≡ list_any (adds_parent pool.now.entries some) tx.now.inputs)) }
 {
     pool.recall_distinct();
     let above = parents(alloc, pool, tx.inputs())?;

@@ -5,7 +5,7 @@ use Rattle.gate_pool.specs.Pool.{Admitted, size_of}
 use Rattle.gate_pool.specs.Family.{descendants_of, without_family, sums_of}
 use Rattle.gate_pool.specs.Scores.{score_of, least_of}
 use Rattle.gate_pool.specs.declared.Score.{Score}
-use Rattle.gate_pool.specs.declared.Sums.{Sums}
+use Rattle.gate_graph.specs.declared.held.Sums.{Sums}
 use Rattle.gate_trim.specs.Trimming.{Trimmed, raised, trim_of}
 use Rattle.gate_trim.specs.Laws.{Trims, within, goes, floor_above}
 use Rattle.gate_trim.proofs.Choosing.{least_stands}

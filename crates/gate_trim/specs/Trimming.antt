@@ -5,7 +5,7 @@ use Rattle.gate_pool.specs.Pool.{Admitted, size_of}
 use Rattle.gate_pool.specs.Family.{without_family}
 use Rattle.gate_pool.specs.Scores.{least_of}
 use Rattle.gate_pool.specs.declared.Score.{Score}
-use Rattle.gate_pool.specs.declared.Sums.{Sums}
+use Rattle.gate_graph.specs.declared.held.Sums.{Sums}
 
 -- the largest step by which a floor rises, in satoshi per 1,000 virtual bytes
 abbrev pub largest_step : ℕ

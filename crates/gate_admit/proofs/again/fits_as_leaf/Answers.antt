@@ -6,7 +6,7 @@ use Rattle.gate_tx.specs.Ids.{txid_of}
 use Rattle.gate_tx.specs.Tx.{Tx}
 use Rattle.gate_pool.specs.Pool.{Admitted}
 use Rattle.gate_pool.specs.Family.{ancestors_above, AreIdsOf}
-use Rattle.gate_pool.specs.declared.closures.Sums.{Sums}
+use Rattle.gate_graph.specs.declared.held.Sums.{Sums}
 use Rattle.gate_pool.proofs.Adding.{DifferById}
 use Rattle.gate_pool.proofs.Families.{is_above}
 use Rattle.gate_pool.proofs.Ids.{ids_length}

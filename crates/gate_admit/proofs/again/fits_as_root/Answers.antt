@@ -4,7 +4,7 @@ use Rattle.std.proofs.lemmas.List.Kept.{AllPairs-filter}
 use Rattle.gate_tx.specs.Ids.{txid_of}
 use Rattle.gate_pool.specs.Pool.{Admitted}
 use Rattle.gate_pool.specs.Family.{names, all_below, is_below_some, AreIdsOf}
-use Rattle.gate_pool.specs.declared.closures.Sums.{Sums}
+use Rattle.gate_graph.specs.declared.held.Sums.{Sums}
 use Rattle.gate_pool.proofs.Adding.{DifferById}
 use Rattle.gate_pool.proofs.Ids.{ids_length}
 use Rattle.gate_admit.specs.Limits.{LeavesRoomAbove}

@@ -3,7 +3,7 @@ use Rattle.gate_tx.specs.Ids.{txid_of}
 use Rattle.gate_graph.specs.Family.{reaches}
 use Rattle.gate_pool.specs.Pool.{Admitted, has_txid, size_of}
 use Rattle.gate_pool.specs.Family.{steps, ancestors_of, descendants_of, all_below, is_below_some, AreIdsOf}
-use Rattle.gate_pool.specs.declared.closures.Sums.{Sums}
+use Rattle.gate_graph.specs.declared.held.Sums.{Sums}
 use Rattle.gate_pool.proofs.Ids.{AreIdsOf-one}
 use Rattle.gate_admit.specs.Policies.{most_ancestors, most_descendants, most_descendants_size}
 use Rattle.gate_admit.proofs.Families.{below_one}

@@ -1,6 +1,6 @@
 use Rattle.std.proofs.Common.{ap, sym, subst, List, ℕ, Option, arith}
 use Rattle.std.specs.Prelude.{IfSome, Vec}
-use Rattle.gate_pool.specs.declared.closures.Sums.{Sums}
+use Rattle.gate_graph.specs.declared.held.Sums.{Sums}
 use Rattle.gate_pool.specs.Family.{is_conflict, is_below_some, conflicts_of, all_below, AreIdsOf}
 use Rattle.gate_pool.proofs.Walking.{shorter}
 use Rattle.gate_rbf.proofs.Rivals.{some_unless_none}

@@ -2,7 +2,7 @@ use Rattle.std.proofs.Common.{◌≡◌, ℕ, ◌∙◌, ap, take, arith}
 use Rattle.std.specs.Prelude.{filter, sum_by}
 use Rattle.std.proofs.lemmas.List.{take_all}
 use Rattle.gate_pool.specs.Pool.{Admitted}
-use Rattle.gate_pool.specs.declared.closures.Sums.{Sums}
+use Rattle.gate_graph.specs.declared.held.Sums.{Sums}
 use Rattle.gate_pool.proofs.Adding.{weigh, weighed, length-ones}
 use Rattle.gate_pool.proofs.closures.add_up.Goals as goal
 

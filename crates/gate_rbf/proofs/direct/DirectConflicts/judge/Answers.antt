@@ -1,6 +1,6 @@
 use Rattle.std.proofs.Common.{ℕ, List, sym, ap, subst, ◌∙◌, length}
 use Rattle.gate_bytes.specs.Order.{first_failing}
-use Rattle.gate_pool.specs.declared.closures.Sums.{Sums}
+use Rattle.gate_graph.specs.declared.held.Sums.{Sums}
 use Rattle.gate_pool.specs.Family.{conflicts_of, AreIdsOf}
 use Rattle.gate_rbf.specs.Replacing.{descendant_count}
 use Rattle.gate_rbf.specs.Paying.{amount_rules}
