@@ -40,9 +40,12 @@ pub use law::{
     decisions_follow_the_order, default_settings_change_nothing, floors_never_fall,
     grants_are_sound, grants_stand, pools_stay_good, readmissions_ask_of_all, replacements_pay,
 };
-pub use policy::Policy;
+pub use locking::tip_median;
+pub use paying::{is_immature, outputs_value, vsize_of};
+pub use policy::{CARVE_OUT_VSIZE, Policy};
 pub use quantity::Quantity;
 pub use readmission::readmit;
+pub use reporting::sigop_cost;
 pub use standing::Conditions;
 pub use submission::{Coming, commit_submission, plan_submission, submit};
 pub use verdicts::Verdicts;

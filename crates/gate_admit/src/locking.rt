@@ -15,7 +15,7 @@ use std::alloc::Global;
 use std::hash::BuildHasher;
 
 /// The median time past of the tip.
-fn tip_median<S: BuildHasher + Copy + Drop>(chain: &Chain<S>) -> u32
+pub fn tip_median<S: BuildHasher + Copy + Drop>(chain: &Chain<S>) -> u32
     ensures { result ≡ median_at chain.now (tip_of chain.now) }
 {
     chain.mtp(chain.tip()).unwrap()

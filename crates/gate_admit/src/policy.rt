@@ -7,7 +7,7 @@ use gate_standard::Standards;
 use std::marker::Model;
 
 /// The most virtual bytes of a transaction that has a second try (Bitcoin Core's `EXTRA_DESCENDANT_TX_SIZE_LIMIT`).
-pub(crate) const CARVE_OUT_VSIZE: u64 = 10_000;
+pub const CARVE_OUT_VSIZE: u64 = 10_000;
 
 /// What an operator asks of transactions: the limits of families, feerates, how long an entry stays, how large a
 /// signature operation counts, what is standard, and whether an entry may be replaced that doesn't signal

@@ -91,8 +91,8 @@ fn output_sigops(output: &TxOut) -> u64
 }
 
 /// The cost of the transaction's signature operations: that of its inputs, and four for each one of an output.
-fn sigop_cost(tx: &Transaction, answers: &[Answers]) -> u128
-    requires { length answers.now ≡ length tx.now.inputs }
+pub fn sigop_cost(tx: &Transaction, answers: &[Answers]) -> u128
+    requires { length answers.now ≤ length tx.now.inputs }
     ensures { result ≡ sigop_cost answers.now tx.now.outputs }
 {
     tx.recall_invariant();

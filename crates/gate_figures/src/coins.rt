@@ -1,18 +1,14 @@
 //! The coins of the inputs, and those that are missing or too young.
 ghost use Rattle.std.specs.Prelude.{◌≡◌, ◌≤◌, IfOk, length};
 ghost use Rattle.gate_admit.specs.Coins.{coins_of};
-ghost use Rattle.gate_admit.specs.Rules.{is_immature};
 ghost use Rattle.gate_figures.specs.Figures.{coinless, young, young_by};
 
 use crate::figures::Figures;
-use gate_admit::{Chain, LentCoin, Pool, view_coin};
+use gate_admit::{Chain, LentCoin, Pool, is_immature, view_coin};
 use gate_bytes::Memory;
 use gate_tx::TxIn;
 use std::alloc::Global;
 use std::hash::BuildHasher;
-
-/// How many blocks deep a coinbase's coin has to be before it is spent (Bitcoin Core's `COINBASE_MATURITY`).
-const MATURITY: u32 = 100;
 
 /// The coins of the inputs that have one, in their order.
 pub(crate) fn coins_of<'a, S: BuildHasher + Copy + Drop>(
@@ -49,12 +45,6 @@ pub(crate) fn coinless<S: BuildHasher + Copy + Drop>(
         }
     }
     None
-}
-
-fn is_immature(next: u32, coin: &LentCoin<'_>) -> bool
-    ensures { result ≡ is_immature next coin.now }
-{
-    coin.is_coinbase() && next.saturating_sub(coin.height()) < MATURITY
 }
 
 /// The coin of an input, if it is a coinbase's and too young for the next block.

@@ -7,16 +7,13 @@ ghost use Rattle.gate_rbf.specs.Replacing.{descendant_count};
 ghost use Rattle.gate_figures.specs.Figures.{allowed_ancestors, crowded};
 
 use crate::figures::Figures;
-use gate_admit::{Policy, Pool};
+use gate_admit::{CARVE_OUT_VSIZE, Policy, Pool};
 use gate_bytes::Memory;
 use gate_pool::{add_up, ancestors, descendants};
 use gate_rbf::conflicts;
 use gate_tx::{Transaction, TxIn, Txid};
 use std::alloc::Global;
 use std::hash::BuildHasher;
-
-/// How large a transaction may be for the second try (Bitcoin Core's `EXTRA_DESCENDANT_TX_SIZE_LIMIT`).
-const CARVE_OUT_VSIZE: u64 = 10_000;
 
 /// How many ancestors a transaction of this size may have, itself among them: a small transaction may have a parent in
 /// any case, by the second try.

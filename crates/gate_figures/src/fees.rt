@@ -1,18 +1,17 @@
 //! The fee of a transaction, and the virtual size that it pays for.
 ghost use Rattle.std.specs.Prelude.{◌≡◌, ◌≤◌, ◌<◌, ◌^◌, IfOk, IfSome, length};
 ghost use Rattle.gate_tx.specs.Money.{amount_or_zero};
-ghost use Rattle.gate_admit.specs.Reports.{output_sigops, reported, sigop_cost, vsize_of};
+ghost use Rattle.gate_admit.specs.Reports.{reported};
 ghost use Rattle.gate_admit.specs.Rules.{coins_value, outputs_value};
 ghost use Rattle.gate_figures.specs.Figures.{coins_at, cost_at, fee_at, pays, pays_above, sized, vsize_at};
 
 use crate::coins::coins_of;
 use crate::figures::Figures;
-use gate_admit::{Chain, LentCoin, Policy, Pool};
+use gate_admit::{Chain, LentCoin, Policy, Pool, outputs_value, sigop_cost, vsize_of};
 use gate_bytes::Memory;
 use gate_inputs::{Answers, answers};
-use gate_script::sigops;
 use gate_standard::fee_at;
-use gate_tx::{Identified, Transaction, TxIn, TxOut};
+use gate_tx::{Identified, TxIn};
 use std::alloc::Global;
 use std::hash::BuildHasher;
 
@@ -43,18 +42,6 @@ fn coin_amount(coin: &LentCoin<'_>) -> u128
     if value < 0 { 0 } else { value as u128 }
 }
 
-/// The value of an output, in satoshi.
-fn output_amount(output: &TxOut) -> u128
-    ensures value { result ≡ amount_or_zero output.now.value }
-    ensures small { result < 2 ^ 63 }
-{
-    if output.value < 0 {
-        0
-    } else {
-        output.value as u128
-    }
-}
-
 /// The total value of coins, in satoshi.
 fn coins_value(coins: &[LentCoin<'_>]) -> u128
     ensures { result ≡ coins_value coins.now }
@@ -62,18 +49,6 @@ fn coins_value(coins: &[LentCoin<'_>]) -> u128
     let mut sum: u128 = 0;
     for coin in coins {
         sum += coin_amount(coin);
-    }
-    sum
-}
-
-/// The total value of a transaction's outputs, in satoshi.
-fn outputs_value(tx: &Transaction) -> u128
-    ensures { result ≡ outputs_value tx.now }
-{
-    tx.recall_invariant();
-    let mut sum: u128 = 0;
-    for output in tx.outputs() {
-        sum += output_amount(output);
     }
     sum
 }
@@ -90,43 +65,6 @@ fn reported(alloc: Global, inputs: &[TxIn], coins: &[LentCoin<'_>]) -> Result<Ve
         found.push(answers(alloc, &inputs[place], coin.script())?)?;
     }
     Ok(found)
-}
-
-/// How many signature operations the script of an output counts.
-fn output_sigops(output: &TxOut) -> u64
-    ensures { result ≡ output_sigops output.now }
-{
-    sigops(output.script.as_slice(), false)
-}
-
-/// The cost of the signature operations of a transaction.
-fn sigop_cost(tx: &Transaction, answers: &[Answers]) -> u128
-    requires { length answers.now ≤ length tx.now.inputs }
-    ensures { result ≡ sigop_cost answers.now tx.now.outputs }
-{
-    tx.recall_invariant();
-    let mut cost: u128 = 0;
-    for answer in answers {
-        cost += u128::from(answer.sigop_cost);
-    }
-    let mut count: u128 = 0;
-    for output in tx.outputs() {
-        count += u128::from(output_sigops(output));
-    }
-    cost + 4 * count
-}
-
-/// The virtual size of a transaction whose signature operations have this cost.
-#[tactic(auto, using(gate_admit::proofs::Weighing::positive, gate_admit::proofs::Weighing::counted))]
-fn vsize_of(policy: &Policy, cost: u64, tx: &Identified) -> u64
-    requires { cost ≤ 16000 }
-    ensures size { result ≡ vsize_of policy.now.sigop_size cost tx.now }
-    ensures some { 0 < result }
-{
-    policy.recall_bounds();
-    (tx.weight() as u64)
-        .max(policy.sigop_size() * cost)
-        .div_ceil(4)
 }
 
 /// The virtual size of a transaction whose signature operations have this cost, if that is within its limit.

@@ -1,7 +1,5 @@
 //! The explanation of an event.
 ghost use Rattle.std.specs.Prelude.{◌≡◌, IfOk};
-ghost use Rattle.gate_locks.specs.Locks.{median_at};
-ghost use Rattle.gate_chain.specs.Times.{tip_of};
 ghost use Rattle.gate_core.specs.Submissions.{submission_of};
 ghost use Rattle.gate_core.specs.World.{standing_of};
 ghost use Rattle.gate_admit.specs.declared.attempt.Attempt.TheVariants.{First};
@@ -17,20 +15,13 @@ use crate::figures::Figures;
 use crate::outputs::dust;
 use crate::rivals::{firm, outpaid_at, rate_at};
 use crate::verdicts::doubted;
-use gate_admit::{Chain, Prepared, judge};
+use gate_admit::{Prepared, judge, tip_median};
 use gate_bytes::Memory;
 use gate_core::{Event, State, submission};
 use gate_standard::Denial;
 use gate_tx::Identified;
 use std::alloc::Global;
 use std::hash::BuildHasher;
-
-/// The median time past of the tip.
-fn tip_median<S: BuildHasher + Copy + Drop>(chain: &Chain<S>) -> u32
-    ensures { result ≡ median_at chain.now (tip_of chain.now) }
-{
-    chain.mtp(chain.tip()).unwrap()
-}
 
 /// The figures of a rule on a transaction's fee, cost or size; any other rule has none here.
 #[tactic(auto, unfolding(crate::specs::Figures::paying_figures))]

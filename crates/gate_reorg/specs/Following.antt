@@ -3,14 +3,14 @@ use Rattle.std.specs.Prelude.{ℕ, List}
 use Rattle.gate_tx.specs.Tx.{Tx}
 use Rattle.gate_pool.specs.Pool.{Admitted}
 use Rattle.gate_trim.specs.Trimming.{Trimmed}
+use Rattle.gate_admit.specs.declared.Conditions.{Conditions}
 use Rattle.gate_reorg.specs.declared.event.Draft.{Draft}
 use Rattle.gate_reorg.specs.declared.terms.Switched.{Switched}
-use Rattle.gate_reorg.specs.declared.terms.Terms.{Terms as Lent}
 use Rattle.gate_reorg.specs.Reorganisation.{Terms, unconfirmed, all_tried_again, returned}
 use Rattle.gate_submission.specs.Blocks.{present, transactions_of}
 
 -- the terms that are lent
-abbrev pub terms_of : {S H : Type 0} → Lent S H → Terms
+abbrev pub terms_of : {S H : Type 0} → Conditions S H → Terms
 terms_of under = record {
   chain = under.chain.now;
   verdicts = under.verdicts.now;
@@ -20,10 +20,10 @@ terms_of under = record {
 }
 
 -- these entries after some transactions were tried again, without those that new blocks have
-abbrev pub returns_of : {S H : Type 0} → Lent S H → List Admitted → List Tx → List Tx → List Admitted
+abbrev pub returns_of : {S H : Type 0} → Conditions S H → List Admitted → List Tx → List Tx → List Admitted
 returns_of under entries landed txs = all_tried_again (terms_of under) entries (unconfirmed landed txs)
 
-abbrev pub left_by : {S H : Type 0} → Lent S H → Switched → List Admitted → ℕ → Trimmed
+abbrev pub left_by : {S H : Type 0} → Conditions S H → Switched → List Admitted → ℕ → Trimmed
 left_by under change entries floor =
     returned (terms_of under) entries floor (transactions_of (present change.new.now)) (transactions_of change.gone.now)
 

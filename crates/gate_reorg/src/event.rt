@@ -20,8 +20,8 @@ use crate::confirming::{confirm_all, ids_of};
 use crate::moved::count_beyond;
 use crate::returning::return_all;
 use crate::staleness::take_premature;
-use crate::terms::{Changing, Switched, Terms};
-use gate_admit::{Floor, Policy, Verdicts};
+use crate::terms::{Changing, Switched};
+use gate_admit::{Conditions, Floor, Policy, Verdicts};
 use gate_block::switch;
 use gate_bytes::{Copied, Memory};
 use gate_chain::{Block, Chain, ChainDenial, ChainFault};
@@ -62,7 +62,7 @@ impl<S: BuildHasher + Copy + Drop> Draft<S> {
     fn follow(
         &mut self,
         alloc: Global,
-        under: &Terms<'_, S>,
+        under: &Conditions<'_, S>,
         change: &Switched<'_, '_>,
     ) -> Result<(), Memory>
         ensures left { OnOk result (left_by under.now change.now self.old.pool.entries self.old.floor ≡ drafted self.new) }
@@ -99,7 +99,7 @@ impl<S: BuildHasher + Copy + Drop> Draft<S> {
 /// A draft of a pool and its floor over a chain that was changed: a copy of them that followed the change.
 fn redraft<S: BuildHasher + Copy + Drop>(
     alloc: Global,
-    under: &Terms<'_, S>,
+    under: &Conditions<'_, S>,
     change: &Switched<'_, '_>,
     pool: &Pool<S>,
     floor: &Floor,
@@ -139,7 +139,7 @@ fn moved<S: BuildHasher + Copy + Drop>(
 /// The draft of a pool over a chain that was changed, and how many entries left and entered.
 fn follow_up<S: BuildHasher + Copy + Drop>(
     alloc: Global,
-    under: &Terms<'_, S>,
+    under: &Conditions<'_, S>,
     change: &Switched<'_, '_>,
     pool: &Pool<S>,
     floor: &Floor,
@@ -209,8 +209,9 @@ impl<'a, S: BuildHasher + Copy + Drop> Changing<'a, S> {
         ensures denied { IfErr result (λ fault. Tells fault (first_failing (switch_rules self.old.chain.now depth blocks.items))) }
     {
         let way = switch(alloc, self.chain, depth, blocks)?;
-        let under = Terms {
+        let under = Conditions {
             chain: self.chain,
+            floor: self.floor,
             verdicts: self.verdicts,
             policy: self.policy,
             second: self.second,

@@ -6,8 +6,7 @@ ghost use Rattle.gate_reorg.specs.Picking.{HasIdsOf};
 ghost use Rattle.gate_reorg.specs.Reorganisation.{tried_again};
 ghost use Rattle.gate_submission.specs.Blocks.{transactions_of};
 
-use crate::terms::Terms;
-use gate_admit::{Prepared, readmit};
+use gate_admit::{Conditions, Prepared, readmit};
 use gate_bytes::{Copied, Counted, Memory};
 use gate_chain::Block;
 use gate_pool::Pool;
@@ -21,7 +20,7 @@ use std::hash::BuildHasher;
 #[tactic(auto, unfolding(crate::specs::Reorganisation::tried_again))]
 fn try_again<S: BuildHasher + Copy + Drop>(
     alloc: Global,
-    under: &Terms<'_, S>,
+    under: &Conditions<'_, S>,
     pool: &mut Pool<S>,
     transaction: &Counted<Identified>,
 ) -> Result<(), Memory>
@@ -48,7 +47,7 @@ fn try_again<S: BuildHasher + Copy + Drop>(
 /// Tries the transactions of a block again, one after another, without those whose ids new blocks have.
 fn return_block<S: BuildHasher + Copy + Drop>(
     alloc: Global,
-    under: &Terms<'_, S>,
+    under: &Conditions<'_, S>,
     pool: &mut Pool<S>,
     new: &IndexSet<Txid, S>,
     transactions: &[Counted<Identified>],
@@ -68,7 +67,7 @@ fn return_block<S: BuildHasher + Copy + Drop>(
 /// Tries the transactions of blocks again, the lowest block first, without those whose ids new blocks have.
 pub(crate) fn return_all<S: BuildHasher + Copy + Drop>(
     alloc: Global,
-    under: &Terms<'_, S>,
+    under: &Conditions<'_, S>,
     pool: &mut Pool<S>,
     new: &IndexSet<Txid, S>,
     gone: &[Block],

@@ -9,7 +9,7 @@ ghost use Rattle.gate_admit.specs.Coins.{view_coin};
 ghost use Rattle.gate_reorg.specs.Reorganisation.{is_young_coin, height_of, input_heights, spends_young_coin, is_premature, without_premature};
 ghost use Rattle.gate_reorg.specs.Picking.{is_premature_id, is_listed_premature};
 
-use gate_admit::view_coin;
+use gate_admit::{is_immature, tip_median, view_coin};
 use gate_bytes::Memory;
 use gate_chain::Chain;
 use gate_locks::{is_final, sequence_locks_met};
@@ -18,16 +18,6 @@ use gate_tx::{OutPoint, Transaction, TxIn, Txid};
 use indexmap::IndexSet;
 use std::alloc::Global;
 use std::hash::BuildHasher;
-
-/// How many blocks below the next one a coinbase has to be before it can be spent (Bitcoin Core's `COINBASE_MATURITY`).
-const MATURITY: u32 = 100;
-
-/// The median time past of the tip.
-fn tip_median<S: BuildHasher + Copy + Drop>(chain: &Chain<S>) -> u32
-    ensures { result ≡ median_at chain.now (tip_of chain.now) }
-{
-    chain.mtp(chain.tip()).unwrap()
-}
 
 /// The height of an outpoint's coin, or 0 if there is none.
 fn height_of<S: BuildHasher + Copy + Drop>(
@@ -70,7 +60,7 @@ fn is_young_coin<S: BuildHasher + Copy + Drop>(
     ensures { result ≡ is_young_coin (tip_of chain.now + 1) (view_coin chain.now pool.now.entries point.now) }
 {
     match view_coin(chain, pool, point) {
-        Some(coin) => coin.is_coinbase() && chain.tip() + 1 - coin.height() < MATURITY,
+        Some(coin) => is_immature(chain.tip() + 1, &coin),
         None => false,
     }
 }
