@@ -5,8 +5,7 @@ ghost use Rattle.gate_lane.specs.Lanes.{LaneRan};
 ghost use Rattle.gate_lane.specs.Turns.{LineTaken, TurnTaken, LaneCame};
 
 use crate::answer::{Answers, answer};
-use crate::lines::LaneLines;
-use gate_lines::{LaneFault, Next, Sink, Source};
+use gate_lines::{LaneFault, Lines, Next, Sink, Source};
 use std::alloc::Global;
 
 /// How a turn ended, with the number of reply lines that it wrote.
@@ -19,7 +18,7 @@ pub(crate) enum Turn {
 /// What is kept from turn to turn: the lines, and the memory in which reply lines are made.
 #[derive(Drop)]
 pub(crate) struct Room {
-    pub(crate) lines: LaneLines,
+    pub(crate) lines: Lines,
     pub(crate) reply: String,
 }
 
@@ -102,7 +101,7 @@ fn answer_lines<V, A: Answers<V>, R: Source, W: Sink>(
 {
     let mut count = 0;
     let mut room = Room {
-        lines: LaneLines::new(alloc),
+        lines: Lines::new(alloc),
         reply: String::new(alloc),
     };
     loop {

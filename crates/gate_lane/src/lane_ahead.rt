@@ -10,9 +10,8 @@ ghost use Rattle.gate_lines.specs.Lines.{LacksNewline, count_limit, line_limit};
 use crate::ahead::Ahead;
 use crate::answer::Answers;
 use crate::lane::{Room, Turn, take_turn};
-use crate::lines::LaneLines;
 use crate::queue::{read_ahead, spell_all, threads_for};
-use gate_lines::{LaneFault, MAX_LINES, Sink, Source};
+use gate_lines::{LaneFault, Lines, MAX_LINES, Sink, Source};
 use std::alloc::Global;
 use std::collections::VecDeque;
 use std::thread::Threads;
@@ -137,7 +136,7 @@ fn answer_lines_ahead<V, A: Answers<V>, T: Threads + Sync, R: Source, W: Sink>(
     let mut room = RoomAhead {
         queue: VecDeque::new(alloc),
         room: Room {
-            lines: LaneLines::new(alloc),
+            lines: Lines::new(alloc),
             reply: String::new(alloc),
         },
     };

@@ -1,5 +1,5 @@
 //! Lines read one after another, counted and within the limits of a reader.
-ghost use Rattle.std.specs.Prelude.{◌≡◌, ◌≢◌, ◌<◌, ◌≤◌, ◌++◌, ◌∷◌, [], true, IfErr, OnOk};
+ghost use Rattle.std.specs.Prelude.{◌≡◌, ◌≢◌, ◌+◌, ◌<◌, ◌≤◌, ◌++◌, ◌∷◌, [], true, IfErr, OnOk};
 ghost use Rattle.std.specs.Io.KnownBytes.{Appends};
 ghost use Rattle.gate_lines.specs.Lines.{count_limit, line_limit};
 ghost use Rattle.gate_lines.specs.Counting.{FoundCounted, LastLine, NextAsked, NextTaken, PastTold};
@@ -75,9 +75,19 @@ impl Lines {
 
     /// How many lines were read.
     pub fn count(&self) -> u64
-        ensures { result ≡ self.now.count }
+        ensures value { result ≡ self.now.count }
+        ensures few { result ≤ count_limit }
     {
         self.count
+    }
+
+    /// Counts a line that was read apart from the others, ahead of them for example.
+    pub fn count_one(&mut self)
+        requires { self.old.count < count_limit }
+        ensures line { self.new.line ≡ self.old.line }
+        ensures count { self.new.count ≡ self.old.count + 1 }
+    {
+        self.count += 1;
     }
 
     /// Puts a newline behind the line that was read last.
