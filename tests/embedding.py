@@ -159,7 +159,7 @@ for name in %r:
 """
 # a parameter in Python, by the names of its types
 CTYPES = {
-    "&mut Gate": ["LP_Handle"],
+    "&mut GateHandle": ["LP_Handle"],
     "&mut GateEvent": ["LP_EventHandle"],
     "&Keys": ["LP_Keys"],
     "&[u8]": ["c_char_p", "c_ulong"],

@@ -16,7 +16,7 @@ SOURCES = os.path.join("crates", "gate_c", "src")
 RUST, PYTHON = "lib/rust/src/calls.rs", "lib/python/gate/library.py"
 # a parameter of the library: in C, in Rust and in Python; {} is its name
 PARAMETERS = {
-    "&mut Gate": ("struct gate *{0}", "{0}: *mut Handle", "handle"),
+    "&mut GateHandle": ("struct gate *{0}", "{0}: *mut Handle", "handle"),
     "&mut GateEvent": ("struct gate_event *{0}", "{0}: *mut EventHandle", "event"),
     "&Keys": ("const struct gate_keys *{0}", "{0}: *const Keys", "ctypes.POINTER(Keys)"),
     "&[u8]": ("const uint8_t *{0}, size_t {0}_size", "{0}: *const u8, {0}_size: usize", "text, count"),

@@ -3,7 +3,9 @@
 //! If it stops before its work is done, standard error has one line that says why.
 #![tactic(auto)]
 
-use gate_causes::{Behind, Heard, Limit, Place, Watched, digits_told, refusal_told};
+use gate_causes::{
+    FirstWriteRecorder, InputKind, InputPosition, Limit, LineReporter, digits_cause, refusal_cause,
+};
 use gate_explain::{Explaining, Telling};
 use gate_prog::{ArgsFault, Asked, Job, LaneFault, Workers, read_args, run_gate, run_job};
 use std::alloc::{AllocError, AllocFailed, Global};
@@ -106,12 +108,12 @@ fn asks_for_help(args: &[String]) -> bool {
 }
 
 /// What stands behind the opening that a job reads.
-fn behind(job: &Job) -> Behind {
+fn input_kind(job: &Job) -> InputKind {
     match job {
-        Job::Lanes { .. } => Behind::Lanes,
-        Job::Audit { .. } => Behind::Journal,
-        Job::Run { .. } => Behind::Events,
-        Job::Check(_) | Job::CheckInput | Job::Rules | Job::Explain(_) => Behind::Nothing,
+        Job::Lanes { .. } => InputKind::Lanes,
+        Job::Audit { .. } => InputKind::Journal,
+        Job::Run { .. } => InputKind::Events,
+        Job::Check(_) | Job::CheckInput | Job::Rules | Job::Explain(_) => InputKind::Nothing,
     }
 }
 
@@ -131,9 +133,9 @@ fn reads_input(job: &Job) -> bool {
 }
 
 /// The fault that a job stops for: if the input could not be read because it is past a limit, that limit and its line.
-fn fault_at(fault: LaneFault, place: &Place) -> Fault {
-    match (fault, place.limit()) {
-        (LaneFault::Read, Some(limit)) => Fault::Limit(place.line(), limit),
+fn fault_at(fault: LaneFault, position: &InputPosition) -> Fault {
+    match (fault, position.limit()) {
+        (LaneFault::Read, Some(limit)) => Fault::Limit(position.line(), limit),
         _ => Fault::Lane(fault),
     }
 }
@@ -165,46 +167,74 @@ fn run<
     let Ok(writer) = BufWriter::with_capacity(alloc, BUFFER, io::writer(rt)) else {
         return Err(Fault::Lane(LaneFault::Memory));
     };
-    let place = Place::new();
-    let mut watched = Watched::new(alloc, rt, reader, behind(job), explains(job), &place);
-    let mut heard = Heard::new(alloc, writer);
+    let position = InputPosition::new();
+    let mut reporter = LineReporter::new(
+        alloc,
+        rt,
+        reader,
+        input_kind(job),
+        explains(job),
+        &position,
+    );
+    let mut recorder = FirstWriteRecorder::new(alloc, writer);
     let ended = match job {
         Job::Run { explain: true } => {
             let telling = Telling {
-                place: &place,
+                position: &position,
                 progress: terminals.error,
                 length: input_length(rt),
             };
             let onlooker = Explaining::new(rt, alloc, telling);
             // The line that was read last is the one that is explained, so none is read ahead.
-            run_gate(rt, alloc, hasher, one, &onlooker, &mut watched, &mut heard)
+            run_gate(
+                rt,
+                alloc,
+                hasher,
+                one,
+                &onlooker,
+                &mut reporter,
+                &mut recorder,
+            )
         }
-        _ => run_job(rt, alloc, hasher, workers, job, &mut watched, &mut heard),
+        _ => run_job(
+            rt,
+            alloc,
+            hasher,
+            workers,
+            job,
+            &mut reporter,
+            &mut recorder,
+        ),
     };
-    if let (Some(refusal), Some(last)) = (heard.first(), watched.last()) {
-        tell_refusal(rt, refusal, &place, last);
+    if let (Some(refusal), Some(last)) = (recorder.first(), reporter.last()) {
+        tell_refusal(rt, refusal, &position, last);
     }
     match ended {
         Ok(status) => Ok(status),
-        Err(fault) => Err(fault_at(fault, &place)),
+        Err(fault) => Err(fault_at(fault, &position)),
     }
 }
 
 /// Says on standard error what is wrong with an opening, if the first text that was written refuses one.
-fn tell_refusal<R: AllocGlobal + Eprint>(rt: &R, refusal: &[u8], place: &Place, last: &[u8]) {
+fn tell_refusal<R: AllocGlobal + Eprint>(
+    rt: &R,
+    refusal: &[u8],
+    position: &InputPosition,
+    last: &[u8],
+) {
     let Ok(text) = std::str::from_utf8(refusal) else {
         return;
     };
     // Without memory for it, or if standard error takes nothing, only standard output says it.
-    if let Ok(Some(told)) = refusal_told(rt.alloc(), text.trim_end(), place, last) {
-        let _written = eprintln!(rt; "gate: {told}");
+    if let Ok(Some(cause)) = refusal_cause(rt.alloc(), text.trim_end(), position, last) {
+        let _written = eprintln!(rt; "gate: {cause}");
     }
 }
 
 /// Says on standard error what is wrong with a word that stands for a transaction.
 fn tell_digits<R: AllocGlobal + Eprint>(rt: &R, word: &str) {
-    if let Ok(Some(told)) = digits_told(rt.alloc(), word) {
-        let _written = eprintln!(rt; "gate: {told}; gate check - reads standard input");
+    if let Ok(Some(cause)) = digits_cause(rt.alloc(), word) {
+        let _written = eprintln!(rt; "gate: {cause}; gate check - reads standard input");
     }
 }
 

@@ -27,7 +27,7 @@ use Rattle.gate_standard.specs.Rules.{transaction_rules, form_rules, output_rule
 use Rattle.gate_chain.specs.Times.{tip_of}
 use Rattle.gate_pool.specs.Pool.{Admitted, spends_of, spent_by, entry_by_txid, entry_by_wtxid}
 use Rattle.gate_pool.specs.Family.{is_conflict, conflicts_of, without_below, ancestors_above}
-use Rattle.gate_rbf.specs.Replacing.{signals, is_firm_conflict}
+use Rattle.gate_rbf.specs.Replacing.{signals, is_non_signalling_conflict}
 use Rattle.gate_admit.specs.declared.attempt.Attempt.{Attempt}
 use Rattle.gate_admit.specs.declared.attempt.Attempt.TheVariants.{First}
 use Rattle.gate_admit.specs.declared.grant.Grant.{Grant}
@@ -90,17 +90,17 @@ no_conflicts tx (e ∷ entries) h =
     (no_conflict tx e (h 0 e (omega arith)))
     (no_conflicts tx entries (All-tail (λ (e : Admitted). is_conflict tx e ≡ false) e entries h))
 
--- a conflict that is not firm says that it may be replaced
-not_firm : (conflicts says : Bool) → conflicts ≡ true → (conflicts && not says) ≡ false → says ≡ true
-not_firm true true c h = refl
-not_firm true false c h = sym h
-not_firm false says c h = absurd (true≢false (sym c))
+-- a conflict that is not one of those without a signal says that it may be replaced
+is_signalling : (conflicts says : Bool) → conflicts ≡ true → (conflicts && not says) ≡ false → says ≡ true
+is_signalling true true c h = refl
+is_signalling true false c h = sym h
+is_signalling false says c h = absurd (true≢false (sym c))
 
-all_signal : (tx : Tx) (entries : List Admitted) → list_any (is_firm_conflict tx) entries ≡ false → All (λ (e : Admitted). signals e.tx ≡ true) (conflicts_of entries tx)
+all_signal : (tx : Tx) (entries : List Admitted) → list_any (is_non_signalling_conflict tx) entries ≡ false → All (λ (e : Admitted). signals e.tx ≡ true) (conflicts_of entries tx)
 all_signal tx entries h = λ k d l.
-    not_firm (is_conflict tx (get_or (conflicts_of entries tx) k d)) (signals (get_or (conflicts_of entries tx) k d).tx)
+    is_signalling (is_conflict tx (get_or (conflicts_of entries tx) k d)) (signals (get_or (conflicts_of entries tx) k d).tx)
     (filter_passes (is_conflict tx) entries k d l)
-    (All-filter (is_conflict tx) (λ (e : Admitted). is_firm_conflict tx e ≡ false) entries (none_pass (is_firm_conflict tx) entries h) k d l)
+    (All-filter (is_conflict tx) (λ (e : Admitted). is_non_signalling_conflict tx e ≡ false) entries (none_pass (is_non_signalling_conflict tx) entries h) k d l)
 
 -- ---- live inputs
 
@@ -127,7 +127,7 @@ each_mature next_height sum (coin ∷ coins) h =
 
 -- no entry passes the tests of the pool's rules
 unpooled : (policy : Policy) (entries : List Admitted) (tx : Tx) → NoneFails (pool_rules policy entries tx)
-    → (list_any (λ (e : Admitted). bytes_eq (txid_of e.tx) (txid_of tx)) entries ≡ false) × (list_any (λ (e : Admitted). bytes_eq (wtxid_of e.tx) (wtxid_of tx)) entries ≡ false) × ((not policy.full_rbf && list_any (is_firm_conflict tx) entries) ≡ false)
+    → (list_any (λ (e : Admitted). bytes_eq (txid_of e.tx) (txid_of tx)) entries ≡ false) × (list_any (λ (e : Admitted). bytes_eq (wtxid_of e.tx) (wtxid_of tx)) entries ≡ false) × ((not policy.full_rbf && list_any (is_non_signalling_conflict tx) entries) ≡ false)
 unfolding pool_rules
 unpooled policy entries tx h = (
   sym (is_some-find (λ (e : Admitted). bytes_eq (txid_of e.tx) (txid_of tx)) entries) ∙ h.1.0,
@@ -136,9 +136,9 @@ unpooled policy entries tx h = (
 )
 
 -- where a signal is asked for, no conflict lacks it
-none_firm : (full firm : Bool) → full ≡ false → (not full && firm) ≡ false → firm ≡ false
-none_firm true firm asked h = absurd (true≢false asked)
-none_firm false firm asked h = h
+none_is_non_signalling : (full some : Bool) → full ≡ false → (not full && some) ≡ false → some ≡ false
+none_is_non_signalling true some asked h = absurd (true≢false asked)
+none_is_non_signalling false some asked h = h
 
 live : (attempt : Attempt) (over : Standing) (tx : Tx) → Passes attempt over tx → IsGrantable over tx
 unfolding final_rules coin_rules lock_rules limit_rules
@@ -149,7 +149,7 @@ live attempt over tx p =
           (none_pass (λ (e : Admitted). bytes_eq (txid_of e.tx) (txid_of tx)) over.entries fresh.0);
       wtxid = All-weaker (λ (e : Admitted). bytes_eq (wtxid_of e.tx) (wtxid_of tx) ≡ false) (λ (e : Admitted). wtxid_of e.tx ≢ wtxid_of tx) (λ e. ids_differ (wtxid_of e.tx) (wtxid_of tx)) over.entries
           (none_pass (λ (e : Admitted). bytes_eq (wtxid_of e.tx) (wtxid_of tx)) over.entries fresh.1);
-      replaceable = λ asked. all_signal tx over.entries (none_firm over.policy.full_rbf (list_any (is_firm_conflict tx) over.entries) asked fresh.2);
+      replaceable = λ asked. all_signal tx over.entries (none_is_non_signalling over.policy.full_rbf (list_any (is_non_signalling_conflict tx) over.entries) asked fresh.2);
       beside = none_pass (is_conflict tx) (ancestors_above over.entries tx.inputs) p.limits.1.0;
       unspent = no_conflicts tx (without_below (is_conflict tx) over.entries)
           (λ k d l. stays_apart (is_conflict tx) over.entries _ (Contains-get_or (without_below (is_conflict tx) over.entries) k d l));

@@ -19,7 +19,7 @@ use Rattle.gate_locks.specs.Locks.{median_at, sequence_locks_met_by}
 use Rattle.gate_admit.specs.declared.grant.Grant.{Grant}
 use Rattle.gate_pool.specs.Pool.{Admitted, entry_by_txid, entry_by_wtxid}
 use Rattle.gate_pool.specs.Family.{replaced_of}
-use Rattle.gate_rbf.specs.Replacing.{is_firm_conflict, replacement_rules}
+use Rattle.gate_rbf.specs.Replacing.{is_non_signalling_conflict, replacement_rules}
 use Rattle.gate_admit.specs.declared.attempt.Attempt.{Attempt}
 use Rattle.gate_admit.specs.declared.attempt.Attempt.TheVariants.{First, Again}
 use Rattle.gate_admit.specs.Policies.{Policy}
@@ -40,7 +40,7 @@ unfoldable pub pool_rules : Policy → List Admitted → Tx → List (Rule Denia
 pool_rules policy entries tx =
     (AlreadyInMempool, is_some (entry_by_wtxid entries (wtxid_of tx)))
     ∷ (SameNonWitnessData, is_some (entry_by_txid entries (txid_of tx)))
-    ∷ (MempoolConflict, not policy.full_rbf && list_any (is_firm_conflict tx) entries)
+    ∷ (MempoolConflict, not policy.full_rbf && list_any (is_non_signalling_conflict tx) entries)
     ∷ []
 
 -- ---- A24 and A25: whether each input has a coin

@@ -47,5 +47,5 @@ pub use quantity::Quantity;
 pub use readmission::readmit;
 pub use reporting::sigop_cost;
 pub use standing::Conditions;
-pub use submission::{Coming, commit_submission, plan_submission, submit};
+pub use submission::{PlannedEntry, commit_submission, plan_submission, submit};
 pub use verdicts::Verdicts;

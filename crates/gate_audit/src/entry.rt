@@ -113,7 +113,7 @@ fn reply_follows<R: Source>(
     ensures past { R.steady ≡ true → IsErrOf result LaneFault.Read → AskingIsPast (R.remaining reader.old) lines.old.lines.count }
     ensures kind { IfErr result (λ fault. fault ≢ LaneFault.Write) }
 {
-    if !lines.next_asking(reader)? {
+    if !lines.next_significant_line(reader)? {
         return Ok(false);
     }
     Ok(says(lines.as_slice(), reply))
@@ -131,7 +131,7 @@ pub(crate) fn take_entry<S: BuildHasher + Copy + Drop, R: Source>(
     ensures past { R.steady ≡ true → IsErrOf result LaneFault.Read → EntryIsPast (R.remaining reader.old) lines.old.lines.count counts.in_round }
     ensures kind { IfErr result (λ fault. fault ≢ LaneFault.Write) }
 {
-    if !lines.next_asking(reader)? {
+    if !lines.next_significant_line(reader)? {
         return Ok(Taken::End);
     }
     if is_base(lines.as_slice(), counts.all) {

@@ -3,7 +3,7 @@ ghost use Rattle.std.specs.Prelude.{◌≡◌, ◌≤◌, ◌<◌, IfErr, OnErr,
 ghost use Rattle.gate_lines.specs.Lines.{count_limit, line_limit};
 ghost use Rattle.gate_audit.specs.Journals.{counted};
 
-use gate_lines::{LaneFault, Lines, MAX_LINE, Next, Source, asks_nothing};
+use gate_lines::{LaneFault, Lines, MAX_LINE, Next, Source, is_blank_or_comment};
 use std::alloc::Global;
 
 /// The length of a line's mark, `> ` or `< `, in bytes.
@@ -85,13 +85,16 @@ impl JournalLines {
     }
 
     /// Reads up to the next line that is neither empty nor a comment, and says whether there is one.
-    pub(crate) fn next_asking<R: Source>(&mut self, reader: &mut R) -> Result<bool, LaneFault>
+    pub(crate) fn next_significant_line<R: Source>(
+        &mut self,
+        reader: &mut R,
+    ) -> Result<bool, LaneFault>
         ensures read { IfOk result (λ found. AskingTaken (R.remaining reader.old) (R.remaining reader.new) self.old self.new found) }
         ensures past { R.steady ≡ true → IsErrOf result LaneFault.Read → AskingIsPast (R.remaining reader.old) self.old.lines.count }
         ensures kind { IfErr result (λ fault. fault ≢ LaneFault.Write) }
     {
         while self.read_line(reader)? {
-            if !asks_nothing(self.as_slice()) {
+            if !is_blank_or_comment(self.as_slice()) {
                 return Ok(true);
             }
         }

@@ -12,7 +12,7 @@ use Rattle.gate_c.specs.declared.answer.Answer.{Answer}
 use Rattle.gate_c.specs.declared.reading.Reading.{Reading}
 use Rattle.gate_c.specs.declared.reading.Reading.TheVariants as readings
 use Rattle.gate_c.specs.Answers.{Answered, EventAnswered, Steps}
-use Rattle.gate_c.specs.declared.session.Session.{Session}
+use Rattle.gate_c.specs.declared.session.GateSession.{GateSession}
 use Rattle.gate_c.specs.Calls.{AnswerPut, AnswerRepeated, LineCalled}
 use Rattle.gate_c.specs.Readings.{IsRead, ReadingAnswered, Reads}
 use Rattle.gate_c.specs.Sessions.{MovesSince, OpeningKept}
@@ -40,7 +40,7 @@ reading_answered old new line readings.BadLine answer reads answered = line_answ
 reading_answered old new line (readings.Event event) answer reads answered = line_answered old new line (Some event) answer reads.0 reads.1 answered
 
 -- an answer to what a line asks for, which is then put, is one to the line
-pub line_called : (old mid new : Session) (line : List ℕ) (reading : Reading) (before after : List ℕ) (size status : ℕ) → IsRead line reading
+pub line_called : (old mid new : GateSession) (line : List ℕ) (reading : Reading) (before after : List ℕ) (size status : ℕ) → IsRead line reading
     → ReadingAnswered old.tracked.world reading mid.answer mid.tracked.world → OpeningKept old mid → MovesSince old mid
     → AnswerRepeated mid new before after size status → LineCalled old line new before after size status
 line_called old mid new line reading before after size status read answered kept moves repeated =

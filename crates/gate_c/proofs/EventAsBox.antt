@@ -16,14 +16,14 @@ use Rattle.std_heap.specs.contracts.GlobalAllocator.TheImpl.{ghosts, dict}
 use Rattle.std_heap.proofs.Global.TheLaws as heap
 use Rattle.gate_c.specs.contracts.reading.Reading as Reading
 use Rattle.gate_c.proofs.reading.Reading.TheLaws as reading
-use Rattle.gate_c.specs.contracts.handle.parts.Parts as Parts
+use Rattle.gate_c.specs.contracts.handle.parts.BoxParts as BoxParts
 use Rattle.gate_c.specs.contracts.handle.event_slot.EventSlot as Sealed
 
 abbrev pub E : Bx
 E = record { row = Reading.the_row; laws = reading.the_row_laws; al = record { row = Heap.the_row; laws = heap.the_row_laws; g = ghosts; d = dict; drops = impl [] tnil dnil } }
 
 abbrev pub FromParts : Slot 0
-FromParts = plain (λ _. Parts.the_row Reading.the_row Heap.the_row ghosts)
+FromParts = plain (λ _. BoxParts.the_row Reading.the_row Heap.the_row ghosts)
 
 abbrev pub FromSlot : Slot 0
 FromSlot = plain (λ _. Sealed.the_row)

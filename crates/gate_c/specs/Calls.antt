@@ -8,7 +8,7 @@ use Rattle.gate_prog.specs.Checks.{check_lines, check_status, input_spells}
 use Rattle.gate_prog.specs.Jobs.{opening_line}
 use Rattle.gate_c.specs.declared.answer.Answer.{Answer}
 use Rattle.gate_c.specs.declared.reading.Reading.{Reading}
-use Rattle.gate_c.specs.declared.session.Session.{Session}
+use Rattle.gate_c.specs.declared.session.GateSession.{GateSession}
 use Rattle.gate_c.specs.declared.status.Status.TheVariants as statuses
 use Rattle.gate_c.specs.Answers.{answer_lines, Answered}
 use Rattle.gate_c.specs.Changes.{change_text}
@@ -35,7 +35,7 @@ AnswerPut answer before after size status =
 
 -- a line within the limits is answered, and its answer is kept; or nothing has changed; the opening is the same after every
 -- call, and what has moved is what this line moved
-abbrev pub LineCalled : Session → List ℕ → Session → List ℕ → List ℕ → ℕ → ℕ → Type 0
+abbrev pub LineCalled : GateSession → List ℕ → GateSession → List ℕ → List ℕ → ℕ → ℕ → Type 0
 LineCalled old line new before after size status = MovesSince old new × (
     ((length line ≤ line_limit) × Answered old.tracked.world line new.answer new.tracked.world × OpeningKept old new
     × AnswerPut new.answer before after size status)
@@ -43,16 +43,16 @@ LineCalled old line new before after size status = MovesSince old new × (
     ⊎ (AnswerKept old new × (line_limit < length line) × NothingPut (code_of statuses.LineTooLong) before after size status))
 
 -- a closed handle stays closed
-abbrev pub AnswerCalled : Option Session → List ℕ → Option Session → List ℕ → List ℕ → ℕ → ℕ → Type 0
+abbrev pub AnswerCalled : Option GateSession → List ℕ → Option GateSession → List ℕ → List ℕ → ℕ → ℕ → Type 0
 AnswerCalled None line new before after size status = (new ≡ None) × NothingPut (code_of statuses.NotOpen) before after size status
 AnswerCalled (Some old) line None before after size status = ⊥
 AnswerCalled (Some old) line (Some new) before after size status = LineCalled old line new before after size status
 
 -- the last answer is put once more, and nothing else changes
-abbrev pub AnswerRepeated : Session → Session → List ℕ → List ℕ → ℕ → ℕ → Type 0
+abbrev pub AnswerRepeated : GateSession → GateSession → List ℕ → List ℕ → ℕ → ℕ → Type 0
 AnswerRepeated old new before after size status = AnswerKept old new × MovesKept old new × AnswerPut old.answer before after size status
 
-abbrev pub ReplyCalled : Option Session → Option Session → List ℕ → List ℕ → ℕ → ℕ → Type 0
+abbrev pub ReplyCalled : Option GateSession → Option GateSession → List ℕ → List ℕ → ℕ → ℕ → Type 0
 ReplyCalled None new before after size status = (new ≡ None) × NothingPut (code_of statuses.NotOpen) before after size status
 ReplyCalled (Some old) None before after size status = ⊥
 ReplyCalled (Some old) (Some new) before after size status = AnswerRepeated old new before after size status
@@ -60,13 +60,13 @@ ReplyCalled (Some old) (Some new) before after size status = AnswerRepeated old 
 -- ---- what a line moved
 
 -- the lines of what the last line moved are put, or memory ran out in their text
-abbrev pub ChangesPut : Session → List ℕ → List ℕ → ℕ → ℕ → Type 0
+abbrev pub ChangesPut : GateSession → List ℕ → List ℕ → ℕ → ℕ → Type 0
 ChangesPut session before after size status =
     TextPut done (change_text session.tracked.before session.tracked.world.pool) before after size status
     ⊎ OutOfMemory before after size status
 
 -- nothing changes behind the handle
-abbrev pub ChangesCalled : Option Session → Option Session → List ℕ → List ℕ → ℕ → ℕ → Type 0
+abbrev pub ChangesCalled : Option GateSession → Option GateSession → List ℕ → List ℕ → ℕ → ℕ → Type 0
 ChangesCalled None new before after size status = (new ≡ None) × NothingPut (code_of statuses.NotOpen) before after size status
 ChangesCalled (Some old) new before after size status = (new ≡ Some old) × ChangesPut old before after size status
 
@@ -87,19 +87,19 @@ ReadCalled old line new status = ((status ≡ done) × HoldsLine line new) ⊎ (
 
 -- what a line asks for is answered, and its answer is kept; or nothing has changed; the opening is the same after every call,
 -- and what has moved is what this line moved
-abbrev pub ReadingCalled : Session → Reading → Session → List ℕ → List ℕ → ℕ → ℕ → Type 0
+abbrev pub ReadingCalled : GateSession → Reading → GateSession → List ℕ → List ℕ → ℕ → ℕ → Type 0
 ReadingCalled old reading new before after size status = MovesSince old new × (
     (ReadingAnswered old.tracked.world reading new.answer new.tracked.world × OpeningKept old new × AnswerPut new.answer before after size status)
     ⊎ (AnswerKept old new × OutOfMemory before after size status))
 
 -- what a line asks for is answered by a handle that is open
-abbrev pub OpenCalledBy : Option Session → Reading → Option Session → List ℕ → List ℕ → ℕ → ℕ → Type 0
+abbrev pub OpenCalledBy : Option GateSession → Reading → Option GateSession → List ℕ → List ℕ → ℕ → ℕ → Type 0
 OpenCalledBy None reading new before after size status = (new ≡ None) × NothingPut (code_of statuses.NotOpen) before after size status
 OpenCalledBy (Some old) reading None before after size status = ⊥
 OpenCalledBy (Some old) reading (Some new) before after size status = ReadingCalled old reading new before after size status
 
 -- the event is answered, or one of the two handles is closed, and nothing has changed
-abbrev pub EventCalled : Option Session → Option Reading → Option Session → List ℕ → List ℕ → ℕ → ℕ → Type 0
+abbrev pub EventCalled : Option GateSession → Option Reading → Option GateSession → List ℕ → List ℕ → ℕ → ℕ → Type 0
 EventCalled old None new before after size status = (new ≡ old) × NothingPut (code_of statuses.NotOpen) before after size status
 EventCalled old (Some reading) new before after size status = OpenCalledBy old reading new before after size status
 
@@ -107,12 +107,12 @@ EventCalled old (Some reading) new before after size status = OpenCalledBy old r
 
 -- the second handle holds a session with the same opening, the same state and the same last answer, in which nothing has
 -- moved; or memory ran out
-abbrev pub CopyMade : Session → Option Session → ℕ → Type 0
+abbrev pub CopyMade : GateSession → Option GateSession → ℕ → Type 0
 CopyMade old None status = status ≡ code_of statuses.OutOfMemory
 CopyMade old (Some copy) status = (status ≡ done) × AnswerKept old copy × Rests copy
 
 -- the first handle is as before; so is the second one, unless a copy is made
-abbrev pub CopyCalled : Option Session → Option Session → Option Session → Option Session → ℕ → Type 0
+abbrev pub CopyCalled : Option GateSession → Option GateSession → Option GateSession → Option GateSession → ℕ → Type 0
 CopyCalled old (Some held) new copy status = (new ≡ old) × (copy ≡ Some held) × (status ≡ code_of statuses.AlreadyOpen)
 CopyCalled None None new copy status = (new ≡ None) × (copy ≡ None) × (status ≡ code_of statuses.NotOpen)
 CopyCalled (Some old) None new copy status = (new ≡ Some old) × CopyMade old copy status
@@ -135,10 +135,10 @@ abbrev pub Unopened : List ℕ → List ℕ → List ℕ → ℕ → ℕ → Typ
 Unopened opening before after size status = FaultPut opening before after size status ⊎ OutOfMemory before after size status
 
 -- the handle holds the session of the opening
-abbrev pub Opened : List ℕ → Session → List ℕ → List ℕ → ℕ → Type 0
+abbrev pub Opened : List ℕ → GateSession → List ℕ → List ℕ → ℕ → Type 0
 Opened opening new before after size = IsOpened opening new × (after ≡ before) × (size ≡ 0)
 
-abbrev pub OpenCalled : Option Session → List ℕ → Option Session → List ℕ → List ℕ → ℕ → ℕ → Type 0
+abbrev pub OpenCalled : Option GateSession → List ℕ → Option GateSession → List ℕ → List ℕ → ℕ → ℕ → Type 0
 OpenCalled (Some old) opening new before after size status = (new ≡ Some old) × NothingPut (code_of statuses.AlreadyOpen) before after size status
 OpenCalled None opening (Some new) before after size status = (status ≡ done) × Opened opening new before after size
 OpenCalled None opening None before after size status = Unopened opening before after size status

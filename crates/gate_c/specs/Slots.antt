@@ -7,7 +7,7 @@ use Rattle.std.specs.Box.Ownership.{box_owns}
 use Rattle.std.specs.Global.{Global}
 use Rattle.std.specs.contracts.option.Option as option
 use Rattle.std_heap.specs.contracts.GlobalAllocator.TheImpl.{ghosts}
-use Rattle.gate_c.specs.contracts.session.Session.{the_row}
+use Rattle.gate_c.specs.contracts.session.GateSession.{the_row}
 
 abbrev pub slot_owns : Global → Ptr → Option the_row.Denot → Fml
 slot_owns alloc at None = ftrue

@@ -8,7 +8,7 @@ ghost use Rattle.gate_c.specs.Statuses.{code_of};
 use crate::keys::Keys;
 use crate::output::{put_nothing, put_text};
 use crate::reading::Reading;
-use crate::session::Session;
+use crate::session::GateSession;
 use crate::status::Status;
 use gate_lines::MAX_LINE;
 use gate_opening::{OpeningFault, OpeningToken};
@@ -51,7 +51,7 @@ pub fn check_input(alloc: Global, input: &[u8], out: &mut [u8], size: &mut usize
 /// Puts the last answer into the buffer.
 pub fn repeat_answer(
     alloc: Global,
-    session: &mut Session,
+    session: &mut GateSession,
     out: &mut [u8],
     size: &mut usize,
 ) -> Status
@@ -64,7 +64,12 @@ pub fn repeat_answer(
 }
 
 /// Puts the lines of what the last line moved into the buffer.
-pub fn tell_changes(alloc: Global, session: &Session, out: &mut [u8], size: &mut usize) -> Status
+pub fn tell_changes(
+    alloc: Global,
+    session: &GateSession,
+    out: &mut [u8],
+    size: &mut usize,
+) -> Status
     ensures { ChangesPut session.now out.old out.new size.new (code_of result) }
 {
     match session.changes(alloc) {
@@ -97,7 +102,7 @@ pub fn read_event(alloc: Global, line: &[u8]) -> Result<Box<Reading, Global>, St
 /// Answers what a line asks for, and puts the answer into the buffer.
 pub fn answer_reading(
     alloc: Global,
-    session: &mut Session,
+    session: &mut GateSession,
     reading: &Reading,
     out: &mut [u8],
     size: &mut usize,
@@ -115,7 +120,7 @@ pub fn answer_reading(
 /// Answers a line, and puts the answer into the buffer.
 pub fn answer_line(
     alloc: Global,
-    session: &mut Session,
+    session: &mut GateSession,
     line: &[u8],
     out: &mut [u8],
     size: &mut usize,
@@ -132,7 +137,10 @@ pub fn answer_line(
 }
 
 /// A copy of a session.
-pub fn copy_session(alloc: Global, session: &Session) -> Result<Box<Session, Global>, Status>
+pub fn copy_session(
+    alloc: Global,
+    session: &GateSession,
+) -> Result<Box<GateSession, Global>, Status>
     ensures same { MatchResult result (λ copy. AnswerKept session.now copy.value) (λ status. status ≡ Status.OutOfMemory) }
     ensures rests { IfOk result (λ copy. Rests copy.value) }
 {
@@ -165,12 +173,12 @@ pub fn open_session(
     opening: &[u8],
     out: &mut [u8],
     size: &mut usize,
-) -> Result<Box<Session, Global>, Status>
+) -> Result<Box<GateSession, Global>, Status>
     ensures { MatchResult result (λ session. Opened opening.now session.value out.old out.new size.new)
         (λ status. Unopened opening.now out.old out.new size.new (code_of status)) }
 {
     *size = 0;
-    match Session::open(alloc, keys, opening) {
+    match GateSession::open(alloc, keys, opening) {
         Ok(session) => boxed(alloc, session),
         Err(OpeningFault::Line(line, token)) => {
             Err(refuse_opening(alloc, line, token, out, size))

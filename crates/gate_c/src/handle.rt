@@ -6,23 +6,23 @@ mod event_slot;
 mod parts;
 mod slot;
 
-use crate::session::Session;
+use crate::session::GateSession;
 pub use event::GateEvent;
 pub use event_slot::EventSlot;
-use parts::Parts;
+use parts::BoxParts;
 pub use slot::Slot;
 use std::alloc::Global;
 use std::mem;
 
 /// A handle. C initializes it with zeros, a null pointer and `false`, which is a closed handle.
 #[repr(C)]
-pub struct Gate {
+pub struct GateHandle {
     pub slot: Slot,
     pub is_open: bool,
     ghost full: { is_open ≡ is_some slot.session },
 }
 
-impl Drop for Gate {
+impl Drop for GateHandle {
     fn drop(self) {
         drop(self.into_box());
     }
@@ -35,20 +35,20 @@ fn sent<T: Send>(value: T) -> T
     value
 }
 
-impl Gate {
-    fn closed(alloc: Global) -> Gate
+impl GateHandle {
+    fn closed(alloc: Global) -> GateHandle
         ensures { result.slot.session ≡ None }
     {
-        Gate {
+        GateHandle {
             slot: Slot::empty(alloc),
             is_open: false,
         }
     }
 
-    fn into_box(self) -> Option<Box<Session, Global>>
+    fn into_box(self) -> Option<Box<GateSession, Global>>
         ensures { MatchOption result (self.slot.session ≡ None) (λ session. self.slot.session ≡ Some session.value) }
     {
-        let Gate { slot, is_open } = self;
+        let GateHandle { slot, is_open } = self;
         if is_open {
             Some(slot.into_parts().into_box())
         } else {
@@ -58,19 +58,19 @@ impl Gate {
     }
 
     /// Closes the handle, and gives its session if it was open.
-    pub fn take(&mut self, alloc: Global) -> Option<Box<Session, Global>>
+    pub fn take(&mut self, alloc: Global) -> Option<Box<GateSession, Global>>
         ensures closed { self.new.slot.session ≡ None }
         ensures taken { MatchOption result (self.old.slot.session ≡ None) (λ session. self.old.slot.session ≡ Some session.value) }
     {
-        mem::replace(self, Gate::closed(alloc)).into_box()
+        mem::replace(self, GateHandle::closed(alloc)).into_box()
     }
 
     /// Opens the handle with a session, which replaces what it holds.
-    pub fn put(&mut self, session: Box<Session, Global>)
+    pub fn put(&mut self, session: Box<GateSession, Global>)
         ensures { self.new.slot.session ≡ Some session.value }
     {
-        *self = sent(Gate {
-            slot: Slot::of_parts(Parts::of(session)),
+        *self = sent(GateHandle {
+            slot: Slot::of_parts(BoxParts::of(session)),
             is_open: true,
         });
     }

@@ -26,7 +26,7 @@ use calls::{
     repeat_answer, tell_changes,
 };
 use gate_prog::VERSION;
-use handle::{Gate, GateEvent};
+use handle::{GateEvent, GateHandle};
 use keys::Keys;
 use output::{put_nothing, put_text};
 use reading::Reading;
@@ -38,7 +38,7 @@ use std::alloc::Global;
 #[unsafe(no_mangle)]
 pub extern "C" fn gate_open(
     alloc: Global,
-    gate: &mut Gate,
+    gate: &mut GateHandle,
     keys: &Keys,
     opening: &[u8],
     out: &mut [u8],
@@ -63,7 +63,7 @@ pub extern "C" fn gate_open(
 #[unsafe(no_mangle)]
 pub extern "C" fn gate_answer(
     alloc: Global,
-    gate: &mut Gate,
+    gate: &mut GateHandle,
     line: &[u8],
     out: &mut [u8],
     size: &mut usize,
@@ -84,7 +84,7 @@ pub extern "C" fn gate_answer(
 #[unsafe(no_mangle)]
 pub extern "C" fn gate_reply(
     alloc: Global,
-    gate: &mut Gate,
+    gate: &mut GateHandle,
     out: &mut [u8],
     size: &mut usize,
 ) -> u32
@@ -105,7 +105,7 @@ pub extern "C" fn gate_reply(
 #[unsafe(no_mangle)]
 pub extern "C" fn gate_changes(
     alloc: Global,
-    gate: &mut Gate,
+    gate: &mut GateHandle,
     out: &mut [u8],
     size: &mut usize,
 ) -> u32
@@ -123,7 +123,7 @@ pub extern "C" fn gate_changes(
 
 /// Closes a handle, and frees what it holds. A closed handle stays closed.
 #[unsafe(no_mangle)]
-pub extern "C" fn gate_close(alloc: Global, gate: &mut Gate)
+pub extern "C" fn gate_close(alloc: Global, gate: &mut GateHandle)
     ensures { gate.new.slot.session ≡ None }
 {
     drop(gate.take(alloc));
@@ -132,7 +132,7 @@ pub extern "C" fn gate_close(alloc: Global, gate: &mut Gate)
 /// Opens a second handle, which is closed, with a copy of what the first one holds: the same state and the same last reply. Only
 /// transactions, which never change, are shared.
 #[unsafe(no_mangle)]
-pub extern "C" fn gate_copy(alloc: Global, gate: &mut Gate, copy: &mut Gate) -> u32
+pub extern "C" fn gate_copy(alloc: Global, gate: &mut GateHandle, copy: &mut GateHandle) -> u32
     ensures { CopyCalled gate.old.slot.session copy.old.slot.session gate.new.slot.session copy.new.slot.session result }
 {
     if copy.is_open {
@@ -172,7 +172,7 @@ pub extern "C" fn gate_read(alloc: Global, event: &mut GateEvent, line: &[u8]) -
 /// Answers what a line asks for by a handle, and puts its reply line into the buffer.
 fn answer_by(
     alloc: Global,
-    gate: &mut Gate,
+    gate: &mut GateHandle,
     reading: &Reading,
     out: &mut [u8],
     size: &mut usize,
@@ -195,7 +195,7 @@ fn answer_by(
 #[unsafe(no_mangle)]
 pub extern "C" fn gate_answer_event(
     alloc: Global,
-    gate: &mut Gate,
+    gate: &mut GateHandle,
     event: &mut GateEvent,
     out: &mut [u8],
     size: &mut usize,

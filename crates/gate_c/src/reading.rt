@@ -9,7 +9,7 @@ use crate::answer::Answer;
 use gate_bytes::Memory;
 use gate_core::{StepFault, Tracked};
 use gate_events::event_on;
-use gate_lines::asks_nothing;
+use gate_lines::is_blank_or_comment;
 use gate_message::{Event, Reply};
 use std::alloc::Global;
 use std::hash::RandomState;
@@ -45,7 +45,7 @@ impl Reading {
     pub fn of(alloc: Global, line: &[u8]) -> Result<Reading, Memory>
         ensures { IfOk result (Reads line.now) }
     {
-        if asks_nothing(line) {
+        if is_blank_or_comment(line) {
             return Ok(Reading::Nothing);
         }
         match event_on(alloc, line)? {

@@ -20,7 +20,7 @@ use std::hash::RandomState;
 
 /// A gate that was opened, and has answered lines.
 #[derive(Drop)]
-pub struct Session {
+pub struct GateSession {
     /// The state, and what the last line moved.
     pub tracked: Tracked<RandomState>,
     /// The state that the opening gave. It is there for clauses alone, and takes no memory.
@@ -50,13 +50,13 @@ fn read_state(
     read_opening(alloc, hasher, &mut reader)
 }
 
-impl Session {
+impl GateSession {
     ghost use Rattle.gate_c.specs.Readings.{ReadingAnswered};
     ghost use Rattle.gate_c.specs.Changes.{change_text};
     ghost use Rattle.gate_c.specs.Sessions.{AnswerKept, IsOpened, MovesKept, MovesSince, OpeningKept, Rests};
 
     /// Opens the session of the state that an opening spells.
-    pub fn open(alloc: Global, keys: &Keys, opening: &[u8]) -> Result<Session, OpeningFault>
+    pub fn open(alloc: Global, keys: &Keys, opening: &[u8]) -> Result<GateSession, OpeningFault>
         ensures opened { IfOk result (λ session. IsOpened opening.now session) }
         ensures fault { (line : ℕ) (token : OpeningToken) → result ≡ Err (OpeningFault.Line line token) →
             spelled opening.now ≡ Err (OpeningFault.Line line token) }
@@ -67,7 +67,7 @@ impl Session {
         };
         let state = read_state(alloc, hasher, opening)?;
         let opened = Remembered::of(&state);
-        Ok(Session {
+        Ok(GateSession {
             tracked: Tracked::new(state),
             opened,
             answer: Answer::Nothing,
@@ -76,11 +76,11 @@ impl Session {
     }
 
     /// A session with the same state, the same opening and the same last answer. It has nothing to tell of what moved.
-    pub fn copy(&self, alloc: Global) -> Result<Session, Memory>
+    pub fn copy(&self, alloc: Global) -> Result<GateSession, Memory>
         ensures same { IfOk result (AnswerKept self.now) }
         ensures rests { IfOk result Rests }
     {
-        Ok(Session {
+        Ok(GateSession {
             tracked: self.tracked.copy(alloc)?,
             opened: self.opened.copy(),
             answer: self.answer.copy(alloc)?,

@@ -1,6 +1,6 @@
 //! What is said of an opening that is refused.
-use crate::place::Place;
-use crate::told::opening_told;
+use crate::causes::opening_cause;
+use crate::input_position::InputPosition;
 use gate_bytes::Memory;
 use gate_lines::next_word;
 use gate_rules::rules_named;
@@ -13,21 +13,26 @@ fn meaning(alloc: Global, token: &str) -> Result<Option<&'static str>, Memory> {
     Ok(rules.as_slice().last().map(|rule| rule.says))
 }
 
-/// Why the line of this number has no form, in an opening that was read to this place and whose last line is `last`.
-fn form_told(alloc: Global, line: &str, place: &Place, last: &[u8]) -> Result<String, Memory> {
-    if let Some(limit) = place.limit() {
+/// Why the line of this number has no form, in an opening that was read to this position and whose last line is `last`.
+fn form_cause(
+    alloc: Global,
+    line: &str,
+    position: &InputPosition,
+    last: &[u8],
+) -> Result<String, Memory> {
+    if let Some(limit) = position.limit() {
         return Ok(format!(in alloc; "line {line}: {limit}")?);
     }
-    let cause = opening_told(alloc, last)?;
+    let cause = opening_cause(alloc, last)?;
     Ok(format!(in alloc; "line {line}: {cause}")?)
 }
 
-/// What is said of an opening's refusal, which is `opening LINE TOKEN`. The opening was read to this place, and `last`
+/// What is said of an opening's refusal, which is `opening LINE TOKEN`. The opening was read to this position, and `last`
 /// is its last line. Of any other text nothing is said.
-pub fn refusal_told(
+pub fn refusal_cause(
     alloc: Global,
     refusal: &str,
-    place: &Place,
+    position: &InputPosition,
     last: &[u8],
 ) -> Result<Option<String>, Memory> {
     let Some((word, fault)) = next_word(refusal) else {
@@ -40,7 +45,7 @@ pub fn refusal_told(
         return Ok(None);
     };
     if token == "bad-line" {
-        return Ok(Some(form_told(alloc, line, place, last)?));
+        return Ok(Some(form_cause(alloc, line, position, last)?));
     }
     let Some(says) = meaning(alloc, token)? else {
         return Ok(None);

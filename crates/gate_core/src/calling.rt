@@ -11,7 +11,7 @@ ghost use Rattle.gate_core.specs.World.{World, standing_of};
 ghost use Rattle.gate_core.specs.Planning.{Fits, Plans, world_of};
 ghost use Rattle.gate_pool.specs.Moves.{IsMarked};
 
-use crate::parts::Parts;
+use crate::parts::StateParts;
 use crate::planning::{Change, Plan};
 use crate::submitting::standing_for;
 use gate_admit::{Conditions, Prepared, plan_submission};
@@ -80,7 +80,7 @@ fn of_info(alloc: Global, found: Option<EntryInfo>) -> Result<Result<RpcResult, 
     }
 }
 
-impl<S: BuildHasher + Copy + Drop> Parts<S> {
+impl<S: BuildHasher + Copy + Drop> StateParts<S> {
     /// Whether the user may not make the call (U1).
     fn bars(&self, call: &Call) -> bool
         ensures { result ≡ is_barred (world_of self.now) call.now.user (request_of call.now.json) }

@@ -10,7 +10,7 @@ ghost use Rattle.gate_core.specs.Planning.{world_of};
 ghost use Rattle.gate_core.specs.Steps.{step_of};
 ghost use Rattle.gate_pool.specs.Moves.{IsMarked};
 
-use crate::parts::Parts;
+use crate::parts::StateParts;
 use gate_admit::{OpeningCoin, Pool, VerdictRow};
 use gate_bytes::{Copied, Memory};
 use gate_chain::{Block, ChainDenial, ChainFault, CoinTest};
@@ -36,7 +36,7 @@ impl<'a, S: BuildHasher + Copy + Drop> CoinTest for Spends<'a, S> {
     }
 }
 
-impl<S: BuildHasher + Copy + Drop> Parts<S> {
+impl<S: BuildHasher + Copy + Drop> StateParts<S> {
     /// Makes an event of the chain's caller. A denial names the first rule that fails, and then nothing changes; nor does
     /// it if memory runs out.
     #[tactic(auto, unfolding(crate::specs::Steps::step_of))]

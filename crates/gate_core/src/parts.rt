@@ -15,7 +15,7 @@ use crate::session::Sessions;
 use crate::sharing::LastListing;
 use crate::submitting::standing_for;
 use crate::switches::Switches;
-use gate_admit::{Chain, Coming, Floor, Policy, Pool, Prepared, Verdicts, commit_submission};
+use gate_admit::{Chain, Floor, PlannedEntry, Policy, Pool, Prepared, Verdicts, commit_submission};
 use gate_bytes::{Copied, Memory};
 use gate_message::{Event, Reply};
 use gate_net::Whitelist;
@@ -26,7 +26,7 @@ use std::hash::BuildHasher;
 
 /// The chain, the pool with its floor, the sessions and the settings.
 #[derive(Drop)]
-pub(crate) struct Parts<S: BuildHasher + Copy + Drop> {
+pub(crate) struct StateParts<S: BuildHasher + Copy + Drop> {
     pub(crate) chain: Chain<S>,
     pub(crate) pool: Pool<S>,
     pub(crate) floor: Floor,
@@ -42,7 +42,7 @@ pub(crate) struct Parts<S: BuildHasher + Copy + Drop> {
     pub(crate) listing: LastListing,
 }
 
-impl<S: BuildHasher + Copy + Drop> Parts<S> {
+impl<S: BuildHasher + Copy + Drop> StateParts<S> {
     /// The plan of any event but the chain's: the reply to it, and what it will change. The memory for the change is
     /// taken, and nothing changes yet. `prepared` may stand for the event's submission.
     #[tactic(auto, unfolding(crate::specs::Steps::step_of))]
@@ -110,7 +110,7 @@ impl<S: BuildHasher + Copy + Drop> Parts<S> {
     }
 
     /// Enters what was granted, and returns its denial if it does not stay in the pool.
-    fn admit(&mut self, coming: Coming) -> Option<Denial>
+    fn admit(&mut self, coming: PlannedEntry) -> Option<Denial>
         requires { Fits (Change.Admit coming) self.old.sessions self.old.pool }
         ensures made { (reply : Reply) → (settled reply result, world_of self.new) ≡ made_by reply (Change.Admit coming) (world_of self.old) }
         ensures before { self.new.pool.before ≡ self.old.pool.before }
@@ -173,7 +173,7 @@ impl<S: BuildHasher + Copy + Drop> Parts<S> {
     }
 
     /// A copy of all parts.
-    pub(crate) fn copy(&self, alloc: Global) -> Result<Parts<S>, Memory>
+    pub(crate) fn copy(&self, alloc: Global) -> Result<StateParts<S>, Memory>
         ensures { IfOk result (λ copy. world_of copy ≡ world_of self.now) }
     {
         let (chain, pool) = self.copy_ledger(alloc)?;
@@ -183,7 +183,7 @@ impl<S: BuildHasher + Copy + Drop> Parts<S> {
             return Err(Memory);
         };
         match self.copy_lists(alloc) {
-            Ok((whitelist, rpcwhitelist)) => Ok(Parts {
+            Ok((whitelist, rpcwhitelist)) => Ok(StateParts {
                 chain,
                 pool,
                 floor: self.floor,

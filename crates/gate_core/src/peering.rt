@@ -10,7 +10,7 @@ ghost use Rattle.gate_core.specs.Sessions.{Seated, rate_after};
 ghost use Rattle.gate_core.specs.Planning.{Fits, Plans, world_of};
 ghost use Rattle.gate_pool.specs.Moves.{IsMarked};
 
-use crate::parts::Parts;
+use crate::parts::StateParts;
 use crate::planning::{Change, Plan};
 use gate_admit::{Conditions, Prepared, plan_submission};
 use gate_bytes::{Boxed, Memory};
@@ -28,7 +28,7 @@ const MAX_HEADERS: u32 = 2_000;
 /// `HISTORICAL_BLOCK_AGE`).
 const HISTORICAL_AGE: u64 = 604_800;
 
-impl<S: BuildHasher + Copy + Drop> Parts<S> {
+impl<S: BuildHasher + Copy + Drop> StateParts<S> {
     /// The flags of a peer that enters from this address.
     fn flags_at(&self, address: &Address) -> Permissions
         ensures { result ≡ flags_at (world_of self.now) address.now }
@@ -221,7 +221,7 @@ impl<S: BuildHasher + Copy + Drop> Parts<S> {
     }
 }
 
-impl<S: BuildHasher + Copy + Drop> Parts<S> {
+impl<S: BuildHasher + Copy + Drop> StateParts<S> {
     /// The time of the block at a height up to the tip, in seconds since 1970; 0 for any other height.
     fn seconds(&self, height: u32) -> u64
         ensures value { result ≡ seconds_at self.now.chain height }

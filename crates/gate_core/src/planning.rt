@@ -1,5 +1,5 @@
 //! The plan of a step: its reply, and what it changes.
-use gate_admit::Coming;
+use gate_admit::PlannedEntry;
 use gate_bytes::Boxed;
 use gate_message::{Reply, Switch};
 use gate_net::Permissions;
@@ -13,7 +13,7 @@ pub(crate) enum Change {
     SetFilter { peer: u64, rate: u64 },
     SetFloor { rate: u64 },
     Turn { switch: Switch, on: bool },
-    Admit { coming: Boxed<Coming> },
+    Admit { coming: Boxed<PlannedEntry> },
 }
 
 /// What an event changes, and the reply to it; a denial takes the reply's place if the newcomer does not stay in the

@@ -12,7 +12,7 @@ ghost use Rattle.gate_core.specs.Good.{IsGoodWorld, StepGives};
 ghost use Rattle.gate_core.specs.Sessions.{session_of, status_of};
 
 use crate::opening::Opening;
-use crate::parts::Parts;
+use crate::parts::StateParts;
 use crate::session::{Session, Sessions};
 use crate::sharing::LastListing;
 use crate::switches::Switches;
@@ -42,7 +42,7 @@ impl From<Memory> for StepFault {
 /// Everything that the gate knows: the chain, the pool with its floor, the sessions and the settings.
 #[derive(Drop)]
 pub struct State<S: BuildHasher + Copy + Drop> {
-    pub(crate) parts: Parts<S>,
+    pub(crate) parts: StateParts<S>,
 }
 
 impl<S: BuildHasher + Copy + Drop> Model for State<S> {
@@ -95,7 +95,7 @@ impl<S: BuildHasher + Copy + Drop> State<S> {
         } = opening;
         match opened_ledger(alloc, hasher, first, coins, times) {
             Ok((chain, pool)) => Ok(State {
-                parts: Parts {
+                parts: StateParts {
                     chain,
                     pool,
                     floor: Floor::new(0),

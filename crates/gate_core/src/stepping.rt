@@ -9,7 +9,7 @@ ghost use Rattle.gate_core.specs.Planning.{world_of};
 ghost use Rattle.gate_core.specs.Steps.{step_of};
 ghost use Rattle.gate_pool.specs.Moves.{IsMarked};
 
-use crate::parts::Parts;
+use crate::parts::StateParts;
 use crate::planning::Plan;
 use gate_admit::Prepared;
 use gate_bytes::Memory;
@@ -17,7 +17,7 @@ use gate_message::{Caller, Event, Replies, Reply};
 use std::alloc::Global;
 use std::hash::BuildHasher;
 
-impl<S: BuildHasher + Copy + Drop> Parts<S> {
+impl<S: BuildHasher + Copy + Drop> StateParts<S> {
     /// The step of any event but the chain's: a plan, and its commit.
     fn plan_and_commit(&mut self, alloc: Global, event: &Event) -> Result<Reply, Memory>
         requires planned { caller_of event.now ≢ TheChain }

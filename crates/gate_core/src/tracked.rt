@@ -4,7 +4,7 @@ ghost use Rattle.gate_core.specs.Good.{StepGives};
 ghost use Rattle.gate_core.specs.Steps.{step_of};
 ghost use Rattle.gate_pool.specs.Moves.{arrived, departed};
 
-use crate::parts::Parts;
+use crate::parts::StateParts;
 use crate::state::{State, StepFault};
 use gate_bytes::Memory;
 use gate_message::{Event, Reply};
@@ -17,7 +17,7 @@ use std::marker::Model;
 /// so that both lists of what moved are made when they are asked for, at the cost of what moved.
 #[derive(Drop)]
 pub struct Tracked<S: BuildHasher + Copy + Drop> {
-    parts: Parts<S>,
+    parts: StateParts<S>,
 }
 
 impl<S: BuildHasher + Copy + Drop> Model for Tracked<S> {

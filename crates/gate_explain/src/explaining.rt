@@ -1,7 +1,7 @@
 //! Who looks on at `gate run --explain`, and speaks on standard error.
+use crate::counted_noun::CountedNoun;
+use crate::event_totals::EventTotals;
 use crate::progress::Progress;
-use crate::quantity::Quantity;
-use crate::tally::Tally;
 use crate::telling::Telling;
 use crate::told::reply_told;
 use gate_bytes::Memory;
@@ -24,7 +24,7 @@ pub struct Explaining<'a, T> {
     alloc: Global,
     telling: Telling<'a>,
     progress: Progress,
-    tally: Tally,
+    totals: EventTotals,
 }
 
 impl<'a, T> Explaining<'a, T> {
@@ -35,15 +35,15 @@ impl<'a, T> Explaining<'a, T> {
             alloc,
             telling,
             progress: Progress::new(),
-            tally: Tally::new(alloc),
+            totals: EventTotals::new(alloc),
         }
     }
 
     /// The summary of a run that ended in this state: its totals, and the pool.
     fn summary<S: BuildHasher + Copy + Drop>(&self, state: &State<S>) -> Result<String, Memory> {
-        let counts = self.tally.text()?;
-        let lines = Quantity::new(self.telling.place.refused(), "line", "lines");
-        let entries = Quantity::new(state.pool().count() as u64, "entry", "entries");
+        let counts = self.totals.text()?;
+        let lines = CountedNoun::new(self.telling.position.refused(), "line", "lines");
+        let entries = CountedNoun::new(state.pool().count() as u64, "entry", "entries");
         let size = state.pool().size();
         Ok(format!(in self.alloc;
             "{counts}, {lines} refused; pool: {entries}, {size} of {} virtual bytes, floor {}",
@@ -56,7 +56,7 @@ impl<'a, T> Explaining<'a, T> {
 impl<T: Eprint> Explaining<'_, T> {
     /// Says a line for each of these txids, behind a sign.
     fn tell_each(&self, sign: &str, txids: &[Txid]) {
-        let line = self.telling.place.line();
+        let line = self.telling.position.line();
         for txid in txids {
             let _written = eprintln!(self.rt; "gate: line {line}: {sign} {txid}");
         }
@@ -83,7 +83,7 @@ impl<S: BuildHasher + Copy + Drop, T: Clock + Eprint> Onlooker<S> for Explaining
 
     fn before(&self, state: &State<S>, event: &Event) -> Option<Explained> {
         self.progress
-            .tell(self.rt, &self.telling, self.tally.events());
+            .tell(self.rt, &self.telling, self.totals.events());
         match explain(self.alloc, state, event) {
             Ok(explained) => explained,
             Err(_) => None,
@@ -98,12 +98,15 @@ impl<S: BuildHasher + Copy + Drop, T: Clock + Eprint> Onlooker<S> for Explaining
         reply: Option<&Reply>,
     ) {
         let Some(reply) = reply else {
-            self.tally.count_fault();
+            self.totals.count_fault();
             return;
         };
-        self.tally.count(event, &sight, reply);
+        self.totals.count(event, &sight, reply);
         if let Ok(Some(text)) = reply_told(self.alloc, &sight, reply) {
-            let _written = eprintln!(self.rt; "gate: line {}: {text}", self.telling.place.line());
+            let _written = eprintln!(self.rt;
+                "gate: line {}: {text}",
+                self.telling.position.line()
+            );
         }
         self.tell_moves(state.pool());
     }

@@ -3,11 +3,11 @@
 //! It is an onlooker of `gate run`, so what is written is what `gate run` writes.
 #![tactic(auto)]
 
+mod counted_noun;
 mod denied;
+mod event_totals;
 mod explaining;
 mod progress;
-mod quantity;
-mod tally;
 mod telling;
 mod told;
 

@@ -59,7 +59,7 @@ impl Progress {
         };
         let rate = events / seconds.max(1);
         let read = match telling.length {
-            Some(length) => percent(telling.place.bytes(), length),
+            Some(length) => percent(telling.position.bytes(), length),
             None => None,
         };
         let _written = match read {

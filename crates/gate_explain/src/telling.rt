@@ -1,10 +1,10 @@
-use gate_causes::Place;
+use gate_causes::InputPosition;
 
 /// What the explanation of a run goes by.
 #[derive(Clone, Copy)]
 pub struct Telling<'a> {
     /// Where the reader of the run stands.
-    pub place: &'a Place,
+    pub position: &'a InputPosition,
     /// Whether progress is reported while the run goes on.
     pub progress: bool,
     /// How many bytes the input has, if that is known.

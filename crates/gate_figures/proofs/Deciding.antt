@@ -35,7 +35,7 @@ use Rattle.gate_admit.specs.Standing.{Standing}
 use Rattle.gate_admit.specs.Verdicts.{verdict_of}
 use Rattle.gate_figures.specs.declared.figures.Figures.{Figures}
 use Rattle.gate_figures.specs.declared.figures.Figures.TheVariants.{Ancestors, AncestorsSized, Dust, Input, NoCoin, Outpaid, Spent, Young}
-use Rattle.gate_figures.specs.Figures.{allowed_ancestors, coinless, crowded, doubted, dust, fee_at, figures_of, firm, firm_by, is_good, outpaid, outpaid_at, outpaid_by, paying_figures, pays, pays_above, sized, vsize_at, cost_at, young, young_by}
+use Rattle.gate_figures.specs.Figures.{allowed_ancestors, coinless, crowded, doubted, dust, fee_at, figures_of, non_signalling, non_signalling_by, is_good, outpaid, outpaid_at, outpaid_by, paying_figures, pays, pays_above, sized, vsize_at, cost_at, young, young_by}
 use Rattle.gate_figures.specs.Laws.{Decide, FiguresDecide}
 
 lt_from : (m n : ℕ) → nat_lt m n ≡ true → m < n
@@ -129,19 +129,19 @@ young_decides over index (i ∷ inputs) =
     one_or over (young_by (tip_of over.chain + 1) index (view_coin over.chain over.entries i.prevout)) (young over.chain over.entries (index + 1) inputs)
     (young_by_decides over (tip_of over.chain + 1) index (view_coin over.chain over.entries i.prevout)) (young_decides over (index + 1) inputs)
 
-firm_by_decides : (over : Standing) (index : ℕ) (o : Option Admitted) → over.policy.full_rbf ≡ false → IfSome (firm_by index o) (Decide over)
-firm_by_decides over index None asked = tt
-firm_by_decides over index (Some e) asked = go (signals e.tx)
+non_signalling_by_decides : (over : Standing) (index : ℕ) (o : Option Admitted) → over.policy.full_rbf ≡ false → IfSome (non_signalling_by index o) (Decide over)
+non_signalling_by_decides over index None asked = tt
+non_signalling_by_decides over index (Some e) asked = go (signals e.tx)
   where
     go : (b : Bool) → IfSome (if b then None else Some (Spent index (txid_of e.tx))) (Decide over)
     go true = tt
     go false = asked
 
-firm_decides : (over : Standing) (index : ℕ) (inputs : List TxIn) → over.policy.full_rbf ≡ false → IfSome (firm over.entries index inputs) (Decide over)
-firm_decides over index [] asked = tt
-firm_decides over index (i ∷ inputs) asked =
-    one_or over (firm_by index (spender_of over.entries i.prevout)) (firm over.entries (index + 1) inputs)
-    (firm_by_decides over index (spender_of over.entries i.prevout) asked) (firm_decides over (index + 1) inputs asked)
+non_signalling_decides : (over : Standing) (index : ℕ) (inputs : List TxIn) → over.policy.full_rbf ≡ false → IfSome (non_signalling over.entries index inputs) (Decide over)
+non_signalling_decides over index [] asked = tt
+non_signalling_decides over index (i ∷ inputs) asked =
+    one_or over (non_signalling_by index (spender_of over.entries i.prevout)) (non_signalling over.entries (index + 1) inputs)
+    (non_signalling_by_decides over index (spender_of over.entries i.prevout) asked) (non_signalling_decides over (index + 1) inputs asked)
 
 -- where an entry is asked for a signal, there is no full replacement
 asks : (full other : Bool) → (not full && other) ≡ true → full ≡ false
@@ -272,7 +272,7 @@ final_shows over tx = (λ h. unfinal tx (tip_of over.chain + 1) (median_at over.
 
 pool_shows : (over : Standing) (tx : Tx) → AllShow over tx (pool_rules over.policy over.entries tx)
 unfolding figures_of paying_figures pool_rules
-pool_shows over tx = (λ _. tt, (λ _. tt, (λ h. firm_decides over 0 tx.inputs (asks over.policy.full_rbf _ h), tt)))
+pool_shows over tx = (λ _. tt, (λ _. tt, (λ h. non_signalling_decides over 0 tx.inputs (asks over.policy.full_rbf _ h), tt)))
 
 coin_shows : (over : Standing) (tx : Tx) → AllShow over tx (coin_rules over.chain over.entries tx)
 unfolding figures_of paying_figures coin_rules

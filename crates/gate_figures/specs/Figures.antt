@@ -58,14 +58,14 @@ young chain entries index (input ∷ inputs) =
 -- ---- entries that conflict with the transaction
 
 -- the entry that spends the outpoint of the input at this index, if it doesn't signal that it may be replaced
-abbrev pub firm_by : ℕ → Option Admitted → Option Figures
-firm_by index None = None
-firm_by index (Some e) = if signals e.tx then None else Some (Spent index (txid_of e.tx))
+abbrev pub non_signalling_by : ℕ → Option Admitted → Option Figures
+non_signalling_by index None = None
+non_signalling_by index (Some e) = if signals e.tx then None else Some (Spent index (txid_of e.tx))
 
 -- the first such entry, input by input, among inputs from this index on
-abbrev pub firm : List Admitted → ℕ → List TxIn → Option Figures
-firm entries index [] = None
-firm entries index (input ∷ inputs) = option_or (firm_by index (spender_of entries input.prevout)) (firm entries (index + 1) inputs)
+abbrev pub non_signalling : List Admitted → ℕ → List TxIn → Option Figures
+non_signalling entries index [] = None
+non_signalling entries index (input ∷ inputs) = option_or (non_signalling_by index (spender_of entries input.prevout)) (non_signalling entries (index + 1) inputs)
 
 -- the feerate of a fee for a size; a fee that 64 bits don't hold has no feerate
 unfoldable pub rate_at : ℕ → Option ℕ → Option ℕ
@@ -167,7 +167,7 @@ figures_of over tx TxSize = Some (Weighs (weight_of tx))
 figures_of over tx BelowDust = dust over.policy.standards.dust_rate 0 tx.outputs
 figures_of over tx TxSizeSmall = Some (Small (stripped_size_of tx) over.policy.standards.least_size)
 figures_of over tx NonFinal = Some (Final tx.locktime (tip_of over.chain + 1) (median_at over.chain (tip_of over.chain)))
-figures_of over tx MempoolConflict = firm over.entries 0 tx.inputs
+figures_of over tx MempoolConflict = non_signalling over.entries 0 tx.inputs
 figures_of over tx MissingOrSpent = coinless over.chain over.entries 0 tx.inputs
 figures_of over tx PrematureSpend = young over.chain over.entries 0 tx.inputs
 figures_of over tx TooManyReplacements = Some (Descendants (descendant_count over.entries (conflicts_of over.entries tx)))

@@ -13,7 +13,7 @@ use crate::families::{crowded, descendant_count, fees_gone};
 use crate::fees::{Price, pays, pays_above};
 use crate::figures::Figures;
 use crate::outputs::dust;
-use crate::rivals::{firm, outpaid_at, rate_at};
+use crate::rivals::{non_signalling, outpaid_at, rate_at};
 use crate::verdicts::doubted;
 use gate_admit::{Prepared, judge, tip_median};
 use gate_bytes::Memory;
@@ -93,7 +93,7 @@ fn figures_of<S: BuildHasher + Copy + Drop>(
             height: chain.tip() + 1,
             median: tip_median(chain),
         })),
-        Denial::MempoolConflict => Ok(firm(pool, inputs)),
+        Denial::MempoolConflict => Ok(non_signalling(pool, inputs)),
         Denial::MissingOrSpent => Ok(coinless(chain, pool, inputs)),
         Denial::VerdictMissing | Denial::SoftVerdict | Denial::HardVerdict => {
             Ok(doubted(state.verdicts(), tx))

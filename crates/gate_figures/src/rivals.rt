@@ -1,7 +1,7 @@
 //! The entries that conflict with a transaction, and that it can't replace.
 ghost use Rattle.std.specs.Prelude.{◌≡◌, ◌<◌, IfSome};
 ghost use Rattle.std.specs.Option.{option_copied};
-ghost use Rattle.gate_figures.specs.Figures.{firm, firm_by, outpaid, outpaid_at, outpaid_by, rate_at};
+ghost use Rattle.gate_figures.specs.Figures.{non_signalling, non_signalling_by, outpaid, outpaid_at, outpaid_by, rate_at};
 
 use crate::figures::Figures;
 use gate_admit::{Entry, Pool};
@@ -11,8 +11,8 @@ use gate_tx::TxIn;
 use std::hash::BuildHasher;
 
 /// The entry that spends the outpoint of this input, if it doesn't signal that it may be replaced.
-fn firm_by(input: usize, spender: Option<&Entry>) -> Option<Figures>
-    ensures { result ≡ firm_by input (option_copied spender.entry) }
+fn non_signalling_by(input: usize, spender: Option<&Entry>) -> Option<Figures>
+    ensures { result ≡ non_signalling_by input (option_copied spender.entry) }
 {
     let entry = spender?;
     if signals(entry.transaction()) {
@@ -25,11 +25,14 @@ fn firm_by(input: usize, spender: Option<&Entry>) -> Option<Figures>
 }
 
 /// The first input whose outpoint is spent by an entry that doesn't signal that it may be replaced.
-pub(crate) fn firm<S: BuildHasher + Copy + Drop>(pool: &Pool<S>, inputs: &[TxIn]) -> Option<Figures>
-    ensures { result ≡ firm pool.now.entries 0 inputs.now }
+pub(crate) fn non_signalling<S: BuildHasher + Copy + Drop>(
+    pool: &Pool<S>,
+    inputs: &[TxIn],
+) -> Option<Figures>
+    ensures { result ≡ non_signalling pool.now.entries 0 inputs.now }
 {
     for input in 0..inputs.len() {
-        if let Some(found) = firm_by(input, pool.spender(&inputs[input].prevout)) {
+        if let Some(found) = non_signalling_by(input, pool.spender(&inputs[input].prevout)) {
             return Some(found);
         }
     }

@@ -6,7 +6,7 @@ ghost use Rattle.gate_lane.specs.Turns.{AnswerMade, AnswerLost};
 use crate::answer::{Answers, answer, answer_spelled};
 use gate_bytes::Memory;
 use gate_events::event_on;
-use gate_lines::asks_nothing;
+use gate_lines::is_blank_or_comment;
 use gate_message::Event;
 use std::alloc::Global;
 use std::marker::Model;
@@ -48,7 +48,7 @@ impl Ahead {
     pub(crate) fn spell(&mut self, alloc: Global)
         ensures { self.new ≡ self.old }
     {
-        if asks_nothing(self.line.as_slice()) {
+        if is_blank_or_comment(self.line.as_slice()) {
             return;
         }
         if let Ok(event) = event_on(alloc, self.line.as_slice()) {

@@ -7,7 +7,7 @@ ghost use Rattle.gate_lane.specs.Turns.{EventLost, AnswerMade, AnswerLost};
 
 use gate_bytes::Memory;
 use gate_events::event_on;
-use gate_lines::asks_nothing;
+use gate_lines::is_blank_or_comment;
 use gate_message::{Event, Reply};
 use std::alloc::Global;
 
@@ -68,7 +68,7 @@ pub(crate) fn answer_spelled<V, A: Answers<V>>(
     ensures ok { IfOk result (λ is_answered. AnswerMade A.answers value.old line.now is_answered (string_bytes reply.new) value.new) }
     ensures err { OnErr result (AnswerLost A.answers value.old line.now value.new) }
 {
-    if asks_nothing(line) {
+    if is_blank_or_comment(line) {
         return Ok(false);
     }
     answer_read(answers, value, event, reply)?;
@@ -87,7 +87,7 @@ pub(crate) fn answer<V, A: Answers<V>>(
     ensures ok { IfOk result (λ is_answered. AnswerMade A.answers value.old line.now is_answered (string_bytes reply.new) value.new) }
     ensures err { OnErr result (AnswerLost A.answers value.old line.now value.new) }
 {
-    if asks_nothing(line) {
+    if is_blank_or_comment(line) {
         return Ok(false);
     }
     let event = event_on(alloc, line)?;

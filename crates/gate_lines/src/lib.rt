@@ -17,7 +17,7 @@ mod word;
 
 pub use fault::LaneFault;
 pub use line::{
-    Found, MAX_LINE, MAX_LINES, asks_nothing, has_ended, last_lines_are_read, next_line,
+    Found, MAX_LINE, MAX_LINES, has_ended, is_blank_or_comment, last_lines_are_read, next_line,
 };
 pub use lines::{Lines, Next};
 pub use number::{MAX_NUMBER, numbers_are_decimal, read_number, read_small_number};

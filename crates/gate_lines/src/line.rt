@@ -84,7 +84,7 @@ pub fn has_ended<R: Source>(reader: &mut R, line: &mut Vec<u8>) -> Result<bool, 
 }
 
 /// Whether a line asks for nothing: an empty line, or a comment.
-pub fn asks_nothing(line: &[u8]) -> bool
+pub fn is_blank_or_comment(line: &[u8]) -> bool
     ensures { result ≡ is_skipped line.now }
 {
     match line {

@@ -12,7 +12,7 @@ use crate::times::{append_times, times_fit};
 use gate_admit::{OpeningCoin, Policy, Quantity, Verdicts};
 use gate_bytes::{Kept, Memory, Text};
 use gate_core::{Opening, State};
-use gate_lines::asks_nothing;
+use gate_lines::is_blank_or_comment;
 use gate_net::{NetDenial, Whitelist, WhitelistEntry};
 use gate_rpc::RpcWhitelist;
 use std::alloc::Global;
@@ -27,7 +27,7 @@ const DEFAULT_BUDGET: u64 = 300_000_000;
 
 /// What the lines of an opening have said so far: contracts see a record of it. After a fault it holds nothing of use.
 #[derive(Drop)]
-pub(crate) struct Draft<S: BuildHasher + Copy + Drop> {
+pub(crate) struct OpeningDraft<S: BuildHasher + Copy + Drop> {
     budget: Option<u64>,
     /// The height of the first time.
     from: Option<u32>,
@@ -44,7 +44,7 @@ pub(crate) struct Draft<S: BuildHasher + Copy + Drop> {
     policy: Policy,
 }
 
-impl<S: BuildHasher + Copy + Drop> Model for Draft<S> {
+impl<S: BuildHasher + Copy + Drop> Model for OpeningDraft<S> {
     ghost use Rattle.gate_opening.specs.Said.{Said};
 
     ghost Value = { Said };
@@ -65,11 +65,11 @@ impl<S: BuildHasher + Copy + Drop> Model for Draft<S> {
     } };
 }
 
-impl<S: BuildHasher + Copy + Drop> Draft<S> {
-    pub(crate) fn new(alloc: Global, hasher: S) -> Draft<S>
+impl<S: BuildHasher + Copy + Drop> OpeningDraft<S> {
+    pub(crate) fn new(alloc: Global, hasher: S) -> OpeningDraft<S>
         ensures { result ≡ nothing_said }
     {
-        Draft {
+        OpeningDraft {
             budget: None,
             from: None,
             times: Vec::new(alloc),
@@ -93,7 +93,7 @@ impl<S: BuildHasher + Copy + Drop> Draft<S> {
     ) -> Result<(), OpeningFault>
         ensures { Takes result self.new (with_text self.old number line.now) }
     {
-        if asks_nothing(line) {
+        if is_blank_or_comment(line) {
             return Ok(());
         }
         match said_on(alloc, line) {
@@ -238,7 +238,7 @@ impl<S: BuildHasher + Copy + Drop> Draft<S> {
         ensures { IfOk result (λ p. (p.0 ≡ opening_of self) × (p.1.items ≡ self.coin_lines)) }
     {
         let policy = self.policy();
-        let Draft {
+        let OpeningDraft {
             budget,
             from,
             times,

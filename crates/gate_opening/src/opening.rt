@@ -5,7 +5,7 @@ ghost use Rattle.gate_opening.specs.Said.{is_end, nothing_said, spelled};
 ghost use Rattle.gate_lines.specs.Counting.{Counts};
 ghost use Rattle.gate_opening.specs.Openings.{StepTaken, OpeningGathered, OpeningUnread, LeavesRest};
 
-use crate::draft::Draft;
+use crate::draft::OpeningDraft;
 use crate::opening_fault::{OpeningFault, OpeningToken};
 use gate_core::State;
 use gate_lines::{Lines, Next, Source};
@@ -30,7 +30,7 @@ fn take_step<S: BuildHasher + Copy + Drop, R: Source>(
     alloc: Global,
     reader: &mut R,
     lines: &mut Lines,
-    draft: &mut Draft<S>,
+    draft: &mut OpeningDraft<S>,
 ) -> Result<Step, OpeningFault>
     ensures taken { StepTaken lines.old.count (R.remaining reader.old) (R.remaining reader.new) draft.old draft.new result }
     ensures counted { IfOk result (λ step. step ≡ Step.Went → Counts lines.old lines.new) }
@@ -62,7 +62,7 @@ fn take_step<S: BuildHasher + Copy + Drop, R: Source>(
 fn gather<S: BuildHasher + Copy + Drop, R: Source>(
     alloc: Global,
     reader: &mut R,
-    draft: &mut Draft<S>,
+    draft: &mut OpeningDraft<S>,
 ) -> Result<(), OpeningFault>
     requires { draft.old ≡ nothing_said }
     ensures gathered { OpeningGathered (R.remaining reader.old) (R.remaining reader.new) draft.new result }
@@ -96,7 +96,7 @@ pub fn read_opening<S: BuildHasher + Copy + Drop, R: Source>(
     ensures unread { IsErrOf result OpeningFault.Read → OpeningUnread (R.remaining reader.old) (R.remaining reader.new) }
     ensures steady { R.steady ≡ true → IfErr result (λ fault. fault ≢ OpeningFault.Read) }
 {
-    let mut draft = Draft::new(alloc, hasher);
+    let mut draft = OpeningDraft::new(alloc, hasher);
     match gather(alloc, reader, &mut draft) {
         Ok(()) => draft.open(alloc, hasher),
         Err(fault) => {

@@ -116,7 +116,7 @@ impl Case {
             judged == self.judged
                 && ids == self.direct
                 && direct.only() == self.only
-                && direct.has_firm() == self.firm,
+                && direct.has_non_signalling() == self.firm,
         )
     }
 

@@ -16,8 +16,8 @@ abbrev pub signals : Tx → Bool
 signals tx = list_any (λ (i : TxIn). nat_le i.sequence 0xffff_fffd) tx.inputs
 
 -- an entry conflicts with a transaction, and doesn't itself signal that it may be replaced; its ancestors' signals don't count
-abbrev pub is_firm_conflict : Tx → Admitted → Bool
-is_firm_conflict tx e = is_conflict tx e && not (signals e.tx)
+abbrev pub is_non_signalling_conflict : Tx → Admitted → Bool
+is_non_signalling_conflict tx e = is_conflict tx e && not (signals e.tx)
 
 -- the descendants of some entries, themselves among them: an entry below two of them counts twice
 abbrev pub descendant_count : List Admitted → List Admitted → ℕ

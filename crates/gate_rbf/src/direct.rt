@@ -6,7 +6,7 @@ ghost use Rattle.gate_standard.specs.Amounts.{feerate};
 ghost use Rattle.gate_pool.specs.Pool.{Admitted, has_txid};
 ghost use Rattle.gate_pool.specs.Family.{is_conflict, is_among, conflicts_of, AreIdsOf, OfThese};
 ghost use Rattle.gate_rbf.specs.Direct.{AreThese};
-ghost use Rattle.gate_rbf.specs.Replacing.{signals, is_firm_conflict};
+ghost use Rattle.gate_rbf.specs.Replacing.{signals, is_non_signalling_conflict};
 
 use crate::gathered::put;
 use crate::signalling::signals;
@@ -31,7 +31,7 @@ fn is_among(rival: &Lent<'_>, ids: &[Txid]) -> bool
 }
 
 /// Whether the entry's own transaction doesn't signal that it may be replaced.
-fn is_firm(rival: &Lent<'_>) -> bool
+fn is_non_signalling(rival: &Lent<'_>) -> bool
     ensures { result ≡ not (signals rival.now.tx) }
 {
     !signals(rival.entry().transaction())
@@ -130,10 +130,10 @@ impl<'a, S: BuildHasher + Copy + Drop> DirectConflicts<'a, S> {
     }
 
     /// Whether the own transaction of one of the conflicts doesn't signal that it may be replaced: A23.
-    pub fn has_firm(&self) -> bool
-        ensures { result ≡ list_any (is_firm_conflict self.now.tx) self.now.entries }
+    pub fn has_non_signalling(&self) -> bool
+        ensures { result ≡ list_any (is_non_signalling_conflict self.now.tx) self.now.entries }
     {
-        self.found.iter().any(|rival| is_firm(rival))
+        self.found.iter().any(|rival| is_non_signalling(rival))
     }
 
     /// The id of the only conflict, if there is exactly one.
@@ -164,7 +164,7 @@ impl<'a, S: BuildHasher + Copy + Drop> DirectConflicts<'a, S> {
 
     /// Whether one of the conflicts pays at least the feerate of this fee, in satoshi, for this size, in virtual bytes:
     /// A38.
-    pub(crate) fn pays_no_more(&self, fee: u64, vsize: u64) -> bool
+    pub(crate) fn one_pays_at_least(&self, fee: u64, vsize: u64) -> bool
         requires { 0 < vsize }
         ensures { result ≡ list_any (λ (c : Admitted). nat_le (feerate fee vsize) (feerate c.fee c.vsize)) (conflicts_of self.now.entries self.now.tx) }
     {

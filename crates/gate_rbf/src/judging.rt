@@ -66,7 +66,7 @@ impl<'a, S: BuildHasher + Copy + Drop> DirectConflicts<'a, S> {
         if !self.has_any() {
             return Ok(Ok(0));
         }
-        if self.pays_no_more(fee, vsize) {
+        if self.one_pays_at_least(fee, vsize) {
             return Ok(Err(Denial::LowerFeeRate));
         }
         let Some(ids) = self.few_ids(alloc)? else {

@@ -4,8 +4,8 @@ use Rattle.gate_tx.specs.Tx.{Tx}
 use Rattle.gate_pool.specs.Pool.{Admitted}
 use Rattle.gate_trim.specs.Trimming.{Trimmed}
 use Rattle.gate_admit.specs.declared.Conditions.{Conditions}
-use Rattle.gate_reorg.specs.declared.event.Draft.{Draft}
-use Rattle.gate_reorg.specs.declared.terms.Switched.{Switched}
+use Rattle.gate_reorg.specs.declared.event.PoolDraft.{PoolDraft}
+use Rattle.gate_reorg.specs.declared.terms.ChainChange.{ChainChange}
 use Rattle.gate_reorg.specs.Reorganisation.{Terms, unconfirmed, all_tried_again, returned}
 use Rattle.gate_submission.specs.Blocks.{present, transactions_of}
 
@@ -23,10 +23,10 @@ terms_of under = record {
 abbrev pub returns_of : {S H : Type 0} → Conditions S H → List Admitted → List Tx → List Tx → List Admitted
 returns_of under entries landed txs = all_tried_again (terms_of under) entries (unconfirmed landed txs)
 
-abbrev pub left_by : {S H : Type 0} → Conditions S H → Switched → List Admitted → ℕ → Trimmed
+abbrev pub left_by : {S H : Type 0} → Conditions S H → ChainChange → List Admitted → ℕ → Trimmed
 left_by under change entries floor =
     returned (terms_of under) entries floor (transactions_of (present change.new.now)) (transactions_of change.gone.now)
 
 -- the entries and the floor of a draft
-abbrev pub drafted : {S H : Type 0} → Draft S H → Trimmed
+abbrev pub drafted : {S H : Type 0} → PoolDraft S H → Trimmed
 drafted d = record { entries = d.pool.entries; floor = d.floor }

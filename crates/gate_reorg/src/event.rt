@@ -20,7 +20,7 @@ use crate::confirming::{confirm_all, ids_of};
 use crate::moved::count_beyond;
 use crate::returning::return_all;
 use crate::staleness::take_premature;
-use crate::terms::{Changing, Switched};
+use crate::terms::{ChainChange, Changing};
 use gate_admit::{Conditions, Floor, Policy, Verdicts};
 use gate_block::switch;
 use gate_bytes::{Copied, Memory};
@@ -49,12 +49,12 @@ fn copies(alloc: Global, blocks: &[Option<Block>]) -> Result<Vec<Block>, ChainFa
 
 /// The pool and the floor that a reorganisation leaves, before they take their place.
 #[derive(Drop)]
-struct Draft<S: BuildHasher + Copy + Drop> {
+struct PoolDraft<S: BuildHasher + Copy + Drop> {
     pool: Pool<S>,
     floor: Floor,
 }
 
-impl<S: BuildHasher + Copy + Drop> Draft<S> {
+impl<S: BuildHasher + Copy + Drop> PoolDraft<S> {
     /// Follows a change of the chain: entries that the new blocks confirm or contradict leave, the transactions of the
     /// disconnected blocks are tried again, and then entries leave that the next block cannot have, that are too old,
     /// or that pay too little for the budget.
@@ -63,7 +63,7 @@ impl<S: BuildHasher + Copy + Drop> Draft<S> {
         &mut self,
         alloc: Global,
         under: &Conditions<'_, S>,
-        change: &Switched<'_, '_>,
+        change: &ChainChange<'_, '_>,
     ) -> Result<(), Memory>
         ensures left { OnOk result (left_by under.now change.now self.old.pool.entries self.old.floor ≡ drafted self.new) }
         ensures before { self.new.pool.before ≡ self.old.pool.before }
@@ -87,7 +87,7 @@ impl<S: BuildHasher + Copy + Drop> Draft<S> {
         ensures pool { pool.new ≡ self.pool }
         ensures floor { floor.new ≡ self.floor }
     {
-        let Draft {
+        let PoolDraft {
             pool: followed,
             floor: raised,
         } = self;
@@ -100,14 +100,14 @@ impl<S: BuildHasher + Copy + Drop> Draft<S> {
 fn redraft<S: BuildHasher + Copy + Drop>(
     alloc: Global,
     under: &Conditions<'_, S>,
-    change: &Switched<'_, '_>,
+    change: &ChainChange<'_, '_>,
     pool: &Pool<S>,
     floor: &Floor,
-) -> Result<Draft<S>, Memory>
+) -> Result<PoolDraft<S>, Memory>
     ensures left { IfOk result (λ draft. left_by under.now change.now pool.now.entries floor.now ≡ drafted draft) }
     ensures before { IfOk result (λ draft. draft.pool.before ≡ pool.now.entries) }
 {
-    let mut draft = Draft {
+    let mut draft = PoolDraft {
         pool: pool.copy(alloc)?,
         floor: Floor::new(floor.rate()),
     };
@@ -140,10 +140,10 @@ fn moved<S: BuildHasher + Copy + Drop>(
 fn follow_up<S: BuildHasher + Copy + Drop>(
     alloc: Global,
     under: &Conditions<'_, S>,
-    change: &Switched<'_, '_>,
+    change: &ChainChange<'_, '_>,
     pool: &Pool<S>,
     floor: &Floor,
-) -> Result<(Draft<S>, Moved), Memory>
+) -> Result<(PoolDraft<S>, Moved), Memory>
     ensures draft { IfOk result (λ found. left_by under.now change.now pool.now.entries floor.now ≡ drafted found.0) }
     ensures moved { IfOk result (λ found. found.1 ≡ moved_from (tip_of under.now.chain.now) pool.now.entries found.0.pool.entries) }
     ensures before { IfOk result (λ found. found.0.pool.before ≡ pool.now.entries) }
@@ -217,7 +217,7 @@ impl<'a, S: BuildHasher + Copy + Drop> Changing<'a, S> {
             second: self.second,
             budget: self.budget,
         };
-        let change = Switched {
+        let change = ChainChange {
             new,
             gone: way.gone(),
         };

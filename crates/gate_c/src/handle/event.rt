@@ -2,7 +2,7 @@
 ghost use Rattle.std.specs.Prelude.{◌≡◌, Some, None, MatchOption, is_some};
 
 use super::event_slot::EventSlot;
-use super::parts::Parts;
+use super::parts::BoxParts;
 use super::sent;
 use crate::reading::Reading;
 use std::alloc::Global;
@@ -57,7 +57,7 @@ impl GateEvent {
         ensures { self.new.slot.reading ≡ Some reading.value }
     {
         *self = sent(GateEvent {
-            slot: EventSlot::of_parts(Parts::of(reading)),
+            slot: EventSlot::of_parts(BoxParts::of(reading)),
             is_open: true,
         });
     }

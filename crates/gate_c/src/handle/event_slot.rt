@@ -3,7 +3,7 @@ ghost use Rattle.std.specs.Prelude.{◌≡◌, Option, Some, None, true, is_some
 ghost use Rattle.gate_c.specs.declared.reading.Reading.{Reading};
 ghost use Rattle.gate_c.specs.EventSlots.{reading_coded, event_owns};
 
-use super::parts::Parts;
+use super::parts::BoxParts;
 use crate::reading::Reading;
 use std::alloc::Global;
 use std::marker::Model;
@@ -36,22 +36,22 @@ impl EventSlot {
         }
     }
 
-    pub(super) fn of_parts(parts: Parts<Reading, Global>) -> EventSlot
+    pub(super) fn of_parts(parts: BoxParts<Reading, Global>) -> EventSlot
         ensures { result.reading ≡ Some parts.value }
     {
-        let Parts { ptr, alloc } = parts;
+        let BoxParts { ptr, alloc } = parts;
         EventSlot {
             ptr: ptr as *mut u8,
             alloc,
         }
     }
 
-    pub(super) fn into_parts(self) -> Parts<Reading, Global>
+    pub(super) fn into_parts(self) -> BoxParts<Reading, Global>
         requires { is_some self.reading ≡ true }
         ensures { self.reading ≡ Some result.value }
     {
         let EventSlot { ptr, alloc } = self;
-        Parts {
+        BoxParts {
             ptr: ptr as *mut Reading,
             alloc,
         }

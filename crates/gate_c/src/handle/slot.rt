@@ -1,10 +1,10 @@
 //! A place for a session behind a pointer, empty or full.
 ghost use Rattle.std.specs.Prelude.{◌≡◌, Option, Some, None, true, is_some};
-ghost use Rattle.gate_c.specs.declared.session.Session.{Session};
+ghost use Rattle.gate_c.specs.declared.session.GateSession.{GateSession};
 ghost use Rattle.gate_c.specs.Slots.{session_coded, slot_owns};
 
-use super::parts::Parts;
-use crate::session::Session;
+use super::parts::BoxParts;
+use crate::session::GateSession;
 use std::alloc::Global;
 use std::marker::Model;
 use std::ptr::null_mut;
@@ -16,7 +16,7 @@ use std::ptr::null_mut;
 pub struct Slot {
     ptr: *mut u8,
     alloc: Global,
-    pub ghost session: { Option Session } by { session_coded },
+    pub ghost session: { Option GateSession } by { session_coded },
 }
 
 impl Model for Slot {
@@ -36,23 +36,23 @@ impl Slot {
         }
     }
 
-    pub(super) fn of_parts(parts: Parts<Session, Global>) -> Slot
+    pub(super) fn of_parts(parts: BoxParts<GateSession, Global>) -> Slot
         ensures { result.session ≡ Some parts.value }
     {
-        let Parts { ptr, alloc } = parts;
+        let BoxParts { ptr, alloc } = parts;
         Slot {
             ptr: ptr as *mut u8,
             alloc,
         }
     }
 
-    pub(super) fn into_parts(self) -> Parts<Session, Global>
+    pub(super) fn into_parts(self) -> BoxParts<GateSession, Global>
         requires { is_some self.session ≡ true }
         ensures { self.session ≡ Some result.value }
     {
         let Slot { ptr, alloc } = self;
-        Parts {
-            ptr: ptr as *mut Session,
+        BoxParts {
+            ptr: ptr as *mut GateSession,
             alloc,
         }
     }

@@ -15,15 +15,15 @@ pub returns-then-not-has_any-clause-count : goal.returns-then-not-has_any-clause
 returns-then-not-has_any-clause-count g c =
     sym (ap (λ l. length l) (none_replaced c.args.self.now.entries c.args.self.now.tx (sym c.has_any.ensures ∙ c.if-not-has_any.true)))
 
-pub returns-then-pays_no_more-clause-err : goal.returns-then-pays_no_more-clause-err
-returns-then-pays_no_more-clause-err g c =
-    fails_rate c.args.rate c.args.self.now.entries c.args.self.now.tx c.args.fee c.args.vsize (sym c.has_any.ensures ∙ c.if-not-has_any.false) (sym c.pays_no_more.ensures ∙ c.if-pays_no_more.true)
+pub returns-then-one_pays_at_least-clause-err : goal.returns-then-one_pays_at_least-clause-err
+returns-then-one_pays_at_least-clause-err g c =
+    fails_rate c.args.rate c.args.self.now.entries c.args.self.now.tx c.args.fee c.args.vsize (sym c.has_any.ensures ∙ c.if-not-has_any.false) (sym c.one_pays_at_least.ensures ∙ c.if-one_pays_at_least.true)
 
 pub returns-in_default-clause-err : goal.returns-in_default-clause-err
 returns-in_default-clause-err g c =
     let entries = c.args.self.now.entries in
     let tx = c.args.self.now.tx in
-    fails_count c.args.rate entries tx c.args.fee c.args.vsize (sym c.has_any.ensures ∙ c.if-not-has_any.false) (sym c.pays_no_more.ensures ∙ c.if-pays_no_more.false)
+    fails_count c.args.rate entries tx c.args.fee c.args.vsize (sym c.has_any.ensures ∙ c.if-not-has_any.false) (sym c.one_pays_at_least.ensures ∙ c.if-one_pays_at_least.false)
     (is_over 100 (descendant_count entries (conflicts_of entries tx)) (c.in_ok-ids.ensures.many c.in_default.is))
 
 pub returns-then-branch-clause-err : goal.returns-then-branch-clause-err
@@ -33,7 +33,7 @@ returns-then-branch-clause-err g c =
     let adds = rw c.as_slice.ensures.value at c.in_ok-adds_parents.ensures in
     let few = rw c.in-Some.is at c.in_ok-ids.ensures.few in
     let are = rw c.in-Some.is at c.in_ok-ids.ensures.ids in
-    fails_parents c.args.rate entries tx c.args.fee c.args.vsize (sym c.has_any.ensures ∙ c.if-not-has_any.false) (sym c.pays_no_more.ensures ∙ c.if-pays_no_more.false)
+    fails_parents c.args.rate entries tx c.args.fee c.args.vsize (sym c.has_any.ensures ∙ c.if-not-has_any.false) (sym c.one_pays_at_least.ensures ∙ c.if-one_pays_at_least.false)
     (is_within 100 (descendant_count entries (conflicts_of entries tx)) few) (sym (adds are) ∙ c.if-branch.true)
 
 pub replaced_sums-requires : goal.replaced_sums-requires
@@ -48,7 +48,7 @@ returns-in-Ok-clause-ok g c =
     let adds = rw c.as_slice.ensures.value at c.in_ok-adds_parents.ensures in
     let few = rw c.in-Some.is at c.in_ok-ids.ensures.few in
     let are = rw c.in-Some.is at c.in_ok-ids.ensures.ids in
-    leaves_amounts c.args.rate entries tx c.args.fee c.args.vsize (sym c.has_any.ensures ∙ c.if-not-has_any.false) (sym c.pays_no_more.ensures ∙ c.if-pays_no_more.false)
+    leaves_amounts c.args.rate entries tx c.args.fee c.args.vsize (sym c.has_any.ensures ∙ c.if-not-has_any.false) (sym c.one_pays_at_least.ensures ∙ c.if-one_pays_at_least.false)
     (is_within 100 (descendant_count entries (conflicts_of entries tx)) few) (sym (adds are) ∙ c.if-branch.false)
     ∙ ap (λ (n : ℕ). first_failing (amount_rules c.args.rate n c.args.fee c.args.vsize)) (sym (ap (λ (s : Sums). s.fees) c.in_ok-sums.ensures))
     ∙ c.in-Ok.ensures.ok
@@ -64,7 +64,7 @@ returns-clause-err g c =
     let adds = rw c.as_slice.ensures.value at c.in_ok-adds_parents.ensures in
     let few = rw c.in-Some.is at c.in_ok-ids.ensures.few in
     let are = rw c.in-Some.is at c.in_ok-ids.ensures.ids in
-    leaves_amounts c.args.rate entries tx c.args.fee c.args.vsize (sym c.has_any.ensures ∙ c.if-not-has_any.false) (sym c.pays_no_more.ensures ∙ c.if-pays_no_more.false)
+    leaves_amounts c.args.rate entries tx c.args.fee c.args.vsize (sym c.has_any.ensures ∙ c.if-not-has_any.false) (sym c.one_pays_at_least.ensures ∙ c.if-one_pays_at_least.false)
     (is_within 100 (descendant_count entries (conflicts_of entries tx)) few) (sym (adds are) ∙ c.if-branch.false)
     ∙ ap (λ (n : ℕ). first_failing (amount_rules c.args.rate n c.args.fee c.args.vsize)) (sym (ap (λ (s : Sums). s.fees) c.in_ok-sums.ensures))
     ∙ c.in-Err.ensures.err

@@ -21,18 +21,18 @@ use Rattle.gate_c.proofs.answer.Answer.TheSendSync as answer
 use Rattle.gate_c.specs.Slots.{slot_owns}
 use Rattle.gate_c.specs.contracts.handle.slot.Slot.{the_row, the_type}
 use Rattle.gate_c.specs.contracts.remembered.Remembered as Remembered
-use Rattle.gate_c.specs.contracts.session.Session as Session
+use Rattle.gate_c.specs.contracts.session.GateSession as GateSession
 
 -- what is remembered owns nothing
 remembered : (R : RattleType) → IsSend (Remembered.the_row R)
 remembered R = record { owned = λ d vs. ((λ vss. (tt, ((λ uss. (tt, tt)), tt))), tt); leaving = λ k f vs. tt }
 
-session : IsSend Session.the_row
-session = declared_send Session.the_type (search (sendable, as_row_send, remembered, tracked.the_send, random.the_send, answer.the_send, string.the_send, handle.the_send, allocator.the_frees) depth 20)
+session : IsSend GateSession.the_row
+session = declared_send GateSession.the_type (search (sendable, as_row_send, remembered, tracked.the_send, random.the_send, answer.the_send, string.the_send, handle.the_send, allocator.the_frees) depth 20)
 
-owned : (alloc : Global) (at : Ptr) (s : Option Session.the_row.Denot) → Keyless (slot_owns alloc at s)
+owned : (alloc : Global) (at : Ptr) (s : Option GateSession.the_row.Denot) → Keyless (slot_owns alloc at s)
 owned alloc at None = tt
-owned alloc at (Some x) = (lies Session.the_row session at x, heap.frees.frees alloc (raw (lone Session.the_row.mir)) at)
+owned alloc at (Some x) = (lies GateSession.the_row session at x, heap.frees.frees alloc (raw (lone GateSession.the_row.mir)) at)
 
 pub send : IsSend the_row
 send =
