@@ -1,19 +1,11 @@
-//! Tests of events by their lines, of passes at a shared gate, of lanes on threads, and of the
-//! checks before their calls.
+//! Tests of events by their lines, of lanes on threads and their rounds, of the checks before
+//! their calls, and of the words for what stops them.
 #![tactic(auto)]
 
 #[cfg(test)]
 mod checking;
 #[cfg(test)]
 mod events;
-#[cfg(test)]
-mod finishing;
-#[cfg(test)]
-mod journals;
-#[cfg(test)]
-mod looking;
-#[cfg(test)]
-mod passes;
 #[cfg(test)]
 mod rounds;
 #[cfg(test)]
