@@ -5,7 +5,7 @@ use Rattle.gate_pool.specs.Pool.{Admitted}
 use Rattle.gate_trim.specs.Trimming.{Trimmed}
 use Rattle.gate_admit.specs.declared.Conditions.{Conditions}
 use Rattle.gate_reorg.specs.declared.event.PoolDraft.{PoolDraft}
-use Rattle.gate_reorg.specs.declared.terms.ChainChange.{ChainChange}
+use Rattle.gate_reorg.specs.declared.change.ChainChange.{ChainChange}
 use Rattle.gate_reorg.specs.Reorganisation.{Terms, unconfirmed, all_tried_again, returned}
 use Rattle.gate_submission.specs.Blocks.{present, transactions_of}
 

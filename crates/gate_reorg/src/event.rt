@@ -16,11 +16,11 @@ ghost use Rattle.gate_reorg.specs.Goodness.{IsReadyFor, StaysGood};
 ghost use Rattle.gate_reorg.specs.Events.{event_rules, event_of, happening, moved_from};
 ghost use Rattle.gate_submission.specs.Blocks.{present, transactions_of};
 
+use crate::change::{ChainChange, Changing};
 use crate::confirming::{confirm_all, ids_of};
 use crate::moved::count_beyond;
 use crate::returning::return_all;
 use crate::staleness::take_premature;
-use crate::terms::{ChainChange, Changing};
 use gate_admit::{Conditions, Floor, Policy, Verdicts};
 use gate_block::switch;
 use gate_bytes::{Copied, Memory};

@@ -4,13 +4,13 @@
 //! and everything as it was; a good pool stays good.
 #![tactic(auto)]
 
+mod change;
 mod confirming;
 mod event;
 mod law;
 mod moved;
 mod returning;
 mod staleness;
-mod terms;
 
 pub use event::chain_event;
 pub use gate_submission::{Moved, recall_spelled};
