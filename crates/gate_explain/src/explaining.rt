@@ -16,8 +16,8 @@ use std::hash::BuildHasher;
 use std::time::Clock;
 
 /// An onlooker that says on standard error how far the run is, explains denials and tells what moved in the pool there, each
-/// with the number of its line, and says at the end what came of the events. Without memory for it nothing is said, and what standard error doesn't
-/// take is lost.
+/// with the number of its line, and says at the end what came of the events. Without memory for it nothing is said, and what
+/// standard error doesn't take is lost.
 #[derive(Drop)]
 pub struct Explaining<'a, T> {
     rt: &'a T,
