@@ -8,20 +8,25 @@ import signal
 import sys
 from typing import Sequence
 
-from aiohttp import web
-
-from . import config, journal
+from . import VERSION, config, journal, logs
 from .announcements import Announcements, AskedAnnouncements, ZmqAnnouncements
-from .answering import Answering, Limits
+from .answering import Answering
+from .calls import Calls, Options
 from .client import NodeClient
-from .config import Address, Config
-from .engine import NoGate, opener
+from .config import Config
+from .door import ACCEPTED_PAST_BOUND, OWN_DESCRIPTORS, Bounds, Door, within_descriptors
+from .engine import NoGate, check, kind_of, opener
+from .explaining import Explainer
 from .following import Following, Settings
+from .journal import Bounds as JournalBounds
 from .journal import Journal, JournalFailed
 from .keeper import Keeper
 from .metrics import Metrics, Watchers
-from .notify import Ready, notify
-from .shadow import Explainer, Shadow
+from .notify import Ready, notify, watchdog
+from .passing import NotPassed, Passing
+from .patient import PatientClient
+from .shadow import Shadow
+from .trying import Trying
 from .users import BadUser, Users
 from .watching import Watching
 
@@ -31,19 +36,18 @@ log = logging.getLogger("gated")
 CANCELS, CANCEL_SECONDS = 5, 5.0
 # the seconds that answers may take which callers wait for as gated ends
 LAST_ANSWERS_SECONDS = 5.0
+# connections to the second door at once
+WATCHERS = 16
 
 
 def main(arguments: Sequence[str] = tuple(sys.argv[1:])) -> int:
     if arguments and arguments[0] == "audit":
         return audit(arguments[1:])
     given = config.read(arguments)
-    logging.basicConfig(level=logging.DEBUG if given.verbose else logging.INFO, format="%(asctime)s %(levelname)s %(message)s")
-    logging.getLogger("aiohttp.access").setLevel(logging.WARNING)
-    # what a client sends wrongly is answered, and is no fault to be said for each
-    logging.getLogger("aiohttp.server").setLevel(logging.CRITICAL)
+    logs.begin(given.verbose)
     try:
         return asyncio.run(run(given))
-    except (BadUser, JournalFailed, NoGate, OSError) as error:
+    except (BadUser, JournalFailed, NoGate, NotPassed, OSError) as error:
         print("gated: %s" % error, file=sys.stderr)
         return 1
 
@@ -60,54 +64,71 @@ def audit(arguments: Sequence[str]) -> int:
     return 0 if are_legal and all(are_legal) else 1
 
 
-def announcements(given: Config, client: NodeClient) -> Announcements:
+def announcements(given: Config, client: PatientClient) -> Announcements:
     if given.zmq:
-        return ZmqAnnouncements(given.zmq)
+        return ZmqAnnouncements(given.zmq, client)
     return AskedAnnouncements(client, given.poll)
 
 
-async def served(app: web.Application, at: Address) -> web.AppRunner:
-    runner = web.AppRunner(app)
-    await runner.setup()
-    await web.TCPSite(runner, at.host, at.port, shutdown_timeout=LAST_ANSWERS_SECONDS).start()
-    return runner
+def bounds_of(given: Config) -> Bounds:
+    """The bounds of callers, as far as the system's limit of descriptors allows them."""
+    beside = OWN_DESCRIPTORS + ACCEPTED_PAST_BOUND + (WATCHERS + ACCEPTED_PAST_BOUND if given.metrics else 0)
+    return Bounds(within_descriptors(given.connections, beside), given.rpcservertimeout, given.body)
 
 
 async def run(given: Config) -> int:
     """Runs until a signal comes, or a part ends by a fault."""
+    opens = opener(given.gate, given.child, given.child_seconds)
+    check(opens, given.line)
     ended = asyncio.Event()
     for number in (signal.SIGINT, signal.SIGTERM):
         asyncio.get_running_loop().add_signal_handler(number, ended.set)
-    metrics, client = Metrics(), NodeClient(given.node, given.cookie)
+    bounds = bounds_of(given)
+    metrics, client = Metrics(), NodeClient(given.node, given.cookie, given.timeout)
+    patient = PatientClient(client)
+    # what callers ask of the node takes no connection from what follows it
+    for_callers = NodeClient(given.node, given.cookie, given.timeout)
     shadow = Shadow(metrics, Explainer(given.gate) if given.gate else None)
     shadow.is_on = given.shadow
     users = Users(given.rpcauth, given.rpccookiefile)
-    written = Journal(given.journal) if given.journal else None
-    keeper = Keeper(opener(given.gate if given.child else None), written, given.segment, given.queue, metrics.calls.observe)
+    written = Journal(given.journal, JournalBounds(given.segment, given.segment_bytes, given.journal_bytes)) if given.journal else None
+    keeper = Keeper(opens, written, given.queue, metrics.calls.observe)
     shadow.segment = lambda: keeper.segment
-    settings = Settings(given.line, given.times, given.keep, given.check)
-    heard = announcements(given, client)
-    following = Following(client, keeper, heard, settings, Watchers([metrics, shadow, Ready()]))
-    limits = Limits(given.body, given.forward, given.satoshi)
-    answering = Answering(keeper, following, client, users, limits, shadow, metrics.answered)
-    runners = [await served(answering.app(), given.listen)]
+    settings = Settings(given.line, given.times, given.keep, given.check, given.apart)
+    heard = announcements(given, patient)
+    following = Following(patient, keeper, heard, settings, Watchers([metrics, shadow, Ready()]))
+    trying, passing = Trying(keeper, following, for_callers, shadow), Passing(for_callers, given.passthrough)
+    calls = Calls(keeper, following, trying, passing, Options(given.forward, given.satoshi))
+    doors = [Door(Answering(calls, users, given.body, metrics.answered).app(), bounds)]
+    await doors[0].open(given.listen)
     if given.metrics:
-        runners.append(await served(Watching(keeper, metrics, shadow, str(client.url)).app(), given.metrics))
+        doors.append(Door(Watching(keeper, metrics, shadow, str(client.url)).app(), Bounds(WATCHERS, bounds.seconds)))
+        await doors[1].open(given.metrics)
     users.write_cookie()
+    log.info("gated %s beside %s: %s, %s", VERSION, client.url, kind_of(opens), ", ".join(_said_of(given)))
     tasks = [asyncio.create_task(keeper.run(), name="the gate's keeper"), asyncio.create_task(following.run(), name="following")]
+    fed = asyncio.create_task(watchdog(lambda: keeper.seconds_at_work))
     try:
         return await until(ended, tasks)
     finally:
         notify("STOPPING=1")
-        for runner in runners:
-            await runner.cleanup()
+        for door in doors:
+            await door.close(LAST_ANSWERS_SECONDS)
+        fed.cancel()
         for task in reversed(tasks):
             await cancelled(task)
         await shadow.close()
         heard.close()
         await client.close()
+        await for_callers.close()
         users.remove_cookie()
         log.info("gated ends")
+
+
+def _said_of(given: Config) -> list[str]:
+    """Where what is asked for is to be had."""
+    shown = (("callers at", given.listen), ("cookie in", given.rpccookiefile), ("journal in", given.journal), ("metrics at", given.metrics))
+    return ["%s %s" % it for it in shown if it[1] is not None]
 
 
 async def cancelled(task: asyncio.Task[None]) -> None:

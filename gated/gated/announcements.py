@@ -10,9 +10,14 @@ from typing import Optional, Protocol, Union
 import zmq
 import zmq.asyncio
 
-from .client import NodeClient
+from .patient import PatientClient
+from .faults import CannotFollow
+from .node import Refused, Unusable
+from .node.answers import PoolListing, Publisher
 
 TOPIC = b"sequence"
+# what a node calls it among its notifications
+PUBLISHER = "pubsequence"
 # how many messages are kept for a reader that is late; past them the node's socket drops some, which their numbers show
 KEPT = 200_000
 # how many messages are handed on together
@@ -44,7 +49,7 @@ class Moved:
 Announcement = Union[Came, Gone, Moved]
 
 
-class Lost(Exception):
+class Lost(CannotFollow):
     """What the node announced didn't arrive whole, or its state can't be followed: the gate has to be opened anew."""
 
 
@@ -55,8 +60,14 @@ class Announcements(Protocol):
     def began(self, sequence: int, pool: set[str]) -> None:
         """A gate was opened from the node's pool at this number: what was announced below it is not handed on."""
 
+    def looked(self, listed: PoolListing) -> None:
+        """The node's pool was looked at beside these announcements."""
+
     def expect_another(self) -> None:
         """The node was away: its numbers may begin anew."""
+
+    async def fault(self) -> str:
+        """What may keep announcements from arriving, as the end of a sentence; nothing if nothing is known."""
 
     def close(self) -> None: ...
 
@@ -64,7 +75,8 @@ class Announcements(Protocol):
 class ZmqAnnouncements:
     """The node's messages. Each has a number of its own, so one that is missing is noticed with the next."""
 
-    def __init__(self, endpoint: str) -> None:
+    def __init__(self, endpoint: str, client: PatientClient) -> None:
+        self._endpoint, self._client = endpoint, client
         self._socket = zmq.asyncio.Context.instance().socket(zmq.SUB)
         self._socket.setsockopt(zmq.RCVHWM, KEPT)
         self._socket.setsockopt(zmq.LINGER, 0)
@@ -72,7 +84,10 @@ class ZmqAnnouncements:
         self._socket.setsockopt(zmq.TCP_KEEPALIVE_IDLE, 30)
         self._socket.setsockopt(zmq.TCP_KEEPALIVE_INTVL, 10)
         self._socket.subscribe(TOPIC)
-        self._socket.connect(endpoint)
+        try:
+            self._socket.connect(endpoint)
+        except zmq.ZMQError as error:
+            raise OSError("--zmq %s: %s" % (endpoint, error)) from error
         self._last: Optional[int] = None
         self._from = 0
 
@@ -107,8 +122,25 @@ class ZmqAnnouncements:
         if last is not None and number != (last + 1) % 2**32:
             raise Lost("messages of the node are missing: number %d follows %d" % (number, last))
 
+    def looked(self, listed: PoolListing) -> None:
+        """Its messages tell what has changed."""
+
     def expect_another(self) -> None:
         self._last = None
+
+    async def fault(self) -> str:
+        """The node says where it publishes. Behind another host or port of the same node it may be heard all the same, so that
+        is no reason to end."""
+        try:
+            told: list[Publisher] = await self._client.ask("getzmqnotifications")
+            published = [it["address"] for it in told if it["type"] == PUBLISHER]
+        except (Unusable, Refused, KeyError, TypeError):
+            return ""
+        if not published:
+            return ": the node publishes none (bitcoind -zmqpubsequence=%s)" % self._endpoint
+        if _port(self._endpoint) in map(_port, published):
+            return ""
+        return ": the node publishes them at %s, and gated listens at %s" % (", ".join(published), self._endpoint)
 
     def close(self) -> None:
         self._socket.close()
@@ -117,32 +149,47 @@ class ZmqAnnouncements:
 class AskedAnnouncements:
     """The same for a node without ZMQ, from what has changed in its tip and its pool since it was asked last."""
 
-    def __init__(self, client: NodeClient, seconds: float) -> None:
+    def __init__(self, client: PatientClient, seconds: float) -> None:
         self._client, self._seconds = client, seconds
         self._pool: set[str] = set()
         self._sequence = -1
         self._best = ""
+        # what has changed and was not handed on yet
+        self._changes: list[Announcement] = []
 
     def began(self, sequence: int, pool: set[str]) -> None:
-        self._pool, self._sequence = set(pool), -1
+        self._pool, self._sequence, self._changes = set(pool), -1, []
 
     async def next(self, seconds: float) -> list[Announcement]:
         await asyncio.sleep(min(seconds, self._seconds))
-        best = await self._client.ask("getbestblockhash")
+        best: str = await self._client.ask("getbestblockhash")
         found: list[Announcement] = []
         if best != self._best:
             self._best = best
             found.append(Moved())
-        listed = await self._client.ask("getrawmempool", False, True)
-        if listed["mempool_sequence"] != self._sequence:
-            pool = set(listed["txids"])
-            found += [Came(it) for it in listed["txids"] if it not in self._pool]
-            found += [Gone(it) for it in self._pool - pool]
-            self._sequence, self._pool = listed["mempool_sequence"], pool
+        self.looked(await self._client.ask("getrawmempool", False, True))
+        found, self._changes = found + self._changes, []
         return found
+
+    def looked(self, listed: PoolListing) -> None:
+        """What left the pool between two questions and is there again has left, and has come, if anybody saw the pool without it."""
+        if listed["mempool_sequence"] == self._sequence:
+            return
+        pool = set(listed["txids"])
+        self._changes += [Came(it) for it in listed["txids"] if it not in self._pool]
+        self._changes += [Gone(it) for it in self._pool - pool]
+        self._sequence, self._pool = listed["mempool_sequence"], pool
 
     def expect_another(self) -> None:
         pass
 
+    async def fault(self) -> str:
+        return ""
+
     def close(self) -> None:
         pass
+
+
+def _port(endpoint: str) -> str:
+    """What two addresses of one publisher have in common: the host may be 0.0.0.0 for the one and 127.0.0.1 for the other."""
+    return endpoint.rpartition(":")[2]

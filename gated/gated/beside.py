@@ -1,30 +1,36 @@
-"""What gated stands on: the package of the library (gate), and what reads a node's answers (node.py).
+"""The package of the library (`gate`), which lies beside gated: where `make lib` puts it or in lib/python of the repository, in
+share/gate where `make install` puts all of it, or within gated where pip does. If gated lies elsewhere, the variable GATE_SHARE
+says where share/gate is.
 
-Both lie in the repository, where `make lib` puts the library, or in share/gate, where `make install` puts all of it. If gated
-itself lies elsewhere, the variable GATE_SHARE says where that is.
+It is loaded by its path. What the current folder or PYTHONPATH has under its name is never run.
 """
 
-import importlib
+from __future__ import annotations
+
+import importlib.util
 import os
 import sys
 from pathlib import Path
-from types import ModuleType
 
 HERE = Path(__file__).resolve()
 TOP = HERE.parents[2]
-IN_TREE = (TOP / "crates/gate_c/out/library/share/gate/python", TOP / "lib/python", TOP / "tools")
-INSTALLED = tuple(map(Path, (os.environ.get("GATE_SHARE", HERE.parents[1]), "/usr/local/share/gate", "/usr/share/gate")))
-PLACES = IN_TREE + tuple(place for top in INSTALLED for place in (top / "python", top, top / "tools"))
+IS_IN_TREE = (HERE.parents[1] / "pyproject.toml").is_file()
+IN_TREE = (TOP / "crates/gate_c/out/library/share/gate/python", TOP / "lib/python") if IS_IN_TREE else ()
+INSTALLED = tuple(map(Path, (os.environ.get("GATE_SHARE", TOP), "/usr/local/share/gate", "/usr/share/gate")))
+PLACES = (*IN_TREE, HERE.parent / "library", *(top / "python" for top in INSTALLED))
+NAME = "gate"
 
 
-def module(name: str) -> ModuleType:
-    """A module of the repository that lies beside gated, wherever that is."""
+def load_library() -> None:
+    """Loads the package of the library, so that `import gate` finds it. ImportError if it is nowhere."""
+    if NAME in sys.modules:
+        return
     for place in PLACES:
-        if (place / (name + ".py")).is_file() or (place / name / "__init__.py").is_file():
-            if str(place) not in sys.path:
-                sys.path.append(str(place))
-            return importlib.import_module(name)
-    raise ImportError("%s lies in none of %s" % (name, ", ".join(map(str, PLACES))))
-
-
-node = module("node")
+        init = place / NAME / "__init__.py"
+        if init.is_file():
+            spec = importlib.util.spec_from_file_location(NAME, init, submodule_search_locations=[str(init.parent)])
+            assert spec is not None and spec.loader is not None
+            sys.modules[NAME] = found = importlib.util.module_from_spec(spec)
+            spec.loader.exec_module(found)
+            return
+    raise ImportError("the package %s lies in none of %s" % (NAME, ", ".join(map(str, PLACES))))

@@ -8,25 +8,52 @@ import json
 import os
 from decimal import Decimal
 from pathlib import Path
-from typing import Any, Optional, Sequence
+from typing import Any, Callable, Optional, Sequence, TypeVar, Union
 
 import aiohttp
 from yarl import URL
 
-from .beside import node
+from . import forms
+from .node import Refused, Unusable
 
 # how many questions go in one request
 BATCH = 500
-Unusable: type[Exception] = node.Unusable
-Refused: type[Exception] = node.Refused
 
 
-class NotThere(Unusable):  # type: ignore[valid-type,misc]
+class NotThere(Unusable):
     """The node doesn't answer now, and may later: it is away, starts, or is busy."""
 
 
+class Busy(NotThere):
+    """The node is busy, and did nothing: the same question may be answered a moment later."""
+
+
 WARMING_UP = -28
-BUSY = 503
+STATUS_OF_BUSY = 503
+# what a busy node before Bitcoin Core 23.0 answers, with status 500
+SAID_BY_BUSY = "Work queue depth exceeded"
+# the pauses before a question is asked again
+PAUSES = (0.1, 0.3, 0.9)
+# connections to the node at once
+CONNECTIONS = 4
+# an answer that is longer is read beside the loop, so that nobody else waits for it
+LONG_TEXT = 262_144
+Reader = Callable[[str], Any]
+Given = TypeVar("Given")
+Result = TypeVar("Result")
+
+
+async def off_loop(is_long: bool, work: Callable[[Given], Result], given: Given) -> Result:
+    """What some work gives; on another thread if it is long, so that nobody else waits for it."""
+    return await asyncio.to_thread(work, given) if is_long else work(given)
+
+
+def _read(text: str) -> Any:
+    """The node's answer to a question of our own: amounts are decimals."""
+    try:
+        return json.loads(text, parse_float=Decimal)
+    except RecursionError as error:
+        raise ValueError("too deep") from error
 
 
 class NodeClient:
@@ -56,6 +83,14 @@ class NodeClient:
             raise answer
         return answer
 
+    async def passed(self, method: str, params: Union[list[Any], dict[str, Any], None]) -> Any:
+        """The same for a call of somebody else's, with its parameters as they came and the node's numbers as it writes them."""
+        call = {"jsonrpc": "1.0", "id": next(self._ids), "method": method, "params": params or []}
+        answer = _result(await self._posted(call, forms.read_json), call)
+        if isinstance(answer, Refused):
+            raise answer
+        return answer
+
     async def ask_all(self, method: str, each: Sequence[Sequence[Any]]) -> list[Any]:
         """The answer to each of these parameters, or the Refused in its place."""
         return await self.batch([(method, params) for params in each])
@@ -77,14 +112,23 @@ class NodeClient:
     def _call(self, method: str, params: Sequence[Any]) -> dict[str, Any]:
         return {"jsonrpc": "1.0", "id": next(self._ids), "method": method, "params": list(params)}
 
-    async def _posted(self, body: Any) -> Any:
+    async def _posted(self, body: Any, read: Reader = _read) -> Any:
+        """The answer to a request, which is sent again if the node is busy."""
+        for pause in PAUSES:
+            try:
+                return await self._posted_once(body, read)
+            except Busy:
+                await asyncio.sleep(pause)
+        return await self._posted_once(body, read)
+
+    async def _posted_once(self, body: Any, read: Reader) -> Any:
         if self._is_closed:
             raise NotThere("gated ends")
         if self._session is None:
             timeout = aiohttp.ClientTimeout(total=self._seconds)
-            self._session = aiohttp.ClientSession(connector=aiohttp.TCPConnector(limit=4), timeout=timeout)
+            self._session = aiohttp.ClientSession(connector=aiohttp.TCPConnector(limit=CONNECTIONS), timeout=timeout)
         try:
-            async with self._session.post(self.url, data=json.dumps(body), auth=self._auth()) as response:
+            async with self._session.post(self.url, data=forms.text_of(body), auth=self._auth()) as response:
                 text = await response.text()
                 status = response.status
         except aiohttp.ClientConnectorError as error:
@@ -93,10 +137,10 @@ class NodeClient:
             raise NotThere("the node does not answer: %s" % (str(error) or type(error).__name__)) from error
         if status == 401:
             raise NotThere("the node refuses the name and the password (status 401)")
-        if status == BUSY:
-            raise NotThere("the node is busy (status 503)")
+        if status == STATUS_OF_BUSY or text.startswith(SAID_BY_BUSY):
+            raise Busy("the node is busy (status %d)" % status)
         try:
-            return json.loads(text, parse_float=Decimal)
+            return await off_loop(len(text) > LONG_TEXT, read, text)
         except ValueError as error:
             raise Unusable("the node's answer is no JSON (status %d): %s" % (status, text[:100])) from error
 
@@ -111,7 +155,7 @@ class NodeClient:
         return aiohttp.BasicAuth(name, password)
 
 
-def _unlike(what: str, answer: Any) -> Exception:
+def _unlike(what: str, answer: Any) -> Unusable:
     return Unusable("the node answers %s by %s" % (what, json.dumps(answer, default=str)[:100]))
 
 
@@ -129,22 +173,9 @@ def _result(answer: Any, call: dict[str, Any]) -> Any:
     return _refused(error)
 
 
-def _refused(error: dict[str, Any]) -> Exception:
+def _refused(error: dict[str, Any]) -> Refused:
     if error.get("code") == WARMING_UP:
         raise NotThere("the node is starting: %s" % error.get("message"))
     found = Refused(str(error.get("message")))
-    found.code = error.get("code")  # type: ignore[attr-defined]
+    found.code = error.get("code")
     return found
-
-
-class Blocking:
-    """The same node for code that waits: the questions are asked on the loop, while a thread waits for them."""
-
-    def __init__(self, client: NodeClient, loop: asyncio.AbstractEventLoop) -> None:
-        self._client, self._loop = client, loop
-
-    def ask(self, method: str, *params: Any) -> Any:
-        return asyncio.run_coroutine_threadsafe(self._client.ask(method, *params), self._loop).result()
-
-    def ask_all(self, method: str, each: Sequence[Sequence[Any]]) -> list[Any]:
-        return asyncio.run_coroutine_threadsafe(self._client.ask_all(method, each), self._loop).result()

@@ -15,17 +15,21 @@ from pathlib import Path
 from typing import Any, Callable, Optional, TypeVar
 
 from .engine import Ended, Engine, OpeningRefused, Opener
+from .faults import CannotFollow
 from .journal import Journal, JournalFailed
 
 log = logging.getLogger("gated")
 
 Result = TypeVar("Result")
+OPENING = "the gate is being opened"
 SEGMENT_FULL = "the journal's segment is full, and the gate is opened anew"
 # how many jobs may share one sync
 TOGETHER = 64
+# seconds that a line at work may take once gated ends
+LAST_LINE_SECONDS = 2.0
 
 
-class Closed(Exception):
+class Closed(CannotFollow):
     """There is no gate at the moment; the message says why."""
 
 
@@ -67,14 +71,16 @@ class _Waiting:
 class Keeper:
     """Answers jobs by the gate, and writes its journal."""
 
-    def __init__(self, opener: Opener, journal: Optional[Journal], segment: int, depth: int, timed: Callable[[float], None]) -> None:
+    def __init__(self, opener: Opener, journal: Optional[Journal], depth: int, timed: Callable[[float], None]) -> None:
         self._opener, self._journal, self._timed = opener, journal, timed
-        # how many entries a segment may have behind those that its opening leads with, and how many those are
-        self._most, self._first = segment, 0
         self._queue: asyncio.Queue[_Waiting] = asyncio.Queue(depth)
         self._thread = ThreadPoolExecutor(1, thread_name_prefix="gate")
         self._engine: Optional[Engine] = None
-        self._why = "the gate is being opened"
+        # whether callers are answered: not before all that an opening leads with has been put to the gate
+        self._is_open = False
+        self._why = OPENING
+        # when the line at work was put to the gate; None if none is at work
+        self._asked_at: Optional[float] = None
 
     @property
     def waiting(self) -> int:
@@ -86,8 +92,8 @@ class Keeper:
 
     @property
     def is_full(self) -> bool:
-        """Whether the journal's segment has as many entries as it may have: no job is made until a gate is opened anew."""
-        return self._journal is not None and self.entries - self._first >= self._most
+        """Whether the journal's segment has as much as it may have: no job is made until a gate is opened anew."""
+        return self._journal is not None and self._journal.is_full
 
     @property
     def segment(self) -> Optional[Path]:
@@ -96,11 +102,23 @@ class Keeper:
 
     @property
     def is_open(self) -> bool:
-        return self._engine is not None
+        return self._is_open
+
+    @property
+    def why(self) -> str:
+        """Why there is no gate, if there is none."""
+        return self._why
+
+    @property
+    def seconds_at_work(self) -> float:
+        """How long the gate has been at the line that it is at; 0 if it is at none."""
+        began = self._asked_at
+        return time.monotonic() - began if began is not None else 0.0
 
     async def run(self) -> None:
         """Makes jobs until it is cancelled."""
         loop = asyncio.get_running_loop()
+        batch: list[_Waiting] = []
         try:
             while True:
                 batch = [await self._queue.get()]
@@ -116,9 +134,18 @@ class Keeper:
         finally:
             # whoever still waits is told
             while not self._queue.empty():
-                self._queue.get_nowait().done.cancel()
-            await loop.run_in_executor(self._thread, self._end, "gated ends")
+                batch.append(self._queue.get_nowait())
+            for waiting in batch:
+                waiting.done.cancel()
+            ends = loop.run_in_executor(self._thread, self._end, "gated ends")
+            if not (await asyncio.wait([ends], timeout=LAST_LINE_SECONDS))[0]:
+                engine = self._engine
+                if engine is not None:
+                    engine.stop()
+                await ends
             self._thread.shutdown()
+            if self._journal is not None:
+                self._journal.unlock()
 
     async def made(self, job: Job[Result]) -> Result:
         """What a job gives, once it is its turn."""
@@ -131,26 +158,35 @@ class Keeper:
         return await self._put(job, opens=False)
 
     async def _put(self, job: Job[Result], opens: bool) -> Result:
+        if not self._is_open and not opens:
+            # whoever asks now is told now, whatever the gate is at
+            raise Closed(self._why)
         done: asyncio.Future[Result] = asyncio.get_running_loop().create_future()
         await self._queue.put(_Waiting(job, opens, done))
         return await done
 
     async def opened(self, opening: str, about: str, job: Job[Result]) -> Result:
-        """Closes the gate that is open, opens another one with a journal's segment of its own, and makes a first job."""
+        """Closes the gate that is open, opens another one with a journal's segment of its own, and makes a first job. Callers
+        are answered from then on."""
+        self._is_open = False
 
         def open_it(turn: Turn) -> Result:
-            self._end("the gate is being opened")
-            self._engine = self._opener(opening)
+            self._end(OPENING)
+            self._engine = self._opener()
+            self._engine.open(opening)
             if self._journal is not None:
                 self._journal.begin(opening, about)
             found = job(turn)
-            self._first = self.entries
+            if self._journal is not None:
+                self._journal.led()
+            self._is_open = True
             return found
 
         return await self._put(open_it, opens=True)
 
     async def closed(self, why: str) -> None:
         """No job is made from now on, until a gate is opened."""
+        self._is_open, self._why = False, why
 
         def close_it(turn: Turn) -> None:
             self._end(why)
@@ -172,7 +208,7 @@ class Keeper:
     def _one(self, waiting: _Waiting) -> Any:
         if waiting.done.cancelled():
             return None
-        if self._engine is None and not waiting.opens:
+        if not self._is_open and not waiting.opens:
             return Closed(self._why)
         if self.is_full and not waiting.opens:
             return Closed(SEGMENT_FULL)
@@ -191,14 +227,18 @@ class Keeper:
             raise Closed(self._why)
         if "\n" in line:
             raise ValueError("a line has a newline within it")
-        began = time.perf_counter()
-        reply = self._engine.answer(line)
-        self._timed(time.perf_counter() - began)
+        began = self._asked_at = time.monotonic()
+        try:
+            reply = self._engine.answer(line)
+        finally:
+            self._asked_at = None
+        self._timed(time.monotonic() - began)
         if is_kept and self._journal is not None:
             self._journal.entry(line, reply)
         return reply.rstrip("\n")
 
     def _end(self, why: str) -> None:
+        self._is_open = False
         engine, self._engine, self._why = self._engine, None, why
         if engine is not None:
             engine.close()

@@ -4,10 +4,10 @@ from __future__ import annotations
 
 from typing import Any, Sequence
 
-from prometheus_client import CollectorRegistry, Counter, Gauge, Histogram, generate_latest
+from prometheus_client import CollectorRegistry, Counter, Gauge, Histogram, ProcessCollector, generate_latest
 
-from .following import Tip, Watcher
 from .opening import Opening
+from .watcher import Tip, Watcher
 
 SECONDS = (0.0001, 0.0005, 0.001, 0.005, 0.01, 0.05, 0.1, 0.5, 1.0, 5.0, 30.0)
 
@@ -18,7 +18,8 @@ class Metrics(Watcher):
     def __init__(self) -> None:
         self.registry = CollectorRegistry()
         self.answers = self._counter("gate_answers", "Answers to callers, by the rule that denies, or else the code or the reason, or ok", "rule")
-        self.differences = self._counter("gate_differences", "Where the gate and the node differ, by the gate's rule, or what they differ in", "rule")
+        about = "Where the gate and the node differ, by the gate's rule, or what they differ in, and whether a release is known to do so"
+        self.differences = self._counter("gate_differences", about, "rule", "known")
         self.agreements = self._counter("gate_agreements", "Transactions of the node's pool on which the two agree")
         self.openings = self._counter("gate_openings", "How often the gate was opened from the node")
         self.pool = self._gauge("gate_pool_transactions", "Transactions of the gate's pool")
@@ -30,6 +31,9 @@ class Metrics(Watcher):
         self.only_gate = self._gauge("gate_only_in_gate", "Transactions that only the gate's pool has")
         self.waiting = self._gauge("gate_queue_jobs", "Jobs that wait for the gate")
         self.is_open = self._gauge("gate_is_open", "Whether the gate is open: 1 or 0")
+        self.journal = self._gauge("gate_journal_bytes", "Bytes of all files of the journal")
+        # gated's own memory, processor seconds, descriptors and start
+        ProcessCollector(registry=self.registry)
         self.answers_by_rule: dict[str, int] = {}
         # transactions that only the node's and only the gate's pool has, when the two were last compared
         self.only = (0, 0)
@@ -56,6 +60,10 @@ class Metrics(Watcher):
         self.only = (len(only_node), len(only_gate))
         self.only_node.set(len(only_node))
         self.only_gate.set(len(only_gate))
+
+    def differs(self, rule: str, is_known: bool) -> None:
+        """Counts a difference."""
+        self.differences.labels(rule, "yes" if is_known else "no").inc()
 
     def answered(self, rule: str) -> None:
         """Counts an answer to a caller."""
@@ -89,6 +97,10 @@ class Watchers(Watcher):
     def left(self, *given: Any) -> None:
         for it in self._them:
             it.left(*given)
+
+    def dropped(self, *given: Any) -> None:
+        for it in self._them:
+            it.dropped(*given)
 
     def moved(self, *given: Any) -> None:
         for it in self._them:

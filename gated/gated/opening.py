@@ -3,17 +3,19 @@
 from __future__ import annotations
 
 import asyncio
-from dataclasses import dataclass
-from typing import Any, Iterator, Sequence
+from dataclasses import dataclass, field
+from typing import Collection, Iterator, Sequence
 
-from .beside import node
-from .client import Blocking, NodeClient, Unusable
+from .patient import Blocking, PatientClient
+from .node import BLOCK_CAME, MEDIAN_OF, Entry, Unusable, View, coins_of, setting_lines
+from .node.answers import PoolInfo, PoolListing
+from .node.releases import overridden
 
 # the peer under whose number the node's transactions are handed in: it is never shut out, and may list the pool
 PEER = "peer 1"
 PEER_ENTERS = PEER + " enter 127.0.0.1"
 OWN_USER = "gated"
-OWN_METHODS = "getmempoolinfo,getmempoolentry,getrawmempool,testmempoolaccept"
+OWN_METHODS = "getmempoolinfo,getmempoolentry,getrawmempool,getrawtransaction,testmempoolaccept"
 TRIES = 5
 
 
@@ -29,16 +31,20 @@ class Opening:
     best: str
     # the lines of the opening
     lines: list[str]
-    # the pool's transactions as node.py reads them, parents first, and the node's height when each came
-    entries: list[Any]
+    # the pool's transactions, parents first, and the node's height when each came
+    entries: list[Entry]
     heights: dict[str, int]
     # what the pool asked for beside, in satoshi per 1,000 virtual bytes; 0 if nothing
     floor: int
     # the coins that the opening has, and the txids of the pool
     outpoints: set[tuple[str, int]]
     pool: set[str]
-    # what the node counted up to this moment
+    # what the node says of its pool
+    pool_info: PoolInfo
+    # what it counted up to this moment
     sequence: int
+    # by rule, the operator's lines that say another number than the node has
+    overridden: dict[str, str] = field(default_factory=dict)
 
     def text(self) -> str:
         return "".join(line + "\n" for line in self.lines)
@@ -57,19 +63,18 @@ def verdict_lines(wtxid: str, inputs: int) -> list[str]:
     return ["verdict %s %d ok" % (wtxid, index) for index in range(inputs)]
 
 
-def first_height(tip: int, heights: set[int], times: int) -> int:
+def first_height(tip: int, heights: Collection[int], times: int) -> int:
     """The first block whose time the opening has: so many from the tip, and the eleven below each lock of time."""
-    median_of: int = node.MEDIAN_OF
-    return max(0, min([tip - times + 1] + [it - median_of for it in heights]))
+    return max(0, min([tip - times + 1] + [it - MEDIAN_OF for it in heights]))
 
 
-def _lines(view: Any, entries: Sequence[Any], settings: Sequence[str], times: int) -> tuple[list[str], list[str]]:
+def _lines(view: View, entries: Sequence[Entry], settings: Sequence[str], times: int) -> tuple[list[str], list[str]]:
     """The opening's lines, and those of its coins among them."""
     transactions = [it.transaction for it in entries]
-    coins, heights = node.coins_of(view, transactions)
+    coins, heights = coins_of(view, transactions)
     first = first_height(view.tip, heights, times)
     own = ["budget %d" % view.budget]
-    own += node.setting_lines(view.settings)
+    own += setting_lines(view.settings)
     # what the operator sets goes before what the node says
     given = {line.partition(" ")[0] for line in settings}
     found = [line for line in own if line.partition(" ")[0] not in given]
@@ -87,9 +92,9 @@ def _lines(view: Any, entries: Sequence[Any], settings: Sequence[str], times: in
 
 def _taken(source: Blocking, settings: Sequence[str], times: int) -> Opening:
     """A snapshot. A transaction that came or went meanwhile is announced by its number; a block that came makes it unusable."""
-    sequence = source.ask("getrawmempool", False, True)["mempool_sequence"]
-    view = node.View(source)
-    entries, heights = _entries(view)
+    pool: PoolListing = source.ask("getrawmempool", False, True)
+    view = View(source)
+    entries = view.entries()
     lines, coins = _lines(view, entries, settings, times)
     view.has_to_stand()
     words = [line.split(" ") for line in coins]
@@ -101,26 +106,23 @@ def _taken(source: Blocking, settings: Sequence[str], times: int) -> Opening:
         best=view.best,
         lines=lines,
         entries=entries,
-        heights=heights,
+        heights={txid: it["height"] for txid, it in view.listed.items() if "height" in it},
         floor=view.floor,
         outpoints={(it[1], int(it[2])) for it in words},
         pool={it.transaction.txid for it in entries},
-        sequence=sequence,
+        pool_info=view.pool_info,
+        sequence=pool["mempool_sequence"],
+        overridden=overridden(settings, view.settings),
     )
 
 
-def _entries(view: Any) -> tuple[list[Any], dict[str, int]]:
-    entries = view.entries()
-    return entries, {txid: it["height"] for txid, it in view.listed.items() if "height" in it}
-
-
-async def snapshot(client: NodeClient, settings: Sequence[str], times: int) -> Opening:
+async def snapshot(client: PatientClient, settings: Sequence[str], times: int) -> Opening:
     """The node's chain and pool, asked anew if a block came meanwhile."""
     source = Blocking(client, asyncio.get_running_loop())
     for tries_left in reversed(range(TRIES)):
         try:
             return await asyncio.to_thread(_taken, source, settings, times)
         except Unusable as error:
-            if str(error) != node.BLOCK_CAME or not tries_left:
+            if str(error) != BLOCK_CAME or not tries_left:
                 raise
     raise AssertionError("the last try returns or raises")

@@ -3,6 +3,7 @@
 from __future__ import annotations
 
 import time
+from dataclasses import dataclass
 from html import escape
 from typing import Any, Optional
 
@@ -28,30 +29,53 @@ code { font: .85em ui-monospace, monospace; overflow-wrap: anywhere; } .rule { f
 """
 
 
-def page(shadow: Shadow, info: Optional[dict[str, Any]], closed: str, node_url: str, segment: str, answers: dict[str, int], only: tuple[int, int]) -> str:
-    """The whole page. `info` is what the gate says of its pool, if it is open; else `closed` says why it isn't."""
-    title = "gated beside %s" % node_url
+@dataclass(frozen=True)
+class State:
+    """What the page shows beside what differs."""
+
+    # what the gate says of its pool; else why it says nothing
+    info: Optional[dict[str, Any]]
+    why: str
+    node_url: str
+    # the journal's segment, if one is written
+    segment: str
+    # the answers to callers by rule, and how much only the node's and only the gate's pool has
+    answers: dict[str, int]
+    only: tuple[int, int]
+
+
+def page(shadow: Shadow, state: State) -> str:
+    """The whole page."""
+    title = "gated beside %s" % state.node_url
     parts = [
         "<!doctype html><html lang=en><head><meta charset=utf-8><meta name=viewport content='width=device-width, initial-scale=1'>",
         "<meta http-equiv=refresh content=10><title>%s</title><style>%s</style></head><body>" % (escape(title), STYLE),
-        "<h1>gated</h1><p class=small>version %s, beside %s</p>" % (VERSION, escape(node_url)),
-        _state(shadow, info, closed),
+        "<h1>gated</h1><p class=small>version %s, beside %s</p>" % (VERSION, escape(state.node_url)),
+        _state(shadow, state),
     ]
-    if info is not None:
-        parts.append(_tiles(shadow, info, only))
+    if state.info is not None:
+        parts.append(_tiles(shadow, state.info, state.only))
     if shadow.is_on:
-        counted = _counts(shadow.by_rule, shadow.tokens | MEANINGS, "rule", "transactions", "The gate and the node have agreed on everything so far.")
+        meanings = {rule: _meaning(shadow, rule) for rule in shadow.by_rule}
+        counted = _counts(shadow.by_rule, meanings, "rule", "transactions", "The gate and the node have agreed on everything so far.")
         parts.append("<h2>Differences by rule</h2>%s" % counted)
         parts.append("<h2>The last differences</h2>%s" % ("".join(map(_difference, shadow.last)) or "<p>None.</p>"))
-    parts.append("<h2>Answers to callers</h2>%s" % _counts(answers, CODES, "rule or code", "answers", "Nobody has called yet."))
-    if segment:
-        parts.append("<p class=small>The journal is written to <code>%s</code>; <code>gated audit</code> checks it.</p>" % escape(segment))
+    parts.append("<h2>Answers to callers</h2>%s" % _counts(state.answers, CODES, "rule or code", "answers", "Nobody has called yet."))
+    if state.segment:
+        parts.append("<p class=small>The journal is written to <code>%s</code>; <code>gated audit</code> checks it.</p>" % escape(state.segment))
     return "".join(parts) + "</body></html>"
 
 
-def _state(shadow: Shadow, info: Optional[dict[str, Any]], closed: str) -> str:
-    if info is None:
-        return "<p class='state bad'>Not open: %s</p>" % escape(closed)
+def _meaning(shadow: Shadow, rule: str) -> str:
+    """What a rule is, and how many of its differences a release explains."""
+    known = shadow.known_by_rule[rule]
+    parts = [MEANINGS.get(rule, shadow.tokens.get(rule, "")), "%s known" % _grouped(known) if known else ""]
+    return ", ".join(filter(None, parts))
+
+
+def _state(shadow: Shadow, state: State) -> str:
+    if state.info is None:
+        return "<p class='state bad'>%s</p>" % escape(state.why)
     since = _ago(time.time() - shadow.opened_at)
     return "<p class='state good'>Follows the node</p><p class=small>opened %s ago: %s</p>" % (since, escape(shadow.why))
 

@@ -2,40 +2,42 @@
 
 from __future__ import annotations
 
-import asyncio
 import logging
-import tempfile
 import time
-from collections import Counter, deque
+from collections import Counter, OrderedDict, deque
 from dataclasses import dataclass
 from pathlib import Path
-from typing import IO, Any, Callable, Optional, Sequence
+from typing import Callable, Collection, Optional, Sequence
 
-from . import beside, journal
-from .following import Submitted, Tip, Watcher
+from .explaining import Explained, Explainer
 from .metrics import Metrics
+from .node import differences
+from .node.differences import Answer
 from .opening import Opening
+from .watcher import Submitted, Tip, Watcher
 
-differences = beside.module("differences")
 log = logging.getLogger("gated")
 
-# how many of the last differences are shown
+# how many of the last differences are shown, and of how many it is known that they were counted
 SHOWN = 50
+REMEMBERED = 20_000
 # reply of the gate to what its pool has already
 KNOWN_ALREADY = "denied P5 "
-PARENT = "parent"
+# the gate has no verdict on the scripts, since the node refused the transaction before it ran them
+NOT_JUDGED = "A43"
+PARENT, LOST = "parent", "lost"
 # what the two differ in where it is no rule of the gate
 MEANINGS = {
     PARENT: "a parent is denied by the gate",
+    LOST: "dropped by the gate, kept by the node",
     "fee": "taken with another fee or virtual size",
     "kept": "dropped by the node, kept by the gate",
     "node": "taken by the gate, and refused by the node as it was handed on",
 }
-EXPLAIN_SECONDS = 120
 
 
 @dataclass
-class Difference:
+class Difference(Explained):
     """One transaction on which the two differ."""
 
     when: float
@@ -44,52 +46,13 @@ class Difference:
     rule: str
     ours: str
     theirs: str
-    # why, if later releases are known to do so
+    # the release that is known to do so, and why, or the operator's line that explains it; nothing if nothing does
     known: str = ""
-    # the figures that decided, as `gate run --explain` has them
+    # where the journal has the denial
+    segment: Optional[Path] = None
+    entry: int = 0
     figures: str = ""
-
-
-class Explainer:
-    """Asks the gate's program why a transaction was denied: it replays the journal's segment up to it, off the way of callers."""
-
-    def __init__(self, program: str) -> None:
-        self._program = program
-        self._one = asyncio.Semaphore(1)
-
-    async def explained(self, segment: Path, entries: int) -> str:
-        """What standard error says first of the last of so many entries, before what that moved; nothing if it says nothing."""
-        async with self._one:
-            with tempfile.TemporaryFile() as lines:
-                try:
-                    count = await asyncio.to_thread(_written, lines, segment, entries)
-                    said = await self._said(lines)
-                except (OSError, asyncio.TimeoutError) as error:
-                    log.warning("no figures: %s", str(error) or "the program takes more than %d seconds" % EXPLAIN_SECONDS)
-                    return ""
-        head = "gate: line %d: " % count
-        return next((it[len(head) :] for it in said.splitlines() if it.startswith(head)), "")
-
-    async def _said(self, lines: IO[bytes]) -> str:
-        """What standard error says of these lines. The program ends with whoever asks."""
-        words = ("nice", self._program, "run", "--explain")
-        child = await asyncio.create_subprocess_exec(*words, stdin=lines, stdout=asyncio.subprocess.DEVNULL, stderr=asyncio.subprocess.PIPE)
-        try:
-            _, said = await asyncio.wait_for(child.communicate(), EXPLAIN_SECONDS)
-        finally:
-            if child.returncode is None:
-                child.kill()
-        return said.decode(errors="replace")
-
-
-def _written(lines: IO[bytes], segment: Path, entries: int) -> int:
-    """Writes the segment's opening and its first entries as the program reads them, and gives how many lines that makes."""
-    count = 0
-    for line in journal.events(segment, entries):
-        lines.write(line.encode())
-        count += 1
-    lines.seek(0)
-    return count
+    is_asked: bool = False
 
 
 class Shadow(Watcher):
@@ -100,7 +63,9 @@ class Shadow(Watcher):
         # whether what the node took and dropped is compared
         self.is_on = False
         self.last: deque[Difference] = deque(maxlen=SHOWN)
+        # how many differences there were by rule, and how many of them a release explains
         self.by_rule: Counter[str] = Counter()
+        self.known_by_rule: Counter[str] = Counter()
         # the token of each rule that was met
         self.tokens: dict[str, str] = {}
         self.agreed = 0
@@ -109,16 +74,21 @@ class Shadow(Watcher):
         self._release = self._relay_minimum = 0
         # the first words of the opening's lines, among them the settings that it says
         self._said: list[str] = []
+        # by rule, the operator's lines that say another number than the node has
+        self._overridden: dict[str, str] = {}
         self.opened_at, self.why = 0.0, ""
         self.tip: Optional[Tip] = None
+        # what the gate denies or has lost: its children are no differences of their own
         self._denied: set[str] = set()
-        self._tasks: set[asyncio.Task[None]] = set()
+        # what was counted, so that who asks twice counts once
+        self._counted: OrderedDict[tuple[str, str], None] = OrderedDict()
 
     # what is followed
 
     def opened(self, opening: Opening, why: str) -> None:
         self._release, self._relay_minimum = opening.release, opening.relay_minimum
         self._said = [line.partition(" ")[0] for line in opening.lines]
+        self._overridden = opening.overridden
         self.why, self.opened_at = why, time.time()
         self.tip = Tip(opening.best, opening.tip)
         self._denied.clear()
@@ -140,38 +110,34 @@ class Shadow(Watcher):
                 self.differs("kept", txid, "still in the pool", "dropped")
             self._agree(len(txids) - len(still_here))
 
+    def dropped(self, txids: Collection[str]) -> None:
+        self._denied.update(txids)
+        if self.is_on:
+            for txid in sorted(txids):
+                self.differs(LOST, txid, "dropped", "still in the pool")
+
     def _compare(self, it: Submitted) -> None:
         if it.reply.startswith(KNOWN_ALREADY):
             self._agree(1)
             return
-        ours, theirs = differences.answer_to_entry(it.reply), differences.Answer(fee=it.fee, vsize=it.vsize)
+        ours, theirs = differences.answer_to_entry(it.reply), Answer(fee=it.fee, vsize=it.vsize)
         if ours == theirs:
             self._agree(1)
             return
         if ours.reason:
             self._denied.add(it.txid)
         if self._denied.intersection(it.parents) and ours.reason:
-            self._differ(PARENT, it, ours.text(), theirs.text(), "a parent is denied here")
+            self.differs(PARENT, it.txid, ours.text(), theirs.text(), "a parent is denied here")
             return
-        known = differences.why_known(self._release, self._relay_minimum, ours, theirs, self._said) or ""
-        self._differ(ours.rule or "fee", it, ours.text(), theirs.text(), known)
+        found = self.differs(ours.rule or "fee", it.txid, ours.text(), theirs.text(), self._why_known(ours, theirs))
+        if found is not None and ours.reason:
+            found.segment, found.entry = self.segment(), it.entry
 
-    def _differ(self, rule: str, it: Submitted, ours: str, theirs: str, known: str) -> None:
-        found = self.differs(rule, it.txid, ours, theirs, known)
-        segment = self.segment()
-        if self._explainer is not None and segment is not None and rule.startswith("A"):
-            task = asyncio.get_running_loop().create_task(self._explain(found, self._explainer, segment, it.entry))
-            self._tasks.add(task)
-            task.add_done_callback(self._tasks.discard)
-
-    async def close(self) -> None:
-        """Ends what still looks for figures."""
-        for task in self._tasks:
-            task.cancel()
-        await asyncio.gather(*self._tasks, return_exceptions=True)
-
-    async def _explain(self, found: Difference, explainer: Explainer, segment: Path, entry: int) -> None:
-        found.figures = await explainer.explained(segment, entry)
+    def _why_known(self, ours: Answer, theirs: Answer) -> str:
+        found = differences.known(self._release, self._relay_minimum, ours, theirs, self._said)
+        if found is None and ours.rule in self._overridden:
+            return "the opening says %s" % self._overridden[ours.rule]
+        return found.text() if found else ""
 
     def _agree(self, count: int) -> None:
         self.agreed += count
@@ -179,21 +145,47 @@ class Shadow(Watcher):
 
     # what callers send
 
-    def tried(self, txid: str, ours: Any, theirs: Any) -> None:
-        """Compares what both say of a transaction that a caller asked about."""
-        if differences.are_alike(ours, theirs):
+    def tried(self, txid: str, ours: Answer, theirs: Answer) -> None:
+        """Compares what both say of a transaction that a caller asked about. Which of its faults each of them names first is no
+        difference, and what the gate has no verdict on is not compared."""
+        if ours == theirs or ours.reason and theirs.reason and ours.rule != NOT_JUDGED:
             self._agree(1)
-            return
-        known = differences.why_known(self._release, self._relay_minimum, ours, theirs, self._said) or ""
-        self.differs(ours.rule or "fee", txid, ours.text(), theirs.text(), known)
+        elif ours.rule != NOT_JUDGED:
+            self.differs(ours.rule or "fee", txid, ours.text(), theirs.text(), self._why_known(ours, theirs))
 
-    def differs(self, rule: str, txid: str, ours: str, theirs: str, known: str = "") -> Difference:
-        """Counts a difference, and says it in the log."""
+    def differs(self, rule: str, txid: str, ours: str, theirs: str, known: str = "") -> Optional[Difference]:
+        """Counts a difference, and says it in the log; None if it was counted before."""
+        if not self._is_new((rule, txid)):
+            return None
         found = Difference(time.time(), txid, rule, ours, theirs, known)
         self.last.appendleft(found)
         self.by_rule[rule] += 1
+        self.known_by_rule[rule] += bool(known)
         if ours.startswith(rule + " "):
             self.tokens[rule] = ours[len(rule) + 1 :]
-        self._metrics.differences.labels(rule).inc()
-        log.warning("differs (%s): %s: gate: %s; node: %s%s", rule, txid, ours, theirs, " (%s)" % known if known else "")
+        self._metrics.differs(rule, bool(known))
+        level = logging.INFO if known else logging.WARNING
+        log.log(level, "differs (%s): %s: gate: %s; node: %s%s", rule, txid, ours, theirs, " (%s)" % known if known else "")
         return found
+
+    def _is_new(self, which: tuple[str, str]) -> bool:
+        if which in self._counted:
+            self._counted.move_to_end(which)
+            return False
+        self._counted[which] = None
+        if len(self._counted) > REMEMBERED:
+            self._counted.popitem(last=False)
+        return True
+
+    # figures
+
+    def explain(self) -> None:
+        """Looks for the figures of what is shown, in the newest segment that has some of it. Whoever looks at the page asks."""
+        segment = next((it.segment for it in self.last if it.segment is not None and not it.is_asked), None)
+        if self._explainer is not None and segment is not None:
+            self._explainer.ask(segment, {it.entry: it for it in self.last if it.segment == segment and not it.is_asked})
+
+    async def close(self) -> None:
+        """Ends what still looks for figures."""
+        if self._explainer is not None:
+            await self._explainer.close()

@@ -1,8 +1,9 @@
-"""Who calls: basic authentication as bitcoind has it, by a cookie of our own and by `rpcauth` lines. What a user may call is the
-gate's affair (`rpcwhitelist`)."""
+"""Who calls: basic authentication as bitcoind has it, by a cookie of our own and by `rpcauth` lines, and what becomes of wrong
+passwords. What a user may call is the gate's affair (`rpcwhitelist`)."""
 
 from __future__ import annotations
 
+import asyncio
 import base64
 import binascii
 import hashlib
@@ -14,8 +15,15 @@ from dataclasses import dataclass
 from pathlib import Path
 from typing import Iterable, Optional
 
+from .door import Seldom
 from .opening import OWN_USER
 
+# seconds that a wrong password waits behind the one before, as in bitcoind
+WRONG_PASSWORD_SECONDS = 0.25
+# whoever has so many seconds of waiting before it is not looked at
+MOST_WAITED_SECONDS = 30.0
+# addresses whose wrong passwords are remembered at the most
+MOST_ADDRESSES = 10_000
 COOKIE_USER = "__cookie__"
 # one word of a line of the gate
 NAME = re.compile(r"[!-~]+")
@@ -23,7 +31,7 @@ FORM = re.compile(r"([^:$]+):([^$]+)\$([0-9a-fA-F]{64})")
 
 
 class BadUser(ValueError):
-    """A line of `rpcauth` that can't be used."""
+    """A line of `rpcauth` that can't be used, or a cookie that can't be written."""
 
 
 @dataclass(frozen=True)
@@ -61,10 +69,13 @@ class Users:
         if self._cookie is None:
             return
         new = self._cookie.with_name(self._cookie.name + ".new")
-        new.unlink(missing_ok=True)
-        with open(os.open(new, os.O_WRONLY | os.O_CREAT | os.O_EXCL, 0o600), "w") as file:
-            file.write("%s:%s" % (COOKIE_USER, self._password))
-        new.rename(self._cookie)
+        try:
+            new.unlink(missing_ok=True)
+            with open(os.open(new, os.O_WRONLY | os.O_CREAT | os.O_EXCL, 0o600), "w") as file:
+                file.write("%s:%s" % (COOKIE_USER, self._password))
+            new.rename(self._cookie)
+        except OSError as error:
+            raise BadUser("the cookie can't be written: %s: %s" % (self._cookie, error.strerror)) from error
 
     def remove_cookie(self) -> None:
         if self._cookie is not None:
@@ -84,3 +95,27 @@ class Users:
         if self._cookie is not None and name == COOKIE_USER:
             return name if hmac.compare_digest(password.encode(), self._password.encode()) else None
         return next((it.user for it in self._users if it.user == name and it.is_password(password)), None)
+
+
+class Guesses:
+    """Slows down whoever guesses passwords. Of an address one wrong password is answered after the other; one that has many
+    waiting is not looked at. Whoever shows a right password is not slowed down, however many guess beside it, unless it comes
+    newly from an address that has many waiting."""
+
+    def __init__(self) -> None:
+        # when the last wrong password of an address has waited
+        self._waits_until: dict[str, float] = {}
+        self._seldom = Seldom()
+
+    def are_many(self, address: str) -> bool:
+        return self._waits_until.get(address, 0.0) - asyncio.get_running_loop().time() > MOST_WAITED_SECONDS
+
+    async def wrong(self, address: str) -> None:
+        """Waits for the answer to a wrong password."""
+        self._seldom.warning("a wrong password, or none, from %s" % address)
+        now = asyncio.get_running_loop().time()
+        if len(self._waits_until) >= MOST_ADDRESSES:
+            self._waits_until = {it: until for it, until in self._waits_until.items() if until > now}
+        until = max(now, self._waits_until.get(address, 0.0)) + WRONG_PASSWORD_SECONDS
+        self._waits_until[address] = until
+        await asyncio.sleep(until - now)

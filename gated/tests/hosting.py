@@ -16,6 +16,8 @@ from gate import Differs, same
 
 HERE = os.path.dirname(os.path.abspath(__file__))
 ROOT = os.path.dirname(os.path.dirname(HERE))
+GATED = os.path.join(ROOT, "gated", "bin", "gated")
+# how long an answer, a start and an end may take: more, if the machine has other work
 SECONDS = 120
 # a journal is synced before each answer, which takes long on a disk that others write to; what is tested here is not the disk
 MEMORY = "/dev/shm"
@@ -31,14 +33,20 @@ class RpcFailed(Exception):
         self.status, self.error = status, error
 
 
+def environment_of(**variables):
+    """What gated runs under: this Python."""
+    return dict(os.environ, PYTHON=sys.executable, **variables)
+
+
 def free_port():
     with socket.socket() as it:
         it.bind(("127.0.0.1", 0))
         return it.getsockname()[1]
 
 
-def until(what, holds, seconds=SECONDS):
+def until(what, holds, seconds=None):
     """Waits until something holds, and gives what it gives."""
+    seconds = SECONDS if seconds is None else seconds
     end = time.monotonic() + seconds
     while True:
         found = holds()
@@ -63,6 +71,8 @@ class Gated:
         ]  # fmt: skip
         self.log = os.path.join(folder, "gated.log")
         self.process = None
+        # words before those of Python, as `prlimit --nofile=300`
+        self.before = []
 
     def __enter__(self):
         self.start()
@@ -74,10 +84,8 @@ class Gated:
             print("the last lines of gated's log:\n%s" % "".join(self.lines()[-30:]), file=sys.stderr)
 
     def start(self, **variables):
-        environment = dict(os.environ, PYTHONPATH=os.path.dirname(HERE), **variables)
         with open(self.log, "a") as log:
-            words = [sys.executable, "-m", "gated", *self.words]
-            self.process = subprocess.Popen(words, env=environment, stdin=subprocess.DEVNULL, stdout=log, stderr=log)
+            self.process = subprocess.Popen([*self.before, GATED, *self.words], env=environment_of(**variables), stdin=subprocess.DEVNULL, stdout=log, stderr=log)
         try:
             until("gated has opened the gate", self.is_open)
         except BaseException:
@@ -165,13 +173,17 @@ class Gated:
         return float(found[1]) if found else 0.0
 
     def differences(self):
-        """What differs so far, by rule."""
-        return {rule: int(float(count)) for rule, count in re.findall(r'^gate_differences_total\{rule="([^"]+)"\} (\S+)$', self.page("/metrics"), re.MULTILINE)}
+        """What differs so far, by rule, known or not."""
+        found = {}
+        for labels, count in re.findall(r"^gate_differences_total\{(.*)\} (\S+)$", self.page("/metrics"), re.MULTILINE):
+            rule = re.search(r'rule="([^"]+)"', labels)[1]
+            found[rule] = found.get(rule, 0) + int(float(count))
+        return found
 
-    def audit(self):
+    def audit(self, seconds=600):
         """What `gated audit` says, and its status."""
-        words = [sys.executable, "-m", "gated", "audit", self.journal, "--gate", self.program]
-        done = subprocess.run(words, env=dict(os.environ, PYTHONPATH=os.path.dirname(HERE)), capture_output=True, text=True, timeout=600, check=False)
+        words = [GATED, "audit", self.journal, "--gate", self.program]
+        done = subprocess.run(words, env=environment_of(), capture_output=True, text=True, timeout=seconds, check=False)
         return done.stdout.splitlines(), done.returncode
 
     def is_legal(self, segments):

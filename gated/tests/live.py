@@ -27,9 +27,10 @@ HERE = os.path.dirname(os.path.abspath(__file__))
 ROOT = os.path.dirname(os.path.dirname(HERE))
 sys.path[:0] = [it for it in (HERE, os.path.dirname(HERE), os.path.join(ROOT, "tests"), os.path.join(ROOT, "tools")) if it not in sys.path]
 
+import hosting
 from bitcoin import Input, Output, Transaction, counted, hashed
 from gate import Differs, Gate, same, true
-from hosting import Gated, free_port, until
+from hosting import Gated, RpcFailed, free_port, until
 from kinds import long
 
 NODES = ("bitcoind", "litecoind")
@@ -43,9 +44,11 @@ OPTIONS = {
     "minrelaytxfee": "0.00001", "incrementalrelayfee": "0.00001", "dustrelayfee": "0.00003", "acceptnonstdtxn": "0", "txindex": "1",
     "listen": "0", "persistmempool": "1", "datacarriersize": "83", "blockmintxfee": "0",
 }  # fmt: skip
-# what a node of another coin has beside
-OPTIONS_OF = {"litecoind": {"mempoolreplacement": "1"}}
+# what a node of another coin has beside, which makes no blocks of a form that Bitcoin has not
+OPTIONS_OF = {"litecoind": {"mempoolreplacement": "1", "vbparams": "mweb:-2:0"}}
 COIN = 100_000_000
+# the code by which a caller is told that the gate is opened
+IN_WARMUP = -28
 # seconds by which the times of an entry may differ, where each of the two takes its own clock
 CLOCKS = 30
 
@@ -78,13 +81,15 @@ class LiveNode:
     def __init__(self, program, folder):
         self.program, self.folder = program, folder
         self.port, self.zmq_port = free_port(), free_port()
+        # further words that it is started with
+        self.more = []
         self.cookie = os.path.join(folder, "regtest", ".cookie")
         self.process = None
 
     def start(self):
         words = [self.program, "-datadir=" + self.folder, "-regtest", "-rpcport=%d" % self.port, "-port=%d" % free_port(), "-printtoconsole=0"]
         options = OPTIONS | OPTIONS_OF.get(os.path.basename(self.program), {})
-        words += ["-%s=%s" % it for it in options.items()] + ["-zmqpubsequence=tcp://127.0.0.1:%d" % self.zmq_port]
+        words += self.more + ["-%s=%s" % it for it in options.items()] + ["-zmqpubsequence=tcp://127.0.0.1:%d" % self.zmq_port]
         with open(os.path.join(self.folder, "said.log"), "a") as said:
             self.process = subprocess.Popen(words, stdin=subprocess.DEVNULL, stdout=said, stderr=said)
         until("the node answers", self.answers, 120)
@@ -116,7 +121,7 @@ class LiveNode:
     def ask(self, method, *params):
         with open(self.cookie, "rb") as file:
             login = base64.b64encode(file.read()).decode()
-        connection = http.client.HTTPConnection("127.0.0.1", self.port, timeout=60)
+        connection = http.client.HTTPConnection("127.0.0.1", self.port, timeout=hosting.SECONDS)
         try:
             connection.request("POST", "/", json.dumps({"method": method, "params": params, "id": 1}), {"Authorization": "Basic " + login})
             told = json.loads(connection.getresponse().read(), parse_float=Decimal)
@@ -289,13 +294,32 @@ class Live:
 
     # what has to hold
 
-    def alike(self):
-        """The gate has the node's tip, pool, floor and entries."""
+    def moment(self):
+        """What changes with the node's chain and pool."""
+        return self.node.ask("getbestblockhash"), self.node.ask("getrawmempool", False, True)["mempool_sequence"]
+
+    def alike(self, seconds=20):
+        """The gate has the node's tip, pool, floor and entries, after so many seconds at the most. They are compared anew if the
+        node's chain or pool changes meanwhile."""
+        while True:
+            moment = self.moment()
+            try:
+                return self.compare(seconds)
+            except RpcFailed as error:
+                # a gate that is opened anew is compared once it is open
+                if not isinstance(error.error, dict) or error.error["code"] != IN_WARMUP:
+                    raise
+                until("the gate is open", self.gated.is_open)
+            except Differs:
+                if self.moment() == moment:
+                    raise
+
+    def compare(self, seconds):
         tip = self.node.ask("getblockcount")
         until("the gate is at the node's tip", lambda: self.gated.metric("gate_tip_height") == tip)
         wanted = self.node.ask("getrawmempool", True)
         try:
-            until("the gate has the node's pool", lambda: self.gated.listing() == set(wanted), 20)
+            until("the gate has the node's pool", lambda: self.gated.listing() == set(wanted), seconds)
         except Differs as error:
             ours = self.gated.listing() or set()
             raise Differs("only the node: %s; only the gate: %s; differences %s" % (set(wanted) - ours, ours - set(wanted), self.gated.differences())) from error

@@ -2,6 +2,7 @@
 and can be told to lose messages, to answer late or wrongly, and to die."""
 
 import base64
+import copy
 import json
 import os
 import re
@@ -10,6 +11,7 @@ import socket
 import threading
 import time
 from dataclasses import dataclass
+from decimal import Decimal
 from http.server import BaseHTTPRequestHandler, ThreadingHTTPServer
 
 import zmq
@@ -23,6 +25,13 @@ BASE_COINS = 64
 COIN_VALUE = 10_000_000
 SATOSHI = 100_000_000
 RELEASE = 220000
+# how long an answer takes that comes too late
+LATE_SECONDS = 2.5
+# the first release whose sendrawtransaction asks what is burnt, and what one before says to a caller who gives a bound
+BURN_BOUND_SINCE = 250000
+SENDING_HELP = 'sendrawtransaction "hexstring" ( maxfeerate )'
+WITHOUT_COINS = "sendrawtransaction, without coins"
+NOWHERE = b"\xff" * 32
 
 
 def btc(satoshi):
@@ -52,6 +61,21 @@ class NodeBlock(Block):
         return (self.header() + counted([tx.text() for tx in self.txs])).hex()
 
 
+@dataclass
+class Failure:
+    """How a method of the node fails, so many times: by status 503 (`busy`), a connection that is cut (`cut`), an answer that comes
+    too late (`late`) or is no JSON (`odd`); before the node does what it is asked, or after."""
+
+    kind: str
+    is_done: bool = False
+    times: int = 1_000_000
+
+    def answer(self):
+        if self.kind == "late":
+            time.sleep(LATE_SECONDS)
+        return {"busy": (503, b"Work queue depth exceeded"), "cut": (None, b""), "late": (None, b""), "odd": (200, b"<html>")}[self.kind]
+
+
 class RpcError(Exception):
     def __init__(self, code, message):
         super().__init__(message)
@@ -61,7 +85,10 @@ class RpcError(Exception):
 class ModelNode:
     """The node. Tests change it by its methods; whoever asks it sees it between two of them."""
 
-    def __init__(self, folder, has_zmq=True, has_prevouts=True, has_index=False):
+    def __init__(self, folder, has_zmq=True, has_prevouts=True, has_index=False, release=RELEASE):
+        self.release = release
+        # whether it tries several transactions at once, as Bitcoin Core 22.0 does
+        self.takes_lists = True
         self.cookie = os.path.join(folder, "node.cookie")
         self.has_prevouts, self.has_index = has_prevouts, has_index
         self.lock = threading.RLock()
@@ -76,6 +103,10 @@ class ModelNode:
         self.coins, self.sent = dict(coins), {}
         # what goes wrong
         self.lost, self.late, self.wrong = 0, 0.0, {}
+        # how many further requests it is too busy for, and what it keeps from being announced until it is told to go on
+        self.busy, self.held = 0, None
+        # by the name of a method
+        self.failures = {}
         self.asked = []
         self.socket, self.count, self.endpoint = None, 0, None
         if has_zmq:
@@ -173,6 +204,9 @@ class ModelNode:
     def announce(self, hash, kind, sequence=None):
         if self.socket is None:
             return
+        if self.held is not None:
+            self.held.append((hash, kind, sequence))
+            return
         body = bytes.fromhex(hash) + kind.encode() + (b"" if sequence is None else sequence.to_bytes(8, "little"))
         count, self.count = self.count, self.count + 1
         if self.lost:
@@ -261,10 +295,18 @@ class ModelNode:
         if kind != "Basic" or base64.b64decode(digits).decode() != "__cookie__:" + self.password:
             return 401, b""
         time.sleep(self.late)
+        if self.busy:
+            self.busy -= 1
+            return 503, b"Work queue depth exceeded"
         call = json.loads(body)
         calls = call if isinstance(call, list) else [call]
+        failure = next((it for it in map(self.failures.get, map(named, calls)) if it is not None and it.times > 0), None)
+        if failure is not None:
+            failure.times -= 1
         with self.lock:
-            answers = [self.answer(it) for it in calls]
+            answers = [] if failure is not None and not failure.is_done else [self.answer(it) for it in calls]
+        if failure is not None:
+            return failure.answer()
         if None in answers:
             return None, b""
         value = answers if isinstance(call, list) else answers[0]
@@ -277,22 +319,27 @@ class ModelNode:
     def answer(self, call):
         """One answer, or None if the node dies within it."""
         method = call["method"]
-        self.asked.append(method)
+        self.asked.append(named(call))
         found = {"result": None, "error": None, "id": call["id"]}
         try:
-            found["result"] = getattr(self, "do_" + method)(*call["params"])
+            params = call["params"]
+            run = getattr(self, "do_" + method)
+            found["result"] = run(**params) if isinstance(params, dict) else run(*params)
         except AttributeError:
             found["error"] = {"code": -32601, "message": "Method not found"}
         except RpcError as error:
             found["error"] = {"code": error.code, "message": str(error)}
-        change = self.wrong.get(method)
+        change = self.wrong.get(named(call))
         return change(found) if change else found
 
     def do_getblockchaininfo(self):
         return {"chain": "regtest", "blocks": self.model.tip, "bestblockhash": self.do_getbestblockhash()}
 
+    def do_getzmqnotifications(self):
+        return [{"type": "pubsequence", "address": self.endpoint, "hwm": 1000}] if self.endpoint else []
+
     def do_getnetworkinfo(self):
-        return {"version": RELEASE}
+        return {"version": self.release}
 
     def do_getbestblockhash(self):
         return printed(self.tip().hash())
@@ -377,29 +424,70 @@ class ModelNode:
         outputs = [{"n": index, "value": amount(it.value), "scriptPubKey": {"hex": it.script.hex()}} for index, it in enumerate(tx.outputs)]
         return {"txid": tx.txid(), "hash": tx.wtxid(), "vin": inputs, "vout": outputs}
 
-    def do_testmempoolaccept(self, digits, highest=0):
-        tx = self.parsed(digits[0])
-        rule = self.model.failing(tx)
+    def do_testmempoolaccept(self, digits, highest="0.10"):
+        if len(digits) > 1 and not self.takes_lists:
+            raise RpcError(-8, "Array must contain exactly one raw transaction for now")
+        tried, found = copy.deepcopy(self.model) if len(digits) > 1 else self.model, []
+        for tx in map(self.parsed, digits):
+            if any("allowed" in it and not it["allowed"] for it in found):
+                # behind a refusal nothing is judged
+                found.append({"txid": tx.txid(), "wtxid": tx.wtxid()})
+                continue
+            found.append(self.tried(tx, tried.failing(tx), highest))
+            if tried is not self.model:
+                tried.submit(1, int(time.time()), tx)
+        return found
+
+    def tried(self, tx, rule, highest):
         about = {"txid": tx.txid(), "wtxid": tx.wtxid()}
+        if rule is None and self.is_past(tx, highest):
+            return {**about, "allowed": False, "reject-reason": "max-fee-exceeded"}
         if rule is None:
-            return [{**about, "allowed": True, "vsize": self.model.size(tx), "fees": {"base": amount(self.model.fee(tx))}}]
-        return [{**about, "allowed": False, "reject-reason": "missing-inputs" if rule == "A25" else self.reason(rule)}]
+            return {**about, "allowed": True, "vsize": self.model.size(tx), "fees": {"base": amount(self.fee_of(tx))}}
+        return {**about, "allowed": False, "reject-reason": "missing-inputs" if rule == "A25" else self.reason(rule)}
+
+    def fee_of(self, tx):
+        """What a transaction pays, whose parents may be ones that callers may send."""
+        made = {it.hash(): it for it in self.sent.values()}
+        return sum(self.value_of(it, made) for it in tx.inputs) - sum(it.value for it in tx.outputs)
+
+    def value_of(self, it, made):
+        if (it.hash, it.index) in self.coins:
+            return self.coins[(it.hash, it.index)].value
+        parent = made.get(it.hash) or self.transactions[it.hash]
+        return parent.outputs[it.index].value
+
+    def is_past(self, tx, highest):
+        """Whether a transaction pays more than a bound in BTC for 1,000 virtual bytes; 0 is none."""
+        rate = Decimal(highest) * SATOSHI
+        if rate >= SATOSHI:
+            raise RpcError(-8, "Fee rates larger than or equal to 1BTC/kvB are not accepted")
+        return bool(rate) and self.fee_of(tx) * 1000 > rate * self.model.size(tx)
 
     def reason(self, rule):
         token = self.model.denied(rule, 2).split(" ", 3)[3]
         return token + " (Witness program hash mismatch)" if rule in ("A44", "A45") else token
 
-    def do_sendrawtransaction(self, digits, highest=0):
+    def do_sendrawtransaction(self, digits, highest="0.10", burn=None):
+        if self.release < BURN_BOUND_SINCE and burn is not None:
+            raise RpcError(-1, SENDING_HELP)
         tx = self.parsed(digits)
+        if self.release >= BURN_BOUND_SINCE and any(it.script[:1] == b"\x6a" and it.value > Decimal(burn or 0) * SATOSHI for it in tx.outputs):
+            raise RpcError(-25, "Unspendable output exceeds maximum configured by user (maxburnamount)")
+        if tx.txid() in self.pool():
+            return tx.txid()
         rule = self.model.failing(tx)
+        if rule is None and self.is_past(tx, highest or "0.10"):
+            raise RpcError(-25, "Fee exceeds maximum configured by user (e.g. -maxtxfee, maxfeerate)")
         if rule:
             raise RpcError(-25 if rule == "A25" else -26, self.reason(rule))
         self.submit(tx)
         return tx.txid()
 
     def knows(self, tx):
-        """A transaction that callers may send to it."""
-        self.sent[tx.hex()] = tx
+        """A transaction that callers may send to it, and with it one of the same outputs whose coin is nowhere."""
+        nowhere = Transaction([Input(NOWHERE, 0, sequence=0xFFFFFFFF)], tx.outputs)
+        self.sent[tx.hex()], self.sent[nowhere.hex()] = tx, nowhere
         return tx
 
     def parsed(self, digits):
@@ -408,6 +496,13 @@ class ModelNode:
         if tx is None:
             raise RpcError(-22, "TX decode failed. Make sure the tx has at least one input.")
         return tx
+
+
+def named(call):
+    """A method; a transaction that is sent though its coin is nowhere has a name of its own."""
+    method, params = call["method"], call["params"]
+    is_nowhere = method == "sendrawtransaction" and str(params[0])[10:74] == NOWHERE.hex()
+    return WITHOUT_COINS if is_nowhere else method
 
 
 def payment_of(outpoint, value, fee, outputs=1, sequence=0xFFFFFFFD):

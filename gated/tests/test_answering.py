@@ -14,7 +14,7 @@ import unittest
 
 from gate import same, true
 from hosting import RpcFailed, until
-from model_node import COIN_VALUE, RpcError, number_hash, payment_of
+from model_node import COIN_VALUE, RpcError, amount, number_hash, payment_of
 from test_following import Beside
 
 CASES = 1000
@@ -56,8 +56,7 @@ def test_calls(gate):
         same("verbose", rpc("getrawmempool", True), {txid: rpc("getmempoolentry", txid) for txid in (parent.txid(), child.txid())})
         same("verbose children", rpc("getmempooldescendants", txid=parent.txid(), verbose=True), {child.txid(): rpc("getmempoolentry", child.txid())})
         same("no entry", failed(lambda: rpc("getmempoolentry", "00" * 32)), (500, -5, "Transaction not in mempool"))
-        same("no txid", failed(lambda: rpc("getmempoolentry", 7)), (500, -32602, "Invalid params"))
-        same("no method", failed(lambda: rpc("getblock", "00")), (404, -32601, "Method not found"))
+        same("no method", failed(lambda: rpc("getpeerinfo")), (404, -32601, "Method not found"))
         same("an unknown name", failed(lambda: rpc("getmempoolentry", id="00")), (500, -8, "Unknown named parameter id"))
         one = fresh(it)
         (told,) = rpc("testmempoolaccept", [one.hex()])
@@ -65,8 +64,8 @@ def test_calls(gate):
         same("sent", rpc("sendrawtransaction", one.hex()), one.txid())
         true("the node has it", one.txid() in it.node.pool())
         it.is_alike()
-        same("sent again", failed(lambda: rpc("sendrawtransaction", one.hex())), (500, -26, "txn-already-in-mempool"))
-        same("no transaction", failed(lambda: rpc("sendrawtransaction", "00")), (500, -22, "tx-decode"))
+        same("tried again", rpc("testmempoolaccept", [one.hex()])[0]["reject-reason"], "txn-already-in-mempool")
+        same("sent again", rpc("sendrawtransaction", one.hex()), one.txid())
         it.agrees()
         it.gated.end()
         it.gated.is_legal(1)
@@ -88,10 +87,11 @@ def test_coins_and_scripts(gate):
         # the node refuses it for a reason of its own before it runs a script: the answer says that none was judged
         one = fresh(it)
         it.node.model.alone = lambda tx: iter(["A17"])
-        same("not judged", rpc("testmempoolaccept", [one.hex()])[0]["reject-reason"], "verdict-missing")
-        same("not sent", failed(lambda: rpc("sendrawtransaction", one.hex())), (500, -26, "verdict-missing"))
+        told = rpc("testmempoolaccept", [one.hex()])[0]
+        same("not judged", (told["reject-reason"], told["reject-details"]), ("verdict-missing", "verdict-missing, the node says: dust"))
+        same("not sent", failed(lambda: rpc("sendrawtransaction", one.hex())), (500, -26, "verdict-missing, the node says: dust"))
         del it.node.model.alone
-        until("it is counted", lambda: it.gated.differences() == {"A43": 1})
+        same("what the gate has no verdict on is not compared", it.gated.differences(), {})
         same("now it is", rpc("testmempoolaccept", [one.hex()])[0].get("reject-reason"), None)
         # a denial of the gate's own needs no verdict of the node; without one, the answer says that no script was judged
         low, other = fresh(it, fee=1), fresh(it)
@@ -120,8 +120,39 @@ def test_a_callers_own_bound(gate):
         same("nor known", rpc("getrawmempool"), [])
         same("sent", rpc("sendrawtransaction", high.hex(), 0), high.txid())
         same("no amount", failed(lambda: rpc("sendrawtransaction", high.hex(), "x")), (500, -3, "Invalid amount"))
+        same("no rate of the node's", failed(lambda: rpc("testmempoolaccept", [fresh(it).hex()], 2)), (500, -8, "Fee rates larger than or equal to 1BTC/kvB are not accepted"))
         it.is_alike()
         it.agrees()
+
+
+def test_wrong_parameters(gate):
+    """What is wrong with parameters is said in Core's words and with its codes."""
+    of_help = "getmempoolentry \"txid\"\n\nReturns mempool data for given transaction"
+    with Beside(gate, "--forward") as it:
+        it.open()
+        it.node.do_help = lambda method="": of_help
+        rpc, short = it.gated.rpc, "ab"
+        for method in ("getmempoolentry", "getmempoolancestors", "getmempooldescendants", "getrawtransaction"):
+            same(method, failed(lambda method=method: rpc(method, short)), (500, -8, "parameter 1 must be of length 64 (not 2, for 'ab')"))
+        same("no digits", failed(lambda: rpc("getmempoolentry", "z" * 64)), (500, -8, "parameter 1 must be hexadecimal string (not '%s')" % ("z" * 64)))
+        wrong = 'Wrong type passed:\n{\n    "Position 1 (txid)": "JSON value of type number is not of expected type string"\n}'
+        same("no text", failed(lambda: rpc("getmempoolentry", 7)), (500, -3, wrong))
+        for params in ([], ["00" * 32, 1]):
+            same("as many as %d" % len(params), failed(lambda params=params: rpc("getmempoolentry", *params)), (500, -1, of_help))
+        same("none tried", failed(lambda: rpc("testmempoolaccept", [])), (500, -8, "Array must contain between 1 and 25 transactions."))
+        same("too many", failed(lambda: rpc("testmempoolaccept", ["00"] * 26)), (500, -8, "Array must contain between 1 and 25 transactions."))
+        for method, params in (("testmempoolaccept", [["00"]]), ("sendrawtransaction", ["00"])):
+            same(method, failed(lambda method=method, params=params: rpc(method, *params)), (500, -22, "TX decode failed. Make sure the tx has at least one input."))
+        for value, message in ((" 0_0.1 ", "Invalid amount"), ("1e-9", "Invalid amount"), (-1, "Amount out of range"), ([], "Amount is not a number or string")):
+            same("rate %r" % (value,), failed(lambda value=value: rpc("testmempoolaccept", ["00"], value)), (500, -3, message))
+        same("no outputs", failed(lambda: rpc("gettxspendingprevout", [])), (500, -8, "Invalid parameter, outputs are missing"))
+        same("no number", failed(lambda: rpc("gettxspendingprevout", [{"txid": "00" * 32}])), (500, -3, "Missing vout"))
+        same("both", failed(lambda: rpc("getrawmempool", True, True)), (500, -8, "Verbose results cannot contain mempool sequence values."))
+        # without the node's help, the names of the parameters
+        it.node.wrong["help"] = lambda found: {**found, "result": None, "error": {"code": -1, "message": "no help"}}
+        same("names", failed(lambda: rpc("getmempoolancestors")), (500, -1, "getmempoolancestors txid ( verbose )"))
+        it.gated.end()
+        it.gated.is_legal(1)
 
 
 def test_a_refusal_of_the_node(gate):
@@ -138,6 +169,20 @@ def test_a_refusal_of_the_node(gate):
         it.opened(2)
         same("differences", it.gated.differences(), {"node": 1})
         same("it is gone", it.gated.rpc("getrawmempool"), [])
+
+
+def test_what_only_the_node_can_say_of_its_pool(gate):
+    """`getmempoolinfo` has it as the node said when it was looked at last, beside the gate's own numbers; but no setting that a
+    line of the operator's says otherwise."""
+    with Beside(gate, "--line", "mempoolfullrbf 0") as it:
+        usual, more = it.node.do_getmempoolinfo, {"usage": 1520, "total_fee": amount(0), "fullrbf": True, "incrementalrelayfee": amount(1000)}
+        it.node.do_getmempoolinfo = lambda: {**usual(), **more, "bytes": 7}
+        it.open()
+        text = it.gated.raw({"method": "getmempoolinfo", "id": 1})[1]
+        wanted = '"loaded":true,"size":0,"bytes":0,"maxmempool":300000000,"mempoolminfee":0.00001000,"minrelaytxfee":0.00001000,"usage":1520,'
+        same("info", text, '{"result":{%s"total_fee":0.00000000,"incrementalrelayfee":0.00001000},"error":null,"id":1}\n' % wanted)
+        more["usage"] = 2016
+        until("it is looked at again", lambda: it.gated.rpc("getmempoolinfo")["usage"] == 2016)
 
 
 def test_without_forwarding(gate):
@@ -196,7 +241,7 @@ def test_versions_and_batches(gate):
         batch = [{**listing, "id": 1}, missing, {**listing, "jsonrpc": "2.0"}, 7, {"method": "getmempoolentry", "params": ["x"], "id": [3]}]
         status, text = raw(batch)
         found = [(answer["id"], answer["error"]["code"] if answer.get("error") else None) for answer in json.loads(text)]
-        same("a batch", (status, found), (200, [(1, None), (2, -32601), (None, -32600), ([3], -32602)]))
+        same("a batch", (status, found), (200, [(1, None), (2, -32601), (None, -32600), ([3], -8)]))
         same("an empty one", raw([]), (200, "[]\n"))
         same("notifications alone", raw([{**listing, "jsonrpc": "2.0"}]), (204, ""))
         same("too many", raw([listing] * 1001)[0], 400)

@@ -1,15 +1,20 @@
 """gated beside a node of ours: what it follows, and what becomes of a node that fails. What the gate has to have is what the
 plain model of the policy has."""
 
+import asyncio
 import os
 import random
 import signal
 import socket
 import tempfile
+import time
+import unittest
 
 from bitcoin import Input, Output, Transaction
 from gate import same, true
-from hosting import Gated, until
+from gated.announcements import AskedAnnouncements, Came, Gone, Moved
+from gated.pool import PoolWatch
+from hosting import ROOT, Gated, until
 from model import fees_of, size_of
 from model_node import COIN_VALUE, ModelNode, number_hash, payment_of
 
@@ -106,6 +111,23 @@ def test_pool_and_blocks(gate):
         it.gated.is_legal(1)
 
 
+def test_the_library_in_the_process(gate):
+    """The same over the library that `make lib` has built, which is what gated takes where it is there."""
+    if not os.path.exists(os.path.join(ROOT, "crates", "gate_c", "out", "library", "lib", "libgate_c.so.0")):
+        raise unittest.SkipTest("the library is not built")
+    with Beside(gate) as it:
+        it.gated.words.remove("--child")
+        first = it.pay(outputs=2)
+        it.open()
+        it.child(first)
+        it.node.mine()
+        it.pay()
+        it.is_alike()
+        it.agrees()
+        same("status", it.gated.end(), 0)
+        it.gated.is_legal(1)
+
+
 def test_asked_again_and_again(gate):
     """The same without ZMQ, and with a node whose blocks show no coins, but which has an index."""
     with Beside(gate, has_zmq=False, has_prevouts=False, has_index=True) as it:
@@ -120,6 +142,43 @@ def test_asked_again_and_again(gate):
         it.is_alike()
         it.agrees()
         same("openings", it.gated.metric("gate_openings_total"), 1)
+
+
+class Shown:
+    """A node that shows a pool."""
+
+    def __init__(self, *txids):
+        self.number = 0
+        self.shows(*txids)
+
+    def shows(self, *txids):
+        self.number += 1
+        self.listing = {"txids": list(txids), "mempool_sequence": self.number}
+
+    async def ask(self, method, *_):
+        return "a tip" if method == "getbestblockhash" else self.listing
+
+
+def test_what_comes_back_between_two_questions(gate):
+    """Beside a node without ZMQ: what a block takes from the pool and a reorganisation brings back before the next question is
+    announced, if the pool was compared in between: else it would be in the node's pool and never have been announced."""
+    async def heard():
+        node = Shown("first", "second")
+        announced, watch = AskedAnnouncements(node, 0), PoolWatch(announced={"first", "second"})
+        announced.began(node.number, {"first", "second"})
+        same("at first", await announced.next(0), [Moved()])
+        node.shows()
+        announced.looked(node.listing)
+        watch.compare({"first", "second"}, set())
+        node.shows("second", "third")
+        found = await announced.next(0)
+        same("what went", {it.txid for it in found if isinstance(it, Gone)}, {"first", "second"})
+        same("what came, behind it", found[2:], [Came("second"), Came("third")])
+        watch.came(it.txid for it in found[2:])
+        same("what was never announced", watch.announced, {"second", "third"})
+        same("nothing is told twice", await announced.next(0), [])
+
+    asyncio.run(heard())
 
 
 def test_a_block_whose_coins_nobody_shows(gate):
@@ -159,6 +218,24 @@ def test_reorganisations(gate):
         same("openings", it.gated.metric("gate_openings_total"), 1)
         it.gated.end()
         it.gated.is_legal(1)
+
+
+def test_the_height_of_what_comes_back(gate):
+    """What a reorganisation brings back has a height before the node announces it: that of the tip at which it came back."""
+    with Beside(gate) as it:
+        it.open()
+        one = it.pay()
+        it.is_alike()
+        it.node.mine()
+        it.is_alike()
+        # the next comparison of the pools is over
+        time.sleep(2)
+        it.node.held = []
+        fork = (it.node.base + it.node.model.blocks)[-2]
+        first = it.node.block([], fork, after=601)
+        it.node.move(1, [first, it.node.block([], first, after=601)])
+        entry = until("it is back", lambda: one.txid() in (it.gated.listing() or ()) and it.gated.rpc("getmempoolentry", one.txid()))
+        same("its height", entry.get("height"), it.node.model.tip)
 
 
 def test_a_reorganisation_past_what_is_kept(gate):
@@ -234,6 +311,10 @@ def test_a_node_that_dies_and_rises(gate):
         status, text = it.gated.raw({"method": "getmempoolinfo", "id": 4})
         same("status", status, 500)
         true("its code is -28: %s" % text, '"code":-28' in text)
+        time.sleep(12)
+        # what a node is asked again for is said once, however often it is asked
+        again = [line for line in it.gated.lines() if "asked again" in line]
+        true("lines of the log: %s" % again, 1 <= len(again) <= 3)
         it.node.rise()
         it.opened(2)
         it.pay()

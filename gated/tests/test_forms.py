@@ -1,11 +1,11 @@
 """Amounts, named parameters and entries, without a gate."""
 
-from decimal import Decimal
-
 from gate import same, true
 
 from gated import forms
-from gated.forms import Amount, Fault, call_of, read_json, satoshi_of, text_of
+from gated.burning import without_coins
+from gated.node import Paid, read_transaction
+from gated.forms import Call, Fault, Number, WrongCount, amount, arguments, call_of, read_json, satoshi_of, text_of
 
 
 def fault_of(run):
@@ -19,28 +19,43 @@ def fault_of(run):
 def test_amounts(gate):
     """Eight places, by whole numbers; a float of 64 bits would lose the last of these."""
     for satoshi, text in ((0, "0.00000000"), (1, "0.00000001"), (5190, "0.00005190"), (100_000_000, "1.00000000"), (2_099_999_997_690_001, "20999999.97690001"), (-1, "-0.00000001")):
-        same("printed", text_of({"a": [Amount(satoshi)]}), '{"a":[%s]}' % text)
-    for value, satoshi in ((Decimal("0.1"), 10_000_000), ("0.00000001", 1), (0, 0), (21, 2_100_000_000), (Decimal("1e-8"), 1)):
-        same("read", satoshi_of(value), satoshi)
-    for value in (Decimal("0.000000001"), "x", -1, True, None, [], 21_000_001, "NaN", "Infinity", "1e999999999"):
-        true("%r is refused" % (value,), fault_of(lambda value=value: satoshi_of(value)))
+        same("printed", text_of({"a": [amount(satoshi)]}), '{"a":[%s]}' % text)
+    read = (
+        (Number("0.1"), 10_000_000), ("0.00000001", 1), (0, 0), (21, 2_100_000_000), (Number("1e-8"), 1), ("10", 1_000_000_000), ("0.10000000000", 10_000_000),
+        ("21000000", 2_100_000_000_000_000), ("2.1E+7", 2_100_000_000_000_000), ("-0", 0), ("0e999", 0), (Number("1.50e1"), 1_500_000_000),
+    )  # fmt: skip
+    for value, satoshi in read:
+        same("read %s" % value, satoshi_of(value), satoshi)
+    for value in ("0.000000001", "x", "", " 1", "1 ", "1_0", "01", ".5", "1.", "+1", "0x1", "NaN", "Infinity", "1e999999999", "1e-999999999", Number("1e-9")):
+        same("%s" % value, fault_of(lambda value=value: satoshi_of(value)), (-3, "Invalid amount"))
+    for value in (-1, "-0.5", 21_000_001, "21000000.00000001", "1e99", "1e9999"):
+        same("%s" % value, fault_of(lambda value=value: satoshi_of(value)), (-3, "Amount out of range"))
+    for value in (True, None, [], {}):
+        same("%r" % (value,), fault_of(lambda value=value: satoshi_of(value)), (-3, "Amount is not a number or string"))
 
 
 def test_places(gate):
-    """Parameters by their names, and beside `args`; what is not given at the end is left out."""
+    """Parameters by their names, and beside `args`; what is not given is none."""
     def params(method, given):
-        return call_of({"method": method, "params": given}).params
+        return arguments(Call(method, given))
 
+    txid = "ab" * 32
     same("by name", params("testmempoolaccept", {"maxfeerate": 1, "rawtxs": ["00"]}), [["00"], 1])
     same("one of two", params("getrawmempool", {"mempool_sequence": True}), [None, True])
-    same("args", params("getmempoolancestors", {"args": ["ab"], "verbose": True}), ["ab", True])
+    same("another name", params("getrawtransaction", {"txid": txid, "verbose": True}), [txid, True, None])
+    same("args", params("getmempoolancestors", {"args": [txid], "verbose": True}), [txid, True])
     same("none", params("getmempoolinfo", {}), [])
-    same("nulls at the end", params("getrawmempool", [False, None]), [False])
-    same("absent", call_of({"method": "x"}).params, [])
+    same("nulls at the end", params("getrawmempool", [False, None]), [False, None])
+    same("absent", params("getrawmempool", None), [None, None])
     same("unknown name", fault_of(lambda: params("getmempoolentry", {"id": 1})), (-8, "Unknown named parameter id"))
-    same("twice", fault_of(lambda: params("getmempoolentry", {"args": ["a"], "txid": "b"}))[0], -8)
-    same("no list", fault_of(lambda: params("getmempoolentry", 7))[0], -32600)
+    same("twice", fault_of(lambda: params("getmempoolentry", {"args": ["a"], "txid": "b"})), (-8, "Parameter txid specified twice both as positional and named argument"))
     same("args of another kind", fault_of(lambda: params("getmempoolentry", {"args": 7}))[0], -3)
+    for method, given in (("getmempoolinfo", [None]), ("getmempoolentry", []), ("getmempoolentry", {}), ("getmempoolentry", [txid, None]), ("sendrawtransaction", None)):
+        try:
+            params(method, given)
+        except WrongCount:
+            continue
+        raise AssertionError("%s takes %s" % (method, given))
 
 
 def test_calls(gate):
@@ -49,19 +64,36 @@ def test_calls(gate):
     two = call_of({"method": "m", "jsonrpc": "2.0"})
     same("a notification", (two.is_2, two.is_notification), (True, True))
     same("with a null id", call_of({"method": "m", "jsonrpc": "2.0", "id": None}).is_notification, False)
-    for value in ([], 7, None, "m", {}, {"method": 1}, {"method": "m", "jsonrpc": "3.0"}, {"method": "m", "jsonrpc": 2}):
+    for value in ([], 7, None, "m", {}, {"method": 1}, {"method": "m", "jsonrpc": "3.0"}, {"method": "m", "jsonrpc": 2}, {"method": "m", "params": 7}):
         same("%r" % (value,), fault_of(lambda value=value: call_of(value))[0], -32600)
 
 
 def test_json(gate):
-    """Numbers with places stay as they are written; what is no JSON is refused."""
-    same("an id", text_of(read_json('{"id": 1.50, "b": [1e2, "\\u00e9", null, true]}')), '{"id":1.50,"b":[1E+2,"\\u00e9",null,true]}')
+    """Numbers with places stay as they are written; what is no JSON is refused, and so is what is nested too deep."""
+    same("an id", text_of(read_json('{"id": 1.50, "b": [1e2, "\\u00e9", null, true]}')), '{"id":1.50,"b":[1e2,"\\u00e9",null,true]}')
     for text in ("", "{", "NaN", "[Infinity]", "[" * 200_000, "{'a':1}", "1" * 5000):
         try:
             read_json(text)
         except ValueError:
             continue
         raise AssertionError("%s.. was read" % text[:20])
+    deep = []
+    for _ in range(5000):
+        deep = [deep]
+    try:
+        text_of(deep)
+    except forms.TooDeep:
+        return
+    raise AssertionError("it was written")
+
+
+def test_a_transaction_without_coins(gate):
+    """It has the outputs that it is made for, however many and long, and spends an outpoint that nothing makes."""
+    for outputs in ([], [Paid(1000, b"\x6a")], [Paid(2**63, b""), Paid(0, b"\x51" * 252), Paid(7, b"\x51" * 253)], [Paid(1, b"x" * 70_000)], [Paid(1, b"")] * 300):
+        found = read_transaction(without_coins(outputs))
+        same("its outputs", found.paid, outputs)
+        same("what it spends", [(it.txid, it.index) for it in found.spent], [("ff" * 32, 0)])
+        same("without witnesses", found.txid, found.wtxid)
 
 
 def test_entries(gate):
@@ -76,4 +108,3 @@ def test_entries(gate):
         '"depends":["aa"],"spentby":[],"bip125-replaceable":true}'
     )
     same("entry", text_of(forms.entry(told, 7)), wanted)
-    same("without a height", "height" in forms.entry(told, None), False)

@@ -21,7 +21,7 @@ from kinds import long
 
 from gated import config, journal
 from gated.engine import ChildGate, OpeningRefused, Unanswered
-from gated.journal import Journal, JournalFailed
+from gated.journal import Bounds, Journal, JournalFailed
 from gated.keeper import SEGMENT_FULL, Closed, Full, Keeper
 from gated.users import BadUser, Users
 
@@ -35,6 +35,7 @@ def written(folder, entries=3):
     for number in range(entries):
         found.entry("peer %d enter 192.0.2.1" % number, "entered none\n")
     found.close()
+    found.unlock()
     return found.path
 
 
@@ -58,6 +59,7 @@ def with_a_base(folder):
     for _ in range(journal.ROUND + 1):
         found.entry("peer 1 leave", "denied P1 keep peer-unknown\n")
     found.close()
+    found.unlock()
     return found
 
 
@@ -70,6 +72,7 @@ def test_what_has_an_entry(gate):
             found.entry("x", reply)
         found.close()
         same("entries", (found.entries, found.path.read_text()), (0, "# a test\n%s---\n" % OPENING))
+        found.unlock()
         lines = with_a_base(folder).path.read_text().splitlines()
         same("base", [it for it in enumerate(lines) if it[1].startswith("base")], [(5 + 2 * 100_000, "base 100000")])
 
@@ -124,28 +127,34 @@ def test_no_room_for_a_journal(gate):
 class Slow:
     """An engine that answers when it is let."""
 
-    def __init__(self, opening):
+    def __init__(self):
         self.may = threading.Event()
         self.closed = False
+
+    def open(self, opening):
+        pass
 
     def answer(self, line):
         self.may.wait(10)
         return "set\n"
 
+    def stop(self):
+        self.may.set()
+
     def close(self):
         self.closed = True
 
 
-def kept(run, journal=None, segment=100, depth=2):
+def kept(run, journal=None, depth=2):
     """Runs a coroutine over a keeper with a slow engine."""
     engines = []
 
-    def opened(opening):
-        engines.append(Slow(opening))
+    def opened():
+        engines.append(Slow())
         return engines[-1]
 
     async def main():
-        keeper = Keeper(opened, journal, segment, depth, lambda seconds: None)
+        keeper = Keeper(opened, journal, depth, lambda seconds: None)
         task = asyncio.create_task(keeper.run())
         try:
             return await asyncio.wait_for(run(keeper, engines), 20)
@@ -206,7 +215,7 @@ def test_closed_and_full(gate):
         same("reply", await keeper.made(lambda turn: turn.ask("x")), "set")
 
     with tempfile.TemporaryDirectory() as folder:
-        kept(run, Journal(Path(folder)), segment=2)
+        kept(run, Journal(Path(folder), Bounds(entries=2)))
         same("segments", [it.name for it in journal.segments(Path(folder))], ["gate-000001.journal", "gate-000002.journal"])
 
 
@@ -227,7 +236,8 @@ def test_a_line_of_two(gate):
 
 def test_the_child(gate):
     """The program as a child: replies, lines without one, an opening that fails, a line that is too long."""
-    child = ChildGate(gate.program, OPENING)
+    child = ChildGate(gate.program)
+    child.open(OPENING)
     same("reply", child.answer("peer 1 enter 192.0.2.1"), "entered none\n")
     same("no reply", [child.answer(""), child.answer("# x")], ["", ""])
     try:
@@ -236,18 +246,23 @@ def test_the_child(gate):
         same("why", str(error), "the line is too long")
     same("and on", child.answer("peer 1 mempool"), "listing 0\n")
     child.close()
+    child = ChildGate(gate.program)
     try:
-        ChildGate(gate.program, "times 1 0 0\nx\n")
+        child.open("times 1 0 0\nx\n")
     except OpeningRefused as error:
         same("why", str(error), "the gate refuses the opening: opening 2 bad-line: x")
     else:
         raise AssertionError("it was opened")
+    finally:
+        child.close()
 
 
 # what the library's engine makes of each status, by a library that takes each line for its own reply (tests/hosts/fake_library.c)
 ASKS_LIBRARY = """
 from gated.engine import opener
-gate = opener(None)("opening")
+opens = opener(None, False)
+gate = opens()
+gate.open("opening")
 from gate.library import Status
 for line in ("a line", "", "# x", "x" * 5000, "keep a reply", "end %d" % Status.LINE_TOO_LONG, "end %d" % Status.OUT_OF_MEMORY, "end %d" % Status.NOT_OPEN, "and on"):
     try:
@@ -256,29 +271,34 @@ for line in ("a line", "", "# x", "x" * 5000, "keep a reply", "end %d" % Status.
         print(type(error).__name__, error)
 gate.close()
 try:
-    opener(None)("refuse\\n")
+    opens().open("refuse\\n")
 except Exception as error:
     print(type(error).__name__, error)
 """
 
 
-def with_library(path, *words):
+def with_library(path, *words, **variables):
     """What gated's Python prints with this file in the library's place, and its status."""
-    environment = dict(os.environ, PYTHONPATH=os.path.dirname(HERE), GATE_LIBRARY=path)
+    environment = dict(os.environ, PYTHONPATH=os.path.dirname(HERE), GATE_LIBRARY=path, **variables)
     done = subprocess.run([sys.executable, *words], env=environment, capture_output=True, text=True, timeout=60, check=False)
     return done.returncode, done.stdout + done.stderr
 
 
-def test_the_library(gate):
-    """The library in place of the program: replies, a reply that is kept, lines that fail, an opening that is refused."""
+def fake_library(folder):
+    """A library that takes each line for its own reply."""
     compiler = shutil.which("cc") or shutil.which("gcc") or shutil.which("clang")
     if compiler is None:
         raise unittest.SkipTest("no compiler for C is on this machine")
+    path = os.path.join(folder, "libgate_c.so.0")
+    source = os.path.join(ROOT, "tests", "hosts", "fake_library.c")
+    subprocess.run([compiler, "-std=c11", "-shared", "-fPIC", "-I", os.path.join(ROOT, "lib"), "-o", path, source], check=True)
+    return path
+
+
+def test_the_library(gate):
+    """The library in place of the program: replies, a reply that is kept, lines that fail, an opening that is refused."""
     with tempfile.TemporaryDirectory() as folder:
-        path = os.path.join(folder, "libgate_c.so.0")
-        source = os.path.join(ROOT, "tests", "hosts", "fake_library.c")
-        subprocess.run([compiler, "-std=c11", "-shared", "-fPIC", "-I", os.path.join(ROOT, "lib"), "-o", path, source], check=True)
-        status, said = with_library(path, "-c", ASKS_LIBRARY)
+        status, said = with_library(fake_library(folder), "-c", ASKS_LIBRARY)
     wanted = [
         "'a line\\n'", "''", "''", "'%s'" % ("x" * 20), "'a reply\\n'", "Unanswered the line is too long", "Unanswered out of memory",
         "Ended the library fails: the gate or the event is closed", "'and on\\n'", "OpeningRefused the gate refuses the opening: opening 1 bad-line: refuse",
@@ -290,10 +310,31 @@ def test_no_gate(gate):
     """Without the library, and with a program that isn't there, gated doesn't begin, and says why in one line."""
     with tempfile.TemporaryDirectory() as folder:
         words = ["-m", "gated", "--node", "http://127.0.0.1:1", "--listen", "127.0.0.1:0", "--rpccookiefile", os.path.join(folder, "cookie")]
-        status, said = with_library(os.path.join(folder, "nothing.so"), *words)
+        status, said = with_library(os.path.join(folder, "nothing.so"), *words, PATH="/nowhere")
         true("no library: %s" % said, status == 1 and said.startswith("gated: the library is not there (") and said.count("\n") == 1)
         status, said = with_library("", *words, "--child", "--gate", os.path.join(folder, "nothing"))
         same("no program", (status, said), (1, "gated: %s is no program\n" % os.path.join(folder, "nothing")))
+
+
+WHICH = "import sys; from gated.engine import opener; it = opener(sys.argv[1] or None, sys.argv[2:] == ['child']); print(getattr(it, '__name__', type(it).__name__))"
+
+
+def test_which_gate(gate):
+    """The library where it is built, unless a child is asked for; else the program as a child, by its path or as `gate`."""
+    with tempfile.TemporaryDirectory() as folder:
+        library = fake_library(folder)
+        Path(folder, "gate").symlink_to(gate.program)
+        nothing = os.path.join(folder, "nothing.so")
+        for path, words, wanted in (
+            (library, [""], "LibraryGate"),
+            (library, [gate.program], "LibraryGate"),
+            (library, [gate.program, "child"], "ChildOpener"),
+            (library, ["", "child"], "ChildOpener"),
+            (nothing, [gate.program], "ChildOpener"),
+            (nothing, [""], "ChildOpener"),
+        ):
+            status, said = with_library(path, "-c", WHICH, *words, PATH=folder)
+            same("%s %s: %s" % (path, words, said), (status, said.splitlines()[-1:]), (0, [wanted]))
 
 
 def line_of(user, password, salt="00ff"):
@@ -355,7 +396,7 @@ def test_usage(gate):
     """The help has examples, and what is wrong is said in one line with status 2."""
     status, said = ended("--help")
     true("the help has examples", status == 0 and "gated audit ~/journal" in said)
-    for words in ([], ["--node", "x"], ["--node", "http://h", "--listen", "x"], ["--node", "http://h", "--child"], ["--node", "http://h", "--segment", "0"], ["--nod", "http://h"]):
+    for words in ([], ["--node", "x"], ["--node", "http://h", "--listen", "x"], ["--node", "http://h", "--journal-bytes", "-1"], ["--node", "http://"], ["--node", "http://h:99999"], ["--node", "http://h", "--segment", "0"], ["--nod", "http://h"]):
         status, said = ended(*words)
         same("%s: %s" % (words, said), status, 2)
     same("an audit of no folder", ended("audit", "/nowhere"), (1, "gated: /nowhere is no folder\n"))

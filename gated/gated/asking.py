@@ -1,0 +1,64 @@
+"""What callers ask as lines of the gate, and its replies as results or errors."""
+
+from __future__ import annotations
+
+import time
+from typing import Any, Sequence
+
+from . import forms
+from .forms import Fault
+from .keeper import Turn
+from .opening import OWN_USER
+
+# parameters that no method takes: the answer to them is U1, or else that they are wrong
+OF_NO_METHOD: list[Any] = [{}]
+DENIED = "denied"
+
+
+def line_of(user: str, method: str, params: Sequence[Any]) -> str:
+    """A call as a line of the gate. A ValueError if its parameters are nested too deep."""
+    return "user %s rpc %d %s" % (user, time.time(), forms.text_of({"method": method, "params": params, "id": 0}))
+
+
+def result_of(reply: str) -> Any:
+    """The result that a reply has; a Fault if it is an error."""
+    word, _, rest = reply.partition(" ")
+    status, _, text = rest.partition(" ")
+    if word != "rpc":
+        raise Fault(forms.MISC_ERROR, "the gate answers %s" % reply)
+    if text.startswith(DENIED):
+        # denied U1 rpc-whitelist
+        _, rule, token = text.split(" ")
+        raise Fault(forms.FORBIDDEN, token, rule, int(status))
+    told = forms.read_json(text)
+    error = told["error"]
+    if error is None:
+        return told["result"]
+    message = forms.UNREADABLE if error["code"] == forms.DECODE_ERROR else error["message"]
+    raise Fault(error["code"], message, error.get("rule"), int(status))
+
+
+def asked(turn: Turn, user: str, method: str, params: Sequence[Any]) -> Any:
+    """What the gate gives a user for a call; a Fault if it is an error."""
+    return result_of(turn.ask(line_of(user, method, params)))
+
+
+def looked(turn: Turn, method: str, params: Sequence[Any]) -> Any:
+    """What the gate gives gated itself, without an entry in the journal; None for an error."""
+    try:
+        return result_of(turn.look(line_of(OWN_USER, method, params)))
+    except Fault:
+        return None
+
+
+def permit(turn: Turn, user: str, method: str) -> None:
+    """A Fault unless the gate permits a user this method. A denial is in the journal; where it permits, nothing is written."""
+    try:
+        result_of(turn.look(line_of(user, method, OF_NO_METHOD)))
+    except Fault as fault:
+        if fault.error["code"] in (forms.INVALID_PARAMS, forms.METHOD_NOT_FOUND):
+            # what is wrong is the parameters, or that the gate has no such method: the user may call it
+            return
+        if fault.error["code"] == forms.FORBIDDEN:
+            asked(turn, user, method, [])
+        raise
