@@ -1,76 +1,105 @@
-//! Why a line has no form, and why a word is no text of digits.
+//! Why a line does not parse.
 ghost use Rattle.std.specs.Prelude.{◌≡◌, IfOk, is_none, is_some};
-ghost use Rattle.std.specs.Result.{is_ok};
 ghost use Rattle.gate_events.specs.EventLines.{line_event};
-ghost use Rattle.hex.specs.Hex.{decode_of};
 
-use crate::cause::Cause;
-use crate::event_places::event_fault;
-use crate::opening_places::opening_fault;
+use crate::expected::fit_cause;
+use crate::fit::Fit;
+use crate::forms::{DIVIDERS, EVENTS, OPENINGS, PERMISSIONS};
 use gate_bytes::Memory;
 use gate_events::event_on;
-use hex::FromHexError;
+use gate_net::Permissions;
 use std::alloc::Global;
 
-/// What is wrong with the front of a line, whatever its words are.
-fn front_fault(line: &[u8]) -> Result<(), Cause<'static>> {
+/// The text of a line, or what is wrong with the line whatever its words are.
+fn line_text(line: &[u8]) -> Result<&str, &'static str> {
     match line {
-        [0xef, 0xbb, 0xbf, ..] => Err(Cause::ByteOrderMark),
-        [b'>' | b'<', b' ', ..] => Err(Cause::LineOfJournal),
-        [b' ', ..] => Err(Cause::SpaceBefore),
-        _ => Ok(()),
+        [0xef, 0xbb, 0xbf, ..] => Err("begins with a byte order mark"),
+        [b'>' | b'<', b' ', ..] => Err("a line of a journal, which gate audit reads"),
+        [b' ', ..] => Err("begins with a space"),
+        _ => match std::str::from_utf8(line) {
+            Ok(text) => Ok(text),
+            Err(_) => Err("is not UTF-8"),
+        },
     }
 }
 
-fn event_line_fault(line: &[u8]) -> Result<(), Cause<'_>> {
-    front_fault(line)?;
-    match std::str::from_utf8(line) {
-        Ok(text) => event_fault(text),
-        Err(_) => Err(Cause::NotText),
+/// Whether the first word of a line begins one of these forms.
+fn begins_one(line: &str, forms: &'static [&'static str]) -> bool {
+    Fit::furthest(line, forms).places != 0
+}
+
+/// The forms that say what is wrong with a line of the first forms, if its first word begins none of them: those of lines
+/// between lanes, if it begins one.
+fn forms_for(line: &str, forms: &'static [&'static str]) -> &'static [&'static str] {
+    if !begins_one(line, forms) && begins_one(line, &DIVIDERS) {
+        &DIVIDERS
+    } else {
+        forms
     }
 }
 
-fn opening_line_fault(line: &[u8]) -> Result<(), Cause<'_>> {
-    front_fault(line)?;
-    match std::str::from_utf8(line) {
-        Ok(text) => opening_fault(text),
-        Err(_) => Err(Cause::NotText),
+/// What is wrong with where an event's line stands, if its first word begins no event.
+fn misplaced_event(line: &str) -> Option<&'static str> {
+    if line.starts_with("coin ") || line.starts_with("verdict ") {
+        Some("a line of an opening behind the line ---; the event begins with the word chain")
+    } else if begins_one(line, &OPENINGS) {
+        Some("a line of an opening behind the line ---")
+    } else if line == "---" || line == "===" {
+        Some("begins a lane, or ends a round of lanes; gate lanes reads lanes")
+    } else {
+        None
     }
 }
 
-/// Why an event's line has no form, or `None` exactly if it has one. An empty line and a comment have no form.
+/// Why an event's line does not parse, or `None` exactly if it does. An empty line and a comment do not parse.
 pub fn event_cause(alloc: Global, line: &[u8]) -> Result<Option<String>, Memory>
     ensures { IfOk result (λ cause. is_none cause ≡ is_some (line_event line.now)) }
 {
     let event = event_on(alloc, line)?;
-    let has_form = event.is_some();
+    let parses = event.is_some();
     drop(event);
-    if has_form {
+    if parses {
         return Ok(None);
     }
-    let cause = match event_line_fault(line) {
-        Ok(()) => Cause::NoForm,
-        Err(cause) => cause,
-    };
-    Ok(Some(cause.text(alloc)?))
+    Ok(Some(match line_text(line) {
+        Ok(text) => match misplaced_event(text) {
+            Some(says) => String::from_str(alloc, says)?,
+            None => fit_cause(alloc, text, forms_for(text, &EVENTS))?,
+        },
+        Err(says) => String::from_str(alloc, says)?,
+    }))
 }
 
-/// Why an opening refuses a line for its form.
+/// Why an opening refuses a line as one that does not parse.
 pub fn opening_cause(alloc: Global, line: &[u8]) -> Result<String, Memory> {
-    let cause = match opening_line_fault(line) {
-        Ok(()) => Cause::Again,
-        Err(cause) => cause,
+    let text = match line_text(line) {
+        Ok(text) => text,
+        Err(says) => return Ok(String::from_str(alloc, says)?),
     };
-    cause.text(alloc)
+    if begins_one(text, &EVENTS) {
+        return Ok(String::from_str(alloc, "an event in the opening; is the line --- missing?")?);
+    }
+    if Fit::furthest(text, &OPENINGS).fault.is_ok() {
+        return Ok(String::from_str(alloc, "repeats a setting or a verdict of an earlier line")?);
+    }
+    fit_cause(alloc, text, forms_for(text, &OPENINGS))
 }
 
-/// Why a word that stands for a transaction is no text of hexadecimal digits, or `None` exactly if it is one.
-pub fn digits_cause(alloc: Global, word: &str) -> Result<Option<String>, Memory>
-    ensures { IfOk result (λ cause. is_none cause ≡ is_ok (decode_of word.now)) }
-{
-    match hex::decode(alloc, word) {
-        Ok(_bytes) => Ok(None),
-        Err(FromHexError::OutOfMemory) => Err(Memory),
-        Err(_) => Ok(Some(Cause::NoHex(word).text(alloc)?)),
+/// Why a whitelist's line has a word before its `@` that is no permission, or `None` if it has none.
+pub(crate) fn permission_cause(alloc: Global, line: &[u8]) -> Result<Option<String>, Memory> {
+    let Ok(text) = line_text(line) else {
+        return Ok(None);
+    };
+    let Some((words, _)) = text
+        .strip_prefix("whitelist ")
+        .and_then(|entry| entry.split_once('@'))
+    else {
+        return Ok(None);
+    };
+    for word in words.split(',') {
+        if Permissions::of_word(word).is_none() {
+            return Ok(Some(fit_cause(alloc, word, &PERMISSIONS)?));
+        }
     }
+    Ok(None)
 }

@@ -21,42 +21,35 @@ impl Entries {
     /// Goes on by a line that is not skipped, and says what is wrong with it where it stands. What its event or its
     /// reply says is not looked at.
     pub(crate) fn advance<'a>(&mut self, line: &'a [u8]) -> Result<(), Cause<'a>> {
+        let awaits_reply = self.awaits_reply;
         match line {
-            [b'>', b' ', ..] => self.begin(),
-            [b'<', b' ', ..] => self.end(),
+            [b'>', b' ', ..] if awaits_reply => {
+                Err(Cause::Line("the reply to the event before it is missing"))
+            }
+            [b'>', b' ', ..] => {
+                self.awaits_reply = true;
+                Ok(())
+            }
+            [b'<', b' ', ..] if awaits_reply => {
+                self.awaits_reply = false;
+                self.count = self.count.saturating_add(1);
+                Ok(())
+            }
+            [b'<', b' ', ..] => Err(Cause::Line("a reply with no event before it")),
+            [b'b', b'a', b's', b'e', b' ', ..] if awaits_reply => {
+                Err(Cause::Line("stands between an event and its reply"))
+            }
             [b'b', b'a', b's', b'e', b' ', number @ ..] => self.base(number),
-            _ => Err(Cause::NoMark),
+            _ => Err(Cause::Line("begins with none of \"> \", \"< \" and \"base \"")),
         }
     }
 
-    fn begin(&mut self) -> Result<(), Cause<'static>> {
-        if self.awaits_reply {
-            return Err(Cause::NoReply);
-        }
-        self.awaits_reply = true;
-        Ok(())
-    }
-
-    fn end(&mut self) -> Result<(), Cause<'static>> {
-        if !self.awaits_reply {
-            return Err(Cause::NoEvent);
-        }
-        self.awaits_reply = false;
-        self.count = self.count.saturating_add(1);
-        Ok(())
-    }
-
+    /// A base, whose number is that of the entries before it.
     fn base<'a>(self, number: &'a [u8]) -> Result<(), Cause<'a>> {
-        if self.awaits_reply {
-            return Err(Cause::BaseInEntry);
-        }
-        let Ok(text) = std::str::from_utf8(number) else {
-            return Err(Cause::NotText);
-        };
-        if read_number(text) == Some(self.count) {
-            Ok(())
-        } else {
-            Err(Cause::WrongBase(text, self.count))
+        match std::str::from_utf8(number) {
+            Ok(text) if read_number(text) == Some(self.count) => Ok(()),
+            Ok(text) => Err(Cause::WrongBase(text, self.count)),
+            Err(_) => Err(Cause::Line("is not UTF-8")),
         }
     }
 }

@@ -1,5 +1,5 @@
 //! What is said of an opening that is refused.
-use crate::causes::opening_cause;
+use crate::causes::{opening_cause, permission_cause};
 use crate::input_position::InputPosition;
 use gate_bytes::Memory;
 use gate_lines::next_word;
@@ -13,18 +13,12 @@ fn meaning(alloc: Global, token: &str) -> Result<Option<&'static str>, Memory> {
     Ok(rules.as_slice().last().map(|rule| rule.says))
 }
 
-/// Why the line of this number has no form, in an opening that was read to this position and whose last line is `last`.
-fn form_cause(
-    alloc: Global,
-    line: &str,
-    position: &InputPosition,
-    last: &[u8],
-) -> Result<String, Memory> {
-    if let Some(limit) = position.limit() {
-        return Ok(format!(in alloc; "line {line}: {limit}")?);
+/// What a refusal says: the number of a line, or 0, and the token of the fault.
+fn refused(refusal: &str) -> Option<(&str, &str)> {
+    match next_word(refusal)? {
+        ("opening", fault) => next_word(fault),
+        _ => None,
     }
-    let cause = opening_cause(alloc, last)?;
-    Ok(format!(in alloc; "line {line}: {cause}")?)
 }
 
 /// What is said of an opening's refusal, which is `opening LINE TOKEN`. The opening was read to this position, and `last`
@@ -35,24 +29,27 @@ pub fn refusal_cause(
     position: &InputPosition,
     last: &[u8],
 ) -> Result<Option<String>, Memory> {
-    let Some((word, fault)) = next_word(refusal) else {
-        return Ok(None);
-    };
-    if word != "opening" {
-        return Ok(None);
-    }
-    let Some((line, token)) = next_word(fault) else {
+    let Some((line, token)) = refused(refusal) else {
         return Ok(None);
     };
     if token == "bad-line" {
-        return Ok(Some(form_cause(alloc, line, position, last)?));
+        return Ok(Some(match position.limit() {
+            Some(limit) => format!(in alloc; "line {line}: {limit}")?,
+            None => format!(in alloc; "line {line}: {}", opening_cause(alloc, last)?)?,
+        }));
+    }
+    if token == "unknown-permission" {
+        if let Some(cause) = permission_cause(alloc, last)? {
+            return Ok(Some(format!(in alloc; "line {line}: {token}: {cause}")?));
+        }
     }
     let Some(says) = meaning(alloc, token)? else {
         return Ok(None);
     };
     // A fault that is not a line's has the line 0.
-    if line == "0" {
-        return Ok(Some(format!(in alloc; "the opening: {token}: {says}")?));
-    }
-    Ok(Some(format!(in alloc; "line {line}: {token}: {says}")?))
+    Ok(Some(if line == "0" {
+        format!(in alloc; "the opening: {token}: {says}")?
+    } else {
+        format!(in alloc; "line {line}: {token}: {says}")?
+    }))
 }

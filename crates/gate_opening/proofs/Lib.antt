@@ -3,3 +3,4 @@ pub mod OpeningParts
 pub mod Saying
 pub mod Steps
 pub mod Heard
+pub mod OpeningsGood

@@ -1,15 +1,13 @@
 -- What one line of an opening says.
-use Rattle.std.specs.Prelude.{ℕ, nat_le, ◌==◌, if◌then◌else◌, Bool, true, false, List, length, codes, Option, Some, None, option_and_then}
+use Rattle.std.specs.Prelude.{ℕ, nat_le, ◌==◌, if◌then◌else◌, List, length, codes, Option, Some, None, option_and_then}
 use Rattle.std.specs.Option.{option_map}
 use Rattle.std.specs.Str.{bytes_eq}
 use Rattle.gate_chain.specs.History.{max_height}
 use Rattle.gate_net.specs.Whitelists.{entry_of}
-use Rattle.gate_admit.specs.Policies.{allows}
-use Rattle.gate_admit.specs.declared.Quantity.{Quantity}
+use Rattle.gate_register.specs.Settings.{allows, setting_named}
+use Rattle.gate_release.specs.Releases.{release_named}
 use Rattle.gate_words.specs.CoinWords.{coin_of}
 use Rattle.gate_words.specs.VerdictWords.{row_of, verdict_of}
-use Rattle.gate_opening.specs.Quantities.{quantity_named}
-use Rattle.gate_opening.specs.Settings.{setting_named}
 use Rattle.gate_opening.specs.declared.opening_line.OpeningLine.{OpeningLine}
 use Rattle.gate_opening.specs.declared.opening_line.OpeningLine.TheVariants as says
 use Rattle.gate_lines.specs.Lines.{if_text}
@@ -52,6 +50,10 @@ verdict_line_of text = do
   p ← part_of text
   if bytes_eq p.0 (codes "*") then option_map says.OtherVerdicts (verdict_of p.1) else option_map says.Verdict (row_of text)
 
+-- `RELEASE`, by its word
+abbrev pub policy_line_of : List ℕ → Option OpeningLine
+policy_line_of text = option_map says.Defaults (release_named text)
+
 -- `TEXT`, which isn't empty
 abbrev pub whitelist_line_of : List ℕ → Option OpeningLine
 whitelist_line_of text = if length text == 0 then None else Some (says.Whitelist (entry_of text))
@@ -60,29 +62,12 @@ whitelist_line_of text = if length text == 0 then None else Some (says.Whitelist
 abbrev pub rpc_line_of : List ℕ → Option OpeningLine
 rpc_line_of text = if length text == 0 then None else Some (says.RpcWhitelist text)
 
-abbrev pub on_of : List ℕ → Option Bool
-on_of text =
-    if bytes_eq text (codes "0") then Some false
-    else if bytes_eq text (codes "1") then Some true
-    else None
-
--- `0|1` behind the name of a setting
-abbrev pub set_line_of : List ℕ → List ℕ → Option OpeningLine
-set_line_of name text = do
-  setting ← setting_named name
-  on ← on_of text
-  Some (says.Set setting on)
-
--- `N`, within its bounds, behind the name of a number
-abbrev pub quantity_line_of : Quantity → List ℕ → Option OpeningLine
-quantity_line_of quantity text = do
+-- `N`, within its bounds, behind the word of a setting
+abbrev pub setting_line_of : List ℕ → List ℕ → Option OpeningLine
+setting_line_of word text = do
+  setting ← setting_named word
   number ← number_of text
-  if allows quantity number then Some (says.Quantity quantity number) else None
-
--- a number of the policy, or a setting that is on or off
-abbrev pub other_line_of : Option Quantity → List ℕ → List ℕ → Option OpeningLine
-other_line_of None name text = set_line_of name text
-other_line_of (Some quantity) name text = quantity_line_of quantity text
+  if allows setting number then Some (says.Number setting number) else None
 
 -- what a line says, by its name and the text after it
 abbrev pub named_line : List ℕ × List ℕ → Option OpeningLine
@@ -92,9 +77,10 @@ named_line p =
     else if bytes_eq p.0 (codes "times") then times_line_of p.1
     else if bytes_eq p.0 (codes "coin") then coin_line_of p.1
     else if bytes_eq p.0 (codes "verdict") then verdict_line_of p.1
+    else if bytes_eq p.0 (codes "policy") then policy_line_of p.1
     else if bytes_eq p.0 (codes "whitelist") then whitelist_line_of p.1
     else if bytes_eq p.0 (codes "rpcwhitelist") then rpc_line_of p.1
-    else other_line_of (quantity_named p.0) p.0 p.1
+    else setting_line_of p.0 p.1
 
 -- what a text says in an opening
 abbrev pub opening_line_of : List ℕ → Option OpeningLine

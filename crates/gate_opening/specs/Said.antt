@@ -1,5 +1,5 @@
 -- What the lines of an opening say: each in turn, up to a line `---` or the end of the text.
-use Rattle.std.specs.Prelude.{◌≡◌, ℕ, ◌+◌, nat_lt, nat_le, ◌||◌, not, if◌then◌else◌, Bool, true, false, List, [], ◌∷◌, ◌++◌, length, map, codes, Option, Some, None, is_some, Result, Ok, Err}
+use Rattle.std.specs.Prelude.{◌≡◌, ℕ, ◌+◌, nat_lt, nat_le, ◌||◌, not, if◌then◌else◌, Bool, true, false, List, [], ◌∷◌, ◌++◌, length, map, replicate, slice_index_or, slice_set, codes, Option, Some, None, is_some, Result, Ok, Err}
 use Rattle.std.specs.Option.{unwrap_or}
 use Rattle.std.specs.Str.{bytes_eq}
 use Rattle.gate_chain.specs.History.{max_height}
@@ -8,6 +8,7 @@ use Rattle.gate_chain.specs.declared.OpenFault.{OpenFault}
 use Rattle.gate_chain.specs.declared.OpeningCoin.{OpeningCoin}
 use Rattle.gate_submission.specs.declared.verdict.Verdict.{Verdict}
 use Rattle.gate_submission.specs.declared.verdict.VerdictRow.{VerdictRow}
+use Rattle.gate_admit.specs.Policies.{policy_of}
 use Rattle.gate_admit.specs.Verdicts.{has_row_on}
 use Rattle.gate_net.specs.declared.denial.NetDenial.{NetDenial}
 use Rattle.gate_net.specs.declared.entry.WhitelistEntry.{WhitelistEntry}
@@ -22,16 +23,18 @@ use Rattle.gate_opening.specs.declared.opening_fault.OpeningToken.TheVariants as
 use Rattle.gate_opening.specs.declared.opening_line.OpeningLine.{OpeningLine}
 use Rattle.gate_opening.specs.declared.opening_line.OpeningLine.TheVariants as says
 use Rattle.gate_lines.specs.Lines.{line_limit, count_limit, is_skipped, lines_of}
-use Rattle.gate_admit.specs.Policies.{Policy, allows, usual_policy, with_bare_multisig, with_full_rbf, with_quantity}
-use Rattle.gate_opening.specs.declared.quantities.SaidNumbers.{SaidNumbers}
-use Rattle.gate_opening.specs.Quantities.{is_said, nothing_said as no_numbers, with_said}
-use Rattle.gate_opening.specs.declared.setting.Settings.{Settings}
-use Rattle.gate_opening.specs.Settings.{nothing_set, said_of, with_setting}
+use Rattle.gate_register.specs.declared.Setting.{Setting}
+use Rattle.gate_register.specs.declared.Setting.TheVariants.{Bloom, BlocksOnly, WhitelistRelay, WhitelistForceRelay, RpcWhitelistDefault}
+use Rattle.gate_register.specs.Settings.{allows, count, place_of}
+use Rattle.gate_register.specs.Policies.{is_on, usual_policy, with_number}
+use Rattle.gate_release.specs.Releases.{choices, policy_beside}
+use Rattle.gate_release.specs.declared.Release.{Release}
 use Rattle.gate_opening.specs.OpeningLines.{said_by}
 use Rattle.gate_opening.specs.OpeningFaults.{located}
 use Rattle.gate_opening.specs.BlockTimes.{times_from, some_too_great}
 
--- what was said, with the line of each coin, which numbers of the policy were said and the policy by them, the entries of the whitelist, and the texts of the entries of the lists of methods
+-- what was said: with the line of each coin, the texts of the entries of the lists of methods, the release whose numbers hold where
+-- no line says another, whether each setting was said, in their order, and the policy by these
 pub record Said : Type 0 where
   pub budget : Option ℕ
   pub from : Option ℕ
@@ -42,14 +45,18 @@ pub record Said : Type 0 where
   pub other : Option Verdict
   pub whitelist : List WhitelistEntry
   pub rpcwhitelist : List (List ℕ)
-  pub settings : Settings
-  pub numbers : SaidNumbers
-  pub policy : Policy
+  pub release : Option Release
+  pub said : List Bool
+  pub policy : List ℕ
 
 abbrev pub nothing_said : Said
-nothing_said = record { budget = None; from = None; times = []; coins = []; coin_lines = []; rows = []; other = None; whitelist = []; rpcwhitelist = []; settings = nothing_set; numbers = no_numbers; policy = usual_policy }
+nothing_said = record { budget = None; from = None; times = []; coins = []; coin_lines = []; rows = []; other = None; whitelist = []; rpcwhitelist = []; release = None; said = replicate count false; policy = usual_policy }
 
 -- ---- one line
+
+-- a line said this setting
+abbrev pub is_said : Said → Setting → Bool
+is_said said setting = slice_index_or said.said (place_of setting) false
 
 -- the height of the first time
 abbrev pub first_height : Said → ℕ
@@ -70,7 +77,7 @@ abbrev pub entry_fault : Result WhitelistEntry NetDenial → Option OpeningToken
 entry_fault (Ok entry) = None
 entry_fault (Err denial) = Some (tokens.Whitelist denial)
 
--- what is wrong with one more line: a setting, a number, or a verdict on an input, may stand only once, and a number is within its
+-- what is wrong with one more line: a setting, a release, or a verdict on an input, may stand only once, and a number is within its
 -- bounds
 abbrev pub line_fault : Said → OpeningLine → Option OpeningToken
 line_fault said (says.Budget budget) = fault_if (is_some said.budget) tokens.BadLine
@@ -83,8 +90,8 @@ line_fault said (says.Verdict row) = fault_if (has_row_on said.rows row.wtxid ro
 line_fault said (says.OtherVerdicts verdict) = fault_if (is_some said.other) tokens.BadLine
 line_fault said (says.Whitelist entry) = entry_fault entry
 line_fault said (says.RpcWhitelist text) = None
-line_fault said (says.Set setting on) = fault_if (is_some (said_of said.settings setting)) tokens.BadLine
-line_fault said (says.Quantity quantity count) = fault_if (is_said said.numbers quantity || not (allows quantity count)) tokens.BadLine
+line_fault said (says.Defaults release) = fault_if (is_some said.release) tokens.BadLine
+line_fault said (says.Number setting value) = fault_if (is_said said setting || not (allows setting value)) tokens.BadLine
 
 abbrev pub with_entry : List WhitelistEntry → Result WhitelistEntry NetDenial → List WhitelistEntry
 with_entry entries (Ok entry) = entries ++ entry ∷ []
@@ -100,8 +107,8 @@ joined said number (says.Verdict row) = record said { rows = said.rows ++ row �
 joined said number (says.OtherVerdicts verdict) = record said { other = Some verdict }
 joined said number (says.Whitelist entry) = record said { whitelist = with_entry said.whitelist entry }
 joined said number (says.RpcWhitelist text) = record said { rpcwhitelist = said.rpcwhitelist ++ text ∷ [] }
-joined said number (says.Set setting on) = record said { settings = with_setting said.settings setting on }
-joined said number (says.Quantity quantity count) = record said { numbers = with_said said.numbers quantity; policy = with_quantity said.policy quantity count }
+joined said number (says.Defaults release) = record said { release = Some release; policy = policy_beside release said.said said.policy choices }
+joined said number (says.Number setting value) = record said { said = slice_set said.said (place_of setting) true; policy = with_number said.policy setting value }
 
 abbrev pub unless : Option OpeningToken → ℕ → Said → Result Said OpeningFault
 unless None number said = Ok said
@@ -138,32 +145,31 @@ all_said number said (line ∷ lines) =
     else Err (Line (number + 1) tokens.BadLine)
     else Err (Line (number + 1) tokens.BadLine)
 
+-- a switch, if a line said it
+abbrev pub switch_in : Said → Setting → Option Bool
+switch_in said setting = if is_said said setting then Some (is_on said.policy setting) else None
+
 abbrev pub blocksonly_in : Said → Bool
-blocksonly_in said = unwrap_or said.settings.blocksonly false
+blocksonly_in said = is_on said.policy BlocksOnly
 
 -- entries without words give relay unless the node takes blocks only
 abbrev pub whitelist_in : Said → Whitelist
 whitelist_in said = record {
   entries = said.whitelist;
-  relay = unwrap_or said.settings.whitelistrelay (not (blocksonly_in said));
-  forcerelay = unwrap_or said.settings.whitelistforcerelay false;
+  relay = unwrap_or (switch_in said WhitelistRelay) (not (blocksonly_in said));
+  forcerelay = is_on said.policy WhitelistForceRelay;
 }
 
 abbrev pub lists_in : Said → Lists
 lists_in said = record {
   entries = map entry_of said.rpcwhitelist;
-  is_default_on = default_of said.settings.rpcwhitelistdefault said.rpcwhitelist;
+  is_default_on = default_of (switch_in said RpcWhitelistDefault) said.rpcwhitelist;
 }
-
--- the policy: each number is the usual one if nothing is said of it
-abbrev pub policy_in : Said → Policy
-policy_in said =
-    with_bare_multisig (with_full_rbf said.policy (unwrap_or said.settings.mempoolfullrbf false)) (unwrap_or said.settings.permitbaremultisig true)
 
 abbrev pub opening_of : Said → Start
 opening_of said = record {
   budget = unwrap_or said.budget 300000000;
-  policy = policy_in said;
+  policy = policy_of said.policy;
   first = first_height said;
   coins = said.coins;
   times = said.times;
@@ -171,7 +177,7 @@ opening_of said = record {
   whitelist = whitelist_in said;
   rpcwhitelist = lists_in said;
   blocksonly = blocksonly_in said;
-  bloom = unwrap_or said.settings.bloom false;
+  bloom = is_on said.policy Bloom;
 }
 
 abbrev pub opened_unless : Option OpenFault → Said → Result World OpeningFault

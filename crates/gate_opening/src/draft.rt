@@ -2,18 +2,18 @@
 ghost use Rattle.std.specs.Prelude.{◌≡◌, ◌≢◌, Ok, Err, IfOk, IfErr};
 ghost use Rattle.gate_core.specs.Good.{IsGoodWorld};
 ghost use Rattle.gate_opening.specs.OpeningLines.{said_by};
-ghost use Rattle.gate_opening.specs.Said.{exceeds, is_past, nothing_said, opened_from, opening_of, policy_in, with_line, with_text, Takes};
+ghost use Rattle.gate_opening.specs.Said.{exceeds, is_past, is_said, nothing_said, opened_from, opening_of, switch_in, with_line, with_text, Takes};
 
 use crate::opening_fault::{OpeningFault, OpeningToken, at_line};
 use crate::opening_line::{MAX_HEIGHT, OpeningLine, read_opening_line};
-use crate::quantities::SaidNumbers;
-use crate::setting::{Setting, Settings};
 use crate::times::{append_times, times_fit};
-use gate_admit::{OpeningCoin, Policy, Quantity, Verdicts};
+use gate_admit::{OpeningCoin, Verdicts};
 use gate_bytes::{Kept, Memory, Text};
 use gate_core::{Opening, State};
 use gate_lines::is_blank_or_comment;
 use gate_net::{NetDenial, Whitelist, WhitelistEntry};
+use gate_register::{COUNT, Policy, Setting};
+use gate_release::Release;
 use gate_rpc::RpcWhitelist;
 use std::alloc::Global;
 use std::hash::BuildHasher;
@@ -38,9 +38,11 @@ pub(crate) struct OpeningDraft<S: BuildHasher + Copy + Drop> {
     verdicts: Verdicts<S>,
     whitelist: Vec<WhitelistEntry>,
     rpcwhitelist: Vec<Text>,
-    settings: Settings,
-    numbers: SaidNumbers,
-    /// The policy by the numbers that were said.
+    /// The release whose numbers hold where no line says another.
+    release: Option<Release>,
+    /// Whether a line said each setting, in their order.
+    said: [bool; COUNT],
+    /// The policy by the settings that were said and the release.
     policy: Policy,
 }
 
@@ -59,8 +61,8 @@ impl<S: BuildHasher + Copy + Drop> Model for OpeningDraft<S> {
       other = d.verdicts.other;
       whitelist = d.whitelist.items;
       rpcwhitelist = d.rpcwhitelist.items;
-      settings = d.settings;
-      numbers = d.numbers;
+      release = d.release;
+      said = d.said;
       policy = d.policy;
     } };
 }
@@ -78,8 +80,8 @@ impl<S: BuildHasher + Copy + Drop> OpeningDraft<S> {
             verdicts: Verdicts::new(alloc, hasher),
             whitelist: Vec::new(alloc),
             rpcwhitelist: Vec::new(alloc),
-            settings: Settings::new(),
-            numbers: SaidNumbers::new(),
+            release: None,
+            said: [false; COUNT],
             policy: Policy::default(),
         }
     }
@@ -134,8 +136,8 @@ impl<S: BuildHasher + Copy + Drop> OpeningDraft<S> {
                 Ok(()) => Ok(()),
                 Err(_) => Err(OpeningFault::Memory),
             },
-            OpeningLine::Set(setting, on) => self.set(number, setting, on),
-            OpeningLine::Quantity(quantity, count) => self.count(number, quantity, count),
+            OpeningLine::Defaults(release) => self.take_defaults(number, release),
+            OpeningLine::Number(setting, value) => self.set(number, setting, value),
         }
     }
 
@@ -197,47 +199,57 @@ impl<S: BuildHasher + Copy + Drop> OpeningDraft<S> {
         }
     }
 
-    fn set(&mut self, number: u64, setting: Setting, on: bool) -> Result<(), OpeningFault>
-        ensures { Takes result self.new (with_line self.old number (OpeningLine.Set setting on)) }
+    /// Takes a release's numbers for all settings that no line said; a line behind this one sets its own.
+    fn take_defaults(&mut self, number: u64, release: Release) -> Result<(), OpeningFault>
+        ensures { Takes result self.new (with_line self.old number (OpeningLine.Defaults release)) }
     {
-        if self.settings.get(setting).is_some() {
+        if self.release.is_some() {
             return Err(OpeningFault::Line(number, OpeningToken::BadLine));
         }
-        self.settings.set(setting, on);
+        self.release = Some(release);
+        self.policy = release.beside(self.policy, &self.said);
         Ok(())
     }
 
     /// Sets a number of the policy.
-    fn count(&mut self, number: u64, quantity: Quantity, count: u64) -> Result<(), OpeningFault>
-        ensures { Takes result self.new (with_line self.old number (OpeningLine.Quantity quantity count)) }
+    fn set(&mut self, number: u64, setting: Setting, value: u64) -> Result<(), OpeningFault>
+        ensures { Takes result self.new (with_line self.old number (OpeningLine.Number setting value)) }
     {
-        if self.numbers.has(quantity) {
+        if self.is_said(setting) {
             return Err(OpeningFault::Line(number, OpeningToken::BadLine));
         }
-        let Some(policy) = self.policy.with(quantity, count) else {
+        let Some(policy) = self.policy.with(setting, value) else {
             return Err(OpeningFault::Line(number, OpeningToken::BadLine));
         };
-        self.numbers.add(quantity);
+        self.said[setting.place()] = true;
         self.policy = policy;
         Ok(())
     }
 
-    /// The policy by what was said of numbers, of replacements and of multisig scripts.
-    fn policy(&self) -> Policy
-        ensures { result ≡ policy_in self.now }
+    /// Whether a line said this setting.
+    fn is_said(&self, setting: Setting) -> bool
+        ensures { result ≡ is_said self.now setting }
     {
-        let full_rbf = self.settings.mempoolfullrbf.unwrap_or(false);
-        let bare_multisig = self.settings.permitbaremultisig.unwrap_or(true);
-        self.policy
-            .with_full_rbf(full_rbf)
-            .with_bare_multisig(bare_multisig)
+        self.said[setting.place()]
+    }
+
+    /// A switch, if a line said it.
+    fn switch(&self, setting: Setting) -> Option<bool>
+        ensures { result ≡ switch_in self.now setting }
+    {
+        self.is_said(setting).then_some(self.policy.is_on(setting))
     }
 
     /// What a gate is opened with, and the line of each coin.
     fn opening(self, alloc: Global) -> Result<(Opening<S>, Vec<u64>), Memory>
         ensures { IfOk result (λ p. (p.0 ≡ opening_of self) × (p.1.items ≡ self.coin_lines)) }
     {
-        let policy = self.policy();
+        let policy = gate_admit::Policy::new(self.policy);
+        let blocksonly = self.policy.is_on(Setting::BlocksOnly);
+        let bloom = self.policy.is_on(Setting::Bloom);
+        let relay = self.switch(Setting::WhitelistRelay).unwrap_or(!blocksonly);
+        let forcerelay = self.policy.is_on(Setting::WhitelistForceRelay);
+        let is_default_on = self.switch(Setting::RpcWhitelistDefault);
         let OpeningDraft {
             budget,
             from,
@@ -247,16 +259,11 @@ impl<S: BuildHasher + Copy + Drop> OpeningDraft<S> {
             verdicts,
             whitelist,
             rpcwhitelist,
-            settings,
-            numbers: _,
+            release: _,
+            said: _,
             policy: _,
         } = self;
-        let lists = RpcWhitelist::parse(
-            alloc,
-            rpcwhitelist.as_slice(),
-            settings.rpcwhitelistdefault,
-        )?;
-        let blocksonly = settings.blocksonly.unwrap_or(false);
+        let lists = RpcWhitelist::parse(alloc, rpcwhitelist.as_slice(), is_default_on)?;
         let opening = Opening {
             budget: budget.unwrap_or(DEFAULT_BUDGET),
             policy,
@@ -266,12 +273,12 @@ impl<S: BuildHasher + Copy + Drop> OpeningDraft<S> {
             verdicts,
             whitelist: Whitelist {
                 entries: Kept::from_vec(whitelist),
-                relay: settings.whitelistrelay.unwrap_or(!blocksonly),
-                forcerelay: settings.whitelistforcerelay.unwrap_or(false),
+                relay,
+                forcerelay,
             },
             rpcwhitelist: lists,
             blocksonly,
-            bloom: settings.bloom.unwrap_or(false),
+            bloom,
         };
         Ok((opening, coin_lines))
     }

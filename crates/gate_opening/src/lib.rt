@@ -5,12 +5,12 @@
 #![tactic(auto)]
 
 mod draft;
+mod laws;
 mod opening;
 mod opening_fault;
 mod opening_line;
-mod quantities;
-mod setting;
 mod times;
 
+pub use laws::{openings_are_good, openings_have_defaults};
 pub use opening::read_opening;
 pub use opening_fault::{OpeningFault, OpeningToken};

@@ -13,7 +13,7 @@ use std::alloc::Global;
 use std::hash::BuildHasher;
 
 /// How reading one line of an opening ended.
-#[derive(Clone, Copy, Debug, PartialEq, Eq)]
+#[derive(Clone, Copy, PartialEq, Eq)]
 pub(crate) enum Step {
     Went,
     Ended,

@@ -1,15 +1,15 @@
 //! What one line of an opening says.
 ghost use Rattle.std.specs.Prelude.{◌≡◌, MatchOption, IfOk, None, Some};
 ghost use Rattle.std.specs.Option.{option_map};
-ghost use Rattle.gate_opening.specs.OpeningLines.{opening_line_of, budget_line_of, from_line_of, times_line_of, coin_line_of, verdict_line_of, whitelist_line_of, rpc_line_of, quantity_line_of, set_line_of, on_of};
+ghost use Rattle.gate_opening.specs.OpeningLines.{opening_line_of, budget_line_of, from_line_of, times_line_of, coin_line_of, verdict_line_of, policy_line_of, whitelist_line_of, rpc_line_of, setting_line_of};
 
-use crate::quantities::quantity_named;
-use crate::setting::Setting;
-use gate_admit::{Quantity, Verdict, VerdictRow};
+use gate_admit::{Verdict, VerdictRow};
 use gate_bytes::{Memory, Text};
 use gate_chain::OpeningCoin;
 use gate_lines::{next_word, read_number, read_small_number};
 use gate_net::{NetDenial, WhitelistEntry};
+use gate_register::Setting;
+use gate_release::Release;
 use gate_words::{read_coin, read_row, read_verdict};
 use std::alloc::Global;
 
@@ -20,7 +20,7 @@ pub const MAX_BUDGET: u64 = 1_000_000_000;
 pub(crate) const MAX_HEIGHT: u32 = 10_000_000;
 
 /// What one line of an opening says.
-#[derive(Debug, Drop)]
+#[derive(Drop)]
 pub(crate) enum OpeningLine {
     /// The pool's budget in virtual bytes.
     Budget(u64),
@@ -36,9 +36,10 @@ pub(crate) enum OpeningLine {
     Whitelist(Result<WhitelistEntry, NetDenial>),
     /// An entry of the lists of methods that users may call.
     RpcWhitelist(Text),
-    Set(Setting, bool),
-    /// A number of the policy, in the unit in which an operator says it.
-    Quantity(Quantity, u64),
+    /// The release whose numbers hold where no line says another.
+    Defaults(Release),
+    /// The number of a setting.
+    Number(Setting, u64),
 }
 
 /// What a line says, or `None` if it has no form.
@@ -63,16 +64,16 @@ pub(crate) fn read_opening_line(alloc: Global, line: &str) -> Result<Option<Open
     if name == "verdict" {
         return Ok(verdict_line(rest));
     }
+    if name == "policy" {
+        return Ok(policy_line(rest));
+    }
     if name == "whitelist" {
         return Ok(whitelist_line(rest));
     }
     if name == "rpcwhitelist" {
         return rpc_line(alloc, rest);
     }
-    match quantity_named(name) {
-        Some(quantity) => Ok(quantity_line(quantity, rest)),
-        None => Ok(set_line(name, rest)),
-    }
+    Ok(setting_line(name, rest))
 }
 
 /// `N`, behind the name `budget`
@@ -129,6 +130,13 @@ fn verdict_line(rest: &str) -> Option<OpeningLine>
     Some(OpeningLine::Verdict(read_row(rest)?))
 }
 
+/// `RELEASE`
+fn policy_line(rest: &str) -> Option<OpeningLine>
+    ensures { result ≡ policy_line_of rest.now }
+{
+    Release::from_word(rest).map(OpeningLine::Defaults)
+}
+
 /// `TEXT`, which isn't empty
 fn whitelist_line(rest: &str) -> Option<OpeningLine>
     ensures { result ≡ whitelist_line_of rest.now }
@@ -150,33 +158,14 @@ fn rpc_line(alloc: Global, rest: &str) -> Result<Option<OpeningLine>, Memory>
     Ok(Some(OpeningLine::RpcWhitelist(entry)))
 }
 
-/// `N`, within its bounds, behind the name of a number
-fn quantity_line(quantity: Quantity, rest: &str) -> Option<OpeningLine>
-    ensures { result ≡ quantity_line_of quantity rest.now }
+/// `N`, within its bounds, behind the word of a setting
+fn setting_line(word: &str, rest: &str) -> Option<OpeningLine>
+    ensures { result ≡ setting_line_of word.now rest.now }
 {
+    let setting = Setting::from_word(word)?;
     let number = read_number(rest)?;
-    if quantity.allows(number) {
-        Some(OpeningLine::Quantity(quantity, number))
-    } else {
-        None
-    }
-}
-
-/// `0|1` behind the name of a setting
-fn set_line(name: &str, rest: &str) -> Option<OpeningLine>
-    ensures { result ≡ set_line_of name.now rest.now }
-{
-    let setting = Setting::named(name)?;
-    Some(OpeningLine::Set(setting, is_on(rest)?))
-}
-
-fn is_on(text: &str) -> Option<bool>
-    ensures { result ≡ on_of text.now }
-{
-    if text == "0" {
-        Some(false)
-    } else if text == "1" {
-        Some(true)
+    if setting.allows(number) {
+        Some(OpeningLine::Number(setting, number))
     } else {
         None
     }

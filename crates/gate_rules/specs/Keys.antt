@@ -86,6 +86,10 @@ verdict_rules =
     ∷ key (codes "A46") (codes "mempool full") Keep
     ∷ []
 
+-- A51: what later releases ask
+abbrev pub later_rules : List Key
+later_rules = key (codes "A51") (codes "datacarrier") Keep ∷ []
+
 -- P1 to P10: what a peer may not do
 abbrev pub peer_rules : List Key
 peer_rules =
@@ -162,16 +166,27 @@ lane_faults =
     ∷ key (codes "fault") (codes "memory") Nothing
     ∷ []
 
+-- the words of answers to a user's call that are no denials by a rule
+abbrev pub call_words : List Key
+call_words =
+    key (codes "call") (codes "missing-inputs") Nothing
+    ∷ key (codes "call") (codes "Parse error") Nothing
+    ∷ key (codes "call") (codes "Invalid Request") Nothing
+    ∷ key (codes "call") (codes "Method not found") Nothing
+    ∷ key (codes "call") (codes "Invalid params") Nothing
+    ∷ key (codes "call") (codes "Transaction not in mempool") Nothing
+    ∷ []
+
 -- ---- the table
 
 abbrev pub with_admission : List Key → List Key
-with_admission keys = keys ++ transaction_rules ++ standard_rules ++ chain_rules ++ fee_rules ++ replacement_rules ++ verdict_rules
+with_admission keys = keys ++ transaction_rules ++ standard_rules ++ chain_rules ++ fee_rules ++ replacement_rules ++ verdict_rules ++ later_rules
 
 abbrev pub with_callers : List Key → List Key
 with_callers keys = keys ++ peer_rules ++ user_rules ++ whitelist_rules
 
 abbrev pub with_events : List Key → List Key
-with_events keys = keys ++ chain_event_rules ++ line_rules ++ opening_words ++ lane_faults
+with_events keys = keys ++ chain_event_rules ++ line_rules ++ opening_words ++ lane_faults ++ call_words
 
 abbrev pub table_keys : List Key
 table_keys = with_events (with_callers (with_admission []))

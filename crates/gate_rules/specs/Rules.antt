@@ -1,15 +1,20 @@
 -- By what a rule is found in the table.
-use Rattle.std.specs.Prelude.{ℕ, Bool, ◌||◌, List, filter}
+use Rattle.std.specs.Prelude.{ℕ, Bool, ◌||◌, List, filter, map}
 use Rattle.std.specs.Str.{bytes_eq}
+use Rattle.std.specs.Char.{to_ascii_lowercase}
 use Rattle.gate_rules.specs.Keys.{Key, key}
 use Rattle.gate_rules.specs.declared.rule.Rule.{Rule}
 
 abbrev pub key_of : Rule → Key
 key_of rule = key rule.name.now rule.token.now rule.then
 
--- the word is the name or the token
+-- the texts differ at most in the case of letters
+unfoldable pub is_alike : List ℕ → List ℕ → Bool
+is_alike text other = bytes_eq (map to_ascii_lowercase text) (map to_ascii_lowercase other)
+
+-- the word is the name or the token, in either case
 abbrev pub is_named : List ℕ → Key → Bool
-is_named word k = bytes_eq k.0 word || bytes_eq k.1 word
+is_named word k = is_alike k.0 word || is_alike k.1 word
 
 -- the rules among these that the word names
 abbrev pub named_among : List ℕ → List Rule → List Rule

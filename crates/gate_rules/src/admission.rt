@@ -1,6 +1,6 @@
 //! The rules of admission, in the order in which they are tested.
 ghost use Rattle.std.specs.Prelude.{◌≡◌, map};
-ghost use Rattle.gate_rules.specs.Keys.{transaction_rules, standard_rules, chain_rules, fee_rules, replacement_rules, verdict_rules};
+ghost use Rattle.gate_rules.specs.Keys.{transaction_rules, standard_rules, chain_rules, fee_rules, replacement_rules, verdict_rules, later_rules};
 ghost use Rattle.gate_rules.specs.Rules.{key_of};
 
 use crate::rule::{Rule, Then};
@@ -241,14 +241,14 @@ pub(crate) fn chain_rules() -> [Rule; 14]
             token: "bad-txns-nonstandard-inputs",
             then: Then::Keep,
             core: Some("AreInputsStandard"),
-            says: "An input spends a coin whose script is not standard, or a redeem script of more than 15 signature operations",
+            says: "An input spends a coin whose script is not standard, which an anchor is if anchors is 1 (0), or a redeem script of more than 15 signature operations; or the inputs have more legacy signature operations than maxtxlegacysigops says (no limit)",
         },
         Rule {
             name: "A32",
             token: "bad-witness-nonstandard",
             then: Then::Keep,
             core: Some("IsWitnessStandard"),
-            says: "A witness is not standard: one where none belongs, a witness script above 3,600 bytes, more than 100 items or an item above 80 bytes, or an annex",
+            says: "A witness is not standard: one where none belongs (as at an anchor if anchors is 1), a witness script above 3,600 bytes, more than 100 items or an item above 80 bytes, or an annex",
         },
         Rule {
             name: "A33",
@@ -349,7 +349,7 @@ pub(crate) fn verdict_rules() -> [Rule; 4]
             token: "verdict-missing",
             then: Then::Keep,
             core: None,
-            says: "The opening has no verdict on the script of an input; the line `verdict * ok` gives one for every input",
+            says: "There is no verdict on the script of an input; `verdict * ok` in the opening gives one for every input, and `chain verdict` one for an input",
         },
         Rule {
             name: "A44",
@@ -373,4 +373,17 @@ pub(crate) fn verdict_rules() -> [Rule; 4]
             says: "The pool is above its budget, and the transaction itself leaves it again",
         },
     ]
+}
+
+/// A51: what later releases ask.
+pub(crate) fn later_rules() -> [Rule; 1]
+    ensures { map key_of result ≡ later_rules }
+{
+    [Rule {
+        name: "A51",
+        token: "datacarrier",
+        then: Then::Keep,
+        core: Some("IsStandardTx (30.0)"),
+        says: "The scripts of outputs that carry data (OP_RETURN) have more bytes together than datacarriertotal says (no limit)",
+    }]
 }

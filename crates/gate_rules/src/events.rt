@@ -1,6 +1,6 @@
-//! The rules of chain events and lines, and the words for openings and lanes.
+//! The rules of chain events and lines, and the words for openings, lanes and calls.
 ghost use Rattle.std.specs.Prelude.{◌≡◌, map};
-ghost use Rattle.gate_rules.specs.Keys.{chain_event_rules, line_rules, opening_words, lane_faults};
+ghost use Rattle.gate_rules.specs.Keys.{call_words, chain_event_rules, line_rules, opening_words, lane_faults};
 ghost use Rattle.gate_rules.specs.Rules.{key_of};
 
 use crate::rule::{Rule, Then};
@@ -222,6 +222,56 @@ pub(crate) fn lane_faults() -> [Rule; 5]
             then: Then::Nothing,
             core: None,
             says: "Memory ran out in the event",
+        },
+    ]
+}
+
+/// The words of answers to a user's call that are no denials by a rule.
+pub(crate) fn call_words() -> [Rule; 6]
+    ensures { map key_of result ≡ call_words }
+{
+    [
+        Rule {
+            name: "call",
+            token: "missing-inputs",
+            then: Then::Nothing,
+            core: Some("testmempoolaccept"),
+            says: "The name that the answer to testmempoolaccept has for A25: an input spends what is no unspent output of the chain or the pool",
+        },
+        Rule {
+            name: "call",
+            token: "Parse error",
+            then: Then::Nothing,
+            core: Some("RPC_PARSE_ERROR (-32700)"),
+            says: "The call is not valid JSON",
+        },
+        Rule {
+            name: "call",
+            token: "Invalid Request",
+            then: Then::Nothing,
+            core: Some("RPC_INVALID_REQUEST (-32600)"),
+            says: "The call is no object with a method and a list of params",
+        },
+        Rule {
+            name: "call",
+            token: "Method not found",
+            then: Then::Nothing,
+            core: Some("RPC_METHOD_NOT_FOUND (-32601)"),
+            says: "There is no method of this name",
+        },
+        Rule {
+            name: "call",
+            token: "Invalid params",
+            then: Then::Nothing,
+            core: Some("RPC_INVALID_PARAMS (-32602)"),
+            says: "The method does not take these params",
+        },
+        Rule {
+            name: "call",
+            token: "Transaction not in mempool",
+            then: Then::Nothing,
+            core: Some("RPC_INVALID_ADDRESS_OR_KEY (-5)"),
+            says: "No transaction in the pool has this txid",
         },
     ]
 }

@@ -1,12 +1,12 @@
 //! A rule, or a word beside the rules.
 ghost use Rattle.std.specs.Prelude.{◌≡◌};
-ghost use Rattle.gate_rules.specs.Rules.{is_named, key_of};
+ghost use Rattle.gate_rules.specs.Rules.{is_alike, is_named, key_of};
 ghost use Rattle.gate_rules.specs.Texts.{then_text};
 
 use std::fmt;
 
 /// What follows if a rule fails.
-#[derive(Clone, Copy, Debug, PartialEq, Eq)]
+#[derive(Clone, Copy, PartialEq, Eq)]
 pub enum Then {
     /// The session is kept.
     Keep,
@@ -44,9 +44,9 @@ impl Then {
 }
 
 /// A rule, or a word beside the rules.
-#[derive(Clone, Copy, Debug, PartialEq, Eq)]
+#[derive(Clone, Copy, PartialEq, Eq)]
 pub struct Rule {
-    /// What is printed before the token: a letter and a number, or `opening` or `fault`.
+    /// What is printed before the token: a letter and a number, or `opening`, `fault` or `call`.
     pub name: &'static str,
     pub token: &'static str,
     pub then: Then,
@@ -57,12 +57,19 @@ pub struct Rule {
     pub says: &'static str,
 }
 
+/// Whether two texts differ at most in the case of letters (A to Z).
+fn is_alike(text: &str, other: &str) -> bool
+    ensures { result ≡ is_alike text.now other.now }
+{
+    text.eq_ignore_ascii_case(other)
+}
+
 impl Rule {
-    /// Whether a word is the rule's name or its token.
+    /// Whether a word is the rule's name or its token, in either case.
     pub fn is_named(&self, word: &str) -> bool
         ensures { result ≡ is_named word.now (key_of self.now) }
     {
-        self.name == word || self.token == word
+        is_alike(self.name, word) || is_alike(self.token, word)
     }
 }
 

@@ -5,10 +5,11 @@ ghost use Rattle.gate_rules.specs.Rules.{is_named, key_of, named_among};
 ghost use Rattle.gate_rules.specs.Texts.{rules_text};
 
 use crate::admission::{
-    chain_rules, fee_rules, replacement_rules, standard_rules, transaction_rules, verdict_rules,
+    chain_rules, fee_rules, later_rules, replacement_rules, standard_rules, transaction_rules,
+    verdict_rules,
 };
 use crate::callers::{peer_rules, user_rules, whitelist_rules};
-use crate::events::{chain_event_rules, lane_faults, line_rules, opening_words};
+use crate::events::{call_words, chain_event_rules, lane_faults, line_rules, opening_words};
 use crate::rule::Rule;
 use gate_bytes::Memory;
 use std::alloc::Global;
@@ -19,7 +20,7 @@ fn append(rules: &mut Vec<Rule>, more: &[Rule]) -> Result<(), Memory>
     Ok(rules.extend_from_slice(more)?)
 }
 
-/// Appends A1 to A46.
+/// Appends A1 to A46, and A51.
 fn append_admission(rules: &mut Vec<Rule>) -> Result<(), Memory>
     ensures { OnOk result (map key_of rules.new.items ≡ with_admission (map key_of rules.old.items)) }
 {
@@ -28,7 +29,8 @@ fn append_admission(rules: &mut Vec<Rule>) -> Result<(), Memory>
     append(rules, &chain_rules())?;
     append(rules, &fee_rules())?;
     append(rules, &replacement_rules())?;
-    append(rules, &verdict_rules())
+    append(rules, &verdict_rules())?;
+    append(rules, &later_rules())
 }
 
 /// Appends P1 to P10, U1, and N1 to N3.
@@ -40,18 +42,19 @@ fn append_callers(rules: &mut Vec<Rule>) -> Result<(), Memory>
     append(rules, &whitelist_rules())
 }
 
-/// Appends C1 to C12, L1 to L3, and the words for openings and lanes.
+/// Appends C1 to C12, L1 to L3, and the words for openings, lanes and calls.
 fn append_events(rules: &mut Vec<Rule>) -> Result<(), Memory>
     ensures { OnOk result (map key_of rules.new.items ≡ with_events (map key_of rules.old.items)) }
 {
     append(rules, &chain_event_rules())?;
     append(rules, &line_rules())?;
     append(rules, &opening_words())?;
-    append(rules, &lane_faults())
+    append(rules, &lane_faults())?;
+    append(rules, &call_words())
 }
 
 /// All rules and words, in their order: those of admission, peers, users, whitelists, chain events and lines, and then the
-/// words for openings and lanes.
+/// words for openings, lanes and calls.
 pub fn rules(alloc: Global) -> Result<Vec<Rule>, Memory>
     ensures { IfOk result (λ rules. map key_of rules.items ≡ table_keys) }
 {
@@ -75,7 +78,7 @@ fn named_among(alloc: Global, rules: &[Rule], word: &str) -> Result<Vec<Rule>, M
     )
 }
 
-/// The rules and words whose name or token is this word, in their order.
+/// The rules and words whose name or token is this word, in either case, in their order.
 pub fn rules_named(alloc: Global, word: &str) -> Result<Vec<Rule>, Memory>
     ensures { IfOk result (λ found. map key_of found.items ≡ filter (is_named word.now) table_keys) }
 {

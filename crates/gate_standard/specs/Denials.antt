@@ -1,100 +1,67 @@
--- The number of each rule in the written order, and its token as it is printed.
+-- What is said of each rule, in the order of their numbers: its number, and its token as it is printed.
 use Rattle.std.specs.Prelude.{ℕ, List, codes}
 use Rattle.gate_standard.specs.declared.denial.Denial.{Denial}
-use Rattle.gate_standard.specs.declared.denial.Denial.TheVariants.{Decode, VinEmpty, VoutEmpty, Oversize, VoutNegative, VoutTooLarge, TotalTooLarge, InputsDuplicate, CoinbaseLength, PrevoutNull, Coinbase, Version, TxSize, ScriptSigSize, ScriptSigNotPushOnly, ScriptPubKey, Dust, MultiOpReturn, TxSizeSmall, NonFinal, AlreadyInMempool, SameNonWitnessData, MempoolConflict, AlreadyKnown, MissingOrSpent, NonBip68Final, PrematureSpend, InputValues, InBelowOut, FeeOutOfRange, NonstandardInputs, WitnessNonstandard, TooManySigops, MempoolMinFee, MinRelayFee, TooLongChain, SpendsConflicting, LowerFeeRate, TooManyReplacements, AddsUnconfirmed, LowerFee, LowerDifference, VerdictMissing, SoftVerdict, HardVerdict, MempoolFull}
+use Rattle.gate_standard.specs.declared.denial.Denial.TheVariants.{Decode, VinEmpty, VoutEmpty, Oversize, VoutNegative, VoutTooLarge, TotalTooLarge, InputsDuplicate, CoinbaseLength, PrevoutNull, Coinbase, Version, TxSize, ScriptSigSize, ScriptSigNotPushOnly, ScriptPubKey, Dust, MultiOpReturn, TxSizeSmall, NonFinal, AlreadyInMempool, SameNonWitnessData, MempoolConflict, AlreadyKnown, MissingOrSpent, NonBip68Final, PrematureSpend, InputValues, InBelowOut, FeeOutOfRange, NonstandardInputs, WitnessNonstandard, TooManySigops, MempoolMinFee, MinRelayFee, TooLongChain, SpendsConflicting, LowerFeeRate, TooManyReplacements, AddsUnconfirmed, LowerFee, LowerDifference, VerdictMissing, SoftVerdict, HardVerdict, MempoolFull, DataCarrier}
+
+-- a rule's number, and its token
+pub record Row : Type 0 where
+  pub rule : ℕ
+  pub token : List ℕ
+
+abbrev pub row : ℕ → List ℕ → Row
+row rule token = record { rule = rule; token = token }
+
+abbrev pub row_of : Denial → Row
+row_of Decode = row 1 (codes "tx-decode")
+row_of VinEmpty = row 2 (codes "bad-txns-vin-empty")
+row_of VoutEmpty = row 3 (codes "bad-txns-vout-empty")
+row_of Oversize = row 4 (codes "bad-txns-oversize")
+row_of VoutNegative = row 5 (codes "bad-txns-vout-negative")
+row_of VoutTooLarge = row 6 (codes "bad-txns-vout-toolarge")
+row_of TotalTooLarge = row 7 (codes "bad-txns-txouttotal-toolarge")
+row_of InputsDuplicate = row 8 (codes "bad-txns-inputs-duplicate")
+row_of CoinbaseLength = row 9 (codes "bad-cb-length")
+row_of PrevoutNull = row 10 (codes "bad-txns-prevout-null")
+row_of Coinbase = row 11 (codes "coinbase")
+row_of Version = row 12 (codes "version")
+row_of TxSize = row 13 (codes "tx-size")
+row_of ScriptSigSize = row 14 (codes "scriptsig-size")
+row_of ScriptSigNotPushOnly = row 15 (codes "scriptsig-not-pushonly")
+row_of ScriptPubKey = row 16 (codes "scriptpubkey")
+row_of Dust = row 17 (codes "dust")
+row_of MultiOpReturn = row 18 (codes "multi-op-return")
+row_of TxSizeSmall = row 19 (codes "tx-size-small")
+row_of NonFinal = row 20 (codes "non-final")
+row_of AlreadyInMempool = row 21 (codes "txn-already-in-mempool")
+row_of SameNonWitnessData = row 22 (codes "txn-same-nonwitness-data-in-mempool")
+row_of MempoolConflict = row 23 (codes "txn-mempool-conflict")
+row_of AlreadyKnown = row 24 (codes "txn-already-known")
+row_of MissingOrSpent = row 25 (codes "bad-txns-inputs-missingorspent")
+row_of NonBip68Final = row 26 (codes "non-BIP68-final")
+row_of PrematureSpend = row 27 (codes "bad-txns-premature-spend-of-coinbase")
+row_of InputValues = row 28 (codes "bad-txns-inputvalues-outofrange")
+row_of InBelowOut = row 29 (codes "bad-txns-in-belowout")
+row_of FeeOutOfRange = row 30 (codes "bad-txns-fee-outofrange")
+row_of NonstandardInputs = row 31 (codes "bad-txns-nonstandard-inputs")
+row_of WitnessNonstandard = row 32 (codes "bad-witness-nonstandard")
+row_of TooManySigops = row 33 (codes "bad-txns-too-many-sigops")
+row_of MempoolMinFee = row 34 (codes "mempool min fee not met")
+row_of MinRelayFee = row 35 (codes "min relay fee not met")
+row_of TooLongChain = row 36 (codes "too-long-mempool-chain")
+row_of SpendsConflicting = row 37 (codes "bad-txns-spends-conflicting-tx")
+row_of LowerFeeRate = row 38 (codes "insufficient fee")
+row_of TooManyReplacements = row 39 (codes "too many potential replacements")
+row_of AddsUnconfirmed = row 40 (codes "replacement-adds-unconfirmed")
+row_of LowerFee = row 41 (codes "insufficient fee")
+row_of LowerDifference = row 42 (codes "insufficient fee")
+row_of VerdictMissing = row 43 (codes "verdict-missing")
+row_of SoftVerdict = row 44 (codes "non-mandatory-script-verify-flag")
+row_of HardVerdict = row 45 (codes "mandatory-script-verify-flag-failed")
+row_of MempoolFull = row 46 (codes "mempool full")
+row_of DataCarrier = row 51 (codes "datacarrier")
 
 abbrev pub rule_of : Denial → ℕ
-rule_of Decode = 1
-rule_of VinEmpty = 2
-rule_of VoutEmpty = 3
-rule_of Oversize = 4
-rule_of VoutNegative = 5
-rule_of VoutTooLarge = 6
-rule_of TotalTooLarge = 7
-rule_of InputsDuplicate = 8
-rule_of CoinbaseLength = 9
-rule_of PrevoutNull = 10
-rule_of Coinbase = 11
-rule_of Version = 12
-rule_of TxSize = 13
-rule_of ScriptSigSize = 14
-rule_of ScriptSigNotPushOnly = 15
-rule_of ScriptPubKey = 16
-rule_of Dust = 17
-rule_of MultiOpReturn = 18
-rule_of TxSizeSmall = 19
-rule_of NonFinal = 20
-rule_of AlreadyInMempool = 21
-rule_of SameNonWitnessData = 22
-rule_of MempoolConflict = 23
-rule_of AlreadyKnown = 24
-rule_of MissingOrSpent = 25
-rule_of NonBip68Final = 26
-rule_of PrematureSpend = 27
-rule_of InputValues = 28
-rule_of InBelowOut = 29
-rule_of FeeOutOfRange = 30
-rule_of NonstandardInputs = 31
-rule_of WitnessNonstandard = 32
-rule_of TooManySigops = 33
-rule_of MempoolMinFee = 34
-rule_of MinRelayFee = 35
-rule_of TooLongChain = 36
-rule_of SpendsConflicting = 37
-rule_of LowerFeeRate = 38
-rule_of TooManyReplacements = 39
-rule_of AddsUnconfirmed = 40
-rule_of LowerFee = 41
-rule_of LowerDifference = 42
-rule_of VerdictMissing = 43
-rule_of SoftVerdict = 44
-rule_of HardVerdict = 45
-rule_of MempoolFull = 46
+rule_of denial = (row_of denial).rule
 
 abbrev pub token_of : Denial → List ℕ
-token_of Decode = codes "tx-decode"
-token_of VinEmpty = codes "bad-txns-vin-empty"
-token_of VoutEmpty = codes "bad-txns-vout-empty"
-token_of Oversize = codes "bad-txns-oversize"
-token_of VoutNegative = codes "bad-txns-vout-negative"
-token_of VoutTooLarge = codes "bad-txns-vout-toolarge"
-token_of TotalTooLarge = codes "bad-txns-txouttotal-toolarge"
-token_of InputsDuplicate = codes "bad-txns-inputs-duplicate"
-token_of CoinbaseLength = codes "bad-cb-length"
-token_of PrevoutNull = codes "bad-txns-prevout-null"
-token_of Coinbase = codes "coinbase"
-token_of Version = codes "version"
-token_of TxSize = codes "tx-size"
-token_of ScriptSigSize = codes "scriptsig-size"
-token_of ScriptSigNotPushOnly = codes "scriptsig-not-pushonly"
-token_of ScriptPubKey = codes "scriptpubkey"
-token_of Dust = codes "dust"
-token_of MultiOpReturn = codes "multi-op-return"
-token_of TxSizeSmall = codes "tx-size-small"
-token_of NonFinal = codes "non-final"
-token_of AlreadyInMempool = codes "txn-already-in-mempool"
-token_of SameNonWitnessData = codes "txn-same-nonwitness-data-in-mempool"
-token_of MempoolConflict = codes "txn-mempool-conflict"
-token_of AlreadyKnown = codes "txn-already-known"
-token_of MissingOrSpent = codes "bad-txns-inputs-missingorspent"
-token_of NonBip68Final = codes "non-BIP68-final"
-token_of PrematureSpend = codes "bad-txns-premature-spend-of-coinbase"
-token_of InputValues = codes "bad-txns-inputvalues-outofrange"
-token_of InBelowOut = codes "bad-txns-in-belowout"
-token_of FeeOutOfRange = codes "bad-txns-fee-outofrange"
-token_of NonstandardInputs = codes "bad-txns-nonstandard-inputs"
-token_of WitnessNonstandard = codes "bad-witness-nonstandard"
-token_of TooManySigops = codes "bad-txns-too-many-sigops"
-token_of MempoolMinFee = codes "mempool min fee not met"
-token_of MinRelayFee = codes "min relay fee not met"
-token_of TooLongChain = codes "too-long-mempool-chain"
-token_of SpendsConflicting = codes "bad-txns-spends-conflicting-tx"
-token_of LowerFeeRate = codes "insufficient fee"
-token_of TooManyReplacements = codes "too many potential replacements"
-token_of AddsUnconfirmed = codes "replacement-adds-unconfirmed"
-token_of LowerFee = codes "insufficient fee"
-token_of LowerDifference = codes "insufficient fee"
-token_of VerdictMissing = codes "verdict-missing"
-token_of SoftVerdict = codes "non-mandatory-script-verify-flag"
-token_of HardVerdict = codes "mandatory-script-verify-flag-failed"
-token_of MempoolFull = codes "mempool full"
+token_of denial = (row_of denial).token

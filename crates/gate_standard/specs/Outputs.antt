@@ -9,6 +9,7 @@ use Rattle.gate_script.specs.declared.templates.Template.TheVariants.{NullData, 
 use Rattle.gate_script.specs.Templates.{template_of}
 use Rattle.gate_script.specs.Witness.{witness_program_of}
 use Rattle.gate_standard.specs.Amounts.{required_fee}
+use Rattle.gate_standard.specs.declared.amounts.Feerate.{Feerate}
 use Rattle.gate_standard.specs.declared.standards.Standards.{Standards}
 
 -- whether a script of this template and this size is standard: at most 3 keys if any, and as much data as the operator allows
@@ -33,13 +34,13 @@ carries_data output = is_null_data (template_of output.script)
 abbrev pub size_with_spend : TxOut → ℕ
 size_with_spend o = length (output o) + (if is_some (witness_program_of o.script) then 67 else 148)
 
--- the least value with which an output is relayed: the fee of it and of the input that spends it, at this rate in satoshi per 1,000 bytes
-unfoldable pub dust_threshold_of : ℕ → TxOut → ℕ
+-- the least value with which an output is relayed: the fee of it and of the input that spends it, at this rate for 1,000 bytes
+unfoldable pub dust_threshold_of : Feerate → TxOut → ℕ
 dust_threshold_of rate o = if is_unspendable o.script then 0 else required_fee rate (size_with_spend o)
 
 abbrev pub is_below : ℤ → ℕ → Bool
 is_below (pos n) limit = nat_lt n limit
 is_below (negsuc n) limit = true
 
-unfoldable pub is_dust : ℕ → TxOut → Bool
+unfoldable pub is_dust : Feerate → TxOut → Bool
 is_dust rate o = not (carries_data o) && is_below o.value (dust_threshold_of rate o)

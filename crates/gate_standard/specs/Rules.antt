@@ -1,8 +1,9 @@
 -- The rules that a transaction meets or fails by itself, in the written order.
-use Rattle.std.specs.Prelude.{ℕ, ◌+◌, ◌*◌, nat_lt, ◌==◌, ◌&&◌, ◌||◌, not, Bool, false, List, [], ◌∷◌, ◌++◌, length, ℤ, pos}
+use Rattle.std.specs.Prelude.{ℕ, ◌+◌, ◌*◌, ◌-◌, nat_lt, ◌==◌, ◌&&◌, ◌||◌, not, Bool, true, false, List, [], ◌∷◌, ◌++◌, length, ℤ, pos, Option}
 use Rattle.std.specs.Int.{is_negative}
 use Rattle.std.specs.Ordering.{int_eq}
 use Rattle.std.specs.List.{list_any, count_by, flat_map}
+use Rattle.std.specs.Option.{option_map}
 use Rattle.gate_bytes.specs.Order.{Rule}
 use Rattle.gate_tx.specs.declared.transaction.TxIn.{TxIn}
 use Rattle.gate_tx.specs.declared.transaction.TxOut.{TxOut}
@@ -12,9 +13,10 @@ use Rattle.gate_tx.specs.Money.{max_money, amount_or_zero}
 use Rattle.gate_tx.specs.Sizes.{stripped_size_of, weight_of}
 use Rattle.gate_script.specs.Pushes.{is_push_only}
 use Rattle.gate_standard.specs.declared.denial.Denial.{Denial}
-use Rattle.gate_standard.specs.declared.denial.Denial.TheVariants.{VinEmpty, VoutEmpty, Oversize, VoutNegative, VoutTooLarge, TotalTooLarge, InputsDuplicate, CoinbaseLength, PrevoutNull, Coinbase, Version, TxSize, ScriptSigSize, ScriptSigNotPushOnly, ScriptPubKey, Dust, MultiOpReturn, TxSizeSmall}
+use Rattle.gate_standard.specs.declared.denial.Denial.TheVariants.{VinEmpty, VoutEmpty, Oversize, VoutNegative, VoutTooLarge, TotalTooLarge, InputsDuplicate, CoinbaseLength, PrevoutNull, Coinbase, Version, TxSize, ScriptSigSize, ScriptSigNotPushOnly, ScriptPubKey, Dust, MultiOpReturn, TxSizeSmall, DataCarrier}
 use Rattle.gate_standard.specs.Outputs.{is_standard_output, is_dust, carries_data}
 use Rattle.gate_standard.specs.declared.standards.Standards.{Standards}
+use Rattle.gate_standard.specs.Standards.{is_past}
 
 -- the rules on a value that comes after values of this sum
 abbrev pub rules_of_value : ℕ → ℤ → List (Rule Denial)
@@ -71,11 +73,23 @@ rules_of_input input =
     ∷ (ScriptSigNotPushOnly, not (is_push_only input.script))
     ∷ []
 
-abbrev pub rules_of_output : Standards → TxOut → List (Rule Denial)
-rules_of_output standards output =
+-- the rules on an output, if the outputs before it left this many bytes for scripts that carry data
+abbrev pub rules_of_output : Standards → Option ℕ → TxOut → List (Rule Denial)
+rules_of_output standards left output =
     (ScriptPubKey, not (is_standard_output standards output))
+    ∷ (DataCarrier, carries_data output && is_past left (length output.script))
     ∷ (Dust, is_dust standards.dust_rate output)
     ∷ []
+
+-- what is left behind a script of this size, which carries data or doesn't
+abbrev pub left_behind : Option ℕ → Bool → ℕ → Option ℕ
+left_behind left false size = left
+left_behind left true size = option_map (λ bytes. bytes - size) left
+
+-- the rules on each output in turn, the first of which has this many bytes left
+abbrev pub rules_of_outputs : Standards → Option ℕ → List TxOut → List (Rule Denial)
+rules_of_outputs standards left [] = []
+rules_of_outputs standards left (output ∷ outputs) = rules_of_output standards left output ++ rules_of_outputs standards (left_behind left (carries_data output) (length output.script)) outputs
 
 abbrev pub is_version : ℤ → Bool
 is_version version = int_eq version (pos 1) || int_eq version (pos 2)
@@ -94,10 +108,10 @@ form_rules tx =
     ∷ (TxSize, nat_lt 400_000 (weight_of tx))
     ∷ flat_map rules_of_input tx.inputs
 
--- the rules of policy on a transaction by what an operator takes for standard (A16 to A19)
+-- the rules of policy on a transaction by what an operator takes for standard (A16 to A19, and A51)
 unfoldable pub output_rules : Standards → Tx → List (Rule Denial)
-output_rules standards tx = flat_map (rules_of_output standards) tx.outputs ++ rules_of_whole standards tx
+output_rules standards tx = rules_of_outputs standards standards.data_total tx.outputs ++ rules_of_whole standards tx
 
--- the rules of policy on a transaction, which one in a block may break (A12 to A19)
+-- the rules of policy on a transaction, which one in a block may break (A12 to A19, and A51)
 unfoldable pub standard_rules : Standards → Tx → List (Rule Denial)
 standard_rules standards tx = form_rules tx ++ output_rules standards tx

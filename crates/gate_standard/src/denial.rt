@@ -4,9 +4,9 @@ ghost use Rattle.std.specs.Prelude.{◌≡◌};
 use std::error::Error;
 use std::fmt;
 
-/// A rule of admission that fails, by its place in the written order. A token is the reject reason
-/// of Bitcoin Core 22.0, if it has one.
-#[derive(Clone, Copy, Debug, PartialEq, Eq)]
+/// A rule of admission that fails, by its number. Up to A46 the numbers are those of the written order, in which a later
+/// one stands where its own rules do. A token is the reject reason of Bitcoin Core, of 22.0 if that has the rule.
+#[derive(Clone, Copy, PartialEq, Eq)]
 pub enum Denial {
     /// A1: the bytes are no transaction.
     Decode,
@@ -101,7 +101,209 @@ pub enum Denial {
     HardVerdict,
     /// A46: granted, but no longer in the pool once expiry and trim have run.
     MempoolFull,
+    /// A51: the scripts of its outputs that carry data are too many bytes together.
+    DataCarrier,
 }
+
+/// What is said of a rule.
+struct Row {
+    /// Its number: 2 for A2.
+    rule: u8,
+    /// The reason as it is printed.
+    token: &'static str,
+}
+
+/// The row of each rule, in the order of their numbers.
+static ROWS: [Row; 47] = [
+    Row {
+        rule: 1,
+        token: "tx-decode",
+    },
+    Row {
+        rule: 2,
+        token: "bad-txns-vin-empty",
+    },
+    Row {
+        rule: 3,
+        token: "bad-txns-vout-empty",
+    },
+    Row {
+        rule: 4,
+        token: "bad-txns-oversize",
+    },
+    Row {
+        rule: 5,
+        token: "bad-txns-vout-negative",
+    },
+    Row {
+        rule: 6,
+        token: "bad-txns-vout-toolarge",
+    },
+    Row {
+        rule: 7,
+        token: "bad-txns-txouttotal-toolarge",
+    },
+    Row {
+        rule: 8,
+        token: "bad-txns-inputs-duplicate",
+    },
+    Row {
+        rule: 9,
+        token: "bad-cb-length",
+    },
+    Row {
+        rule: 10,
+        token: "bad-txns-prevout-null",
+    },
+    Row {
+        rule: 11,
+        token: "coinbase",
+    },
+    Row {
+        rule: 12,
+        token: "version",
+    },
+    Row {
+        rule: 13,
+        token: "tx-size",
+    },
+    Row {
+        rule: 14,
+        token: "scriptsig-size",
+    },
+    Row {
+        rule: 15,
+        token: "scriptsig-not-pushonly",
+    },
+    Row {
+        rule: 16,
+        token: "scriptpubkey",
+    },
+    Row {
+        rule: 17,
+        token: "dust",
+    },
+    Row {
+        rule: 18,
+        token: "multi-op-return",
+    },
+    Row {
+        rule: 19,
+        token: "tx-size-small",
+    },
+    Row {
+        rule: 20,
+        token: "non-final",
+    },
+    Row {
+        rule: 21,
+        token: "txn-already-in-mempool",
+    },
+    Row {
+        rule: 22,
+        token: "txn-same-nonwitness-data-in-mempool",
+    },
+    Row {
+        rule: 23,
+        token: "txn-mempool-conflict",
+    },
+    Row {
+        rule: 24,
+        token: "txn-already-known",
+    },
+    Row {
+        rule: 25,
+        token: "bad-txns-inputs-missingorspent",
+    },
+    Row {
+        rule: 26,
+        token: "non-BIP68-final",
+    },
+    Row {
+        rule: 27,
+        token: "bad-txns-premature-spend-of-coinbase",
+    },
+    Row {
+        rule: 28,
+        token: "bad-txns-inputvalues-outofrange",
+    },
+    Row {
+        rule: 29,
+        token: "bad-txns-in-belowout",
+    },
+    Row {
+        rule: 30,
+        token: "bad-txns-fee-outofrange",
+    },
+    Row {
+        rule: 31,
+        token: "bad-txns-nonstandard-inputs",
+    },
+    Row {
+        rule: 32,
+        token: "bad-witness-nonstandard",
+    },
+    Row {
+        rule: 33,
+        token: "bad-txns-too-many-sigops",
+    },
+    Row {
+        rule: 34,
+        token: "mempool min fee not met",
+    },
+    Row {
+        rule: 35,
+        token: "min relay fee not met",
+    },
+    Row {
+        rule: 36,
+        token: "too-long-mempool-chain",
+    },
+    Row {
+        rule: 37,
+        token: "bad-txns-spends-conflicting-tx",
+    },
+    Row {
+        rule: 38,
+        token: "insufficient fee",
+    },
+    Row {
+        rule: 39,
+        token: "too many potential replacements",
+    },
+    Row {
+        rule: 40,
+        token: "replacement-adds-unconfirmed",
+    },
+    Row {
+        rule: 41,
+        token: "insufficient fee",
+    },
+    Row {
+        rule: 42,
+        token: "insufficient fee",
+    },
+    Row {
+        rule: 43,
+        token: "verdict-missing",
+    },
+    Row {
+        rule: 44,
+        token: "non-mandatory-script-verify-flag",
+    },
+    Row {
+        rule: 45,
+        token: "mandatory-script-verify-flag-failed",
+    },
+    Row {
+        rule: 46,
+        token: "mempool full",
+    },
+    Row {
+        rule: 51,
+        token: "datacarrier",
+    },
+];
 
 impl Denial {
     ghost use Rattle.gate_standard.specs.Denials.{rule_of, token_of};
@@ -110,108 +312,14 @@ impl Denial {
     pub fn rule(&self) -> u8
         ensures { result ≡ rule_of self.now }
     {
-        match self {
-            Denial::Decode => 1,
-            Denial::VinEmpty => 2,
-            Denial::VoutEmpty => 3,
-            Denial::Oversize => 4,
-            Denial::VoutNegative => 5,
-            Denial::VoutTooLarge => 6,
-            Denial::TotalTooLarge => 7,
-            Denial::InputsDuplicate => 8,
-            Denial::CoinbaseLength => 9,
-            Denial::PrevoutNull => 10,
-            Denial::Coinbase => 11,
-            Denial::Version => 12,
-            Denial::TxSize => 13,
-            Denial::ScriptSigSize => 14,
-            Denial::ScriptSigNotPushOnly => 15,
-            Denial::ScriptPubKey => 16,
-            Denial::Dust => 17,
-            Denial::MultiOpReturn => 18,
-            Denial::TxSizeSmall => 19,
-            Denial::NonFinal => 20,
-            Denial::AlreadyInMempool => 21,
-            Denial::SameNonWitnessData => 22,
-            Denial::MempoolConflict => 23,
-            Denial::AlreadyKnown => 24,
-            Denial::MissingOrSpent => 25,
-            Denial::NonBip68Final => 26,
-            Denial::PrematureSpend => 27,
-            Denial::InputValues => 28,
-            Denial::InBelowOut => 29,
-            Denial::FeeOutOfRange => 30,
-            Denial::NonstandardInputs => 31,
-            Denial::WitnessNonstandard => 32,
-            Denial::TooManySigops => 33,
-            Denial::MempoolMinFee => 34,
-            Denial::MinRelayFee => 35,
-            Denial::TooLongChain => 36,
-            Denial::SpendsConflicting => 37,
-            Denial::LowerFeeRate => 38,
-            Denial::TooManyReplacements => 39,
-            Denial::AddsUnconfirmed => 40,
-            Denial::LowerFee => 41,
-            Denial::LowerDifference => 42,
-            Denial::VerdictMissing => 43,
-            Denial::SoftVerdict => 44,
-            Denial::HardVerdict => 45,
-            Denial::MempoolFull => 46,
-        }
+        ROWS[*self as usize].rule
     }
 
     /// The reason as it is printed.
     pub fn token(&self) -> &'static str
         ensures { result.now ≡ token_of self.now }
     {
-        match self {
-            Denial::Decode => "tx-decode",
-            Denial::VinEmpty => "bad-txns-vin-empty",
-            Denial::VoutEmpty => "bad-txns-vout-empty",
-            Denial::Oversize => "bad-txns-oversize",
-            Denial::VoutNegative => "bad-txns-vout-negative",
-            Denial::VoutTooLarge => "bad-txns-vout-toolarge",
-            Denial::TotalTooLarge => "bad-txns-txouttotal-toolarge",
-            Denial::InputsDuplicate => "bad-txns-inputs-duplicate",
-            Denial::CoinbaseLength => "bad-cb-length",
-            Denial::PrevoutNull => "bad-txns-prevout-null",
-            Denial::Coinbase => "coinbase",
-            Denial::Version => "version",
-            Denial::TxSize => "tx-size",
-            Denial::ScriptSigSize => "scriptsig-size",
-            Denial::ScriptSigNotPushOnly => "scriptsig-not-pushonly",
-            Denial::ScriptPubKey => "scriptpubkey",
-            Denial::Dust => "dust",
-            Denial::MultiOpReturn => "multi-op-return",
-            Denial::TxSizeSmall => "tx-size-small",
-            Denial::NonFinal => "non-final",
-            Denial::AlreadyInMempool => "txn-already-in-mempool",
-            Denial::SameNonWitnessData => "txn-same-nonwitness-data-in-mempool",
-            Denial::MempoolConflict => "txn-mempool-conflict",
-            Denial::AlreadyKnown => "txn-already-known",
-            Denial::MissingOrSpent => "bad-txns-inputs-missingorspent",
-            Denial::NonBip68Final => "non-BIP68-final",
-            Denial::PrematureSpend => "bad-txns-premature-spend-of-coinbase",
-            Denial::InputValues => "bad-txns-inputvalues-outofrange",
-            Denial::InBelowOut => "bad-txns-in-belowout",
-            Denial::FeeOutOfRange => "bad-txns-fee-outofrange",
-            Denial::NonstandardInputs => "bad-txns-nonstandard-inputs",
-            Denial::WitnessNonstandard => "bad-witness-nonstandard",
-            Denial::TooManySigops => "bad-txns-too-many-sigops",
-            Denial::MempoolMinFee => "mempool min fee not met",
-            Denial::MinRelayFee => "min relay fee not met",
-            Denial::TooLongChain => "too-long-mempool-chain",
-            Denial::SpendsConflicting => "bad-txns-spends-conflicting-tx",
-            Denial::LowerFeeRate => "insufficient fee",
-            Denial::TooManyReplacements => "too many potential replacements",
-            Denial::AddsUnconfirmed => "replacement-adds-unconfirmed",
-            Denial::LowerFee => "insufficient fee",
-            Denial::LowerDifference => "insufficient fee",
-            Denial::VerdictMissing => "verdict-missing",
-            Denial::SoftVerdict => "non-mandatory-script-verify-flag",
-            Denial::HardVerdict => "mandatory-script-verify-flag-failed",
-            Denial::MempoolFull => "mempool full",
-        }
+        ROWS[*self as usize].token
     }
 }
 
@@ -223,6 +331,12 @@ impl fmt::Display for Denial {
 
     fn fmt<W: fmt::Write>(&self, f: &mut fmt::Formatter<W>) -> fmt::Result {
         write!(f, "{}", self.token())
+    }
+}
+
+impl fmt::Debug for Denial {
+    fn fmt<W: fmt::Write>(&self, f: &mut fmt::Formatter<W>) -> fmt::Result {
+        write!(f, "{self}")
     }
 }
 

@@ -1,7 +1,7 @@
 //! The definitions at values that are known from outside.
 ghost use Rattle.std.specs.Prelude.{◌≡◌, ◌∷◌, [], None, Some};
 ghost use Rattle.gate_standard.specs.declared.denial.Denial.TheVariants as denials;
-ghost use Rattle.gate_standard.specs.Amounts.{required_fee, feerate};
+ghost use Rattle.gate_standard.specs.Amounts.{down, feerate, required_fee, up};
 ghost use Rattle.gate_bytes.specs.Order.{first_failing};
 ghost use Rattle.gate_standard.specs.Outputs.{dust_threshold_of};
 ghost use Rattle.gate_standard.specs.Rules.{transaction_rules, standard_rules};
@@ -9,16 +9,20 @@ ghost use Rattle.gate_standard.specs.Standards.{usual_standards};
 ghost use Rattle.gate_standard.specs.Examples.{spending, from_nothing, pays, makes, spends_twice, to_key_hash, to_script_hash, to_witness_key, to_witness_script};
 
 /// Fees, feerates and dust thresholds.
-#[tactic(auto, unfolding(crate::specs::Amounts::required_fee, crate::specs::Amounts::feerate, crate::specs::Outputs::dust_threshold_of))]
+#[tactic(auto, unfolding(crate::specs::Amounts::required_fee, crate::specs::Amounts::rounded_down, crate::specs::Amounts::rounded_up, crate::specs::Amounts::feerate, crate::specs::Outputs::dust_threshold_of))]
 pub(crate) fn amounts()
-    ensures fee { required_fee 3000 98 ≡ 294 }
-    ensures least { required_fee 1 1 ≡ 1 }
-    ensures free { required_fee 0 5 ≡ 0 }
+    ensures fee { required_fee (down 3000) 98 ≡ 294 }
+    ensures least { required_fee (down 1) 1 ≡ 1 }
+    ensures free { required_fee (down 0) 5 ≡ 0 }
+    ensures whole { required_fee (up 3000) 98 ≡ 294 }
+    ensures part { required_fee (up 101) 110 ≡ 12 }
+    ensures part_dropped { required_fee (down 101) 110 ≡ 11 }
+    ensures free_up { required_fee (up 0) 5 ≡ 0 }
     ensures rate { feerate 1000 110 ≡ 9090 }
-    ensures key_hash { dust_threshold_of 3000 (pays 0 to_key_hash) ≡ 546 }
-    ensures script_hash { dust_threshold_of 3000 (pays 0 to_script_hash) ≡ 540 }
-    ensures witness_key { dust_threshold_of 3000 (pays 0 to_witness_key) ≡ 294 }
-    ensures witness_script { dust_threshold_of 3000 (pays 0 to_witness_script) ≡ 330 }
+    ensures key_hash { dust_threshold_of (down 3000) (pays 0 to_key_hash) ≡ 546 }
+    ensures script_hash { dust_threshold_of (down 3000) (pays 0 to_script_hash) ≡ 540 }
+    ensures witness_key { dust_threshold_of (down 3000) (pays 0 to_witness_key) ≡ 294 }
+    ensures witness_script { dust_threshold_of (down 3000) (pays 0 to_witness_script) ≡ 330 }
 {}
 
 /// What the rules decide on whole transactions.

@@ -13,7 +13,7 @@ mod outputs;
 mod standard;
 mod standards;
 
-pub use amounts::{fee_at, rate_of};
+pub use amounts::{Feerate, Rounding, rate_of};
 pub use check::check_transaction;
 pub use denial::Denial;
 pub use gate_tx::MAX_MONEY;

@@ -1,30 +1,36 @@
 //! Which outputs are standard, and what is dust.
 ghost use Rattle.std.specs.Prelude.{◌≡◌};
-ghost use Rattle.gate_standard.specs.Outputs.{dust_threshold_of, is_standard_template, is_null_data, is_below};
+ghost use Rattle.gate_standard.specs.Outputs.{dust_threshold_of, is_standard_template, is_null_data, is_below, size_with_spend};
 
-use crate::amounts::fee_at;
+use crate::amounts::Feerate;
 use crate::standards::Standards;
 use gate_bytes::compact_size;
 use gate_script::{Template, witness_program};
 use gate_tx::{TxOut, is_unspendable};
 
-/// The least value in satoshi with which an output is relayed, at this rate in satoshi per 1,000 bytes; 0 if nothing can
-/// spend it.
-#[tactic(auto, unfolding(crate::specs::Outputs::dust_threshold_of, crate::specs::Amounts::required_fee))]
-pub fn dust_threshold(rate: u64, output: &TxOut) -> u128
-    ensures { result ≡ dust_threshold_of rate output.now }
+/// The size in bytes of an output and of the input that spends it, which is smaller if the script is a witness program.
+fn size_with_spend(output: &TxOut) -> usize
+    ensures { result ≡ size_with_spend output.now }
 {
     let script = output.script.as_slice();
-    if is_unspendable(script) {
-        return 0;
-    }
     let size = 8 + compact_size(script.len() as u64) + script.len();
     let spend = if witness_program(script).is_some() {
         67
     } else {
         148
     };
-    fee_at(rate, (size + spend) as u64)
+    size + spend
+}
+
+/// The least value in satoshi with which an output is relayed, at this rate for 1,000 bytes; 0 if nothing can spend it.
+#[tactic(auto, unfolding(crate::specs::Outputs::dust_threshold_of))]
+pub fn dust_threshold(rate: Feerate, output: &TxOut) -> u128
+    ensures { result ≡ dust_threshold_of rate output.now }
+{
+    if is_unspendable(output.script.as_slice()) {
+        return 0;
+    }
+    rate.fee(size_with_spend(output) as u64)
 }
 
 /// Whether an operator takes a script of this template and this size in bytes for standard.
@@ -46,7 +52,7 @@ pub(crate) fn is_null_data(template: &Template) -> bool
 }
 
 /// Whether the output's value is below its dust threshold at this rate.
-pub(crate) fn is_below_dust(rate: u64, output: &TxOut) -> bool
+pub(crate) fn is_below_dust(rate: Feerate, output: &TxOut) -> bool
     ensures { result ≡ is_below output.now.value (dust_threshold_of rate output.now) }
 {
     output.value < 0 || (output.value as u128) < dust_threshold(rate, output)

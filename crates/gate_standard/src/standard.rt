@@ -1,9 +1,10 @@
-//! What is relayed: A12 to A19.
-ghost use Rattle.std.specs.Prelude.{◌≡◌, None, Some, IfOk, IfErr, OnOk};
+//! What is relayed: A12 to A19, and A51.
+ghost use Rattle.std.specs.Prelude.{◌≡◌, None, Some, IfOk, IfErr, OnOk, true};
 ghost use Rattle.std.specs.List.{flat_map, count_by};
 ghost use Rattle.gate_bytes.specs.Order.{first_failing};
 ghost use Rattle.gate_standard.specs.Outputs.{carries_data};
-ghost use Rattle.gate_standard.specs.Rules.{rules_of_input, rules_of_output, form_rules, output_rules, standard_rules};
+ghost use Rattle.gate_standard.specs.Rules.{rules_of_input, rules_of_output, rules_of_outputs, left_behind, form_rules, output_rules, standard_rules};
+ghost use Rattle.gate_standard.specs.Standards.{is_past};
 
 use crate::Denial;
 use crate::outputs::{is_below_dust, is_null_data, is_standard_template};
@@ -32,18 +33,37 @@ fn check_inputs(inputs: &[TxIn]) -> Option<Denial>
     None
 }
 
-/// Whether the output carries data, unless a rule fails on it.
+fn is_past(limit: Option<u64>, number: u64) -> bool
+    ensures { result ≡ is_past limit number }
+{
+    match limit {
+        Some(most) => number > most,
+        None => false,
+    }
+}
+
+/// What is left for data behind a script of this size that carries some.
+fn left_behind(left: Option<u64>, size: u64) -> Option<u64>
+    ensures { result ≡ left_behind left true size }
+{
+    left.map(|bytes| bytes.saturating_sub(size))
+}
+
+/// Whether the output carries data, for which this many bytes are left, unless a rule fails on it.
 #[tactic(auto, unfolding(crate::specs::Outputs::is_standard_output, crate::specs::Outputs::carries_data, crate::specs::Outputs::is_dust))]
-fn check_output(standards: &Standards, output: &TxOut) -> Result<bool, Denial>
+fn check_output(standards: &Standards, left: Option<u64>, output: &TxOut) -> Result<bool, Denial>
     ensures carries { IfOk result (λ carries. carries ≡ carries_data output.now) }
-    ensures passes { OnOk result (first_failing (rules_of_output standards.now output.now) ≡ None) }
-    ensures err { IfErr result (λ denial. first_failing (rules_of_output standards.now output.now) ≡ Some denial) }
+    ensures passes { OnOk result (first_failing (rules_of_output standards.now left output.now) ≡ None) }
+    ensures err { IfErr result (λ denial. first_failing (rules_of_output standards.now left output.now) ≡ Some denial) }
 {
     let template = template(output.script.as_slice());
     if !is_standard_template(standards, &template, output.script.len()) {
         return Err(Denial::ScriptPubKey);
     }
     let carries = is_null_data(&template);
+    if carries && is_past(left, output.script.len() as u64) {
+        return Err(Denial::DataCarrier);
+    }
     if !carries && is_below_dust(standards.dust_rate, output) {
         return Err(Denial::Dust);
     }
@@ -53,13 +73,17 @@ fn check_output(standards: &Standards, output: &TxOut) -> Result<bool, Denial>
 /// How many outputs carry data, unless a rule fails on an output.
 fn count_carriers(standards: &Standards, outputs: &[TxOut]) -> Result<usize, Denial>
     ensures carriers { IfOk result (λ carriers. carriers ≡ count_by carries_data outputs.now) }
-    ensures passes { OnOk result (first_failing (flat_map (rules_of_output standards.now) outputs.now) ≡ None) }
-    ensures err { IfErr result (λ denial. first_failing (flat_map (rules_of_output standards.now) outputs.now) ≡ Some denial) }
+    ensures passes { OnOk result (first_failing (rules_of_outputs standards.now standards.now.data_total outputs.now) ≡ None) }
+    ensures err { IfErr result (λ denial. first_failing (rules_of_outputs standards.now standards.now.data_total outputs.now) ≡ Some denial) }
 {
     let mut carriers = 0;
+    let mut left = standards.data_total;
     for output in outputs {
-        match check_output(standards, output) {
-            Ok(true) => carriers += 1,
+        match check_output(standards, left, output) {
+            Ok(true) => {
+                carriers += 1;
+                left = left_behind(left, output.script.len() as u64);
+            }
             Ok(false) => {}
             Err(denial) => return Err(denial),
         }
@@ -83,7 +107,7 @@ pub fn check_form(tx: &Transaction) -> Option<Denial>
 }
 
 /// The first rule that fails, of the rules of policy on a transaction alone by what an operator takes for standard: A16
-/// to A19 (Bitcoin Core 22.0's `IsStandardTx`, on the outputs, and its least size).
+/// to A19, and A51 (Bitcoin Core 22.0's `IsStandardTx`, on the outputs, and its least size).
 #[tactic(auto, using(gate_bytes::proofs::OrderLemmas::first_failing_append), unfolding(crate::specs::Rules::output_rules))]
 pub fn check_outputs(standards: &Standards, tx: &Transaction) -> Option<Denial>
     ensures { result ≡ first_failing (output_rules standards.now tx.now) }
@@ -101,7 +125,7 @@ pub fn check_outputs(standards: &Standards, tx: &Transaction) -> Option<Denial>
     None
 }
 
-/// The first rule that fails, of the rules of policy on a transaction alone: A12 to A19.
+/// The first rule that fails, of the rules of policy on a transaction alone: A12 to A19, and A51.
 #[tactic(auto, using(gate_bytes::proofs::OrderLemmas::first_failing_append), unfolding(crate::specs::Rules::standard_rules))]
 pub fn is_standard(standards: &Standards, tx: &Transaction) -> Option<Denial>
     ensures { result ≡ first_failing (standard_rules standards.now tx.now) }

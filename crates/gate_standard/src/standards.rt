@@ -1,11 +1,12 @@
 //! What an operator takes for standard.
+use crate::amounts::{Feerate, Rounding};
 
-/// What an operator asks of a transaction's outputs and of its size: A16 to A19.
-#[derive(Clone, Copy, Debug, PartialEq, Eq)]
+/// What an operator asks of a transaction's outputs and of its size: A16 to A19, and A51.
+#[derive(Clone, Copy, PartialEq, Eq)]
 pub struct Standards {
-    /// The feerate at which an output's own size and that of its spending are paid for, in satoshi per 1,000 bytes
-    /// (Bitcoin Core's `-dustrelayfee`).
-    pub dust_rate: u64,
+    /// The feerate at which an output's own size and that of its spending are paid for, of which one byte counts as a
+    /// virtual byte (Bitcoin Core's `-dustrelayfee`).
+    pub dust_rate: Feerate,
     /// The longest script in bytes that carries data (Bitcoin Core's `-datacarriersize`).
     pub data_size: u64,
     /// The most outputs that carry data.
@@ -14,6 +15,8 @@ pub struct Standards {
     pub bare_multisig: bool,
     /// The least size in bytes without witnesses.
     pub least_size: u64,
+    /// The most bytes of all scripts that carry data (`-datacarriersize` of Bitcoin Core 30.0).
+    pub data_total: Option<u64>,
 }
 
 /// Bitcoin Core 22.0's: a dust rate of 3,000, one output of at most 83 bytes of data, multisig scripts, and 82 bytes.
@@ -25,11 +28,15 @@ impl Default for Standards {
 
     fn default() -> Standards {
         Standards {
-            dust_rate: 3000,
+            dust_rate: Feerate {
+                rate: 3000,
+                rounding: Rounding::Down,
+            },
             data_size: 83,
             data_outputs: 1,
             bare_multisig: true,
             least_size: 82,
+            data_total: None,
         }
     }
 }

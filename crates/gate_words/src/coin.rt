@@ -48,7 +48,7 @@ fn read_outpoint(text: &str) -> Option<(OutPoint, &str)>
 }
 
 /// What the words of a coin say between its outpoint and its script.
-#[derive(Clone, Copy, Debug)]
+#[derive(Clone, Copy)]
 struct CoinHead {
     value: i64,
     height: u32,

@@ -1,0 +1,4 @@
+pub mod Settings
+pub mod Policies
+pub mod Texts
+pub mod Laws
