@@ -8,7 +8,7 @@ use std::marker::Model;
 
 /// A value behind a pointer, for what is large and rare in an enum: the enum's other cases are moved in less time.
 /// Contracts see the value.
-#[derive(Debug, Drop)]
+#[derive(Drop)]
 pub struct Boxed<T> {
     value: Box<T>,
 }

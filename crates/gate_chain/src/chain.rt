@@ -1,5 +1,6 @@
-ghost use Rattle.std.specs.Prelude.{◌≡◌, ◌+◌, ◌-◌, ◌&&◌, ◌≤◌, ◌↔◌, None, Some, is_some, length, nat_le, nat_lt, slice_get, IsSome, IfSome, IfOk, IfErr, OnOk, OnErr, if◌then◌else◌};
+ghost use Rattle.std.specs.Prelude.{◌≡◌, ◌+◌, ◌-◌, ◌&&◌, ◌≤◌, ◌<◌, ◌↔◌, None, Some, is_some, length, nat_le, nat_lt, slice_get, vec_len, IsSome, IfSome, IfOk, IfErr, OnOk, OnErr, if◌then◌else◌};
 ghost use Rattle.std.specs.Option.{option_copied};
+ghost use Rattle.std.specs.Vec.{vec_capacity};
 ghost use Rattle.gate_bytes.specs.Order.{first_failing};
 ghost use Rattle.gate_chain.specs.Coins.{coin_of, opened_with_of};
 ghost use Rattle.gate_chain.specs.Connecting.{grown, head_rules, block_rules, undo_denial, Tells};
@@ -15,7 +16,7 @@ mod top;
 
 use crate::block::Block;
 use crate::connected::Connected;
-use crate::copying::{copy_coins, copy_ids};
+use crate::copying::{copy_ids, copy_tables};
 use crate::denial::ChainDenial;
 use crate::entering;
 use crate::fault::{ChainFault, OpenFault};
@@ -91,6 +92,18 @@ fn checked<S: BuildHasher + Copy + Drop>(
     keep(alloc, hasher, coins, tip as u32)
 }
 
+/// Takes the memory for one more block and its time.
+fn reserve_one(blocks: &mut Vec<Connected>, times: &mut Vec<u32>) -> Result<(), Memory>
+    ensures same_blocks { blocks.new.items ≡ blocks.old.items }
+    ensures same_times { times.new.items ≡ times.old.items }
+    ensures blocks_room { OnOk result (vec_len blocks.new < vec_capacity blocks.new) }
+    ensures times_room { OnOk result (vec_len times.new < vec_capacity times.new) }
+{
+    blocks.reserve(1)?;
+    times.reserve(1)?;
+    Ok(())
+}
+
 fn time_in(times: &[u32], first: u32, height: u32) -> Option<u32>
     ensures time { result ≡ (if nat_lt height first then None else slice_get times.now (height - first)) }
     ensures within { is_some result ≡ (nat_le first height && nat_lt height (length times.now + first)) }
@@ -158,10 +171,7 @@ impl<S: BuildHasher + Copy + Drop> Chain<S> {
             opening_txids: copy_ids(alloc, &self.opening_txids, 0)?,
             txids: copy_ids(alloc, &self.txids, 0)?,
             blocks: Connected::copy_list(self.blocks.as_slice(), alloc)?,
-            coins: CoinTables {
-                opening: copy_coins(alloc, &self.coins.opening, 0)?,
-                made: copy_coins(alloc, &self.coins.made, 0)?,
-            },
+            coins: copy_tables(alloc, &self.coins)?,
         })
     }
 
@@ -268,8 +278,7 @@ impl<S: BuildHasher + Copy + Drop> Chain<S> {
         if let Some(denial) = self.head_denial(&block) {
             return Err(ChainFault::Denied(denial));
         }
-        self.blocks.reserve(1)?;
-        self.times.reserve(1)?;
+        reserve_one(&mut self.blocks, &mut self.times)?;
         let time = block.header().time();
         let height = self.times.len() as u32 + self.first;
         let connected = entering::connect(
@@ -280,10 +289,8 @@ impl<S: BuildHasher + Copy + Drop> Chain<S> {
             height,
             block,
         )?;
-        let timed: Result<_, _> = self.times.push(time);
-        timed.unwrap();
-        let linked: Result<_, _> = self.blocks.push(connected);
-        linked.unwrap();
+        self.times.push_reserved(time);
+        self.blocks.push_reserved(connected);
         Ok(())
     }
 

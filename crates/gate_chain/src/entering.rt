@@ -75,7 +75,7 @@ fn note<S: BuildHasher + Copy + Drop>(txids: &mut IndexSet<Txid, S>, id: Txid)
 }
 
 /// The place of a transaction of a block.
-#[derive(Clone, Copy, Debug, PartialEq, Eq)]
+#[derive(Clone, Copy, PartialEq, Eq)]
 struct Position {
     /// The height of its block.
     height: u32,

@@ -16,7 +16,7 @@ use std::alloc::Global;
 use std::hash::BuildHasher;
 
 /// A coin, and whether a connected block spends it.
-#[derive(Debug, Drop)]
+#[derive(Drop)]
 pub(crate) struct Marked {
     pub coin: Coin,
     pub spent: bool,

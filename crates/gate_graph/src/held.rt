@@ -5,7 +5,7 @@ use crate::id::NodeId;
 use gate_ranking::Rate;
 
 /// The number of some nodes, and the sums of their sizes and fees.
-#[derive(Clone, Copy, Debug, PartialEq, Eq)]
+#[derive(Clone, Copy, PartialEq, Eq)]
 pub struct Sums {
     /// How many there are.
     pub count: u64,
@@ -16,7 +16,7 @@ pub struct Sums {
 }
 
 /// The sums of a node's ancestors and of its descendants, each with the node itself.
-#[derive(Clone, Copy, Debug, PartialEq, Eq)]
+#[derive(Clone, Copy, PartialEq, Eq)]
 pub struct Totals {
     /// The ancestors.
     pub above: Sums,

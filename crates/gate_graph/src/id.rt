@@ -7,7 +7,7 @@ use std::marker::Model;
 pub type Id = [u8; 32];
 
 /// The id of a node, which a table hashes in one go.
-#[derive(Clone, Copy, Debug, PartialEq, Eq, PartialOrd, Ord)]
+#[derive(Clone, Copy, PartialEq, Eq, PartialOrd, Ord)]
 pub struct NodeId {
     bytes: Id,
 }

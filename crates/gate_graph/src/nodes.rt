@@ -180,9 +180,7 @@ impl<T: Drop, S: BuildHasher + Copy + Drop> Nodes<T, S> {
         let Some(places) = self.slots.count().checked_add(1) else {
             return Err(Memory);
         };
-        self.scratch.marks.reserve(1)?;
-        self.scratch.found.reserve(places)?;
-        self.scratch.above.reserve(places)?;
+        self.scratch.reserve(places)?;
         self.links.reserve(parents)?;
         self.slots.reserve()?;
         self.room = room;

@@ -1,4 +1,6 @@
-ghost use Rattle.std.specs.Prelude.{◌≡◌, ◌<◌, ◌+◌, ◌^◌, [], ◌∷◌, ◌++◌, ℕ, not, true, false, Some, None, is_some, map, filter, find, length, slice_set, sum_by, OnOk, IfSome};
+ghost use Rattle.std.specs.Prelude.{◌≡◌, ◌<◌, ◌+◌, ◌^◌, [], ◌∷◌, ◌++◌, ℕ, not, true, false, Some, None, is_some, map, filter, find, length, slice_set, sum_by, vec_len, OnOk, IfSome};
+ghost use Rattle.std.specs.Vec.{vec_capacity};
+ghost use Rattle.indexmap.specs.IndexMap.{get, spare, index_map_len};
 ghost use Rattle.std.specs.Str.{bytes_eq};
 ghost use Rattle.std.specs.Option.{option_copied, option_map};
 ghost use Rattle.gate_graph.specs.Families.{has, ids_of};
@@ -17,6 +19,27 @@ use indexmap::IndexMap;
 use std::alloc::Global;
 use std::hash::BuildHasher;
 use std::marker::Model;
+
+/// Takes the memory for one more node in each table.
+fn reserve_one<T: Drop, S: BuildHasher>(
+    slots: &mut Vec<Option<Held<T>>>,
+    places: &mut IndexMap<NodeId, usize, S>,
+    ranking: &mut Ranking<Rate>,
+) -> Result<(), Memory>
+    ensures items { slots.new.items ≡ slots.old.items }
+    ensures len { vec_len slots.new ≡ vec_len slots.old }
+    ensures look { get bytes_eq places.new ≡ get bytes_eq places.old }
+    ensures count { index_map_len places.new ≡ index_map_len places.old }
+    ensures keys { ranking.new.keys ≡ ranking.old.keys }
+    ensures slots_room { OnOk result (vec_len slots.new < vec_capacity slots.new) }
+    ensures places_room { OnOk result (0 < spare places.new) }
+    ensures ranks_room { OnOk result (0 < ranking.new.room) }
+{
+    places.reserve(1)?;
+    ranking.reserve(1)?;
+    slots.reserve(1)?;
+    Ok(())
+}
 
 /// Nodes in the order of adding, in slots with holes where some were taken out, and the place of each id.
 #[derive(Drop)]
@@ -183,9 +206,7 @@ impl<T: Drop, S: BuildHasher + Drop> Slots<T, S> {
         ensures room { OnOk result (0 < self.new.room) }
     {
         self.room = 0;
-        self.places.reserve(1)?;
-        self.ranking.reserve(1)?;
-        self.slots.reserve(1)?;
+        reserve_one(&mut self.slots, &mut self.places, &mut self.ranking)?;
         self.room = 1;
         Ok(())
     }

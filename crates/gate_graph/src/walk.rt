@@ -1,6 +1,6 @@
 //! Walks from a node, to all nodes that a chain of steps leads to, in room that was taken beforehand. They find places
 //! of slots; each slot has a mark, which is set where a walk has been, and none is set between walks.
-ghost use Rattle.std.specs.Prelude.{◌≡◌, ◌≤◌, ◌<◌, ◌+◌, ◌||◌, ◌&&◌, ◌∷◌, [], ℕ, List, true, false, is_some, length, get_or, Contains};
+ghost use Rattle.std.specs.Prelude.{◌≡◌, ◌≤◌, ◌<◌, ◌+◌, ◌||◌, ◌&&◌, ◌∷◌, [], ℕ, List, true, false, is_some, length, get_or, Contains, OnOk};
 ghost use Rattle.std.specs.Vec.{vec_capacity};
 ghost use Rattle.gate_graph.specs.Families.{has, are_apart};
 ghost use Rattle.gate_graph.specs.Slots.{at};
@@ -12,6 +12,7 @@ ghost use Rattle.gate_graph.specs.declared.walk.Way.TheVariants.{Down as DownWay
 use crate::id::NodeId;
 use crate::links::Links;
 use crate::slots::Slots;
+use gate_bytes::Memory;
 use std::hash::BuildHasher;
 
 /// Which way a walk goes: to parents or to children.
@@ -37,6 +38,23 @@ pub(crate) struct Scratch {
     pub(crate) found: Vec<usize>,
     /// Room for the places of what is above a node.
     pub(crate) above: Vec<usize>,
+}
+
+impl Scratch {
+    /// Takes the memory for the mark of one more slot, and for this many places in each list.
+    pub(crate) fn reserve(&mut self, places: usize) -> Result<(), Memory>
+        ensures marks { self.new.marks.items ≡ self.old.marks.items }
+        ensures found { vec_capacity self.old.found ≤ vec_capacity self.new.found }
+        ensures above { vec_capacity self.old.above ≤ vec_capacity self.new.above }
+        ensures mark { OnOk result (length self.old.marks.items < vec_capacity self.new.marks) }
+        ensures found_room { OnOk result (places ≤ vec_capacity self.new.found) }
+        ensures above_room { OnOk result (places ≤ vec_capacity self.new.above) }
+    {
+        self.marks.reserve(1)?;
+        self.found.reserve(places)?;
+        self.above.reserve(places)?;
+        Ok(())
+    }
 }
 
 /// Adds the place of an id, unless it is no node's or was found before.

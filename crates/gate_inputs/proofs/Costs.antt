@@ -12,8 +12,8 @@ use Rattle.gate_script.specs.Sigops.{sigops_of}
 use Rattle.gate_script.specs.Templates.{template_of}
 use Rattle.gate_script.proofs.Operations.{sigops_of-most}
 use Rattle.gate_inputs.specs.Answers.{answers_of}
-use Rattle.gate_inputs.specs.Laws.{CostsAreExact}
-use Rattle.gate_inputs.specs.Reports.{is_pay_to_script_hash, last_of, redeem_of, counted_redeem, program_by, script_cost, witness_cost, cost_by, sigop_cost_of}
+use Rattle.gate_inputs.specs.Laws.{CostsAreExact, LegacySigopsAreExact}
+use Rattle.gate_inputs.specs.Reports.{is_pay_to_script_hash, last_of, redeem_of, counted_redeem, program_by, script_cost, witness_cost, cost_by, sigop_cost_of, legacy_sigops_by, legacy_sigops_of}
 
 -- ---- a last item is one of the items
 
@@ -116,3 +116,20 @@ costs_are_exact input script is witness =
     let redeem = counted_redeem form input.script in
     let short = counted-short-by (is_pay_to_script_hash form && is_push_only input.script) (redeem_of input.script) (redeem-short input.script) in
     exact (cost_by input redeem (program_by form redeem script)) _ refl (cost-most input redeem (program_by form redeem script) is witness short)
+
+-- ---- legacy operations
+
+locking-count : (b : Bool) (redeem : Option (List ℕ)) (script : List ℕ) → IsWithin 520 redeem → length script ≤ 0x2000000
+    → option_map_or (sigops_of true) (cond b redeem (Some script)) 0 ≤ 20 * 0x2000000
+locking-count true redeem script short sized = omega (arith, found-cost true 520 redeem short)
+locking-count false redeem script short sized = omega (arith, sigops_of-most true script)
+
+pub legacy_sigops_are_exact : LegacySigopsAreExact
+unfolding answers_of legacy_sigops_of
+legacy_sigops_are_exact input script is sized =
+    let form = template_of script in
+    let redeem = redeem_of input.script in
+    let own = sigops_of-most true input.script in
+    let locking = locking-count (is_pay_to_script_hash form) redeem script (redeem-short input.script) sized in
+    let unlocking = is.script in
+    exact (legacy_sigops_by form input.script redeem script) _ refl (omega arith)

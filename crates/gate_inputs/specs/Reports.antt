@@ -49,9 +49,13 @@ is_standard_spend input script = is_standard_by (template_of script) (redeem_of 
 
 -- ---- the witness
 
--- the witness program that a spend meets: the coin's script, or under a script hash the redeem script (BIP 141)
+-- the script that locks a coin: the coin's own, or under a script hash the redeem script (BIP 16)
+abbrev pub locking_script : Template → Option (List ℕ) → List ℕ → Option (List ℕ)
+locking_script form redeem script = if is_pay_to_script_hash form then redeem else Some script
+
+-- the witness program that a spend meets: that which the locking script is (BIP 141)
 abbrev pub program_by : Template → Option (List ℕ) → List ℕ → Option (ℕ × List ℕ)
-program_by form redeem script = option_and_then witness_program_of (if is_pay_to_script_hash form then redeem else Some script)
+program_by form redeem script = option_and_then witness_program_of (locking_script form redeem script)
 
 -- 80 is MAX_STANDARD_P2WSH_STACK_ITEM_SIZE, and MAX_STANDARD_TAPSCRIPT_STACK_ITEM_SIZE
 abbrev pub are_at_most_80_bytes : List (List ℕ) → Bool
@@ -89,6 +93,10 @@ is_witness_standard input script =
     let form = template_of script in
     allows_witness form input.witness (program_by form (redeem_of input.script) script)
 
+abbrev pub is_bare : List (List ℕ) → Bool
+is_bare [] = true
+is_bare (item ∷ items) = false
+
 -- ---- the cost of its signature operations
 
 -- the redeem script whose operations count: that of an input whose script only pushes
@@ -121,3 +129,12 @@ sigop_cost_of input script =
     let form = template_of script in
     let redeem = counted_redeem form input.script in
     cost_by input redeem (program_by form redeem script)
+
+-- ---- its legacy signature operations (BIP 54, `CheckSigopsBIP54` of Bitcoin Core 29.1)
+
+-- those of the input's script and of the script that locks the coin, counted accurately
+abbrev pub legacy_sigops_by : Template → List ℕ → Option (List ℕ) → List ℕ → ℕ
+legacy_sigops_by form unlocking redeem script = sigops_of true unlocking + option_map_or (sigops_of true) (locking_script form redeem script) 0
+
+unfoldable pub legacy_sigops_of : TxIn → List ℕ → ℕ
+legacy_sigops_of input script = legacy_sigops_by (template_of script) input.script (redeem_of input.script) script

@@ -2,13 +2,13 @@ ghost use Rattle.std.specs.Prelude.{◌≡◌, ◌-◌, ◌^◌, [], false, IfOk
 ghost use Rattle.std.specs.Option.{option_map};
 ghost use Rattle.gate_inputs.specs.Reports.{is_pay_to_script_hash, is_standard_by, redeem_of, script_cost, program_cost};
 ghost use Rattle.gate_inputs.specs.Answers.{answers_of};
-ghost use Rattle.gate_inputs.specs.Internal.{answers_by, cost_with};
+ghost use Rattle.gate_inputs.specs.Internal.{answers_by, cost_with, legacy_with};
 ghost use Rattle.gate_script.specs.declared.templates.Template.TheVariants.{ScriptHash};
 
 use crate::answer::Answers;
 use crate::witness::allows_witness;
 use gate_bytes::{Kept, Memory};
-use gate_script::{Template, push_stack, sigops, template, witness_program};
+use gate_script::{Template, is_anchor, push_stack, sigops, template, witness_program};
 use gate_tx::{TxIn, Witness};
 use std::alloc::Global;
 
@@ -19,7 +19,7 @@ const MAX_REDEEM_SIGOPS: u64 = 15;
 const WITNESS_SCALE: u64 = 4;
 
 /// The answers for an input and the script of the coin that it spends. The pushes of the input's
-/// script are read only if the coin is locked by a script hash, and once for all three answers.
+/// script are read only if the coin is locked by a script hash, and once for all answers.
 pub fn answers(alloc: Global, input: &TxIn, script: &[u8]) -> Result<Answers, Memory>
     ensures { IfOk result (λ a. a ≡ answers_of input.now script.now) }
 {
@@ -53,10 +53,15 @@ fn direct(input: &TxIn, form: Template, script: &[u8]) -> Answers
     ensures { result ≡ answers_by form input.now None script.now }
 {
     let program = witness_program(script);
+    let bare = input.witness.is_empty();
+    let operations = sigops(script, true);
     Answers {
         standard: is_relayed(form),
         witness_standard: allows_witness(form, &input.witness, program),
         sigop_cost: cost(input, 0, program),
+        anchor: is_anchor(script),
+        bare,
+        legacy_sigops: legacy_sigops(input, operations),
     }
 }
 
@@ -65,11 +70,15 @@ fn under_script_hash(input: &TxIn, redeem: &[u8]) -> Answers
     ensures { result ≡ answers_by ScriptHash input.now (Some redeem.now) [] }
 {
     let program = witness_program(redeem);
+    let bare = input.witness.is_empty();
     let operations = sigops(redeem, true);
     Answers {
         standard: operations <= MAX_REDEEM_SIGOPS,
         witness_standard: allows_witness(Template::ScriptHash, &input.witness, program),
         sigop_cost: cost(input, operations, program),
+        anchor: false,
+        bare,
+        legacy_sigops: legacy_sigops(input, operations),
     }
 }
 
@@ -77,10 +86,14 @@ fn under_script_hash(input: &TxIn, redeem: &[u8]) -> Answers
 fn without_redeem_script(input: &TxIn) -> Answers
     ensures { result ≡ answers_by ScriptHash input.now None [] }
 {
+    let bare = input.witness.is_empty();
     Answers {
         standard: false,
-        witness_standard: input.witness.is_empty(),
+        witness_standard: bare,
         sigop_cost: cost(input, 0, None),
+        anchor: false,
+        bare,
+        legacy_sigops: legacy_sigops(input, 0),
     }
 }
 
@@ -106,6 +119,13 @@ fn cost(input: &TxIn, redeem: u64, program: Option<(u8, &[u8])>) -> u64
         }
         None => scaled,
     }
+}
+
+/// The legacy operations of an input, with this many in the script that locks the coin.
+fn legacy_sigops(input: &TxIn, locking: u64) -> u64
+    ensures { result ≡ legacy_with input.now.script locking }
+{
+    sigops(input.script.as_slice(), true).saturating_add(locking)
 }
 
 fn program_cost(witness: &Witness, version: u8, size: usize) -> u64

@@ -1,6 +1,7 @@
-ghost use Rattle.gate_inputs.specs.Laws.{CostsAreExact};
+ghost use Rattle.gate_inputs.specs.Laws.{CostsAreExact, LegacySigopsAreExact};
 
-/// That the cost in the answers is exact for any input that a transaction has.
+/// That cost and count in the answers are exact for any input that a transaction has.
 pub fn costs_are_exact()
-    ensures { CostsAreExact }
+    ensures costs { CostsAreExact }
+    ensures counts { LegacySigopsAreExact }
 {}

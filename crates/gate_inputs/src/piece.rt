@@ -3,7 +3,7 @@ use gate_tx::{Coin, TxIn, Wtxid};
 use std::alloc::Global;
 
 /// An input of a transaction with the coin that it spends.
-#[derive(Debug, Drop, PartialEq, Eq)]
+#[derive(Drop, PartialEq, Eq)]
 pub struct Piece {
     /// The id of the transaction whose input it is.
     pub wtxid: Wtxid,

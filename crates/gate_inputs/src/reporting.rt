@@ -9,7 +9,7 @@ use std::marker::Model;
 
 /// The answers for a piece. Only `report` and copies of its reports make one: contracts see it as
 /// its piece, which says what the answers are.
-#[derive(Debug, Drop)]
+#[derive(Drop)]
 pub struct InputReport {
     piece: Piece,
     answers: Answers,

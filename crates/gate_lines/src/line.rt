@@ -16,7 +16,7 @@ pub const MAX_LINE: usize = 16_777_216;
 pub const MAX_LINES: u64 = 1_000_000;
 
 /// What was found where a line was to be read.
-#[derive(Clone, Copy, Debug, PartialEq, Eq)]
+#[derive(Clone, Copy, PartialEq, Eq)]
 pub enum Found {
     /// A line with its newline.
     Whole,

@@ -14,7 +14,7 @@ use std::alloc::Global;
 use std::marker::Model;
 
 /// What a reader gave after the lines that were counted.
-#[derive(Clone, Copy, Debug, PartialEq, Eq)]
+#[derive(Clone, Copy, PartialEq, Eq)]
 pub enum Next {
     /// A line with its newline.
     Whole,

@@ -6,7 +6,7 @@ use gate_bytes::Memory;
 use memchr::memchr;
 
 /// What one look at a reader gave of a line.
-#[derive(Clone, Copy, Debug, PartialEq, Eq)]
+#[derive(Clone, Copy, PartialEq, Eq)]
 pub enum Part {
     /// The rest of the line, with its newline.
     Newline,

@@ -10,7 +10,7 @@ use std::net::IpAddr;
 /// An IPv4 or IPv6 address. An IPv6 address in ::ffff:0:0/96 is its IPv4 address (RFC 4291, 2.5.5.2).
 ///
 /// Contracts see the four octets of an IPv4 address, and the eight groups of an IPv6 address, from the left.
-#[derive(Clone, Copy, Debug, PartialEq, Eq)]
+#[derive(Clone, Copy, PartialEq, Eq)]
 pub struct Address {
     ip: IpAddr,
 }

@@ -10,7 +10,7 @@ use gate_bytes::{Copied, Memory};
 use std::alloc::Global;
 
 /// What the addresses of a subnet are permitted.
-#[derive(Clone, Copy, Debug, PartialEq, Eq)]
+#[derive(Clone, Copy, PartialEq, Eq)]
 pub struct WhitelistEntry {
     /// What the words of the entry permit together.
     pub permissions: Permissions,

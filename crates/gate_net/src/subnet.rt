@@ -11,7 +11,7 @@ use std::marker::Model;
 use std::net::{IpAddr, Ipv4Addr};
 
 /// An address and how many of its first bits count (RFC 4632). The other bits of the address mean nothing.
-#[derive(Clone, Copy, Debug, PartialEq, Eq)]
+#[derive(Clone, Copy, PartialEq, Eq)]
 pub struct Subnet {
     address: Address,
     prefix: u8,

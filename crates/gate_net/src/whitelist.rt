@@ -11,7 +11,7 @@ use gate_bytes::{Copied, Kept, Memory, Text};
 use std::alloc::Global;
 
 /// Entries, and what entries without words give besides noban, download and mempool.
-#[derive(Debug, Drop, PartialEq, Eq)]
+#[derive(Drop, PartialEq, Eq)]
 pub struct Whitelist {
     pub entries: Kept<WhitelistEntry>,
     /// Whether entries without words give relay.

@@ -18,7 +18,7 @@ fn compare_products(a: u128, b: u128, c: u128, d: u128) -> Ordering
 }
 
 /// Fees over a size, as a fraction. Rates compare as fractions do, exactly, whatever their numbers are.
-#[derive(Clone, Copy, Debug)]
+#[derive(Clone, Copy)]
 pub struct Rate {
     fees: u128,
     size: u128,

@@ -1,3 +1,4 @@
+pub mod Anchors
 pub mod Steps
 pub mod Keys
 pub mod StackItems

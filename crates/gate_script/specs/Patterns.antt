@@ -3,7 +3,7 @@ use Rattle.std.specs.Prelude.{◌≡◌, ◌↔◌, IsTrue, ℕ, ◌+◌, ◌≤
 use Rattle.std.specs.List.{list_all}
 use Rattle.gate_script.specs.Opcodes.{OP_0, OP_RESERVED, OP_CHECKSIG, OP_CHECKMULTISIG}
 use Rattle.gate_script.specs.Instructions.{Instruction, Plain}
-use Rattle.gate_script.specs.Witness.{witness_program_of}
+use Rattle.gate_script.specs.Witness.{is_anchor, witness_program_of}
 use Rattle.gate_script.specs.Templates.{is_public_key, pays_key, pushes_key, multisig_of}
 
 -- the opcode of a version: OP_0 for 0, OP_1 for 1 and so on
@@ -13,6 +13,10 @@ version_opcode version = if version == 0 then OP_0 else OP_RESERVED + version
 -- a witness program is a version of at most 16, and one push of 2 to 40 bytes
 abbrev pub ProgramsArePatterns : Type 0
 ProgramsArePatterns = (version : ℕ) (program script : List ℕ) → (witness_program_of script ≡ Some (version, program)) ↔ ((version ≤ 16) × (2 ≤ length program) × (length program ≤ 40) × (script ≡ version_opcode version ∷ length program ∷ program))
+
+-- an anchor is the witness program of version 1 with the bytes 4e73
+abbrev pub AnchorsArePatterns : Type 0
+AnchorsArePatterns = (script : List ℕ) → IsTrue (is_anchor script) ↔ (witness_program_of script ≡ Some (1, 0x4e ∷ 0x73 ∷ []))
 
 -- a script that pays a key is the push of a public key, and OP_CHECKSIG
 abbrev pub KeysArePatterns : Type 0

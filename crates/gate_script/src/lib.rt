@@ -21,4 +21,4 @@ pub use op::{Op, ops};
 pub use pushes::{is_push_only, push_stack};
 pub use reading::Ops;
 pub use templates::Template;
-pub use witness::witness_program;
+pub use witness::{is_anchor, witness_program};

@@ -7,7 +7,7 @@ use crate::public_key::is_public_key;
 use crate::reading::Ops;
 
 /// One instruction of a script.
-#[derive(Clone, Copy, Debug, PartialEq, Eq)]
+#[derive(Clone, Copy, PartialEq, Eq)]
 pub enum Op<'a> {
     /// A push of these bytes, by one of the opcodes 0x01 to 0x4e.
     Push { opcode: u8, bytes: &'a [u8] },

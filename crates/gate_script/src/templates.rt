@@ -1,5 +1,5 @@
 /// The form of an output's script (Bitcoin Core 22.0, `TxoutType`).
-#[derive(Clone, Copy, Debug, PartialEq, Eq)]
+#[derive(Clone, Copy, PartialEq, Eq)]
 pub enum Template {
     /// Pay to a script hash (BIP 16).
     ScriptHash,

@@ -1,6 +1,6 @@
 ghost use Rattle.std.specs.Prelude.{◌≡◌};
 ghost use Rattle.std.specs.Option.{option_map};
-ghost use Rattle.gate_script.specs.Witness.{witness_program_of};
+ghost use Rattle.gate_script.specs.Witness.{is_anchor, witness_program_of};
 
 use crate::opcode::{OP_0, OP_1, OP_16, OP_RESERVED};
 
@@ -20,4 +20,11 @@ pub fn witness_program(script: &[u8]) -> Option<(u8, &[u8])>
         return None;
     }
     Some((version, program))
+}
+
+/// Whether the script is pay to anchor (BIP 433): the witness program of version 1 with the bytes 4e73.
+pub fn is_anchor(script: &[u8]) -> bool
+    ensures { result ≡ is_anchor script.now }
+{
+    matches!(script, [OP_1, 2, 0x4e, 0x73])
 }

@@ -1,7 +1,7 @@
 //! The outcome of a chain event.
 
 /// The outcome of a chain event: the tip, and how many entries of the pool left and came.
-#[derive(Clone, Copy, Debug, PartialEq, Eq)]
+#[derive(Clone, Copy, PartialEq, Eq)]
 pub struct Moved {
     /// The height of the tip after it.
     pub tip: u32,

@@ -15,7 +15,7 @@ use std::alloc::Global;
 use std::marker::Model;
 
 /// A submission before it meets a chain and a pool: contracts see the transaction that its bytes spell, or none.
-#[derive(Debug, Drop)]
+#[derive(Drop)]
 pub struct Prepared {
     identified: Option<Counted<Identified>>,
     denial: Option<Denial>,

@@ -2,7 +2,7 @@
 use gate_tx::Wtxid;
 
 /// What a script interpreter found on an input.
-#[derive(Clone, Copy, Debug, PartialEq, Eq)]
+#[derive(Clone, Copy, PartialEq, Eq)]
 pub enum Verdict {
     /// The script succeeds under every rule.
     Good,
@@ -13,7 +13,7 @@ pub enum Verdict {
 }
 
 /// The verdict on one input of one transaction.
-#[derive(Clone, Copy, Debug, PartialEq, Eq)]
+#[derive(Clone, Copy, PartialEq, Eq)]
 pub struct VerdictRow {
     pub wtxid: Wtxid,
     pub input: u32,

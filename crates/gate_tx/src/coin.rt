@@ -8,7 +8,7 @@ use std::alloc::Global;
 
 /// An unspent output, in satoshi, with the height of the block that holds it and whether a
 /// coinbase made it.
-#[derive(Debug, Drop, PartialEq, Eq)]
+#[derive(Drop, PartialEq, Eq)]
 pub struct Coin {
     pub value: i64,
     pub script: Kept<u8>,

@@ -7,15 +7,22 @@ ghost use Rattle.gate_tx.specs.Text.{longest, IsRefused};
 use crate::reading::MAX_SIZE;
 use crate::sizes::{stripped_lists, witness_lists};
 use crate::transaction::{Parts, Transaction, TxIn, TxOut};
+use std::fmt;
 use thiserror::Error;
 
 /// Lists that make no transaction: outputs without inputs, which have no text, or a text past
 /// 33,554,432 bytes. They are handed back as they came.
-#[derive(Debug, Drop, Error)]
+#[derive(Drop, Error)]
 #[error("outputs without inputs, or a text past 33554432 bytes")]
 pub struct Shape {
     pub inputs: Vec<TxIn>,
     pub outputs: Vec<TxOut>,
+}
+
+impl fmt::Debug for Shape {
+    fn fmt<W: fmt::Write>(&self, f: &mut fmt::Formatter<W>) -> fmt::Result {
+        write!(f, "{self}")
+    }
 }
 
 impl Transaction {

@@ -17,7 +17,7 @@ use std::marker::Model;
 
 /// What shows the right to spend an output: contracts see the list of its items. It is kept as the
 /// items' texts, one behind the other, and their number, so an item takes the memory of its text.
-#[derive(Debug, Drop)]
+#[derive(Drop)]
 pub struct Witness {
     count: usize,
     texts: Vec<u8>,

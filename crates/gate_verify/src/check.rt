@@ -12,7 +12,7 @@ pub trait InputCheck {
 }
 
 /// The gate's own check, which is `report` and nothing else.
-#[derive(Clone, Copy, Debug)]
+#[derive(Clone, Copy)]
 pub struct PolicyCheck;
 
 impl InputCheck for PolicyCheck {

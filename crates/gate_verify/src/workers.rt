@@ -9,7 +9,7 @@ pub const MAX_WORKERS: usize = 64;
 
 /// How many threads may check the pieces of one submission at once, the caller's own among them: contracts see the number,
 /// from 1 to 64.
-#[derive(Clone, Copy, Debug, PartialEq, Eq)]
+#[derive(Clone, Copy, PartialEq, Eq)]
 pub struct Workers {
     count: usize,
 }

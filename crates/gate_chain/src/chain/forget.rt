@@ -27,7 +27,7 @@ pub trait CoinTest {
 }
 
 /// What a chain forgot: how many coins it had that no block spends, and has no more.
-#[derive(Clone, Copy, Debug, PartialEq, Eq)]
+#[derive(Clone, Copy, PartialEq, Eq)]
 pub struct Forgotten {
     pub coins: u64,
 }

@@ -19,7 +19,7 @@ invariant_of-self-in_err-connected g c =
     let h : History = history s.first (opening_in (length s.coins.opening.entries) (all_in s.coins)) (take s.opening_times s.times.items) s.blocks.items in
     let height : c.len.result + s.first ≡ length s.times.items + s.first = ap (λ n. n + s.first) (c.len.ensures ∙ (search rules)) in
     let r = c.in_err-connected.ensures.connected h (subst (Opens h s.opening_txids.keys) (sym height) (opens _ _ _ _ _ _ _ _ _ l)) l.opened_is l.maps in
-    let stands = refused _ _ _ _ _ _ _ _ _ l _ _ _ _ _ (count_same s.coins.opening.entries c.connect.new.coins.opening.entries c.in_err-connected.ensures.opening) r.0 c.in_ok-reserve-2.ensures.items c.in_ok-reserve.ensures.items in
+    let stands = refused _ _ _ _ _ _ _ _ _ l _ _ _ _ _ (count_same s.coins.opening.entries c.connect.new.coins.opening.entries c.in_err-connected.ensures.opening) r.0 c.in_ok-reserve_one.ensures.same_times c.in_ok-reserve_one.ensures.same_blocks in
     stands.0
 
 pub returns-in_err-connected-clause-err : goal.returns-in_err-connected-clause-err
@@ -29,7 +29,7 @@ returns-in_err-connected-clause-err g c =
     let h : History = history s.first (opening_in (length s.coins.opening.entries) (all_in s.coins)) (take s.opening_times s.times.items) s.blocks.items in
     let height : c.len.result + s.first ≡ length s.times.items + s.first = ap (λ n. n + s.first) (c.len.ensures ∙ (search rules)) in
     let r = c.in_err-connected.ensures.connected h (subst (Opens h s.opening_txids.keys) (sym height) (opens _ _ _ _ _ _ _ _ _ l)) l.opened_is l.maps in
-    let stands = refused _ _ _ _ _ _ _ _ _ l _ _ _ _ _ (count_same s.coins.opening.entries c.connect.new.coins.opening.entries c.in_err-connected.ensures.opening) r.0 c.in_ok-reserve-2.ensures.items c.in_ok-reserve.ensures.items in
+    let stands = refused _ _ _ _ _ _ _ _ _ l _ _ _ _ _ (count_same s.coins.opening.entries c.connect.new.coins.opening.entries c.in_err-connected.ensures.opening) r.0 c.in_ok-reserve_one.ensures.same_times c.in_ok-reserve_one.ensures.same_blocks in
     let p = err_from_is_err_and c.from_residual-in_err-connected.result c.from_residual-in_err-connected.ensures.1 in
     rw p.1 (stands.1 ∙ c.self.view_is)
 
@@ -52,11 +52,11 @@ invariant_of-self-2 g c =
     let height : c.len.result + s.first ≡ length s.times.items + s.first = ap (λ n. n + s.first) (c.len.ensures ∙ (search rules)) in
     let r = c.in_ok-connected.ensures.connected h (subst (Opens h s.opening_txids.keys) (sym height) (opens _ _ _ _ _ _ _ _ _ l)) l.opened_is l.maps in
     let none : head_denial h c.args.block ≡ None = subst (λ x. head_denial x c.args.block ≡ None) (sym c.self.view_is) (sym c.in_default.ensures) in
-    let timed = rw c.unwrap.ensures at c.push-timed.ensures.items in
-    let linked = rw c.unwrap-2.ensures at c.push-linked.ensures.items in
+    let timed = c.push_reserved.ensures.items in
+    let linked = c.push_reserved-2.ensures.items in
     let stands = connected _ _ _ _ _ _ _ _ _ l c.args.block c.in_ok-connected.connected _ _ _ _ _ (count_same s.coins.opening.entries c.connect.new.coins.opening.entries c.in_ok-connected.ensures.opening) r none
-    (timed ∙ (λ j. c.in_ok-reserve-2.ensures.items j ++ (c.time-time.ensures ∙ ap header_time c.header.ensures) j ∷ []))
-    (linked ∙ ap (λ x. x ++ c.in_ok-connected.connected ∷ []) c.in_ok-reserve.ensures.items) in
+    (timed ∙ (λ j. c.in_ok-reserve_one.ensures.same_times j ++ (c.time-time.ensures ∙ ap header_time c.header.ensures) j ∷ []))
+    (linked ∙ ap (λ x. x ++ c.in_ok-connected.connected ∷ []) c.in_ok-reserve_one.ensures.same_blocks) in
     stands.0
 
 pub returns-clause-ok : goal.returns-clause-ok
@@ -67,11 +67,11 @@ returns-clause-ok g c =
     let height : c.len.result + s.first ≡ length s.times.items + s.first = ap (λ n. n + s.first) (c.len.ensures ∙ (search rules)) in
     let r = c.in_ok-connected.ensures.connected h (subst (Opens h s.opening_txids.keys) (sym height) (opens _ _ _ _ _ _ _ _ _ l)) l.opened_is l.maps in
     let none : head_denial h c.args.block ≡ None = subst (λ x. head_denial x c.args.block ≡ None) (sym c.self.view_is) (sym c.in_default.ensures) in
-    let timed = rw c.unwrap.ensures at c.push-timed.ensures.items in
-    let linked = rw c.unwrap-2.ensures at c.push-linked.ensures.items in
+    let timed = c.push_reserved.ensures.items in
+    let linked = c.push_reserved-2.ensures.items in
     let stands = connected _ _ _ _ _ _ _ _ _ l c.args.block c.in_ok-connected.connected _ _ _ _ _ (count_same s.coins.opening.entries c.connect.new.coins.opening.entries c.in_ok-connected.ensures.opening) r none
-    (timed ∙ (λ j. c.in_ok-reserve-2.ensures.items j ++ (c.time-time.ensures ∙ ap header_time c.header.ensures) j ∷ []))
-    (linked ∙ ap (λ x. x ++ c.in_ok-connected.connected ∷ []) c.in_ok-reserve.ensures.items) in
+    (timed ∙ (λ j. c.in_ok-reserve_one.ensures.same_times j ++ (c.time-time.ensures ∙ ap header_time c.header.ensures) j ∷ []))
+    (linked ∙ ap (λ x. x ++ c.in_ok-connected.connected ∷ []) c.in_ok-reserve_one.ensures.same_blocks) in
     stands.1 ∙ ap (λ x. grown x c.args.block) c.self.view_is
 
 pub returns-clause-passes : goal.returns-clause-passes
