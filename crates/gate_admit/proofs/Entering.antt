@@ -20,12 +20,12 @@ use Rattle.gate_pool.specs.Pool.{Admitted, spends_of, spent_by}
 use Rattle.gate_pool.specs.Family.{steps, is_below_some, is_conflict, conflicts_of, ancestors_above, entered}
 use Rattle.gate_pool.proofs.Entries.{Contains-map, Contains-from_map}
 use Rattle.gate_pool.proofs.Walking.{Contains-filter}
-use Rattle.gate_rbf.specs.Replacing.{adds_parent}
+use Rattle.gate_rbf.specs.Replacing.{adds_unconfirmed, sharers}
 use Rattle.gate_admit.specs.declared.attempt.Attempt.TheVariants.{First}
 use Rattle.gate_admit.specs.Coins.{view_coin}
 use Rattle.gate_admit.specs.Good.{IsSound, IsLimited, IsSettled, IsUnconnected, AreApart, connected_transactions}
 use Rattle.gate_admit.specs.Granting.{IsGrantable}
-use Rattle.gate_admit.specs.Policies.{Policy, IsPolicy}
+use Rattle.gate_admit.specs.Policies.{Policy, IsPolicy, incremental_feerate}
 use Rattle.gate_admit.specs.Limits.{limit_rules}
 use Rattle.gate_admit.specs.Rules.{admission_rules, grant_of}
 use Rattle.gate_admit.specs.Standing.{Standing}
@@ -99,7 +99,7 @@ module _ (over : Standing) (e : Admitted) (good : IsSound over.policy over.chain
 
   -- ---- the pool
 
-  families : e.vsize ≤ 100000 → NoneFails (limit_rules First over.policy over.entries e.tx e.vsize) → (list_any (is_conflict e.tx) over.entries ≡ true → list_any (adds_parent over.entries (conflicts_of over.entries e.tx)) e.tx.inputs ≡ false)
+  families : e.vsize ≤ 100000 → NoneFails (limit_rules First over.policy over.entries e.tx e.vsize) → (list_any (is_conflict e.tx) over.entries ≡ true → adds_unconfirmed over.policy.parents over.entries e.tx ≡ false)
       → All (λ (a : Admitted). IsLimited over.policy (entered over.entries e) (txid_of a.tx)) (entered over.entries e)
   families small room parents =
       All-append (λ (a : Admitted). IsLimited over.policy (entered over.entries e) (txid_of a.tx)) (left_by over.entries e) (e ∷ [])
@@ -112,7 +112,7 @@ module _ (over : Standing) (e : Admitted) (good : IsSound over.policy over.chain
       (All-one (λ (a : Admitted). IsLimited over.policy (entered over.entries e) (txid_of a.tx)) e (limited_new (omega (arith, small, good.bounds.descendants_size)) childless_grant (room_above over.policy over.entries e good.bounds small room)))
 
   -- the entries after it entered
-  pub granted_sound : e.vsize ≤ 100000 → NoneFails (limit_rules First over.policy over.entries e.tx e.vsize) → (list_any (is_conflict e.tx) over.entries ≡ true → list_any (adds_parent over.entries (conflicts_of over.entries e.tx)) e.tx.inputs ≡ false)
+  pub granted_sound : e.vsize ≤ 100000 → NoneFails (limit_rules First over.policy over.entries e.tx e.vsize) → (list_any (is_conflict e.tx) over.entries ≡ true → adds_unconfirmed over.policy.parents over.entries e.tx ≡ false)
       → IsSound over.policy over.chain (entered over.entries e)
   granted_sound small room parents =
       let kept = left_by over.entries e in
@@ -138,8 +138,8 @@ room_granted : (over : Standing) (tx : Tx) → Passes First over tx → NoneFail
 unfolding grant_of
 room_granted over tx p = p.limits
 
-parents_granted : (over : Standing) (tx : Tx) → Passes First over tx → list_any (is_conflict tx) over.entries ≡ true → list_any (adds_parent over.entries (conflicts_of over.entries tx)) tx.inputs ≡ false
-parents_granted over tx p conflicts = no_parent_added over.policy.incremental_rate over.entries tx (conflicts_of over.entries tx) _ (grant_of over tx).fee (grant_of over tx).vsize (beside_conflict First over tx p conflicts)
+parents_granted : (over : Standing) (tx : Tx) → Passes First over tx → list_any (is_conflict tx) over.entries ≡ true → adds_unconfirmed over.policy.parents over.entries tx ≡ false
+parents_granted over tx p conflicts = no_parent_added (incremental_feerate over.policy) over.entries tx (conflicts_of over.entries tx) (sharers over.policy.parents over.entries tx) _ (grant_of over tx).fee (grant_of over tx).vsize (beside_conflict First over tx p conflicts)
 
 -- what is granted over sound entries is in no connected block
 abbrev pub StaysUnconnected : Standing → Option Tx → Type 0

@@ -7,7 +7,7 @@ use Rattle.gate_tx.specs.Tx.{Tx}
 use Rattle.gate_tx.specs.Ids.{txid_of, wtxid_of}
 use Rattle.gate_tx.specs.Sizes.{weight_of}
 use Rattle.gate_standard.specs.declared.Denial.TheVariants.{MempoolConflict, MinRelayFee, PrematureSpend, VerdictMissing}
-use Rattle.gate_standard.specs.Amounts.{required_fee}
+use Rattle.gate_standard.specs.Amounts.{required_fee, rounded_down}
 use Rattle.gate_bytes.specs.Order.{first_failing}
 use Rattle.gate_chain.specs.History.{History}
 use Rattle.gate_chain.specs.Coins.{coin_of}
@@ -49,12 +49,12 @@ size_by_cost : vsize_of 20 81 (paying 99890) ≡ 405
 unfolding weight_of
 size_by_cost = refl
 
-paid : first_failing (fee_rules 1000 0 110 110) ≡ None
-unfolding fee_rules required_fee
+paid : first_failing (fee_rules usual_policy 0 110 110) ≡ None
+unfolding fee_rules required_fee rounded_down
 paid = refl
 
-underpaid : first_failing (fee_rules 1000 0 109 110) ≡ Some MinRelayFee
-unfolding fee_rules required_fee
+underpaid : first_failing (fee_rules usual_policy 0 109 110) ≡ Some MinRelayFee
+unfolding fee_rules required_fee rounded_down
 underpaid = refl
 
 coin_found : first_failing (coin_value_rules 101 0 (coins_of chain [] (paying 99890).inputs)) ≡ None

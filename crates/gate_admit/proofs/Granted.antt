@@ -1,6 +1,6 @@
 -- What a grant says of a transaction: its inputs are live, value is conserved, and an entry holds its numbers.
 use Rattle.std.proofs.Common.{◌≡◌, ◌≢◌, ◌≤◌, ◌+◌, ◌*◌, ◌/◌, ℕ, Bool, true, false, not, ◌&&◌, List, [], ◌∷◌, get_or, Option, Some, None, Result, Ok, Err, refl, sym, ap, ◌∙◌, subst, arith}
-use Rattle.std.specs.Prelude.{◌-◌, map, max, is_some, is_none, IsSome, IfSome, IfOk, OnOk, flat_map}
+use Rattle.std.specs.Prelude.{◌-◌, if◌then◌else◌, map, max, is_some, is_none, IsSome, IfSome, IfOk, OnOk, flat_map}
 use Rattle.std.specs.Str.{bytes_eq}
 use Rattle.std.specs.List.{All, AllPairs, list_any}
 use Rattle.std.proofs.lemmas.Bool.{true≢false, or_parts, ltb-false}
@@ -8,7 +8,7 @@ use Rattle.std.proofs.lemmas.Slice.Eq.{bytes_eq-Decides}
 use Rattle.std.proofs.lemmas.List.Elements.{All-nil, All-cons, All-tail, All-append, All-filter, All-map, All-weaker, Contains-get_or, filter_passes}
 use Rattle.std.proofs.lemmas.List.Kept.{AllPairs-cons}
 use Rattle.std.proofs.Math.Nat.{add-sub_of_le}
-use Rattle.gate_bytes.specs.Order.{first_failing, NoneFails}
+use Rattle.gate_bytes.specs.Order.{Rule, first_failing, NoneFails}
 use Rattle.gate_bytes.proofs.OrderLemmas.{none_fails-append, none_fails}
 use Rattle.gate_bytes.specs.declared.Memory.{Memory}
 use Rattle.gate_tx.specs.declared.Coin.{Coin}
@@ -34,10 +34,10 @@ use Rattle.gate_admit.specs.declared.grant.Grant.{Grant}
 use Rattle.gate_admit.specs.Bounds.{FitsEntry, FitsAnEntry}
 use Rattle.gate_admit.specs.Coins.{view_coin, coins_of}
 use Rattle.gate_admit.specs.Granting.{IsGrantable, Conserves, PaysItsSize}
-use Rattle.gate_admit.specs.Policies.{Policy}
+use Rattle.gate_admit.specs.Policies.{Policy, feerate_by, relay_feerate}
 use Rattle.gate_admit.specs.Limits.{limit_rules}
 use Rattle.gate_admit.specs.Reports.{reported, report_rules, sigop_cost, vsize_of}
-use Rattle.gate_admit.specs.Rules.{final_rules, pool_rules, coin_rules, lock_rules, is_immature, rules_of_coin, coin_value_rules, balance_rules, fee_rules, payment_rules, admission_rules, grant_of, denied_or, decision_of, coins_value, outputs_value}
+use Rattle.gate_admit.specs.Rules.{final_rules, pool_rules, coin_rules, lock_rules, is_immature, rules_of_coin, coin_value_rules, balance_rules, fee_rules, floor_rule, payment_rules, relay_rule, admission_rules, grant_of, denied_or, decision_of, coins_value, outputs_value}
 use Rattle.gate_standard.specs.declared.Standards.{Standards}
 use Rattle.gate_admit.specs.Policies.{IsPolicy}
 use Rattle.gate_admit.proofs.Weighing.{positive, counted}
@@ -181,13 +181,20 @@ conserved attempt over tx p =
     let both = balanced (coins_value (coins_of over.chain over.entries tx.inputs)) (outputs_value tx) p.balance in
     record { balanced = both.0; money = both.1 }
 
-paid : (relay floor fee vsize : ℕ) → NoneFails (payment_rules First relay floor fee vsize) → (required_fee floor vsize ≤ fee) × (required_fee relay vsize ≤ fee)
+-- both of two rules pass, in either order
+either_order : (b : Bool) (first second : Rule Denial) → NoneFails (if b then first ∷ second ∷ [] else second ∷ first ∷ []) → (first.1 ≡ false) × (second.1 ≡ false)
+either_order true first second h = (h.0, h.1.0)
+either_order false first second h = (h.1.0, h.0)
+
+paid : (policy : Policy) (floor fee vsize : ℕ) → NoneFails (payment_rules First policy floor fee vsize) → (required_fee (feerate_by policy floor) vsize ≤ fee) × (required_fee (relay_feerate policy) vsize ≤ fee)
 unfolding fee_rules
-paid relay floor fee vsize h = (ltb-false _ _ h.0, ltb-false _ _ h.1.0)
+paid policy floor fee vsize h =
+    let both = either_order policy.relay_fee_first (relay_rule policy fee vsize) (floor_rule policy floor fee vsize) h in
+    (ltb-false _ _ both.1, ltb-false _ _ both.0)
 
 pays : (over : Standing) (tx : Tx) → Passes First over tx → PaysItsSize over (grant_of over tx)
 unfolding grant_of
-pays over tx p = let both = paid over.policy.relay_rate over.floor _ _ p.payment in record { relay = both.1; pool = both.0 }
+pays over tx p = let both = paid over.policy over.floor _ _ p.payment in record { relay = both.1; pool = both.0 }
 
 -- ---- sizes
 

@@ -1,3 +1,4 @@
+pub mod Bounds
 pub mod Lists
 pub mod Rows
 pub mod Needed

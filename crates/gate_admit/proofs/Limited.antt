@@ -7,6 +7,7 @@ use Rattle.gate_graph.specs.Family.{reaches}
 use Rattle.gate_pool.specs.Pool.{Admitted, size_of}
 use Rattle.gate_pool.specs.Family.{steps, is_below_some, is_conflict, ancestors_of, descendants_of, ancestors_above, entered}
 use Rattle.gate_pool.proofs.Entries.{Id}
+use Rattle.gate_rbf.specs.declared.ParentsOf.TheVariants.{Conflicts}
 use Rattle.gate_admit.specs.Good.{IsLimited}
 use Rattle.gate_admit.specs.Policies.{Policy, most_ancestors, most_descendants_size}
 use Rattle.gate_admit.proofs.Childless.{IsChildless, sum_above_new, sum_below_new, sum_above_old, sum_below_old, sum_below_apart}
@@ -18,7 +19,7 @@ pub record HasRoom (policy : Policy) (entries : List Admitted) (e : Admitted) (b
   pub under : (a : Admitted) → Contains entries a → gone a ≡ true → reaches (steps entries) b (txid_of a.tx) ≡ true
   pub goes : (a : Admitted) → Contains entries a → gone a ≡ true → is_below_some (is_conflict e.tx) entries a ≡ true
   pub count : length (descendants_of entries b) ≤ policy.descendants + length (filter gone entries)
-  pub size : size_of (descendants_of entries b) + e.vsize ≤ most_descendants_size policy + size_of (filter gone entries)
+  pub size : policy.parents ≡ Conflicts → size_of (descendants_of entries b) + e.vsize ≤ most_descendants_size policy + size_of (filter gone entries)
 
 -- above a transaction there is room for it
 pub record HasRoomAbove (policy : Policy) (entries : List Admitted) (e : Admitted) : Type 0 where
@@ -33,7 +34,7 @@ limited_new {policy} {entries} {e} light h room =
       ancestors = omega (arith, room.count, sum_above_new h (λ (a : Admitted). 1), length_ones (ancestors_of after (txid_of e.tx)), length_ones (ancestors_above entries e.tx.inputs));
       ancestors_size = omega (arith, room.size, sum_above_new h (λ (a : Admitted). a.vsize));
       descendants = omega (arith, sum_below_new h (λ (a : Admitted). 1), length_ones (descendants_of after (txid_of e.tx)));
-      descendants_size = omega (arith, light, sum_below_new h (λ (a : Admitted). a.vsize));
+      descendants_size = λ narrow. omega (arith, light, sum_below_new h (λ (a : Admitted). a.vsize));
     }
 
 -- the families of what stays
@@ -50,12 +51,12 @@ limited_old {policy} {entries} {e} h b ne old room =
       ancestors = above_count;
       ancestors_size = above_size;
       descendants = omega (arith, w.count, sum_below_old h (λ (a : Admitted). 1) b w.gone w.under w.goes, length_ones (descendants_of after b), length_ones (descendants_of entries b), length_ones (filter w.gone entries));
-      descendants_size = omega (arith, w.size, sum_below_old h (λ (a : Admitted). a.vsize) b w.gone w.under w.goes);
+      descendants_size = λ narrow. omega (arith, w.size narrow, sum_below_old h (λ (a : Admitted). a.vsize) b w.gone w.under w.goes);
     })
     (λ (r : reaches (steps after) b (txid_of e.tx) ≡ false). record {
       ancestors = above_count;
       ancestors_size = above_size;
       descendants = omega (arith, old.descendants, sum_below_apart h (λ (a : Admitted). 1) b r, length_ones (descendants_of after b), length_ones (descendants_of entries b));
-      descendants_size = omega (arith, old.descendants_size, sum_below_apart h (λ (a : Admitted). a.vsize) b r);
+      descendants_size = λ narrow. omega (arith, old.descendants_size narrow, sum_below_apart h (λ (a : Admitted). a.vsize) b r);
     })
     (cases_Bool (reaches (steps after) b (txid_of e.tx)))

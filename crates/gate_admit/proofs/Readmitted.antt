@@ -122,7 +122,7 @@ module _ (entries : List Admitted) (e n : Admitted) (alike : AreAlike e n) where
         ancestors = omega (arith, h.ancestors, fewer_above one (omega arith) b, length_ones (ancestors_of after b), length_ones (ancestors_of all b));
         ancestors_size = omega (arith, h.ancestors_size, fewer_above size fits b);
         descendants = omega (arith, h.descendants, fewer_below one (omega arith) b, length_ones (descendants_of after b), length_ones (descendants_of all b));
-        descendants_size = omega (arith, h.descendants_size, fewer_below size fits b);
+        descendants_size = λ narrow. omega (arith, h.descendants_size narrow, fewer_below size fits b);
       }
 
 -- ---- the newcomer among the entries
@@ -170,16 +170,16 @@ beside_limited policy entries n b above below h =
       ancestors = omega (arith, h.ancestors, beside_above entries n b above below one, length_ones (ancestors_of all b), length_ones (ancestors_of entries b));
       ancestors_size = omega (arith, h.ancestors_size, beside_above entries n b above below size);
       descendants = omega (arith, h.descendants, beside_below entries n b above below one, length_ones (descendants_of all b), length_ones (descendants_of entries b));
-      descendants_size = omega (arith, h.descendants_size, beside_below entries n b above below size);
+      descendants_size = λ narrow. omega (arith, h.descendants_size narrow, beside_below entries n b above below size);
     }
 
 -- what passes the test is limited
-told_limited : (policy : Policy) (entries : List Admitted) (b : Id) → is_limited policy entries b ≡ true → IsLimited policy entries b
+pub told_limited : (policy : Policy) (entries : List Admitted) (b : Id) → is_limited policy entries b ≡ true → IsLimited policy entries b
 told_limited policy entries b h =
     let first = and_parts (nat_le (length (ancestors_of entries b)) (most_ancestors policy)) _ h in
     let second = and_parts (nat_le (size_of (ancestors_of entries b)) policy.ancestors_size) _ first.1 in
     let third = and_parts (nat_le (length (descendants_of entries b)) (most_descendants policy)) (nat_le (size_of (descendants_of entries b)) (most_descendants_size policy)) second.1 in
-    record { ancestors = leb-true _ _ first.0; ancestors_size = leb-true _ _ second.0; descendants = leb-true _ _ third.0; descendants_size = leb-true _ _ third.1 }
+    record { ancestors = leb-true _ _ first.0; ancestors_size = leb-true _ _ second.0; descendants = leb-true _ _ third.0; descendants_size = λ narrow. leb-true _ _ third.1 }
 
 -- each entry is limited with the newcomer, and so is the newcomer
 pub all_limited : (policy : Policy) (entries : List Admitted) (n : Admitted) → ((a : Admitted) → Contains entries a → IsLimited policy entries (txid_of a.tx))

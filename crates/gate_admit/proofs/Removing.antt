@@ -67,7 +67,7 @@ limited_part policy k entries txid h =
       ancestors = omega (arith, h.ancestors, fewer_above k entries txid one, length_ones (ancestors_of (filter k entries) txid), length_ones (ancestors_of entries txid));
       ancestors_size = omega (arith, h.ancestors_size, fewer_above k entries txid size);
       descendants = omega (arith, h.descendants, fewer_below k entries txid one, length_ones (descendants_of (filter k entries) txid), length_ones (descendants_of entries txid));
-      descendants_size = omega (arith, h.descendants_size, fewer_below k entries txid size);
+      descendants_size = λ narrow. omega (arith, h.descendants_size narrow, fewer_below k entries txid size);
     }
 
 -- ---- coins of a part

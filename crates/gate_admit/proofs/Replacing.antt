@@ -10,7 +10,7 @@ use Rattle.gate_tx.specs.Tx.{Tx}
 use Rattle.gate_standard.specs.Amounts.{required_fee}
 use Rattle.gate_pool.specs.Pool.{Admitted}
 use Rattle.gate_pool.specs.Family.{names, is_conflict, conflicts_of, replaced_of, all_below, without_below, fees_of}
-use Rattle.gate_rbf.specs.Replacing.{rules_beside, replacement_rules}
+use Rattle.gate_rbf.specs.Replacing.{rules_beside, replacement_rules, sharers}
 use Rattle.gate_admit.specs.declared.attempt.Attempt.{Attempt}
 use Rattle.gate_admit.specs.declared.grant.Grant.{Grant}
 use Rattle.gate_admit.specs.Granting.{Replaces}
@@ -20,6 +20,7 @@ use Rattle.gate_admit.proofs.Granted.{granted}
 use Rattle.gate_admit.proofs.Lists.{none_pass}
 use Rattle.gate_admit.proofs.Passing.{Passes, passes}
 use Rattle.gate_admit.proofs.Staying.{below_some_closed, goes_below, named_step, stays_beside, stays_within}
+use Rattle.gate_admit.specs.Policies.{incremental_feerate}
 
 -- ---- what is named
 
@@ -38,14 +39,14 @@ asked false rules e h = absurd (true≢false (sym e))
 
 -- the rules beside a conflict
 pub beside_conflict : (attempt : Attempt) (over : Standing) (tx : Tx) → Passes attempt over tx → list_any (is_conflict tx) over.entries ≡ true
-    → NoneFails (rules_beside over.policy.incremental_rate over.entries (conflicts_of over.entries tx) (fees_of (replaced_of over.entries tx)) tx (grant_of over tx).fee (grant_of over tx).vsize)
+    → NoneFails (rules_beside (incremental_feerate over.policy) over.entries (conflicts_of over.entries tx) (sharers over.policy.parents over.entries tx) (fees_of (replaced_of over.entries tx)) tx (grant_of over tx).fee (grant_of over tx).vsize)
 unfolding grant_of replacement_rules
 beside_conflict attempt over tx p conflicts = asked (list_any (is_conflict tx) over.entries) _ conflicts p.replacement
 
-replaces : (over : Standing) (tx : Tx) (grant : Grant) → NoneFails (rules_beside over.policy.incremental_rate over.entries (conflicts_of over.entries tx) (fees_of (replaced_of over.entries tx)) tx grant.fee grant.vsize) → Replaces over tx grant
+replaces : (over : Standing) (tx : Tx) (grant : Grant) → NoneFails (rules_beside (incremental_feerate over.policy) over.entries (conflicts_of over.entries tx) (sharers over.policy.parents over.entries tx) (fees_of (replaced_of over.entries tx)) tx grant.fee grant.vsize) → Replaces over tx grant
 unfolding rules_beside
 replaces over tx grant h = record {
-  paid = pays_both (fees_of (replaced_of over.entries tx)) (required_fee over.policy.incremental_rate grant.vsize) grant.fee h.1.1.1.0 h.1.1.1.1.0;
+  paid = pays_both (fees_of (replaced_of over.entries tx)) (required_fee (incremental_feerate over.policy) grant.vsize) grant.fee h.1.1.1.0 h.1.1.1.1.0;
   rate = λ k d l. leb-false _ _ (none_pass _ (conflicts_of over.entries tx) h.0 k d l);
   whole = λ k d l n c m. names_none (is_conflict tx) over.entries _ _ (Contains-get_or (without_below (is_conflict tx) over.entries) k d l) (Contains-get_or (replaced_of over.entries tx) n c m);
 }

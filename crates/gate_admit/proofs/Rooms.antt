@@ -13,10 +13,12 @@ use Rattle.gate_graph.specs.Family.{reaches, Leads, here, down}
 use Rattle.gate_bytes.proofs.Members.{Contains-cons_cases, Contains-head, not_in_none, any_is, list_any_of}
 use Rattle.gate_graph.proofs.Reaching.{reaches-same, reaches_trans, reaches_step, Leads_from_reaches}
 use Rattle.gate_pool.specs.Pool.{Admitted, has_txid, entry_by_txid, size_of}
-use Rattle.gate_pool.specs.Family.{names, steps, is_conflict, conflicts_of, ancestors_above, descendants_of}
+use Rattle.gate_pool.specs.Family.{names, steps, is_below_some, is_conflict, conflicts_of, replaced_of, ancestors_above, descendants_of}
 use Rattle.gate_pool.proofs.Entries.{Id, step_entry}
 use Rattle.gate_pool.proofs.Walking.{Contains-filter, Contains-from_filter}
-use Rattle.gate_rbf.specs.Replacing.{adds_parent, rules_beside}
+use Rattle.gate_rbf.specs.declared.ParentsOf.{ParentsOf}
+use Rattle.gate_rbf.specs.declared.ParentsOf.TheVariants.{Conflicts, Replaced}
+use Rattle.gate_rbf.specs.Replacing.{adds_parent, adds_unconfirmed, rules_beside}
 use Rattle.gate_rbf.proofs.Conflicting.{is_some-find}
 use Rattle.gate_admit.specs.declared.attempt.Attempt.TheVariants.{First}
 use Rattle.gate_admit.specs.declared.limits.FamilyLimits.{FamilyLimits}
@@ -26,6 +28,7 @@ use Rattle.gate_admit.proofs.Filtering.{list_all_of}
 use Rattle.gate_admit.proofs.Limited.{HasRoom, HasRoomAbove}
 use Rattle.gate_admit.proofs.Lists.{none_pass}
 use Rattle.gate_admit.proofs.Staying.{named_step}
+use Rattle.gate_standard.specs.declared.Feerate.{Feerate}
 
 -- ---- within limits
 
@@ -122,24 +125,30 @@ shared_parent true false h e = sym h
 shared_parent false named h e = absurd (true≢false (sym e))
 
 -- A40, where a transaction conflicts with entries
-pub no_parent_added : (rate : ℕ) (entries : List Admitted) (tx : Tx) (direct : List Admitted) (paid fee vsize : ℕ) → NoneFails (rules_beside rate entries direct paid tx fee vsize) → list_any (adds_parent entries direct) tx.inputs ≡ false
+pub no_parent_added : (rate : Feerate) (entries : List Admitted) (tx : Tx) (direct sharing : List Admitted) (paid fee vsize : ℕ) → NoneFails (rules_beside rate entries direct sharing paid tx fee vsize) → list_any (adds_parent entries sharing) tx.inputs ≡ false
 unfolding rules_beside
-no_parent_added rate entries tx direct paid fee vsize h = h.1.1.0
+no_parent_added rate entries tx direct sharing paid fee vsize h = h.1.1.0
 
--- an ancestor of a transaction that conflicts with one entry alone is an ancestor of this
-above_conflict : (entries : List Admitted) (tx : Tx) (c a : Admitted) → conflicts_of entries tx ≡ c ∷ [] → list_any (adds_parent entries (conflicts_of entries tx)) tx.inputs ≡ false
-    → Contains (ancestors_above entries tx.inputs) a → reaches (steps entries) (txid_of a.tx) (txid_of c.tx) ≡ true
-above_conflict entries tx c a is none m =
+-- an ancestor of a transaction is an ancestor of one of those whose parents the transaction may have
+above_sharer : (entries : List Admitted) (tx : Tx) (sharing : List Admitted) (a : Admitted) → ((x : Admitted) → Contains sharing x → Contains entries x) → list_any (adds_parent entries sharing) tx.inputs ≡ false
+    → Contains (ancestors_above entries tx.inputs) a → (w : Admitted) × Contains sharing w × (reaches (steps entries) (txid_of a.tx) (txid_of w.tx) ≡ true)
+above_sharer entries tx sharing a stand none m =
     let test : Admitted → Bool = λ x. list_any (λ (i : TxIn). reaches (steps entries) (txid_of x.tx) i.prevout.txid) tx.inputs in
     let member : Contains entries a = Contains-from_filter test entries a m in
     let i = any_is (λ (i : TxIn). reaches (steps entries) (txid_of a.tx) i.prevout.txid) tx.inputs (All-contains (λ (x : Admitted). test x ≡ true) (filter test entries) a (filter_passes test entries) m) in
-    let named = shared_parent _ _ (All-contains (λ (j : TxIn). adds_parent entries (conflicts_of entries tx) j ≡ false) tx.inputs i.0 (none_pass (adds_parent entries (conflicts_of entries tx)) tx.inputs none) i.1)
+    let named = shared_parent _ _ (All-contains (λ (j : TxIn). adds_parent entries sharing j ≡ false) tx.inputs i.0 (none_pass (adds_parent entries sharing) tx.inputs none) i.1)
     (is_entry entries a i.0.prevout.txid member i.2) in
-    let w = any_is (λ (x : Admitted). names x i.0.prevout.txid) (conflicts_of entries tx) named in
+    let w = any_is (λ (x : Admitted). names x i.0.prevout.txid) sharing named in
+    let step = named_step entries w.0 i.0.prevout.txid (stand w.0 w.1) w.2 in
+    (w.0, w.1, reaches_trans (steps entries) (txid_of a.tx) i.0.prevout.txid (txid_of w.0.tx) i.2 (reaches_step (steps entries) i.0.prevout.txid (txid_of w.0.tx) step))
+
+-- an ancestor of a transaction that conflicts with one entry alone, and may have the parents of this alone, is an ancestor of it
+above_conflict : (entries : List Admitted) (tx : Tx) (c a : Admitted) → conflicts_of entries tx ≡ c ∷ [] → list_any (adds_parent entries (conflicts_of entries tx)) tx.inputs ≡ false
+    → Contains (ancestors_above entries tx.inputs) a → reaches (steps entries) (txid_of a.tx) (txid_of c.tx) ≡ true
+above_conflict entries tx c a is none m =
+    let w = above_sharer entries tx (conflicts_of entries tx) a (Contains-from_filter (is_conflict tx) entries) none m in
     let same : c ≡ w.0 = ⊎_elim (λ (e : c ≡ w.0). e) (λ k. not_in_none w.0 k) (Contains-cons_cases c [] w.0 (subst (λ (l : List Admitted). Contains l w.0) is w.1)) in
-    let child : names c i.0.prevout.txid ≡ true = subst (λ (x : Admitted). names x i.0.prevout.txid ≡ true) (sym same) w.2 in
-    let stands : Contains entries c = subst (Contains entries) (sym same) (Contains-from_filter (is_conflict tx) entries w.0 w.1) in
-    reaches_trans (steps entries) (txid_of a.tx) i.0.prevout.txid (txid_of c.tx) i.2 (reaches_step (steps entries) i.0.prevout.txid (txid_of c.tx) (named_step entries c i.0.prevout.txid stands child))
+    subst (λ (x : Admitted). reaches (steps entries) (txid_of a.tx) (txid_of x.tx) ≡ true) (sym same) w.2
 
 some_member : {X : Type 0} (xs : List X) (x : X) → Contains xs x → 1 ≤ length xs
 some_member xs x m = let l = m.1 in omega arith
@@ -151,7 +160,7 @@ room_usual policy entries e b count size = record {
   under = λ a m t. absurd (true≢false (sym t));
   goes = λ a m t. absurd (true≢false (sym t));
   count = omega (arith, count);
-  size = omega (arith, size);
+  size = λ narrow. omega (arith, size);
 }
 
 -- beside one conflict they grow, and it goes with its descendants
@@ -164,15 +173,43 @@ room_grown policy entries e c b m conflicts above count size =
       under = λ a k r. reaches_trans (steps entries) b (txid_of c.tx) (txid_of a.tx) above r;
       goes = λ a k r. list_any_of (λ (x : Admitted). is_conflict e.tx x && reaches (steps entries) (txid_of x.tx) (txid_of a.tx)) entries c m (and_from _ _ conflicts r);
       count = omega (arith, count, itself);
-      size = omega (arith, size);
+      size = λ narrow. omega (arith, size);
+    }
+
+never_both : {X : Type 0} → Conflicts ≡ Replaced → X
+never_both e = cc
+
+-- where it may have the parents of all that is replaced, one of these at least goes from below each of its ancestors
+room_replaced : (policy : Policy) (entries : List Admitted) (e w : Admitted) (b : Id) → policy.parents ≡ Replaced → Contains (replaced_of entries e.tx) w → reaches (steps entries) b (txid_of w.tx) ≡ true
+    → length (descendants_of entries b) ≤ policy.descendants + 1 → HasRoom policy entries e b
+room_replaced policy entries e w b wide replaced above count =
+    let test : Admitted → Bool = is_below_some (is_conflict e.tx) entries in
+    let member : Contains entries w = Contains-from_filter test entries w replaced in
+    let itself = some_member (descendants_of entries (txid_of w.tx)) w (Contains-filter (λ (a : Admitted). reaches (steps entries) (txid_of w.tx) (txid_of a.tx)) entries w member (reaches-same (steps entries) (txid_of w.tx))) in
+    let c = any_is (λ (x : Admitted). is_conflict e.tx x && reaches (steps entries) (txid_of x.tx) (txid_of w.tx)) entries (All-contains (λ (x : Admitted). test x ≡ true) (replaced_of entries e.tx) w (filter_passes test entries) replaced) in
+    let parts = and_parts (is_conflict e.tx c.0) _ c.2 in
+    record {
+      gone = λ a. reaches (steps entries) (txid_of w.tx) (txid_of a.tx);
+      under = λ a k r. reaches_trans (steps entries) b (txid_of w.tx) (txid_of a.tx) above r;
+      goes = λ a k r. list_any_of (λ (x : Admitted). is_conflict e.tx x && reaches (steps entries) (txid_of x.tx) (txid_of a.tx)) entries c.0 c.1 (and_from _ _ parts.0 (reaches_trans (steps entries) (txid_of c.0.tx) (txid_of w.tx) (txid_of a.tx) parts.1 r));
+      count = omega (arith, count, itself);
+      size = λ narrow. never_both (sym narrow ∙ wide);
     }
 
 -- each ancestor has room for a transaction
 pub room_at : (policy : Policy) (entries : List Admitted) (e : Admitted) → NoneFails (limit_rules First policy entries e.tx e.vsize)
-    → (list_any (is_conflict e.tx) entries ≡ true → list_any (adds_parent entries (conflicts_of entries e.tx)) e.tx.inputs ≡ false)
+    → (list_any (is_conflict e.tx) entries ≡ true → adds_unconfirmed policy.parents entries e.tx ≡ false)
     → (a : Admitted) → Contains (ancestors_above entries e.tx.inputs) a → HasRoom policy entries e (txid_of a.tx)
 room_at policy entries e limits parents a m = go (conflicts_of entries e.tx) refl
   where
+    beside : (sharing : ParentsOf) → policy.parents ≡ sharing → (c : Admitted) → conflicts_of entries e.tx ≡ c ∷ [] → Contains entries c → is_conflict e.tx c ≡ true → adds_unconfirmed sharing entries e.tx ≡ false
+        → length (descendants_of entries (txid_of a.tx)) ≤ policy.descendants + 1
+        → size_of (descendants_of entries (txid_of a.tx)) + e.vsize ≤ (policy.descendants_size + size_of (descendants_of entries (txid_of c.tx))) + 10000 → HasRoom policy entries e (txid_of a.tx)
+    beside Conflicts narrow c is member conflicts none count size = room_grown policy entries e c (txid_of a.tx) member conflicts (above_conflict entries e.tx c a is none m) count size
+    beside Replaced wide c is member conflicts none count size =
+        let w = above_sharer entries e.tx (replaced_of entries e.tx) a (Contains-from_filter (is_below_some (is_conflict e.tx) entries) entries) none m in
+        room_replaced policy entries e w.0 (txid_of a.tx) wide w.1 w.2 count
+
     go : (conflicts : List Admitted) → conflicts_of entries e.tx ≡ conflicts → HasRoom policy entries e (txid_of a.tx)
     go [] is = let r = room_below policy entries e.tx e.vsize limits [] is a m in room_usual policy entries e (txid_of a.tx) r.0 r.1
     go (c ∷ []) is =
@@ -180,6 +217,5 @@ room_at policy entries e limits parents a m = go (conflicts_of entries e.tx) ref
         let among : Contains (conflicts_of entries e.tx) c = subst (λ (l : List Admitted). Contains l c) (sym is) (Contains-head c []) in
         let member : Contains entries c = Contains-from_filter (is_conflict e.tx) entries c among in
         let conflicts : is_conflict e.tx c ≡ true = All-contains (λ (x : Admitted). is_conflict e.tx x ≡ true) (conflicts_of entries e.tx) c (filter_passes (is_conflict e.tx) entries) among in
-        let none = parents (list_any_of (is_conflict e.tx) entries c member conflicts) in
-        room_grown policy entries e c (txid_of a.tx) member conflicts (above_conflict entries e.tx c a is none m) r.0 r.1
+        beside policy.parents refl c is member conflicts (parents (list_any_of (is_conflict e.tx) entries c member conflicts)) r.0 r.1
     go (c ∷ d ∷ rest) is = let r = room_below policy entries e.tx e.vsize limits (c ∷ d ∷ rest) is a m in room_usual policy entries e (txid_of a.tx) r.0 r.1

@@ -1,6 +1,6 @@
 -- What the definitions are where an operator sets nothing: the numbers of Bitcoin Core 22.0, written out.
-use Rattle.std.specs.Prelude.{◌≡◌, ◌+◌, ◌*◌, ◌/◌, ◌-◌, ℕ, nat_le, nat_lt, max, Bool, true, false, ◌&&◌, not, if◌then◌else◌, List, [], ◌∷◌, length}
-use Rattle.std.specs.List.{list_any, count_by}
+use Rattle.std.specs.Prelude.{◌≡◌, ◌+◌, ◌*◌, ◌/◌, ◌-◌, ℕ, nat_le, nat_lt, max, Bool, true, false, ◌&&◌, not, if◌then◌else◌, List, [], ◌∷◌, length, None}
+use Rattle.std.specs.List.{list_all, list_any, count_by}
 use Rattle.gate_bytes.specs.Order.{Rule}
 use Rattle.gate_tx.specs.declared.TxOut.{TxOut}
 use Rattle.gate_tx.specs.Coins.{is_unspendable}
@@ -8,21 +8,23 @@ use Rattle.gate_tx.specs.Sizes.{stripped_size_of, weight_of}
 use Rattle.gate_tx.specs.Tx.{Tx}
 use Rattle.gate_script.specs.declared.Template.{Template}
 use Rattle.gate_script.specs.declared.Template.TheVariants.{NullData, Multisig, Nonstandard}
-use Rattle.gate_standard.specs.Amounts.{required_fee, feerate}
-use Rattle.gate_standard.specs.Outputs.{is_standard_template, carries_data, dust_threshold_of, size_with_spend}
-use Rattle.gate_standard.specs.Rules.{rules_of_whole}
+use Rattle.gate_standard.specs.Amounts.{down, required_fee, feerate}
+use Rattle.gate_inputs.specs.declared.Answers.{Answers}
+use Rattle.gate_standard.specs.Outputs.{is_standard_output, is_standard_template, carries_data, dust_threshold_of, is_dust, size_with_spend}
+use Rattle.gate_standard.specs.Rules.{left_behind, rules_of_output, rules_of_whole}
 use Rattle.gate_standard.specs.declared.Denial.{Denial}
-use Rattle.gate_standard.specs.declared.Denial.TheVariants.{MultiOpReturn, TxSizeSmall, MempoolMinFee, MinRelayFee, LowerFee, LowerDifference}
+use Rattle.gate_standard.specs.declared.Denial.TheVariants.{ScriptPubKey, Dust, DataCarrier, MultiOpReturn, TxSizeSmall, NonstandardInputs, WitnessNonstandard, TooManySigops, MempoolMinFee, MinRelayFee, LowerFee, LowerDifference}
 use Rattle.gate_pool.specs.Pool.{Admitted, size_of}
-use Rattle.gate_pool.specs.Family.{ancestors_of, descendants_of}
+use Rattle.gate_pool.specs.Family.{ancestors_of, descendants_of, conflicts_of}
 use Rattle.gate_graph.specs.declared.held.Sums.{Sums}
 use Rattle.gate_rbf.specs.Paying.{amount_rules}
+use Rattle.gate_rbf.specs.Replacing.{adds_parent, adds_unconfirmed}
 use Rattle.gate_trim.specs.Expiry.{is_stale}
 use Rattle.gate_trim.specs.Trimming.{raised}
 use Rattle.gate_admit.specs.declared.limits.FamilyLimits.{FamilyLimits}
 use Rattle.gate_admit.specs.Limits.{usual_limits, carved_out, is_limited}
-use Rattle.gate_admit.specs.Policies.{usual_policy}
-use Rattle.gate_admit.specs.Reports.{vsize_of}
+use Rattle.gate_admit.specs.Policies.{incremental_feerate, usual_policy}
+use Rattle.gate_admit.specs.Reports.{report_rules, sigop_cost, vsize_of}
 use Rattle.gate_admit.specs.Rules.{fee_rules}
 
 -- the standard templates: at most 3 keys, and at most 83 bytes of data
@@ -40,14 +42,21 @@ carved_out_by_default = record { ancestors = 2; ancestors_size = 101000; descend
 
 -- with the defaults each definition that reads a setting is what it is with these numbers in its place
 pub record DefaultsChangeNothing : Type 0 where
-  -- A16 to A19
+  -- A16 to A19, and A51, which doesn't fail
   pub template : (template : Template) (size : ℕ) → is_standard_template usual_policy.standards template size ≡ standard_by_default template size
-  pub dust : (o : TxOut) → dust_threshold_of usual_policy.standards.dust_rate o ≡ (if is_unspendable o.script then 0 else required_fee 3000 (size_with_spend o))
+  pub dust : (o : TxOut) → dust_threshold_of usual_policy.standards.dust_rate o ≡ (if is_unspendable o.script then 0 else required_fee (down 3000) (size_with_spend o))
   pub whole : (tx : Tx) → rules_of_whole usual_policy.standards tx ≡ (MultiOpReturn, nat_lt 1 (count_by carries_data tx.outputs)) ∷ (TxSizeSmall, nat_lt (stripped_size_of tx) 82) ∷ []
-  -- the virtual size, A35 and A42
+  pub carriers : (o : TxOut) → rules_of_output usual_policy.standards usual_policy.standards.data_total o ≡ (ScriptPubKey, not (is_standard_output usual_policy.standards o)) ∷ (DataCarrier, carries_data o && false) ∷ (Dust, is_dust (down 3000) o) ∷ []
+  pub unbounded : (carries : Bool) (size : ℕ) → left_behind usual_policy.standards.data_total carries size ≡ None
+  -- A31 to A33
+  pub reports : (answers : List Answers) (tx : Tx)
+      → report_rules usual_policy answers tx
+      ≡ (NonstandardInputs, not (list_all (λ (a : Answers). a.standard) answers)) ∷ (WitnessNonstandard, not (list_all (λ (a : Answers). a.witness_standard) answers)) ∷ (TooManySigops, nat_lt 16000 (sigop_cost answers tx.outputs)) ∷ []
+  -- the virtual size, A35, A40 and A42
   pub size : (cost : ℕ) (tx : Tx) → vsize_of usual_policy.sigop_size cost tx ≡ (max (weight_of tx) (20 * cost) + 3) / 4
-  pub relay : (floor fee vsize : ℕ) → fee_rules usual_policy.relay_rate floor fee vsize ≡ (MempoolMinFee, nat_lt fee (required_fee floor vsize)) ∷ (MinRelayFee, nat_lt fee (required_fee 1000 vsize)) ∷ []
-  pub replacement : (paid fee vsize : ℕ) → amount_rules usual_policy.incremental_rate paid fee vsize ≡ (LowerFee, nat_lt fee paid) ∷ (LowerDifference, nat_lt (fee - paid) (required_fee 1000 vsize)) ∷ []
+  pub relay : (floor fee vsize : ℕ) → fee_rules usual_policy floor fee vsize ≡ (MempoolMinFee, nat_lt fee (required_fee (down floor) vsize)) ∷ (MinRelayFee, nat_lt fee (required_fee (down 1000) vsize)) ∷ []
+  pub parents : (entries : List Admitted) (tx : Tx) → adds_unconfirmed usual_policy.parents entries tx ≡ list_any (adds_parent entries (conflicts_of entries tx)) tx.inputs
+  pub replacement : (paid fee vsize : ℕ) → amount_rules (incremental_feerate usual_policy) paid fee vsize ≡ (LowerFee, nat_lt fee paid) ∷ (LowerDifference, nat_lt (fee - paid) (required_fee (down 1000) vsize)) ∷ []
   -- A36 and what is tried again
   pub first : usual_limits usual_policy ≡ limits_by_default
   pub second : carved_out (usual_limits usual_policy) ≡ carved_out_by_default

@@ -14,6 +14,7 @@ use Rattle.gate_chain.specs.History.{History, first_connected}
 use Rattle.gate_chain.specs.Coins.{coin_of_blocks, has_transaction, is_known_txid, is_spent_in, opening_coin_of}
 use Rattle.gate_pool.specs.Pool.{Admitted, spent_by, size_of}
 use Rattle.gate_pool.specs.Family.{ancestors_of, descendants_of}
+use Rattle.gate_rbf.specs.declared.ParentsOf.TheVariants.{Conflicts}
 use Rattle.gate_admit.specs.Coins.{view_coin}
 use Rattle.gate_admit.specs.Policies.{Policy, IsPolicy, most_ancestors, most_descendants, most_descendants_size}
 
@@ -25,12 +26,14 @@ pub record Limits : Type 0 where
 abbrev pub limits_for : Policy → ℕ → Limits
 limits_for policy budget = record { budget = budget; policy = policy }
 
--- the ancestors and the descendants of an id, its own entry among each, are within the limits of the policy
+-- the ancestors and the descendants of an id, its own entry among each, are within the limits of the policy. Where a replacement may
+-- have the parents of all that it replaces, the size of the descendants is not: beside one conflict A36 lets it grow by the size of
+-- this and all that is below it, and an ancestor of the replacement may lose a part of these alone (as in Bitcoin Core 28.0).
 pub record IsLimited (policy : Policy) (entries : List Admitted) (txid : List ℕ) : Type 0 where
   pub ancestors : length (ancestors_of entries txid) ≤ most_ancestors policy
   pub ancestors_size : size_of (ancestors_of entries txid) ≤ policy.ancestors_size
   pub descendants : length (descendants_of entries txid) ≤ most_descendants policy
-  pub descendants_size : size_of (descendants_of entries txid) ≤ most_descendants_size policy
+  pub descendants_size : policy.parents ≡ Conflicts → size_of (descendants_of entries txid) ≤ most_descendants_size policy
 
 -- what holds of entries over a chain, however many they are, under a policy whose numbers are within their bounds
 pub record IsSound (policy : Policy) (chain : History) (entries : List Admitted) : Type 0 where

@@ -18,6 +18,7 @@ use Rattle.gate_admit.specs.declared.grant.Grant.{Grant}
 use Rattle.gate_admit.specs.Coins.{view_coin, coins_of}
 use Rattle.gate_admit.specs.Rules.{coins_value, heights_of, is_immature, outputs_value}
 use Rattle.gate_admit.specs.Standing.{Standing}
+use Rattle.gate_admit.specs.Policies.{incremental_feerate, feerate_by, relay_feerate}
 
 pub record IsGrantable (over : Standing) (tx : Tx) : Type 0 where
   -- no entry has one of its ids
@@ -45,12 +46,12 @@ pub record Conserves (over : Standing) (tx : Tx) (grant : Grant) : Type 0 where
 
 -- the fee pays for the size at the feerate that is asked of every transaction, and at the pool's floor
 pub record PaysItsSize (over : Standing) (grant : Grant) : Type 0 where
-  pub relay : required_fee over.policy.relay_rate grant.vsize ≤ grant.fee
-  pub pool : required_fee over.floor grant.vsize ≤ grant.fee
+  pub relay : required_fee (relay_feerate over.policy) grant.vsize ≤ grant.fee
+  pub pool : required_fee (feerate_by over.policy over.floor) grant.vsize ≤ grant.fee
 
 -- a replacement pays at least the fees of all that it replaces, and its own relay above that; its feerate, rounded down, is
 -- above that of each entry that it conflicts with; and no entry that stays spends an output of one that leaves
 pub record Replaces (over : Standing) (tx : Tx) (grant : Grant) : Type 0 where
-  pub paid : fees_of (replaced_of over.entries tx) + required_fee over.policy.incremental_rate grant.vsize ≤ grant.fee
+  pub paid : fees_of (replaced_of over.entries tx) + required_fee (incremental_feerate over.policy) grant.vsize ≤ grant.fee
   pub rate : All (λ (c : Admitted). feerate c.fee c.vsize < feerate grant.fee grant.vsize) (conflicts_of over.entries tx)
   pub whole : All (λ (e : Admitted). All (λ (gone : Admitted). names e (txid_of gone.tx) ≡ false) (replaced_of over.entries tx)) (without_below (is_conflict tx) over.entries)

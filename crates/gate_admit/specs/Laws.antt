@@ -14,8 +14,8 @@ use Rattle.gate_admit.specs.declared.attempt.Attempt.{Attempt}
 use Rattle.gate_admit.specs.declared.attempt.Attempt.TheVariants.{First}
 use Rattle.gate_admit.specs.declared.grant.Grant.{Grant}
 use Rattle.gate_admit.specs.Policies.{Policy, IsPolicy}
-use Rattle.gate_admit.specs.Limits.{fits_again, fits_among}
-use Rattle.gate_admit.specs.Good.{Limits, IsGood, IsLimited, IsUnconnected, limits_for}
+use Rattle.gate_admit.specs.Limits.{are_limited, fits_again, fits_among}
+use Rattle.gate_admit.specs.Good.{Limits, IsGood, IsUnconnected, limits_for}
 use Rattle.gate_admit.specs.Granting.{IsGrantable, Conserves, PaysItsSize, Replaces}
 use Rattle.gate_admit.specs.Rules.{admission_rules, decision_of}
 use Rattle.gate_admit.specs.Standing.{Standing}
@@ -54,7 +54,7 @@ pub record GrantsStand : Type 0 where
 -- in a pool whose families are within the limits, asking the family of a transaction that comes back is asking every entry
 abbrev pub ReadmissionsAskOfAll : Type 0
 ReadmissionsAskOfAll =
-    (policy : Policy) (entries : List Admitted) (tx : Tx) (vsize : ℕ) → All (λ (e : Admitted). IsLimited policy entries (txid_of e.tx)) entries
+    (policy : Policy) (entries : List Admitted) (tx : Tx) (vsize : ℕ) → are_limited policy entries entries ≡ true
     → fits_again policy entries tx vsize ≡ fits_among policy entries tx vsize
 
 -- no submission lowers the floor

@@ -1,15 +1,21 @@
 -- What an operator asks of transactions: the limits of families, feerates, how long an entry stays, how large a signature operation
--- counts, what is standard, and the rule on replacements.
-use Rattle.std.specs.Prelude.{◌≤◌, ◌+◌, ◌*◌, ℕ, nat_le, max, Bool, false, ◌&&◌, Option, Some, None, if◌then◌else◌}
+-- counts, what is standard, the rules on replacements, and whether sessions are closed.
+use Rattle.std.specs.Prelude.{◌≤◌, ◌+◌, ◌*◌, ℕ, max, Bool, true, false, List, Option, None}
+use Rattle.gate_standard.specs.declared.Feerate.{Feerate}
+use Rattle.gate_standard.specs.declared.Rounding.{Rounding}
+use Rattle.gate_standard.specs.declared.Rounding.TheVariants.{Down, Up}
 use Rattle.gate_standard.specs.declared.Standards.{Standards}
 use Rattle.gate_standard.specs.Standards.{usual_standards}
-use Rattle.gate_admit.specs.declared.quantity.Quantity.{Quantity}
-use Rattle.gate_admit.specs.declared.quantity.Quantity.TheVariants.{AncestorCount, AncestorSize, DescendantCount, DescendantSize, RelayRate, IncrementalRate, ExpiryHours, SigopSize, DustRate, DataSize, DataOutputs, LeastSize}
+use Rattle.gate_rbf.specs.declared.ParentsOf.{ParentsOf}
+use Rattle.gate_rbf.specs.declared.ParentsOf.TheVariants.{Conflicts, Replaced}
+use Rattle.gate_register.specs.declared.Setting.TheVariants.{AncestorCount, AncestorSize, DescendantCount, DescendantSize, RelayRate, IncrementalRate, ExpiryHours, SigopSize, DustRate, DataSize, DataOutputs, LeastSize, FullRbf, BareMultisig, FeesRoundUp, RelayFeeFirst, ReplacedParents, KeepInvalid, Anchors, LegacySigops, DataTotal}
+use Rattle.gate_register.specs.Policies.{is_on, limit_of, number_of}
 
 -- how many ancestors and descendants a transaction may have at its first try, itself among each, and how many virtual bytes of
 -- each; whether it may replace an entry that doesn't signal; the feerates that every transaction pays, and a replacement for its
--- own relay, in satoshi per 1,000 virtual bytes; how many seconds an entry stays; how many bytes a signature operation counts for;
--- and what is standard
+-- own relay, in satoshi per 1,000 virtual bytes; whose parents a replacement may have; whether no rule of admission closes a
+-- session; how many seconds an entry stays; how many bytes a signature operation counts for;
+-- whether it may spend anchors, and how many legacy signature operations it may have; and what is standard
 pub record Policy : Type 0 where
   pub ancestors : ℕ
   pub ancestors_size : ℕ
@@ -18,74 +24,75 @@ pub record Policy : Type 0 where
   pub full_rbf : Bool
   pub relay_rate : ℕ
   pub incremental_rate : ℕ
+  pub rounding : Rounding
+  pub relay_fee_first : Bool
+  pub parents : ParentsOf
+  pub keep_invalid : Bool
   pub stay : ℕ
   pub sigop_size : ℕ
+  pub anchors : Bool
+  pub legacy_sigops : Option ℕ
   pub standards : Standards
 
--- ---- the numbers that an operator may set, in the units in which he says them
+abbrev pub rounding_by : Bool → Rounding
+rounding_by false = Down
+rounding_by true = Up
 
-abbrev pub least_of : Quantity → ℕ
-least_of AncestorCount = 1
-least_of AncestorSize = 101
-least_of DescendantCount = 1
-least_of DescendantSize = 101
-least_of RelayRate = 0
-least_of IncrementalRate = 0
-least_of ExpiryHours = 1
-least_of SigopSize = 1
-least_of DustRate = 0
-least_of DataSize = 0
-least_of DataOutputs = 0
-least_of LeastSize = 60
+abbrev pub parents_by : Bool → ParentsOf
+parents_by false = Conflicts
+parents_by true = Replaced
 
-abbrev pub most_of : Quantity → ℕ
-most_of AncestorCount = 1000
-most_of AncestorSize = 10000
-most_of DescendantCount = 1000
-most_of DescendantSize = 10000
-most_of RelayRate = 100000000
-most_of IncrementalRate = 100000000
-most_of ExpiryHours = 100000
-most_of SigopSize = 25
-most_of DustRate = 100000000
-most_of DataSize = 100000
-most_of DataOutputs = 10000
-most_of LeastSize = 82
-
--- an operator may set this number
-abbrev pub allows : Quantity → ℕ → Bool
-allows quantity number = nat_le (least_of quantity) number && nat_le number (most_of quantity)
-
--- the policy with one number set: sizes of families are said in thousands of virtual bytes, and the stay of an entry in hours
-abbrev pub with_quantity : Policy → Quantity → ℕ → Policy
-with_quantity policy AncestorCount number = record policy { ancestors = number }
-with_quantity policy AncestorSize number = record policy { ancestors_size = number * 1000 }
-with_quantity policy DescendantCount number = record policy { descendants = number }
-with_quantity policy DescendantSize number = record policy { descendants_size = number * 1000 }
-with_quantity policy RelayRate number = record policy { relay_rate = number }
-with_quantity policy IncrementalRate number = record policy { incremental_rate = number }
-with_quantity policy ExpiryHours number = record policy { stay = number * 3600 }
-with_quantity policy SigopSize number = record policy { sigop_size = number }
-with_quantity policy DustRate number = record policy { standards = record policy.standards { dust_rate = number } }
-with_quantity policy DataSize number = record policy { standards = record policy.standards { data_size = number } }
-with_quantity policy DataOutputs number = record policy { standards = record policy.standards { data_outputs = number } }
-with_quantity policy LeastSize number = record policy { standards = record policy.standards { least_size = number } }
-
--- the policy with a number set, if an operator may set it
-abbrev pub policy_with : Policy → Quantity → ℕ → Option Policy
-policy_with policy quantity number = if allows quantity number then Some (with_quantity policy quantity number) else None
+-- what an operator set, in the units in which admission counts: sizes of families are set in thousands of virtual bytes, and the stay
+-- of an entry in hours
+abbrev pub policy_of : List ℕ → Policy
+policy_of set = record {
+  ancestors = number_of set AncestorCount;
+  ancestors_size = number_of set AncestorSize * 1000;
+  descendants = number_of set DescendantCount;
+  descendants_size = number_of set DescendantSize * 1000;
+  full_rbf = is_on set FullRbf;
+  relay_rate = number_of set RelayRate;
+  incremental_rate = number_of set IncrementalRate;
+  rounding = rounding_by (is_on set FeesRoundUp);
+  relay_fee_first = is_on set RelayFeeFirst;
+  parents = parents_by (is_on set ReplacedParents);
+  keep_invalid = is_on set KeepInvalid;
+  stay = number_of set ExpiryHours * 3600;
+  sigop_size = number_of set SigopSize;
+  anchors = is_on set Anchors;
+  legacy_sigops = limit_of set LegacySigops;
+  standards = record {
+    dust_rate = record { rate = number_of set DustRate; rounding = rounding_by (is_on set FeesRoundUp) };
+    data_size = number_of set DataSize;
+    data_outputs = number_of set DataOutputs;
+    bare_multisig = is_on set BareMultisig;
+    least_size = number_of set LeastSize;
+    data_total = limit_of set DataTotal;
+  };
+}
 
 abbrev pub with_full_rbf : Policy → Bool → Policy
 with_full_rbf policy on = record policy { full_rbf = on }
 
-abbrev pub with_bare_multisig : Policy → Bool → Policy
-with_bare_multisig policy on = record policy { standards = record policy.standards { bare_multisig = on } }
+-- ---- feerates
+
+-- this many satoshi per 1,000 virtual bytes, rounded as the policy says
+abbrev pub feerate_by : Policy → ℕ → Feerate
+feerate_by policy rate = record { rate = rate; rounding = policy.rounding }
+
+-- what every transaction pays
+abbrev pub relay_feerate : Policy → Feerate
+relay_feerate policy = feerate_by policy policy.relay_rate
+
+-- what a replacement pays for its own relay
+abbrev pub incremental_feerate : Policy → Feerate
+incremental_feerate policy = feerate_by policy policy.incremental_rate
 
 -- ---- bounds
 
 -- the bounds of what an operator takes for standard
 pub record AreStandards (standards : Standards) : Type 0 where
-  pub dust_rate : standards.dust_rate ≤ 100000000
+  pub dust_rate : standards.dust_rate.rate ≤ 100000000
   pub data_size : standards.data_size ≤ 100000
   pub data_outputs : standards.data_outputs ≤ 10000
   pub least_size : 60 ≤ standards.least_size
@@ -120,8 +127,14 @@ usual_policy = record {
   full_rbf = false;
   relay_rate = 1000;
   incremental_rate = 1000;
+  rounding = Down;
+  relay_fee_first = false;
+  parents = Conflicts;
+  keep_invalid = false;
   stay = 1209600;
   sigop_size = 20;
+  anchors = false;
+  legacy_sigops = None;
   standards = usual_standards;
 }
 

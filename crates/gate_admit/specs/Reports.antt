@@ -1,6 +1,6 @@
 -- The reports on the inputs of a transaction (A31 to A33), its size with the cost of its signature operations, and the
 -- verdicts on its inputs (A43 to A45).
-use Rattle.std.specs.Prelude.{ℕ, ◌+◌, ◌-◌, ◌*◌, ◌/◌, ◌^◌, nat_lt, max, min, not, Bool, true, false, map, zip, sum_by, List, [], ◌∷◌, ◌++◌, Option, Some, None}
+use Rattle.std.specs.Prelude.{ℕ, ◌+◌, ◌-◌, ◌*◌, ◌/◌, ◌^◌, nat_lt, max, min, not, ◌&&◌, ◌||◌, Bool, true, false, map, zip, sum_by, List, [], ◌∷◌, ◌++◌, Option, Some, None}
 use Rattle.std.specs.List.{list_all}
 use Rattle.gate_tx.specs.declared.Coin.{Coin}
 use Rattle.gate_tx.specs.declared.TxIn.{TxIn}
@@ -10,11 +10,13 @@ use Rattle.gate_tx.specs.Tx.{Tx}
 use Rattle.gate_script.specs.Sigops.{sigops_of}
 use Rattle.gate_standard.specs.declared.Denial.{Denial}
 use Rattle.gate_standard.specs.declared.Denial.TheVariants.{NonstandardInputs, WitnessNonstandard, TooManySigops, VerdictMissing, SoftVerdict, HardVerdict}
+use Rattle.gate_standard.specs.Standards.{is_past}
 use Rattle.gate_bytes.specs.Order.{Rule}
 use Rattle.gate_inputs.specs.declared.Answers.{Answers}
 use Rattle.gate_inputs.specs.Answers.{answers_of}
 use Rattle.gate_submission.specs.declared.verdict.Verdict.{Verdict}
 use Rattle.gate_submission.specs.declared.verdict.Verdict.TheVariants.{Soft, Hard}
+use Rattle.gate_admit.specs.Policies.{Policy}
 use Rattle.gate_admit.specs.Verdicts.{VerdictTable, verdict_of}
 
 -- ---- A31 to A33
@@ -31,10 +33,22 @@ output_sigops output = min (sigops_of false output.script) (2 ^ 64 - 1)
 abbrev pub sigop_cost : List Answers → List TxOut → ℕ
 sigop_cost answers outputs = sum_by (λ (a : Answers). a.sigop_cost) answers + 4 * sum_by output_sigops outputs
 
-unfoldable pub report_rules : List Answers → Tx → List (Rule Denial)
-report_rules answers tx =
-    (NonstandardInputs, not (list_all (λ (a : Answers). a.standard) answers))
-    ∷ (WitnessNonstandard, not (list_all (λ (a : Answers). a.witness_standard) answers))
+-- the spend of a coin that is standard, or an anchor where the operator takes these
+abbrev pub is_relayed : Bool → Answers → Bool
+is_relayed anchors a = (anchors && a.anchor) || a.standard
+
+-- a witness that is standard; where the operator takes anchors, one is spent without a witness
+abbrev pub has_relayed_witness : Bool → Answers → Bool
+has_relayed_witness anchors a = not (anchors && (a.anchor && not a.bare)) && a.witness_standard
+
+-- the legacy signature operations of all inputs
+abbrev pub legacy_sigops : List Answers → ℕ
+legacy_sigops answers = sum_by (λ (a : Answers). a.legacy_sigops) answers
+
+unfoldable pub report_rules : Policy → List Answers → Tx → List (Rule Denial)
+report_rules policy answers tx =
+    (NonstandardInputs, is_past policy.legacy_sigops (legacy_sigops answers) || not (list_all (is_relayed policy.anchors) answers))
+    ∷ (WitnessNonstandard, not (list_all (has_relayed_witness policy.anchors) answers))
     ∷ (TooManySigops, nat_lt 16000 (sigop_cost answers tx.outputs))
     ∷ []
 

@@ -1,5 +1,5 @@
 -- The written order of admission, and the decision: the first rule that fails, or a grant.
-use Rattle.std.specs.Prelude.{ℕ, ◌+◌, ◌-◌, ℤ, nat_lt, Bool, false, not, ◌||◌, ◌&&◌, map, is_some, List, [], ◌∷◌, ◌++◌, sum_by, Option, Some, None, Result, Ok, Err, length}
+use Rattle.std.specs.Prelude.{ℕ, ◌+◌, ◌-◌, ℤ, nat_lt, Bool, false, not, ◌||◌, ◌&&◌, map, is_some, List, [], ◌∷◌, ◌++◌, sum_by, if◌then◌else◌, Option, Some, None, Result, Ok, Err, length}
 use Rattle.std.specs.List.{list_any}
 use Rattle.gate_bytes.specs.Order.{Rule, first_failing}
 use Rattle.gate_tx.specs.Money.{max_money, is_money, amount_or_zero}
@@ -22,7 +22,7 @@ use Rattle.gate_pool.specs.Family.{replaced_of}
 use Rattle.gate_rbf.specs.Replacing.{is_non_signalling_conflict, replacement_rules}
 use Rattle.gate_admit.specs.declared.attempt.Attempt.{Attempt}
 use Rattle.gate_admit.specs.declared.attempt.Attempt.TheVariants.{First, Again}
-use Rattle.gate_admit.specs.Policies.{Policy}
+use Rattle.gate_admit.specs.Policies.{Policy, incremental_feerate, feerate_by, relay_feerate}
 use Rattle.gate_admit.specs.Standing.{Standing}
 use Rattle.gate_admit.specs.Coins.{misses_coin, coins_of}
 use Rattle.gate_admit.specs.Limits.{limit_rules}
@@ -102,18 +102,24 @@ balance_rules paid_in paid_out =
     ∷ (FeeOutOfRange, nat_lt max_money (paid_in - paid_out))
     ∷ []
 
--- the fee that the pool's floor asks for the size, and then the one that every relay asks, in satoshi per 1,000 virtual bytes; a
--- rate of 0 asks for nothing
-unfoldable pub fee_rules : ℕ → ℕ → ℕ → ℕ → List (Rule Denial)
-fee_rules relay_rate floor fee vsize =
-    (MempoolMinFee, nat_lt fee (required_fee floor vsize))
-    ∷ (MinRelayFee, nat_lt fee (required_fee relay_rate vsize))
-    ∷ []
+-- the fee that the pool's floor asks for the size
+abbrev pub floor_rule : Policy → ℕ → ℕ → ℕ → Rule Denial
+floor_rule policy floor fee vsize = (MempoolMinFee, nat_lt fee (required_fee (feerate_by policy floor) vsize))
+
+-- the one that every relay asks
+abbrev pub relay_rule : Policy → ℕ → ℕ → Rule Denial
+relay_rule policy fee vsize = (MinRelayFee, nat_lt fee (required_fee (relay_feerate policy) vsize))
+
+-- both, in the order that the policy says; a rate of 0 asks for nothing
+unfoldable pub fee_rules : Policy → ℕ → ℕ → ℕ → List (Rule Denial)
+fee_rules policy floor fee vsize =
+    if policy.relay_fee_first then relay_rule policy fee vsize ∷ floor_rule policy floor fee vsize ∷ []
+    else floor_rule policy floor fee vsize ∷ relay_rule policy fee vsize ∷ []
 
 -- a transaction that is tried again paid its way into a block before
-abbrev pub payment_rules : Attempt → ℕ → ℕ → ℕ → ℕ → List (Rule Denial)
-payment_rules First relay_rate floor fee vsize = fee_rules relay_rate floor fee vsize
-payment_rules Again relay_rate floor fee vsize = []
+abbrev pub payment_rules : Attempt → Policy → ℕ → ℕ → ℕ → List (Rule Denial)
+payment_rules First policy floor fee vsize = fee_rules policy floor fee vsize
+payment_rules Again policy floor fee vsize = []
 
 -- ---- the whole
 
@@ -131,10 +137,10 @@ admission_rules attempt over tx =
     ++ (lock_rules over.chain coins tx
     ++ (coin_value_rules (tip_of over.chain + 1) 0 coins
     ++ (balance_rules (coins_value coins) (outputs_value tx)
-    ++ (report_rules answers tx
-    ++ (payment_rules attempt over.policy.relay_rate over.floor fee vsize
+    ++ (report_rules over.policy answers tx
+    ++ (payment_rules attempt over.policy over.floor fee vsize
     ++ (limit_rules attempt over.policy over.entries tx vsize
-    ++ (replacement_rules over.policy.incremental_rate over.entries tx fee vsize
+    ++ (replacement_rules (incremental_feerate over.policy) over.policy.parents over.entries tx fee vsize
     ++ verdict_rules over.verdicts (wtxid_of tx) 0 tx.inputs))))))))))
 
 -- what a grant says of a transaction

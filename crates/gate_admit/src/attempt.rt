@@ -1,5 +1,5 @@
 /// Whether a transaction is judged for the first time, or tried again after its block was disconnected.
-#[derive(Clone, Copy, Debug, PartialEq, Eq)]
+#[derive(Clone, Copy, PartialEq, Eq)]
 pub enum Attempt {
     /// Every rule of the written order is asked.
     First,

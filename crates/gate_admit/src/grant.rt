@@ -1,5 +1,5 @@
 /// What is granted: the transaction's fee and size, and how many entries it replaces.
-#[derive(Clone, Copy, Debug, PartialEq, Eq)]
+#[derive(Clone, Copy, PartialEq, Eq)]
 pub struct Grant {
     /// In satoshi.
     pub fee: u64,

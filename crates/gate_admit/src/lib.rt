@@ -18,7 +18,6 @@ mod limits;
 mod locking;
 mod paying;
 mod policy;
-mod quantity;
 mod readmission;
 mod reporting;
 mod standing;
@@ -43,9 +42,8 @@ pub use law::{
 pub use locking::tip_median;
 pub use paying::{is_immature, outputs_value, vsize_of};
 pub use policy::{CARVE_OUT_VSIZE, Policy};
-pub use quantity::Quantity;
 pub use readmission::readmit;
-pub use reporting::sigop_cost;
+pub use reporting::{has_relayed_witness, is_relayed, legacy_sigops, sigop_cost};
 pub use standing::Conditions;
 pub use submission::{PlannedEntry, commit_submission, plan_submission, submit};
 pub use verdicts::Verdicts;

@@ -1,221 +1,93 @@
 //! What an operator asks of transactions.
 ghost use Rattle.std.specs.Prelude.{◌≡◌, ◌≤◌};
-ghost use Rattle.gate_admit.specs.Policies.{IsPolicy, most_ancestors, most_descendants, most_descendants_size, policy_with, usual_policy, with_bare_multisig, with_full_rbf};
+ghost use Rattle.gate_admit.specs.Policies.{IsPolicy, incremental_feerate, most_ancestors, most_descendants, most_descendants_size, policy_of, feerate_by, relay_feerate};
 
-use crate::quantity::Quantity;
-use gate_standard::Standards;
+use gate_rbf::ParentsOf;
+use gate_register::Setting;
+use gate_standard::{Feerate, Rounding, Standards};
 use std::marker::Model;
 
 /// The most virtual bytes of a transaction that has a second try (Bitcoin Core's `EXTRA_DESCENDANT_TX_SIZE_LIMIT`).
 pub const CARVE_OUT_VSIZE: u64 = 10_000;
 
-/// What an operator asks of transactions: the limits of families, feerates, how long an entry stays, how large a
-/// signature operation counts, what is standard, and whether an entry may be replaced that doesn't signal
-/// (`-mempoolfullrbf` of release 24). Each number is within the bounds of its `Quantity`.
-#[derive(Clone, Copy, Debug, PartialEq, Eq)]
+/// What an operator asks of transactions, by what he set: the limits of families, feerates, how long an entry stays, how
+/// large a signature operation counts, what is standard, and whether an entry may be replaced that doesn't signal
+/// (`-mempoolfullrbf` of release 24). Contracts see a record of these, in the units in which admission counts.
+#[derive(Drop)]
 pub struct Policy {
-    ancestors: usize,
-    /// In virtual bytes.
-    ancestors_size: u64,
-    descendants: usize,
-    /// In virtual bytes.
-    descendants_size: u64,
-    full_rbf: bool,
-    relay_rate: u64,
-    incremental_rate: u64,
-    /// In seconds.
-    stay: u64,
-    sigop_size: u64,
-    standards: Standards,
+    set: gate_register::Policy,
 }
 
 impl Model for Policy {
-    ghost use Rattle.gate_admit.specs.Policies.{Policy, IsPolicy};
+    ghost use Rattle.gate_admit.specs.Policies.{Policy, policy_of};
 
     ghost Value = { Policy };
 
-    ghost view = { λ p. record {
-      ancestors = p.ancestors;
-      ancestors_size = p.ancestors_size;
-      descendants = p.descendants;
-      descendants_size = p.descendants_size;
-      full_rbf = p.full_rbf;
-      relay_rate = p.relay_rate;
-      incremental_rate = p.incremental_rate;
-      stay = p.stay;
-      sigop_size = p.sigop_size;
-      standards = p.standards;
-    } };
-
-    ghost inverse = { λ p. record {
-      ancestors = p.ancestors;
-      ancestors_size = p.ancestors_size;
-      descendants = p.descendants;
-      descendants_size = p.descendants_size;
-      full_rbf = p.full_rbf;
-      relay_rate = p.relay_rate;
-      incremental_rate = p.incremental_rate;
-      stay = p.stay;
-      sigop_size = p.sigop_size;
-      standards = p.standards;
-    } };
-
-    ghost invariant = { λ p. IsPolicy (record {
-      ancestors = p.ancestors;
-      ancestors_size = p.ancestors_size;
-      descendants = p.descendants;
-      descendants_size = p.descendants_size;
-      full_rbf = p.full_rbf;
-      relay_rate = p.relay_rate;
-      incremental_rate = p.incremental_rate;
-      stay = p.stay;
-      sigop_size = p.sigop_size;
-      standards = p.standards;
-    }) };
+    ghost view = { λ p. policy_of p.set };
 }
 
 impl Policy {
-    /// The policy with this number set; None if an operator may not set it.
-    pub fn with(self, quantity: Quantity, number: u64) -> Option<Policy>
-        ensures { result ≡ policy_with self quantity number }
+    /// The policy of admission by what an operator set.
+    pub fn new(set: gate_register::Policy) -> Policy
+        ensures { result ≡ policy_of set }
     {
-        if !quantity.allows(number) {
-            return None;
-        }
-        Some(match quantity {
-            Quantity::AncestorCount => Policy {
-                ancestors: number as usize,
-                ..self
-            },
-            Quantity::AncestorSize => Policy {
-                ancestors_size: number * 1000,
-                ..self
-            },
-            Quantity::DescendantCount => Policy {
-                descendants: number as usize,
-                ..self
-            },
-            Quantity::DescendantSize => Policy {
-                descendants_size: number * 1000,
-                ..self
-            },
-            Quantity::RelayRate => Policy {
-                relay_rate: number,
-                ..self
-            },
-            Quantity::IncrementalRate => Policy {
-                incremental_rate: number,
-                ..self
-            },
-            Quantity::ExpiryHours => Policy {
-                stay: number * 3600,
-                ..self
-            },
-            Quantity::SigopSize => Policy {
-                sigop_size: number,
-                ..self
-            },
-            Quantity::DustRate => Policy {
-                standards: Standards {
-                    dust_rate: number,
-                    ..self.standards
-                },
-                ..self
-            },
-            Quantity::DataSize => Policy {
-                standards: Standards {
-                    data_size: number,
-                    ..self.standards
-                },
-                ..self
-            },
-            Quantity::DataOutputs => Policy {
-                standards: Standards {
-                    data_outputs: number,
-                    ..self.standards
-                },
-                ..self
-            },
-            Quantity::LeastSize => Policy {
-                standards: Standards {
-                    least_size: number,
-                    ..self.standards
-                },
-                ..self
-            },
-        })
+        Policy { set }
     }
 
-    /// The policy under which every entry may be replaced, or only one that signals.
-    pub fn with_full_rbf(self, on: bool) -> Policy
-        ensures { result ≡ with_full_rbf self on }
+    pub fn copy(&self) -> Policy
+        ensures { result ≡ self.now }
     {
-        Policy {
-            full_rbf: on,
-            ..self
-        }
-    }
-
-    /// The policy under which an output may be a multisig script, or none may (Bitcoin Core's `-permitbaremultisig`).
-    pub fn with_bare_multisig(self, on: bool) -> Policy
-        ensures { result ≡ with_bare_multisig self on }
-    {
-        Policy {
-            standards: Standards {
-                bare_multisig: on,
-                ..self.standards
-            },
-            ..self
-        }
+        Policy { set: self.set }
     }
 
     /// Recalls the bounds of the numbers for a proof: it does nothing.
+    #[tactic(auto, using(crate::proofs::Bounds::bounds_of))]
     pub fn recall_bounds(&self)
         ensures { IsPolicy self.now }
     {
-        let _ancestors = self.ancestors;
+        self.set.recall_bounds();
     }
 
     /// How many ancestors there may be at a first try.
     pub fn ancestors(&self) -> usize
         ensures { result ≡ self.now.ancestors }
     {
-        self.ancestors
+        self.set.get(Setting::AncestorCount) as usize
     }
 
     /// How many virtual bytes of ancestors there may be.
     pub fn ancestors_size(&self) -> u64
         ensures { result ≡ self.now.ancestors_size }
     {
-        self.ancestors_size
+        self.set.get(Setting::AncestorSize) * 1000
     }
 
     /// How many descendants there may be at a first try.
     pub fn descendants(&self) -> usize
         ensures { result ≡ self.now.descendants }
     {
-        self.descendants
+        self.set.get(Setting::DescendantCount) as usize
     }
 
     /// How many virtual bytes of descendants there may be at a first try.
     pub fn descendants_size(&self) -> u64
         ensures { result ≡ self.now.descendants_size }
     {
-        self.descendants_size
+        self.set.get(Setting::DescendantSize) * 1000
     }
 
     /// Whether every entry may be replaced, even one that doesn't signal.
     pub fn full_rbf(&self) -> bool
         ensures { result ≡ self.now.full_rbf }
     {
-        self.full_rbf
+        self.set.is_on(Setting::FullRbf)
     }
 
     /// What every transaction pays, in satoshi per 1,000 virtual bytes.
     pub fn relay_rate(&self) -> u64
         ensures { result ≡ self.now.relay_rate }
     {
-        self.relay_rate
+        self.set.get(Setting::RelayRate)
     }
 
     /// What a replacement pays for its own relay, and how far the floor rises above what is trimmed, in satoshi per 1,000
@@ -223,42 +95,115 @@ impl Policy {
     pub fn incremental_rate(&self) -> u64
         ensures { result ≡ self.now.incremental_rate }
     {
-        self.incremental_rate
+        self.set.get(Setting::IncrementalRate)
+    }
+
+    /// This many satoshi per 1,000 virtual bytes, rounded as the policy says.
+    pub fn feerate(&self, rate: u64) -> Feerate
+        ensures { result ≡ feerate_by self.now rate }
+    {
+        let rounding = if self.set.is_on(Setting::FeesRoundUp) {
+            Rounding::Up
+        } else {
+            Rounding::Down
+        };
+        Feerate { rate, rounding }
+    }
+
+    /// What every transaction pays.
+    pub fn relay_feerate(&self) -> Feerate
+        ensures { result ≡ relay_feerate self.now }
+    {
+        self.feerate(self.relay_rate())
+    }
+
+    /// What a replacement pays for its own relay.
+    pub fn incremental_feerate(&self) -> Feerate
+        ensures { result ≡ incremental_feerate self.now }
+    {
+        self.feerate(self.incremental_rate())
+    }
+
+    /// Whether what every transaction pays is asked before the pool's floor.
+    pub fn relay_fee_first(&self) -> bool
+        ensures { result ≡ self.now.relay_fee_first }
+    {
+        self.set.is_on(Setting::RelayFeeFirst)
+    }
+
+    /// Whose parents a replacement may have.
+    pub fn parents(&self) -> ParentsOf
+        ensures { result ≡ self.now.parents }
+    {
+        if self.set.is_on(Setting::ReplacedParents) {
+            ParentsOf::Replaced
+        } else {
+            ParentsOf::Conflicts
+        }
+    }
+
+    /// Whether no rule of admission closes a session.
+    pub fn keep_invalid(&self) -> bool
+        ensures { result ≡ self.now.keep_invalid }
+    {
+        self.set.is_on(Setting::KeepInvalid)
     }
 
     /// How many seconds an entry stays.
     pub fn stay(&self) -> u64
         ensures { result ≡ self.now.stay }
     {
-        self.stay
+        self.set.get(Setting::ExpiryHours) * 3600
     }
 
     /// How many bytes a signature operation counts for.
     pub fn sigop_size(&self) -> u64
         ensures { result ≡ self.now.sigop_size }
     {
-        self.sigop_size
+        self.set.get(Setting::SigopSize)
+    }
+
+    /// Whether coins that are anchors may be spent.
+    pub fn anchors(&self) -> bool
+        ensures { result ≡ self.now.anchors }
+    {
+        self.set.is_on(Setting::Anchors)
+    }
+
+    /// The most legacy signature operations of a transaction.
+    pub fn legacy_sigops(&self) -> Option<u64>
+        ensures { result ≡ self.now.legacy_sigops }
+    {
+        self.set.limit(Setting::LegacySigops)
     }
 
     /// What is standard.
-    pub fn standards(&self) -> &Standards
-        ensures { result.now ≡ self.now.standards }
+    pub fn standards(&self) -> Standards
+        ensures { result ≡ self.now.standards }
     {
-        &self.standards
+        Standards {
+            dust_rate: self.feerate(self.set.get(Setting::DustRate)),
+            data_size: self.set.get(Setting::DataSize),
+            data_outputs: self.set.get(Setting::DataOutputs),
+            bare_multisig: self.set.is_on(Setting::BareMultisig),
+            least_size: self.set.get(Setting::LeastSize),
+            data_total: self.set.limit(Setting::DataTotal),
+        }
     }
 
     /// The most ancestors that an entry may have, itself among them: a second try allows one parent under every policy.
     pub(crate) fn most_ancestors(&self) -> usize
         ensures { result ≡ most_ancestors self.now }
     {
-        self.ancestors.max(2)
+        self.ancestors().max(2)
     }
 
     /// The most descendants that an entry may have, itself among them: a second try allows one more.
     pub(crate) fn most_descendants(&self) -> usize
         ensures { result ≡ most_descendants self.now }
     {
-        self.descendants + 1
+        self.recall_bounds();
+        self.descendants() + 1
     }
 
     /// The most virtual bytes that the descendants of an entry may have, itself among them: the one more of a second try
@@ -266,7 +211,8 @@ impl Policy {
     pub(crate) fn most_descendants_size(&self) -> u64
         ensures { result ≡ most_descendants_size self.now }
     {
-        self.descendants_size + CARVE_OUT_VSIZE
+        self.recall_bounds();
+        self.descendants_size() + CARVE_OUT_VSIZE
     }
 }
 
@@ -279,17 +225,6 @@ impl Default for Policy {
     ghost is_default = { λ policy. policy ≡ usual_policy };
 
     fn default() -> Policy {
-        Policy {
-            ancestors: 25,
-            ancestors_size: 101_000,
-            descendants: 25,
-            descendants_size: 101_000,
-            full_rbf: false,
-            relay_rate: 1000,
-            incremental_rate: 1000,
-            stay: 1_209_600,
-            sigop_size: 20,
-            standards: Standards::default(),
-        }
+        Policy::new(gate_register::Policy::default())
     }
 }

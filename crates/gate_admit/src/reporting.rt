@@ -3,9 +3,11 @@ ghost use Rattle.std.specs.Prelude.{◌≡◌, ◌≤◌, ◌<◌, ◌+◌, ◌^
 ghost use Rattle.std.specs.List.{list_all};
 ghost use Rattle.gate_bytes.specs.Order.{first_failing};
 ghost use Rattle.gate_inputs.specs.Answers.{answers_of};
-ghost use Rattle.gate_admit.specs.Reports.{reported, output_sigops, sigop_cost, report_rules};
+ghost use Rattle.gate_admit.specs.Reports.{reported, output_sigops, sigop_cost, is_relayed, has_relayed_witness, legacy_sigops, report_rules};
+ghost use Rattle.gate_standard.specs.Standards.{is_past};
 
 use crate::coins::LentCoin;
+use crate::policy::Policy;
 use gate_bytes::{Memory, is_same};
 use gate_inputs::{Answers, InputReport, Piece, answers};
 use gate_script::sigops;
@@ -107,31 +109,74 @@ pub fn sigop_cost(tx: &Transaction, answers: &[Answers]) -> u128
     cost + 4 * count
 }
 
-fn are_standard(answers: &[Answers]) -> bool
-    ensures { result ≡ list_all (λ a. a.standard) answers.now }
+/// Whether policy relays the spend, of an anchor too where the operator takes anchors.
+pub fn is_relayed(anchors: bool, answers: &Answers) -> bool
+    ensures { result ≡ is_relayed anchors answers.now }
 {
-    answers.iter().all(|answer| answer.standard)
+    (anchors && answers.anchor) || answers.standard
 }
 
-fn are_witness_standard(answers: &[Answers]) -> bool
-    ensures { result ≡ list_all (λ a. a.witness_standard) answers.now }
+/// Whether policy relays the witness: where the operator takes anchors, one is spent without a witness.
+pub fn has_relayed_witness(anchors: bool, answers: &Answers) -> bool
+    ensures { result ≡ has_relayed_witness anchors answers.now }
 {
-    answers.iter().all(|answer| answer.witness_standard)
+    !(anchors && answers.anchor && !answers.bare) && answers.witness_standard
+}
+
+fn are_relayed(anchors: bool, answers: &[Answers]) -> bool
+    ensures { result ≡ list_all (is_relayed anchors) answers.now }
+{
+    answers.iter().all(|answer| is_relayed(anchors, answer))
+}
+
+fn have_relayed_witnesses(anchors: bool, answers: &[Answers]) -> bool
+    ensures { result ≡ list_all (has_relayed_witness anchors) answers.now }
+{
+    answers
+        .iter()
+        .all(|answer| has_relayed_witness(anchors, answer))
+}
+
+/// The legacy signature operations of all inputs.
+pub fn legacy_sigops(answers: &[Answers]) -> u128
+    ensures { result ≡ legacy_sigops answers.now }
+{
+    let mut count: u128 = 0;
+    for answer in answers {
+        count += u128::from(answer.legacy_sigops);
+    }
+    count
+}
+
+/// Whether the inputs have more legacy signature operations than this, if they are limited.
+fn has_many_legacy_sigops(limit: Option<u64>, answers: &[Answers]) -> bool
+    ensures { result ≡ is_past limit (legacy_sigops answers.now) }
+{
+    match limit {
+        Some(most) => legacy_sigops(answers) > u128::from(most),
+        None => false,
+    }
 }
 
 /// The cost of the signature operations, or the first of A31 to A33 that fails.
 #[tactic(auto, unfolding(crate::specs::Reports::report_rules))]
-pub(crate) fn check_reports(tx: &Transaction, answers: &[Answers]) -> Result<u64, Denial>
+pub(crate) fn check_reports(
+    policy: &Policy,
+    tx: &Transaction,
+    answers: &[Answers],
+) -> Result<u64, Denial>
     requires { length answers.now ≡ length tx.now.inputs }
     ensures ok { IfOk result (λ cost. cost ≡ sigop_cost answers.now tx.now.outputs) }
     ensures small { IfOk result (λ cost. cost ≤ 16000) }
-    ensures passes { OnOk result (first_failing (report_rules answers.now tx.now) ≡ None) }
-    ensures err { IfErr result (λ denial. first_failing (report_rules answers.now tx.now) ≡ Some denial) }
+    ensures passes { OnOk result (first_failing (report_rules policy.now answers.now tx.now) ≡ None) }
+    ensures err { IfErr result (λ denial. first_failing (report_rules policy.now answers.now tx.now) ≡ Some denial) }
 {
-    if !are_standard(answers) {
+    if has_many_legacy_sigops(policy.legacy_sigops(), answers)
+        || !are_relayed(policy.anchors(), answers)
+    {
         return Err(Denial::NonstandardInputs);
     }
-    if !are_witness_standard(answers) {
+    if !have_relayed_witnesses(policy.anchors(), answers) {
         return Err(Denial::WitnessNonstandard);
     }
     let cost = sigop_cost(tx, answers);

@@ -16,7 +16,7 @@ use std::hash::BuildHasher;
 use std::marker::Model;
 
 /// An input of a transaction.
-#[derive(Clone, Copy, Debug, PartialEq, Eq, Hash)]
+#[derive(Clone, Copy, PartialEq, Eq, Hash)]
 struct Subject {
     wtxid: Wtxid,
     input: u32,

@@ -17,14 +17,13 @@ use Rattle.gate_message.specs.declared.event.Event.{Event}
 use Rattle.gate_message.specs.declared.event.Event.TheVariants.{Enter, Leave, Tx as Submit, Mempool, GetBlock, Headers, FeeFilter, Rpc, SetFloor, Set as Turn, Chain as Extend, LearnCoin, LearnVerdict, Forget}
 use Rattle.gate_message.specs.declared.reply.Reply.{Reply}
 use Rattle.gate_message.specs.declared.reply.Reply.TheVariants.{Denied}
-use Rattle.gate_message.specs.PeerDenials.{then_of}
 use Rattle.gate_message.specs.Callers.{caller_of}
 use Rattle.gate_rpc.specs.Calls.{request_of}
 use Rattle.gate_core.specs.Access.{entering_rules, session_rules, submission_rules, listing_rules, block_rules, headers_rules}
 use Rattle.gate_core.specs.ChainLaws.{AsksTheSame, ForgettingChangesNoAnswer, LearningLeavesTheRest, OthersLeaveTheChain, apart_from_chain}
 use Rattle.gate_core.specs.ChainSteps.{coin_rules, forgetting, forgotten_as, is_spent_by_some, learnt_as, with_coin, with_verdict}
-use Rattle.gate_core.specs.PeerSteps.{answered, block_given, concluded, decided, entered, filter_set, headers_given, left, listed, submission_step, submitted}
-use Rattle.gate_core.specs.Sessions.{Session, flags_in}
+use Rattle.gate_core.specs.PeerSteps.{answered, block_given, concluded, decided, entered, filter_set, headers_given, left, listed, submission_step, submitted, then_under}
+use Rattle.gate_core.specs.Sessions.{flags_in}
 use Rattle.gate_core.specs.Steps.{step_of}
 use Rattle.gate_core.specs.World.{World, standing_of}
 use Rattle.gate_core.proofs.Calls.{call_gives}
@@ -104,9 +103,9 @@ outcome_after w n now None tx asks =
     asks.coins asks.verdicts asks.opened asks.outputs now w.budget
 
 -- the reply to a peer shows nothing of chain and verdicts but by the outcome
-decided_reply : (w v : World) (peer : ℕ) (tx : Tx) (decision : Result Grant Denial) → v.sessions ≡ w.sessions → (decided v peer (Some tx) decision).0 ≡ (decided w peer (Some tx) decision).0
-decided_reply w v peer tx (Ok grant) same = refl
-decided_reply w v peer tx (Err denial) same = ap (λ (sessions : List Session). Denied (Admission denial) (then_of (flags_in sessions peer) (Admission denial))) same
+decided_reply : (w v : World) (peer : ℕ) (tx : Tx) (decision : Result Grant Denial) → v.policy ≡ w.policy → v.sessions ≡ w.sessions → (decided v peer (Some tx) decision).0 ≡ (decided w peer (Some tx) decision).0
+decided_reply w v peer tx (Ok grant) policy sessions = refl
+decided_reply w v peer tx (Err denial) policy sessions = λ i. Denied (Admission denial) (then_under (policy i) (flags_in (sessions i) peer) (Admission denial))
 
 answered_reply : (w : World) (n peer : ℕ) (served other : Reply × World) (denial : Option PeerDenial) → other.0 ≡ served.0 → (answered (forgetting w n) peer other denial).0 ≡ (answered w peer served denial).0
 answered_reply w n peer served other (Some denial) same = refl
@@ -119,7 +118,7 @@ reply_after w n peer now None tx asks =
     let s = submit_of (standing_of w) (Some tx) now w.budget in
     answered_reply w n peer (submitted w peer now (Some tx)) (submitted (forgetting w n) peer now (Some tx)) (first_failing (submission_rules w peer (Some tx)))
     (ap (λ (t : Submitted). (concluded (forgetting w n) peer (Some tx) t).0) (outcome_after w n now None tx asks)
-    ∙ decided_reply (record w { pool = s.entries; floor = s.floor }) (record (forgetting w n) { pool = s.entries; floor = s.floor }) peer tx s.decision refl)
+    ∙ decided_reply (record w { pool = s.entries; floor = s.floor }) (record (forgetting w n) { pool = s.entries; floor = s.floor }) peer tx s.decision refl refl)
 
 pub forgetting_changes_no_answer : ForgettingChangesNoAnswer
 unfolding step_of

@@ -2,6 +2,7 @@ mod Barring
 mod ByChain
 mod Calls
 mod ClosedSessions
+mod Closing
 mod Denials
 mod Floors
 mod Forgetting

@@ -1,11 +1,12 @@
 -- What the listings of a run are.
-use Rattle.std.proofs.Common.{◌≡◌, ℕ, zero, suc, Bool, true, false, if◌then◌else◌, List, [], ◌∷◌, Option, Some, None, Result, Ok, Err, refl, sym, ap, subst}
+use Rattle.std.proofs.Common.{◌≡◌, ℕ, zero, suc, Bool, true, false, if◌then◌else◌, List, [], ◌∷◌, Option, Some, None, Result, Ok, Err, map, refl, sym, ap, ◌∙◌, subst}
 use Rattle.gate_bytes.specs.Order.{first_failing}
 use Rattle.gate_tx.specs.Tx.{Tx}
 use Rattle.gate_standard.specs.declared.Denial.{Denial}
 use Rattle.gate_admit.specs.declared.Grant.{Grant}
 use Rattle.gate_admit.specs.Verdicts.{row_rules}
-use Rattle.gate_pool.specs.Pool.{listing_of}
+use Rattle.gate_pool.specs.Pool.{Admitted, listing_of}
+use Rattle.gate_tx.specs.Ids.{txid_of}
 use Rattle.gate_admit.specs.Submission.{submit_of}
 use Rattle.gate_chain.specs.Forgetting.{forget_denial}
 use Rattle.gate_chain.specs.declared.ChainDenial.{ChainDenial}
@@ -20,9 +21,11 @@ use Rattle.gate_message.specs.UserCalls.{UserCall}
 use Rattle.gate_rpc.specs.declared.fault.CallError.{CallError}
 use Rattle.gate_rpc.specs.declared.id.Id.{Id}
 use Rattle.gate_rpc.specs.declared.request.Command.{Command}
-use Rattle.gate_rpc.specs.declared.request.Command.TheVariants.{GetRawMempool}
+use Rattle.gate_rpc.specs.declared.request.Command.TheVariants.{GetRawMempool, GetRawMempoolVerbose}
 use Rattle.gate_rpc.specs.declared.request.Request.{Request}
-use Rattle.gate_rpc.specs.declared.result.RpcResult.TheVariants.{Txids}
+use Rattle.gate_rpc.specs.declared.items.KnownEntry.{KnownEntry}
+use Rattle.gate_rpc.specs.declared.result.RpcResult.TheVariants.{Entries, Txids}
+use Rattle.gate_query.specs.Queries.{entries_known, known_from}
 use Rattle.gate_rpc.specs.declared.reply.RpcReply.{RpcReply}
 use Rattle.gate_rpc.specs.declared.reply.RpcReply.TheVariants.{NotAllowed, Answer}
 use Rattle.gate_rpc.specs.Calls.{request_of}
@@ -33,7 +36,7 @@ use Rattle.gate_core.specs.PeerSteps.{decided, answered, entered, left, submitte
 use Rattle.gate_core.specs.ChainSteps.{chained_as, coin_rules, forgotten_as, learnt_as, with_coin, with_verdict}
 use Rattle.gate_core.specs.Steps.{step_of}
 use Rattle.gate_core.specs.RpcSteps.{is_barred, commanded, called_by, rpc_step}
-use Rattle.gate_core.specs.Runs.{ListsThePool, AnswersThePool, told_to}
+use Rattle.gate_core.specs.Runs.{ListsThePool, AnswersThePool, DescribesThePool, told_to}
 
 -- the event that a listing answers, and what it has
 abbrev Told : World → Event → List (List ℕ) → Type 0
@@ -132,3 +135,37 @@ answers_the_pool [] w k call request id txids at read is h = cc
 answers_the_pool (event ∷ events) w zero call request id txids at read is h =
     subst (λ (e : Event). Lists w id txids (step_of w e)) (sym (event_is event (Rpc call) at)) (step_answers w call request id txids read is) (some_is _ _ h)
 answers_the_pool (event ∷ events) w (suc k) call request id txids at read is h = answers_the_pool events (step_of w event).1 k call request id txids at read is h
+
+-- the answer to `getrawmempool true`
+known_ids : (all entries : List Admitted) → map (λ (e : KnownEntry). e.txid) (map (known_from all) entries) ≡ listing_of entries
+known_ids all [] = refl
+known_ids all (e ∷ entries) = ap (λ (ids : List (List ℕ)). txid_of e.tx ∷ ids) (known_ids all entries)
+
+abbrev Describes : World → Id → List KnownEntry → Reply × World → Type 0
+Describes w id entries given = given.0 ≡ Answered (Answer id (Entries entries)) → map (λ (e : KnownEntry). e.txid) entries ≡ listing_of w.pool
+
+same_entries : (own id : Id) (some other : List KnownEntry) → Answered (Answer own (Entries some)) ≡ Answered (Answer id (Entries other)) → some ≡ other
+same_entries own id some other h = cc
+
+command_describes : (w : World) (now : ℕ) (own id : Id) (command : Command) (entries : List KnownEntry) → command ≡ GetRawMempoolVerbose → Describes w id entries (commanded w now own command)
+command_describes w now own id command entries is =
+    subst (λ (c : Command). Describes w id entries (commanded w now own c)) (sym is)
+    (λ h. ap (λ (es : List KnownEntry). map (λ (e : KnownEntry). e.txid) es) (sym (same_entries own id (entries_known w.pool) entries h)) ∙ known_ids w.pool w.pool)
+
+request_describes : (w : World) (call : UserCall) (request : Request) (id : Id) (entries : List KnownEntry) (b : Bool) → request.command ≡ GetRawMempoolVerbose
+    → Describes w id entries (if b then (Answered NotAllowed, w) else called_by w call.time (Ok request))
+request_describes w call request id entries true is = λ h. cc
+request_describes w call request id entries false is = command_describes w call.time request.id id request.command entries is
+
+step_describes : (w : World) (call : UserCall) (request : Request) (id : Id) (entries : List KnownEntry) → request_of call.json ≡ Ok request → request.command ≡ GetRawMempoolVerbose
+    → Describes w id entries (step_of w (Rpc call))
+unfolding step_of
+step_describes w call request id entries read is =
+    subst (λ (r : Result Request CallError). Describes w id entries (rpc_step w call.user call.time r)) (sym read)
+    (request_describes w call request id entries (is_barred w call.user (Ok request)) is)
+
+pub describes_the_pool : (events : List Event) (w : World) → DescribesThePool w events
+describes_the_pool [] w k call request id entries at read is h = cc
+describes_the_pool (event ∷ events) w zero call request id entries at read is h =
+    subst (λ (e : Event). Describes w id entries (step_of w e)) (sym (event_is event (Rpc call) at)) (step_describes w call request id entries read is) (some_is _ _ h)
+describes_the_pool (event ∷ events) w (suc k) call request id entries at read is h = describes_the_pool events (step_of w event).1 k call request id entries at read is h

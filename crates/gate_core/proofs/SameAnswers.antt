@@ -27,7 +27,7 @@ use Rattle.gate_admit.specs.declared.Attempt.TheVariants.{First}
 use Rattle.gate_admit.specs.declared.Grant.{Grant}
 use Rattle.gate_admit.specs.Coins.{coins_of, misses_coin, pool_coin, view_coin}
 use Rattle.gate_admit.specs.Limits.{limit_rules}
-use Rattle.gate_admit.specs.Policies.{Policy}
+use Rattle.gate_admit.specs.Policies.{Policy, incremental_feerate}
 use Rattle.gate_admit.specs.Reports.{report_rules, reported, rules_of_verdict, sigop_cost, verdict_rules, vsize_of}
 use Rattle.gate_admit.specs.Rules.{admission_rules, balance_rules, coin_rules, coin_value_rules, coins_value, decision_of, denied_or, final_rules, grant_of, heights_of, is_chain_coin_from, lock_rules, outputs_value, payment_rules, pool_rules}
 use Rattle.gate_admit.specs.Standing.{Standing, standing}
@@ -143,10 +143,10 @@ module _ (c d : History) (entries : List Admitted) (floor : ℕ) (a b : VerdictT
       ++ (lock_rules_same i
       ++ (coin_value_rules (tip_same c d first times i + 1) 0 coins
       ++ (balance_rules (coins_value coins) (outputs_value tx)
-      ++ (report_rules answers tx
-      ++ (payment_rules attempt policy.relay_rate floor fee vsize
+      ++ (report_rules policy answers tx
+      ++ (payment_rules attempt policy floor fee vsize
       ++ (limit_rules attempt policy entries tx vsize
-      ++ (replacement_rules policy.incremental_rate entries tx fee vsize
+      ++ (replacement_rules (incremental_feerate policy) policy.parents entries tx fee vsize
       ++ verdicts_same a b (wtxid_of tx) 0 tx.inputs verdicts i))))))))))
 
   grant_same : grant_of (standing d entries floor b policy) tx ≡ grant_of (standing c entries floor a policy) tx

@@ -23,11 +23,10 @@ use Rattle.gate_message.specs.declared.denial.Then.TheVariants.{Keep, Close, Rel
 use Rattle.gate_message.specs.declared.reply.Reply.{Reply}
 use Rattle.gate_net.specs.Permissions.{Permissions}
 use Rattle.gate_message.specs.Callers.{caller_of}
-use Rattle.gate_message.specs.PeerDenials.{then_of}
-use Rattle.gate_core.specs.Sessions.{Session, session, session_of, flags_in, rate_after, closed, rated}
+use Rattle.gate_core.specs.Sessions.{Session, session, session_of, rate_after, closed, rated}
 use Rattle.gate_core.specs.World.{World, flags_at, standing_of}
 use Rattle.gate_core.specs.Access.{entering_rules, session_rules, submission_rules, listing_rules, block_rules, headers_rules}
-use Rattle.gate_core.specs.PeerSteps.{sessions_after, decided, answered, entered, left, submitted, listed, block_given, headers_given, filter_set}
+use Rattle.gate_core.specs.PeerSteps.{sessions_after, then_for, decided, answered, entered, left, submitted, listed, block_given, headers_given, filter_set}
 use Rattle.gate_core.specs.ChainSteps.{chained_as, coin_rules, forgotten_as, learnt_as, with_coin, with_verdict}
 use Rattle.gate_core.specs.Steps.{step_of}
 use Rattle.gate_core.specs.Runs.{run_of}
@@ -72,9 +71,9 @@ after_leaves Relay sessions peer other h = refl
 
 decided_leaves : (w : World) (peer other : ℕ) (transaction : Option Tx) (decision : Result Grant Denial) → other ≢ peer
     → session_of (decided w peer transaction decision).1.sessions other ≡ session_of w.sessions other
-decided_leaves w peer other None decision h = after_leaves (then_of (flags_in w.sessions peer) (Admission Decode)) w.sessions peer other h
+decided_leaves w peer other None decision h = after_leaves (then_for w peer (Admission Decode)) w.sessions peer other h
 decided_leaves w peer other (Some tx) (Ok grant) h = refl
-decided_leaves w peer other (Some tx) (Err denial) h = after_leaves (then_of (flags_in w.sessions peer) (Admission denial)) w.sessions peer other h
+decided_leaves w peer other (Some tx) (Err denial) h = after_leaves (then_for w peer (Admission denial)) w.sessions peer other h
 
 submitted_leaves : (w : World) (peer other now : ℕ) (transaction : Option Tx) → other ≢ peer → session_of (submitted w peer now transaction).1.sessions other ≡ session_of w.sessions other
 submitted_leaves w peer other now transaction h =
@@ -83,7 +82,7 @@ submitted_leaves w peer other now transaction h =
 
 answered_leaves : (w : World) (peer other : ℕ) (served : Reply × World) (denial : Option PeerDenial) → other ≢ peer
     → session_of served.1.sessions other ≡ session_of w.sessions other → session_of (answered w peer served denial).1.sessions other ≡ session_of w.sessions other
-answered_leaves w peer other served (Some denial) h done = after_leaves (then_of (flags_in w.sessions peer) denial) w.sessions peer other h
+answered_leaves w peer other served (Some denial) h done = after_leaves (then_for w peer denial) w.sessions peer other h
 answered_leaves w peer other served None h done = done
 
 chained_leaves : (w : World) (other : ℕ) (after : Happened) (denial : Option ChainDenial) → session_of (chained_as w after denial).1.sessions other ≡ session_of w.sessions other

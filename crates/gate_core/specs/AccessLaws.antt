@@ -1,6 +1,8 @@
 -- Laws of permissions and of lists of methods, in plain words.
 use Rattle.std.specs.Prelude.{◌≡◌, ◌≢◌, ℕ, true, false, Bool, List, Option, Some, Result, Ok, Err, codes}
 use Rattle.gate_tx.specs.Tx.{Tx}
+use Rattle.gate_standard.specs.declared.Denial.{Denial}
+use Rattle.gate_admit.specs.Policies.{Policy, usual_policy}
 use Rattle.gate_net.specs.Permissions.{Permissions}
 use Rattle.gate_rpc.specs.Calls.{request_of}
 use Rattle.gate_rpc.specs.Lists.{is_allowed, is_among, list_of}
@@ -13,12 +15,13 @@ use Rattle.gate_message.specs.declared.caller.Caller.TheVariants.{Peer}
 use Rattle.gate_message.specs.declared.event.Event.{Event}
 use Rattle.gate_message.specs.declared.event.Event.TheVariants.{Tx as Submit, Mempool, GetBlock, Headers, Rpc}
 use Rattle.gate_message.specs.declared.denial.PeerDenial.{PeerDenial}
-use Rattle.gate_message.specs.declared.denial.PeerDenial.TheVariants.{BlocksOnly}
-use Rattle.gate_message.specs.declared.denial.Then.TheVariants.{Close}
+use Rattle.gate_message.specs.declared.denial.PeerDenial.TheVariants.{Admission, BlocksOnly}
+use Rattle.gate_message.specs.declared.denial.Then.TheVariants.{Close, Keep}
 use Rattle.gate_message.specs.declared.reply.Reply.TheVariants.{Rpc as Answered}
 use Rattle.gate_core.specs.Access.{is_historical}
 use Rattle.gate_message.specs.Callers.{caller_of}
 use Rattle.gate_message.specs.PeerDenials.{then_of}
+use Rattle.gate_core.specs.PeerSteps.{then_under}
 use Rattle.gate_core.specs.SessionLaws.{IsDenied}
 use Rattle.gate_core.specs.Sessions.{Session, session_of, flags_in}
 use Rattle.gate_core.specs.Steps.{step_of}
@@ -38,9 +41,15 @@ pub record Guards (w : World) (peer : ℕ) (flags : Permissions) : Type 0 where
 abbrev pub FlagsGuard : Type 0
 FlagsGuard = (w : World) (peer : ℕ) → Guards w peer (flags_in w.sessions peer)
 
--- only one denial closes the session of a peer with noban: that of a transaction that comes while the node takes blocks only
+-- under every policy only one denial closes the session of a peer with noban: that of a transaction that comes while the node takes
+-- blocks only
 abbrev pub NobanIsKept : Type 0
-NobanIsKept = (flags : Permissions) (denial : PeerDenial) → flags.noban ≡ true → denial ≢ BlocksOnly → then_of flags denial ≢ Close
+NobanIsKept = (policy : Policy) (flags : Permissions) (denial : PeerDenial) → flags.noban ≡ true → denial ≢ BlocksOnly → then_under policy flags denial ≢ Close
+
+-- where the policy keeps sessions, no rule of admission closes one; by default what follows is what the table of rules says
+pub record InvalidIsKept : Type 0 where
+  pub kept : (policy : Policy) (flags : Permissions) (denial : Denial) → policy.keep_invalid ≡ true → then_under policy flags (Admission denial) ≡ Keep
+  pub usual : (flags : Permissions) (denial : PeerDenial) → then_under usual_policy flags denial ≡ then_of flags denial
 
 -- no event of a peer whose session is closed changes anything
 abbrev pub ClosedSessionsChangeNothing : Type 0

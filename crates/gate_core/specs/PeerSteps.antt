@@ -1,12 +1,14 @@
 -- What each event of a peer gives: the reply, and the state after it.
-use Rattle.std.specs.Prelude.{ℕ, ◌+◌, ◌-◌, min, true, List, [], ◌∷◌, ◌++◌, Option, Some, None, Result, Ok, Err}
+use Rattle.std.specs.Prelude.{ℕ, ◌+◌, ◌-◌, min, true, if◌then◌else◌, List, [], ◌∷◌, ◌++◌, Option, Some, None, Result, Ok, Err}
 use Rattle.gate_bytes.specs.Order.{Rule, first_failing}
 use Rattle.gate_tx.specs.Tx.{Tx}
 use Rattle.gate_tx.specs.Ids.{txid_of}
+use Rattle.gate_standard.specs.Denials.{rule_of}
 use Rattle.gate_standard.specs.declared.Denial.{Denial}
 use Rattle.gate_standard.specs.declared.Denial.TheVariants.{Decode}
 use Rattle.gate_admit.specs.declared.Grant.{Grant}
 use Rattle.gate_admit.specs.Submission.{Submitted, submit_of}
+use Rattle.gate_admit.specs.Policies.{Policy, feerate_by}
 use Rattle.gate_query.specs.Answers.{listing_at}
 use Rattle.gate_message.specs.declared.denial.Then.{Then}
 use Rattle.gate_message.specs.declared.denial.Then.TheVariants.{Keep, Close, Relay}
@@ -15,7 +17,7 @@ use Rattle.gate_message.specs.declared.denial.PeerDenial.TheVariants.{Admission}
 use Rattle.gate_message.specs.declared.reply.Reply.{Reply}
 use Rattle.gate_message.specs.declared.reply.Reply.TheVariants.{Entered, Left, Admitted, Listing, Block, Headers, Filter, Denied}
 use Rattle.gate_net.specs.Permissions.{Permissions}
-use Rattle.gate_message.specs.PeerDenials.{then_of}
+use Rattle.gate_message.specs.PeerDenials.{closing, is_closing, then_of}
 use Rattle.gate_core.specs.Sessions.{Session, session, flags_in, rate_in, rate_after, closed, rated}
 use Rattle.gate_core.specs.World.{World, flags_at, standing_of}
 use Rattle.gate_core.specs.Access.{entering_rules, session_rules, submission_rules, listing_rules, block_rules, headers_rules, seconds_at}
@@ -29,10 +31,19 @@ sessions_after Close sessions peer = closed sessions peer
 sessions_after Relay sessions peer = sessions
 
 abbrev pub denied_then : World → ℕ → PeerDenial → Then → Reply × World
-denied_then w peer denial then = (Denied denial then, record w { sessions = sessions_after then w.sessions peer })
+denied_then w peer denial follows = (Denied denial follows, record w { sessions = sessions_after follows w.sessions peer })
+
+-- what follows under a policy for the session of a peer with these flags: a rule of admission closes none if the policy keeps them
+abbrev pub then_under : Policy → Permissions → PeerDenial → Then
+then_under policy flags (Admission denial) = if is_closing (rule_of denial) then (if policy.keep_invalid then Keep else closing flags) else Keep
+then_under policy flags denial = then_of flags denial
+
+-- what follows for the session of a peer
+abbrev pub then_for : World → ℕ → PeerDenial → Then
+then_for w peer denial = then_under w.policy (flags_in w.sessions peer) denial
 
 abbrev pub denied : World → ℕ → PeerDenial → Reply × World
-denied w peer denial = denied_then w peer denial (then_of (flags_in w.sessions peer) denial)
+denied w peer denial = denied_then w peer denial (then_for w peer denial)
 
 abbrev pub answered : World → ℕ → Reply × World → Option PeerDenial → Reply × World
 answered w peer served (Some denial) = denied w peer denial
@@ -66,7 +77,7 @@ submitted w peer now transaction = concluded w peer transaction (submit_of (stan
 
 -- a listing leaves out the entries that the peer's own rate hides
 abbrev pub listed : World → ℕ → Reply × World
-listed w peer = (Listing (listing_at (rate_in w.sessions peer) w.pool), w)
+listed w peer = (Listing (listing_at (feerate_by w.policy (rate_in w.sessions peer)) w.pool), w)
 
 abbrev pub filter_with : World → ℕ → ℕ → Reply × World
 filter_with w peer rate = (Filter rate, record w { sessions = rated w.sessions peer rate })

@@ -1,5 +1,5 @@
 -- Runs: the step over a list of events, and what holds after every one of them.
-use Rattle.std.specs.Prelude.{◌≡◌, ◌≢◌, ◌≤◌, ℕ, List, [], ◌∷◌, ◌++◌, take, slice_get, Option, Some, IsSome, Ok}
+use Rattle.std.specs.Prelude.{◌≡◌, ◌≢◌, ◌≤◌, ℕ, List, [], ◌∷◌, ◌++◌, map, take, slice_get, Option, Some, IsSome, Ok}
 use Rattle.std.specs.List.{All, flat_map, AllPairs}
 use Rattle.gate_tx.specs.declared.OutPoint.{OutPoint}
 use Rattle.gate_tx.specs.Ids.{txid_of}
@@ -18,11 +18,13 @@ use Rattle.gate_message.specs.declared.reply.Reply.{Reply}
 use Rattle.gate_message.specs.declared.reply.Reply.TheVariants.{Admitted, Listing, Rpc as Answered}
 use Rattle.gate_rpc.specs.declared.id.Id.{Id}
 use Rattle.gate_rpc.specs.declared.reply.RpcReply.TheVariants.{Answer}
-use Rattle.gate_rpc.specs.declared.request.Command.TheVariants.{GetRawMempool}
+use Rattle.gate_rpc.specs.declared.items.KnownEntry.{KnownEntry}
+use Rattle.gate_rpc.specs.declared.request.Command.TheVariants.{GetRawMempool, GetRawMempoolVerbose}
 use Rattle.gate_rpc.specs.declared.request.Request.{Request}
-use Rattle.gate_rpc.specs.declared.result.RpcResult.TheVariants.{Sent, Txids}
+use Rattle.gate_rpc.specs.declared.result.RpcResult.TheVariants.{Entries, Sent, Txids}
 use Rattle.gate_rpc.specs.Calls.{request_of}
 use Rattle.gate_message.specs.UserCalls.{UserCall}
+use Rattle.gate_admit.specs.Policies.{feerate_by}
 use Rattle.gate_query.specs.Answers.{listing_at}
 use Rattle.gate_core.specs.Sessions.{rate_in}
 use Rattle.gate_core.specs.World.{World, opened_world}
@@ -65,7 +67,7 @@ SpendsOnce pool = AllPairs (λ (p : OutPoint) (q : OutPoint). p ≢ q) (spent_by
 
 -- what a peer is told of a state: the txids of the entries that its own rate doesn't hide, in order of admission
 abbrev pub told_to : ℕ → World → List (List ℕ)
-told_to peer w = listing_at (rate_in w.sessions peer) w.pool
+told_to peer w = listing_at (feerate_by w.policy (rate_in w.sessions peer)) w.pool
 
 -- each reply that is a listing answers a peer, and has what that peer is told of the state at that point
 abbrev pub ListsThePool : World → List Event → Type 0
@@ -80,10 +82,19 @@ AnswersThePool w events =
     → slice_get events k ≡ Some (Calls call) → request_of call.json ≡ Ok request → request.command ≡ GetRawMempool
     → slice_get (run_of w events).0 k ≡ Some (Answered (Answer id (Txids txids))) → txids ≡ listing_of (run_of w (take k events)).1.pool
 
+-- each answer with entries to a user's `getrawmempool true` has one for each entry of the pool at that point, in order of admission
+abbrev pub DescribesThePool : World → List Event → Type 0
+DescribesThePool w events =
+    (k : ℕ) (call : UserCall) (request : Request) (id : Id) (entries : List KnownEntry)
+    → slice_get events k ≡ Some (Calls call) → request_of call.json ≡ Ok request → request.command ≡ GetRawMempoolVerbose
+    → slice_get (run_of w events).0 k ≡ Some (Answered (Answer id (Entries entries)))
+    → map (λ (e : KnownEntry). e.txid) entries ≡ listing_of (run_of w (take k events)).1.pool
+
 -- after any events, from any opening, no outpoint is spent twice, and listings and answers show the pool at their point
 abbrev pub RunsKeepThePoolSound : Type 0
 RunsKeepThePoolSound = (o : Start) (events : List Event)
-    → SpendsOnce (run_of (opened_world o) events).1.pool × ListsThePool (opened_world o) events × AnswersThePool (opened_world o) events
+    → SpendsOnce (run_of (opened_world o) events).1.pool × ListsThePool (opened_world o) events
+    × AnswersThePool (opened_world o) events × DescribesThePool (opened_world o) events
 
 -- each outpoint that an entry spends has a coin, and the ancestors and descendants of each entry are within the limits of a policy
 pub record KeepsFamilies (policy : Policy) (w : World) : Type 0 where

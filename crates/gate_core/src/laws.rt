@@ -1,6 +1,6 @@
 //! Laws above the definitions.
 ghost use Rattle.gate_core.specs.Access.{AccessFollowsTheOrder};
-ghost use Rattle.gate_core.specs.AccessLaws.{ClosedSessionsChangeNothing, FlagsGuard, ListsBar, NobanIsKept, OnlySendersChange, QuestionsChangeNothing};
+ghost use Rattle.gate_core.specs.AccessLaws.{ClosedSessionsChangeNothing, FlagsGuard, InvalidIsKept, ListsBar, NobanIsKept, OnlySendersChange, QuestionsChangeNothing};
 ghost use Rattle.gate_core.specs.ChainLaws.{ForgettingChangesNoAnswer, LearningLeavesTheRest, OthersLeaveTheChain};
 ghost use Rattle.gate_core.specs.Runs.{AdmissionsLeaveNothingStale, CallsLeaveNothingStale, OnlyOperatorsLowerTheFloor, RunsEndGood, RunsKeepFamilies, RunsKeepTheBudget, RunsKeepThePoolSound, StepsGiveTheRun};
 ghost use Rattle.gate_core.specs.SessionLaws.{ClosedStaysClosed, DenialsLeaveThePool, GreatRatesChangeNothing, PeersAreSeparate};
@@ -20,6 +20,12 @@ pub fn flags_guard()
 /// blocks only.
 pub fn noban_is_kept()
     ensures { NobanIsKept }
+{}
+
+/// Where the policy keeps sessions, no rule of admission closes one (`keepinvalid`); by default what follows from a denial is
+/// what the table of rules says.
+pub fn invalid_is_kept()
+    ensures { InvalidIsKept }
 {}
 
 /// No event of a peer whose session is closed changes anything.
@@ -88,7 +94,8 @@ pub fn denials_leave_the_pool()
 
 /// After any events, from any opening, no outpoint is spent twice in the pool. Every listing among the replies has, in
 /// order of admission, exactly the txids of the entries at that point that the fee filter of the peer that asked
-/// doesn't hide; every answer to `getrawmempool` has those of the whole pool.
+/// doesn't hide; every answer to `getrawmempool` has those of the whole pool, and every answer to `getrawmempool true`
+/// an entry for each of them.
 pub fn runs_keep_the_pool_sound()
     ensures { RunsKeepThePoolSound }
 {}

@@ -24,9 +24,10 @@ pub use gate_message::{Call, Caller, Event, PeerDenial, Replies, Reply, Switch, 
 pub use laws::{
     access_follows_the_order, admissions_leave_nothing_stale, closed_sessions_change_nothing,
     closed_stays_closed, denials_leave_the_pool, flags_guard, forgetting_changes_no_answer,
-    great_rates_change_nothing, lists_bar, noban_is_kept, only_operators_lower_the_floor,
-    peers_are_separate, questions_change_nothing, runs_end_good, runs_keep_families,
-    runs_keep_the_budget, runs_keep_the_pool_sound, steps_give_the_run, the_chain_is_of_its_caller,
+    great_rates_change_nothing, invalid_is_kept, lists_bar, noban_is_kept,
+    only_operators_lower_the_floor, peers_are_separate, questions_change_nothing, runs_end_good,
+    runs_keep_families, runs_keep_the_budget, runs_keep_the_pool_sound, steps_give_the_run,
+    the_chain_is_of_its_caller,
 };
 pub use opening::Opening;
 pub use session::Session;

@@ -189,7 +189,7 @@ impl<S: BuildHasher + Copy + Drop> StateParts<S> {
                 floor: self.floor,
                 sessions,
                 budget: self.budget,
-                policy: self.policy,
+                policy: self.policy.copy(),
                 verdicts,
                 whitelist,
                 rpcwhitelist,

@@ -4,7 +4,7 @@ ghost use Rattle.gate_chain.specs.Times.{tip_of};
 ghost use Rattle.gate_bytes.specs.Order.{first_failing};
 ghost use Rattle.gate_core.specs.World.{flags_at};
 ghost use Rattle.gate_core.specs.Access.{listing_rules, submission_rules, block_rules, headers_rules, is_historical, seconds_at};
-ghost use Rattle.gate_core.specs.PeerSteps.{entering_step, leaving_step, submission_step, submitted, listing_step, block_step, headers_step, filter_step, denied};
+ghost use Rattle.gate_core.specs.PeerSteps.{entering_step, leaving_step, submission_step, submitted, listing_step, block_step, headers_step, filter_step, denied, then_for};
 ghost use Rattle.gate_pool.specs.Pool.{Pooled};
 ghost use Rattle.gate_core.specs.Sessions.{Seated, rate_after};
 ghost use Rattle.gate_core.specs.Planning.{Fits, Plans, world_of};
@@ -36,13 +36,25 @@ impl<S: BuildHasher + Copy + Drop> StateParts<S> {
         self.whitelist.flags_of(address)
     }
 
+    /// What follows from a denial for the peer's session.
+    #[tactic(auto, using(crate::proofs::Closing::kept_then))]
+    fn then_for(&self, peer: u64, denial: PeerDenial) -> Then
+        ensures { result ≡ then_for (world_of self.now) peer denial }
+    {
+        let then = denial.then(&self.sessions.flags(peer));
+        match denial {
+            PeerDenial::Admission(_) if self.policy.keep_invalid() => Then::Keep,
+            _ => then,
+        }
+    }
+
     /// The plan of a denial to a peer, which closes the peer's session if that follows from the denial.
     #[inline(always)]
     fn denying(&self, peer: u64, denial: PeerDenial) -> Plan
         ensures reply { Plans (world_of self.now) (denied (world_of self.now) peer denial) result }
         ensures fits { (sessions : Seated) (pool : Pooled) → Fits result.change sessions pool }
     {
-        let then = denial.then(&self.sessions.flags(peer));
+        let then = self.then_for(peer, denial);
         let reply = Reply::Denied { denial, then };
         match then {
             Then::Close => Plan {
@@ -94,7 +106,7 @@ impl<S: BuildHasher + Copy + Drop> StateParts<S> {
             Some(denial) => Ok(self.denying(peer, denial)),
             None => {
                 let rate = self.sessions.rate(peer);
-                let txids = listing_at(alloc, &self.pool, rate)?;
+                let txids = listing_at(alloc, &self.pool, self.policy.feerate(rate))?;
                 let txids = self.listing.share(alloc, txids)?;
                 Ok(Plan::telling(Reply::Listing(txids)))
             }

@@ -6,7 +6,7 @@ use gate_message::Switch;
 
 /// Whether bloom filters are on, whether the upload target is reached, whether that for historical blocks is, and
 /// whether the initial block download goes on.
-#[derive(Clone, Copy, Debug, PartialEq, Eq)]
+#[derive(Clone, Copy, PartialEq, Eq)]
 pub struct Switches {
     pub bloom: bool,
     pub upload: bool,

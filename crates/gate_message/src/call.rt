@@ -11,7 +11,7 @@ use std::marker::Model;
 
 /// What a user asks by RPC: contracts see the user's name, the second of the call, and its JSON. What the JSON asks for is
 /// read once, when the call is made.
-#[derive(Debug, Drop)]
+#[derive(Drop)]
 pub struct Call {
     user: Text,
     time: u64,

@@ -3,7 +3,7 @@ use gate_bytes::{Copied, Exact, Memory, Text};
 use std::alloc::Global;
 
 /// The one that makes an event.
-#[derive(Debug, Drop, PartialEq, Eq)]
+#[derive(Drop, PartialEq, Eq)]
 pub enum Caller {
     /// The peer of this number.
     Peer(u64),

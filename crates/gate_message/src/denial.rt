@@ -7,7 +7,7 @@ use gate_net::Permissions;
 use gate_standard::Denial;
 
 /// What a denial does to the peer's session.
-#[derive(Clone, Copy, Debug, PartialEq, Eq)]
+#[derive(Clone, Copy, PartialEq, Eq)]
 pub enum Then {
     /// The session goes on.
     Keep,
@@ -42,7 +42,7 @@ impl Then {
 }
 
 /// A rule that an event fails: one on its peer, or one of admission.
-#[derive(Clone, Copy, Debug, PartialEq, Eq)]
+#[derive(Clone, Copy, PartialEq, Eq)]
 pub enum PeerDenial {
     /// P1: the peer never entered.
     PeerUnknown,

@@ -11,7 +11,7 @@ use gate_submission::{Prepared, VerdictRow, recall_spelled};
 use std::alloc::Global;
 
 /// One request to the gate. A peer is named by a number that its first `Enter` takes for good.
-#[derive(Debug, Drop, PartialEq, Eq)]
+#[derive(Drop, PartialEq, Eq)]
 pub enum Event {
     /// A peer enters, from this address.
     Enter {

@@ -3,7 +3,7 @@ use gate_chain::ChainDenial;
 use gate_submission::Moved;
 
 /// What an event of the chain's caller led to. It holds no memory, so that its replies are made once all is done.
-#[derive(Clone, Copy, Debug, PartialEq, Eq)]
+#[derive(Clone, Copy, PartialEq, Eq)]
 pub enum ChainOutcome {
     /// A coin, or a verdict, is learnt.
     Learnt,

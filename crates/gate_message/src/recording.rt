@@ -10,7 +10,7 @@ use gate_standard::Denial;
 use std::alloc::Global;
 
 /// The reply to one event, and two copies of it.
-#[derive(Debug, Drop)]
+#[derive(Drop)]
 pub struct Replies {
     /// For the caller.
     pub reply: Reply,

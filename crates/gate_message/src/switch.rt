@@ -1,7 +1,7 @@
 //! What the operator turns on and off.
 
 /// A switch, named by what holds while it is on.
-#[derive(Clone, Copy, Debug, PartialEq, Eq)]
+#[derive(Clone, Copy, PartialEq, Eq)]
 pub enum Switch {
     /// Bloom filters are on, with which every peer may ask for a listing (BIP 35, BIP 111).
     Bloom,

@@ -16,7 +16,7 @@ use std::marker::Model;
 
 /// The second at which an entry was admitted, and its id. Arrivals compare by their seconds alone, the earlier as the
 /// greater, so that it is the first of a heap.
-#[derive(Clone, Copy, Debug)]
+#[derive(Clone, Copy)]
 pub(crate) struct Arrival {
     time: u64,
     txid: Txid,

@@ -13,7 +13,7 @@ use std::marker::Model;
 pub const MAX_VSIZE: u64 = 10_000_000;
 
 /// A transaction in the pool.
-#[derive(Debug, Drop)]
+#[derive(Drop)]
 pub struct Entry {
     identified: Counted<Identified>,
     fee: u64,

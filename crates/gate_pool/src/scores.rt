@@ -9,7 +9,7 @@ use gate_tx::Txid;
 
 /// What an entry is worth: its own fee over its size, or the fees over the sizes of its descendants, itself among them,
 /// whichever is greater as a fraction; its own if they are equal.
-#[derive(Clone, Copy, Debug, PartialEq, Eq)]
+#[derive(Clone, Copy, PartialEq, Eq)]
 pub struct Score {
     pub txid: Txid,
     /// The fees of that fraction, in satoshi.

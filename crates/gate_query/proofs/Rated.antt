@@ -1,11 +1,14 @@
 -- Which entries pay a rate, and that all pay none.
-use Rattle.std.proofs.Common.{◌≡◌, ℕ, ◌*◌, ◌/◌, ◌==◌, nat_lt, Bool, true, false, if◌then◌else◌, List, refl, ap, ◌∙◌, arith}
+use Rattle.std.proofs.Common.{◌≡◌, ℕ, ◌+◌, ◌*◌, ◌/◌, ◌==◌, nat_lt, Bool, true, false, if◌then◌else◌, List, refl, ap, ◌∙◌, arith}
 use Rattle.std.specs.Prelude.{filter, ◌&&◌}
 use Rattle.std.proofs.lemmas.Bool.{le-leb}
 use Rattle.std.specs.List.{list_any}
 use Rattle.gate_tx.specs.Ids.{txid_of}
 use Rattle.gate_graph.proofs.Filters.{filter_all, filter_same_on}
-use Rattle.gate_standard.specs.Amounts.{required_fee}
+use Rattle.gate_standard.specs.Amounts.{fee_by, required_fee, rounded_down, rounded_up}
+use Rattle.gate_standard.specs.declared.Feerate.{Feerate}
+use Rattle.gate_standard.specs.declared.Rounding.{Rounding}
+use Rattle.gate_standard.specs.declared.Rounding.TheVariants.{Down, Up}
 use Rattle.gate_pool.specs.Distinct.{AreDistinct}
 use Rattle.gate_pool.specs.Pool.{Admitted, has_txid, listing_of}
 use Rattle.gate_pool.proofs.Adding.{found_by_id}
@@ -29,12 +32,20 @@ unless_both false c n = refl
 no_share : (size : ℕ) → 0 * size / 1000 ≡ 0
 no_share size = omega arith
 
-no_fee : (size : ℕ) → required_fee 0 size ≡ 0
+no_part : (size : ℕ) → (0 * size + 999) / 1000 ≡ 0
+no_part size = omega arith
+
+no_fee_by : (rounding : Rounding) (size : ℕ) → fee_by rounding 0 size ≡ 0
+unfolding rounded_down rounded_up
+no_fee_by Down size = unless_both (0 * size / 1000 == 0) (nat_lt 0 size) (0 * size / 1000) ∙ no_share size
+no_fee_by Up size = no_part size
+
+no_fee : (rate : Feerate) (size : ℕ) → rate.rate ≡ 0 → required_fee rate size ≡ 0
 unfolding required_fee
-no_fee size = unless_both (0 * size / 1000 == 0) (nat_lt 0 size) (0 * size / 1000) ∙ no_share size
+no_fee rate size free = ap (λ (r : ℕ). fee_by rate.rounding r size) free ∙ no_fee_by rate.rounding size
 
-free : (e : Admitted) → pays 0 e ≡ true
-free e = le-leb _ _ (omega (arith, no_fee e.vsize))
+is_free : (rate : Feerate) → rate.rate ≡ 0 → (e : Admitted) → pays rate e ≡ true
+is_free rate free e = le-leb _ _ (omega (arith, no_fee rate e.vsize free))
 
-pub all_pay_nothing : (entries : List Admitted) → listing_at 0 entries ≡ listing_of entries
-all_pay_nothing entries = ap listing_of (filter_all (pays 0) entries (λ e m. free e))
+pub all_pay_nothing : (rate : Feerate) → rate.rate ≡ 0 → (entries : List Admitted) → listing_at rate entries ≡ listing_of entries
+all_pay_nothing rate free entries = ap listing_of (filter_all (pays rate) entries (λ e m. is_free rate free e))

@@ -5,6 +5,7 @@ use Rattle.gate_tx.specs.Tx.{Tx}
 use Rattle.gate_tx.specs.Ids.{txid_of, wtxid_of}
 use Rattle.gate_tx.specs.Sizes.{weight_of}
 use Rattle.gate_standard.specs.Amounts.{required_fee}
+use Rattle.gate_standard.specs.declared.Feerate.{Feerate}
 use Rattle.gate_standard.specs.declared.Denial.{Denial}
 use Rattle.gate_standard.specs.declared.Denial.TheVariants.{Decode}
 use Rattle.gate_pool.specs.Pool.{Admitted, entry_by_txid, has_txid, listing_of, size_of}
@@ -74,11 +75,11 @@ info_of entries txid = option_map (info_from entries txid) (entry_by_txid entrie
 -- ---- entries that pay a feerate
 
 -- an entry's fee is at least that of its size at the feerate
-abbrev pub pays : ℕ → Admitted → Bool
+abbrev pub pays : Feerate → Admitted → Bool
 pays rate e = nat_le (required_fee rate e.vsize) e.fee
 
 -- the txids of the entries that pay at least a feerate, in order of admission
-abbrev pub listing_at : ℕ → List Admitted → List (List ℕ)
+abbrev pub listing_at : Feerate → List Admitted → List (List ℕ)
 listing_at rate entries = listing_of (filter (pays rate) entries)
 
 -- ---- the pool

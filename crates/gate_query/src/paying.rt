@@ -1,4 +1,4 @@
-//! The entries that pay at least a feerate, in satoshi per 1,000 virtual bytes.
+//! The entries that pay at least a feerate.
 ghost use Rattle.std.specs.Prelude.{◌≡◌, ◌&&◌, IfOk, filter};
 ghost use Rattle.std.specs.List.{list_any};
 ghost use Rattle.gate_pool.specs.Pool.{Admitted, has_txid};
@@ -6,20 +6,20 @@ ghost use Rattle.gate_query.specs.Answers.{listing_at, pays};
 
 use gate_admit::{Entry, Pool};
 use gate_bytes::{Kept, Memory};
-use gate_standard::fee_at;
+use gate_standard::Feerate;
 use gate_tx::Txid;
 use std::alloc::Global;
 use std::hash::BuildHasher;
 
 /// Whether an entry's fee is at least that of its size at a feerate.
-fn pays(entry: &Entry, rate: u64) -> bool
+fn pays(entry: &Entry, rate: Feerate) -> bool
     ensures { result ≡ pays rate entry.now }
 {
-    fee_at(rate, entry.vsize()) <= u128::from(entry.fee())
+    rate.fee(entry.vsize()) <= u128::from(entry.fee())
 }
 
 /// Whether an entry has an id, and pays at least a feerate.
-fn is_paying<S: BuildHasher + Copy + Drop>(pool: &Pool<S>, rate: u64, txid: &Txid) -> bool
+fn is_paying<S: BuildHasher + Copy + Drop>(pool: &Pool<S>, rate: Feerate, txid: &Txid) -> bool
     ensures { result ≡ list_any (λ (e : Admitted). has_txid e txid.now && pays rate e) pool.now.entries }
 {
     pool.recall_distinct();
@@ -33,7 +33,7 @@ fn is_paying<S: BuildHasher + Copy + Drop>(pool: &Pool<S>, rate: u64, txid: &Txi
 fn paying_among<S: BuildHasher + Copy + Drop>(
     mut txids: Vec<Txid>,
     pool: &Pool<S>,
-    rate: u64,
+    rate: Feerate,
 ) -> Kept<Txid>
     ensures { result ≡ filter (λ txid. list_any (λ (e : Admitted). has_txid e txid && pays rate e) pool.now.entries) txids.items }
 {
@@ -41,18 +41,17 @@ fn paying_among<S: BuildHasher + Copy + Drop>(
     Kept::from_vec(txids)
 }
 
-/// The txids of the entries that pay at least a feerate, in satoshi per 1,000 virtual bytes, in order of admission. All
-/// pay a feerate of 0.
+/// The txids of the entries that pay at least a feerate, in order of admission. All pay a feerate of 0.
 pub fn listing_at<S: BuildHasher + Copy + Drop>(
     alloc: Global,
     pool: &Pool<S>,
-    rate: u64,
+    rate: Feerate,
 ) -> Result<Kept<Txid>, Memory>
     ensures { IfOk result (λ txids. txids ≡ listing_at rate pool.now.entries) }
 {
     pool.recall_distinct();
     let txids = pool.listing(alloc)?;
-    if rate == 0 {
+    if rate.rate == 0 {
         return Ok(txids);
     }
     Ok(paying_among(txids.into_vec(), pool, rate))

@@ -7,9 +7,12 @@ use Rattle.gate_tx.specs.Ids.{txid_of}
 use Rattle.gate_tx.specs.Tx.{Tx}
 use Rattle.gate_standard.specs.Amounts.{required_fee, feerate}
 use Rattle.gate_standard.specs.declared.Denial.{Denial}
+use Rattle.gate_standard.specs.declared.Feerate.{Feerate}
 use Rattle.gate_standard.specs.declared.Denial.TheVariants.{LowerFeeRate, TooManyReplacements, AddsUnconfirmed, LowerFee, LowerDifference}
 use Rattle.gate_pool.specs.Pool.{Admitted, entry_by_txid}
 use Rattle.gate_pool.specs.Family.{names, descendants_of, is_conflict, conflicts_of, replaced_of, fees_of}
+use Rattle.gate_rbf.specs.declared.parents.ParentsOf.{ParentsOf}
+use Rattle.gate_rbf.specs.declared.parents.ParentsOf.TheVariants.{Conflicts, Replaced}
 
 -- a transaction signals that it may be replaced: an input has a sequence of at most 0xfffffffd
 abbrev pub signals : Tx → Bool
@@ -23,26 +26,31 @@ is_non_signalling_conflict tx e = is_conflict tx e && not (signals e.tx)
 abbrev pub descendant_count : List Admitted → List Admitted → ℕ
 descendant_count entries some = sum_by (λ (c : Admitted). length (descendants_of entries (txid_of c.tx))) some
 
--- an input spends from an entry from which no input of the direct conflicts does
+-- an input spends from an entry from which no input of these entries does
 abbrev pub adds_parent : List Admitted → List Admitted → TxIn → Bool
-adds_parent entries direct input = is_some (entry_by_txid entries input.prevout.txid) && not (list_any (λ (c : Admitted). names c input.prevout.txid) direct)
+adds_parent entries these input = is_some (entry_by_txid entries input.prevout.txid) && not (list_any (λ (c : Admitted). names c input.prevout.txid) these)
 
--- an input spends from an entry from which no input of the conflicts does (A40)
-abbrev pub adds_unconfirmed : List Admitted → Tx → Bool
-adds_unconfirmed entries tx = list_any (adds_parent entries (conflicts_of entries tx)) tx.inputs
+-- the entries whose parents a replacement may have, too: its conflicts, or all that it replaces
+abbrev pub sharers : ParentsOf → List Admitted → Tx → List Admitted
+sharers Conflicts entries tx = conflicts_of entries tx
+sharers Replaced entries tx = replaced_of entries tx
 
--- the rules on a transaction of this fee and size that conflicts with the entries `direct`, if all that it replaces pay `paid`, and
--- a replacement pays for its own relay at `rate`, in satoshi per 1,000 virtual bytes
-unfoldable pub rules_beside : ℕ → List Admitted → List Admitted → ℕ → Tx → ℕ → ℕ → List (Rule Denial)
-rules_beside rate entries direct paid tx fee vsize =
+-- an input spends from an entry from which no input of those does (A40)
+abbrev pub adds_unconfirmed : ParentsOf → List Admitted → Tx → Bool
+adds_unconfirmed parents entries tx = list_any (adds_parent entries (sharers parents entries tx)) tx.inputs
+
+-- the rules on a transaction of this fee and size that conflicts with the entries `direct`, and may have the parents of `sharing`, if
+-- all that it replaces pay `paid`, and a replacement pays for its own relay at `rate`
+unfoldable pub rules_beside : Feerate → List Admitted → List Admitted → List Admitted → ℕ → Tx → ℕ → ℕ → List (Rule Denial)
+rules_beside rate entries direct sharing paid tx fee vsize =
     (LowerFeeRate, list_any (λ (c : Admitted). nat_le (feerate fee vsize) (feerate c.fee c.vsize)) direct)
     ∷ (TooManyReplacements, nat_lt 100 (descendant_count entries direct))
-    ∷ (AddsUnconfirmed, list_any (adds_parent entries direct) tx.inputs)
+    ∷ (AddsUnconfirmed, list_any (adds_parent entries sharing) tx.inputs)
     ∷ (LowerFee, nat_lt fee paid)
     ∷ (LowerDifference, nat_lt (fee - paid) (required_fee rate vsize))
     ∷ []
 
 -- A38 to A42, which apply only to a transaction that conflicts with an entry
-unfoldable pub replacement_rules : ℕ → List Admitted → Tx → ℕ → ℕ → List (Rule Denial)
-replacement_rules rate entries tx fee vsize =
-    if list_any (is_conflict tx) entries then rules_beside rate entries (conflicts_of entries tx) (fees_of (replaced_of entries tx)) tx fee vsize else []
+unfoldable pub replacement_rules : Feerate → ParentsOf → List Admitted → Tx → ℕ → ℕ → List (Rule Denial)
+replacement_rules rate parents entries tx fee vsize =
+    if list_any (is_conflict tx) entries then rules_beside rate entries (conflicts_of entries tx) (sharers parents entries tx) (fees_of (replaced_of entries tx)) tx fee vsize else []

@@ -6,21 +6,29 @@ ghost use Rattle.gate_rbf.specs.Replacing.{adds_unconfirmed, replacement_rules};
 use crate::amounts::check_amounts;
 use crate::below::with_descendants;
 use crate::direct::DirectConflicts;
-use crate::parents::adds_parents;
+use crate::parents::{ParentsOf, adds_parents};
 use gate_bytes::Memory;
 use gate_pool::{Pool, Sums, add_up};
-use gate_standard::Denial;
+use gate_standard::{Denial, Feerate};
 use gate_tx::{Transaction, Txid};
 use std::alloc::Global;
 use std::hash::BuildHasher;
 
 impl<'a, S: BuildHasher + Copy + Drop> DirectConflicts<'a, S> {
-    /// Whether the transaction spends from an entry from which none of the conflicts, which have these ids, spends:
-    /// A40.
-    fn adds_parents(&self, alloc: Global, ids: &[Txid]) -> Result<bool, Memory>
-        ensures { AreIdsOf ids.now (conflicts_of self.now.entries self.now.tx) → IfOk result (λ adds. adds ≡ adds_unconfirmed self.now.entries self.now.tx) }
+    /// Whether the transaction has a parent in the pool that none of those has whose parents it may have: A40. The
+    /// conflicts have these ids.
+    fn adds_parents(&self, alloc: Global, parents: ParentsOf, ids: &[Txid]) -> Result<bool, Memory>
+        requires { AreIdsOf ids.now (conflicts_of self.now.entries self.now.tx) }
+        ensures { IfOk result (λ adds. adds ≡ adds_unconfirmed parents self.now.entries self.now.tx) }
     {
-        adds_parents(alloc, self.pool(), ids, self.transaction())
+        let pool = self.pool();
+        match parents {
+            ParentsOf::Conflicts => adds_parents(alloc, pool, ids, self.transaction()),
+            ParentsOf::Replaced => {
+                let gone = with_descendants(alloc, pool, ids)?;
+                adds_parents(alloc, pool, gone.as_slice(), self.transaction())
+            }
+        }
     }
 
     /// The sums of the only conflict and of all that is below it, which the pool keeps; none unless there is exactly
@@ -49,19 +57,20 @@ impl<'a, S: BuildHasher + Copy + Drop> DirectConflicts<'a, S> {
     }
 
     /// How many entries the transaction replaces with this fee, in satoshi, and this size, in virtual bytes, or the
-    /// first of A38 to A42 that fails, where a replacement pays for its own relay at this rate, in satoshi per 1,000
-    /// virtual bytes. A transaction without a conflict replaces none.
+    /// first of A38 to A42 that fails, where a replacement pays for its own relay at this rate, and may have the parents
+    /// of these entries. A transaction without a conflict replaces none.
     pub fn judge(
         &self,
         alloc: Global,
-        rate: u64,
+        rate: Feerate,
+        parents: ParentsOf,
         fee: u64,
         vsize: u64,
     ) -> Result<Result<u64, Denial>, Memory>
         requires { 0 < vsize }
-        ensures ok { IfOk result (λ found. OnOk found (first_failing (replacement_rules rate self.now.entries self.now.tx fee vsize) ≡ None)) }
+        ensures ok { IfOk result (λ found. OnOk found (first_failing (replacement_rules rate parents self.now.entries self.now.tx fee vsize) ≡ None)) }
         ensures count { IfOk result (λ found. IfOk found (λ n. n ≡ length (replaced_of self.now.entries self.now.tx))) }
-        ensures err { IfOk result (λ found. IfErr found (λ denial. first_failing (replacement_rules rate self.now.entries self.now.tx fee vsize) ≡ Some denial)) }
+        ensures err { IfOk result (λ found. IfErr found (λ denial. first_failing (replacement_rules rate parents self.now.entries self.now.tx fee vsize) ≡ Some denial)) }
     {
         if !self.has_any() {
             return Ok(Ok(0));
@@ -72,7 +81,7 @@ impl<'a, S: BuildHasher + Copy + Drop> DirectConflicts<'a, S> {
         let Some(ids) = self.few_ids(alloc)? else {
             return Ok(Err(Denial::TooManyReplacements));
         };
-        if self.adds_parents(alloc, ids.as_slice())? {
+        if self.adds_parents(alloc, parents, ids.as_slice())? {
             return Ok(Err(Denial::AddsUnconfirmed));
         }
         let sums = self.replaced_sums(alloc, ids.as_slice())?;
@@ -85,20 +94,21 @@ impl<'a, S: BuildHasher + Copy + Drop> DirectConflicts<'a, S> {
 
 /// How many entries a transaction of this fee, in satoshi, and this size, in virtual bytes, replaces, or the first of
 /// A38 to A42 that fails, where a replacement pays for its own relay at this rate (Bitcoin Core 22.0's
-/// `-incrementalrelayfee`). A transaction without a conflict replaces none.
+/// `-incrementalrelayfee`), and may have the parents of these entries. A transaction without a conflict replaces none.
 pub fn judge_replacement<S: BuildHasher + Copy + Drop>(
     alloc: Global,
     pool: &Pool<S>,
     tx: &Transaction,
-    rate: u64,
+    rate: Feerate,
+    parents: ParentsOf,
     fee: u64,
     vsize: u64,
 ) -> Result<Result<u64, Denial>, Memory>
     requires { 0 < vsize }
-    ensures ok { IfOk result (λ found. OnOk found (first_failing (replacement_rules rate pool.now.entries tx.now fee vsize) ≡ None)) }
+    ensures ok { IfOk result (λ found. OnOk found (first_failing (replacement_rules rate parents pool.now.entries tx.now fee vsize) ≡ None)) }
     ensures count { IfOk result (λ found. IfOk found (λ n. n ≡ length (replaced_of pool.now.entries tx.now))) }
-    ensures err { IfOk result (λ found. IfErr found (λ denial. first_failing (replacement_rules rate pool.now.entries tx.now fee vsize) ≡ Some denial)) }
+    ensures err { IfOk result (λ found. IfErr found (λ denial. first_failing (replacement_rules rate parents pool.now.entries tx.now fee vsize) ≡ Some denial)) }
 {
     let direct = DirectConflicts::find(alloc, pool, tx)?;
-    direct.judge(alloc, rate, fee, vsize)
+    direct.judge(alloc, rate, parents, fee, vsize)
 }

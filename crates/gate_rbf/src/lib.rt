@@ -17,4 +17,5 @@ mod signalling;
 pub use below::replaced;
 pub use direct::{DirectConflicts, conflicts};
 pub use judging::judge_replacement;
+pub use parents::ParentsOf;
 pub use signalling::signals;

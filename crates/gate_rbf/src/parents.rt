@@ -1,4 +1,4 @@
-//! A40: from each entry from which a replacement spends, one of its conflicts spends too.
+//! A40: from each entry from which a replacement spends, something that it replaces spends too.
 ghost use Rattle.std.specs.Prelude.{◌≡◌, ◌&&◌, IfOk};
 ghost use Rattle.std.specs.List.{list_any};
 ghost use Rattle.gate_pool.specs.Pool.{Admitted};
@@ -11,6 +11,15 @@ use gate_pool::{Pool, parents};
 use gate_tx::{Transaction, Txid};
 use std::alloc::Global;
 use std::hash::BuildHasher;
+
+/// The entries whose parents a replacement may have, too: it may have no other parent in the pool (A40).
+#[derive(Clone, Copy, PartialEq, Eq)]
+pub enum ParentsOf {
+    /// Those that it conflicts with, as up to Bitcoin Core 27.
+    Conflicts,
+    /// All that it replaces, as since 28.0.
+    Replaced,
+}
 
 /// Whether one of the entries with these ids spends outputs of a transaction.
 fn has_child_among<S: BuildHasher + Copy + Drop>(

@@ -7,7 +7,7 @@ use gate_bytes::{Copied, Kept, Memory, Text};
 use std::alloc::{AllocError, Global};
 
 /// What one `-rpcwhitelist` says: `user:words`, or a user alone.
-#[derive(Debug, Drop)]
+#[derive(Drop)]
 pub struct RpcEntry {
     pub user: Text,
     /// The words after the first colon, divided at commas and spaces; empty ones are kept.

@@ -6,7 +6,7 @@ use gate_bytes::Exact;
 use gate_standard::Denial;
 
 /// Why a call has no result, as its answer says it: by the codes of JSON-RPC 2.0 and of Bitcoin Core 22.0.
-#[derive(Clone, Copy, Debug, PartialEq, Eq)]
+#[derive(Clone, Copy, PartialEq, Eq)]
 pub enum RpcError {
     ParseError,
     InvalidRequest,

@@ -5,21 +5,21 @@ use gate_standard::Denial;
 use gate_tx::{OutPoint, Txid, Wtxid};
 
 /// An entry's txid, and what the pool knows of it.
-#[derive(Debug, Drop, PartialEq, Eq)]
+#[derive(Drop, PartialEq, Eq)]
 pub struct KnownEntry {
     pub txid: Txid,
     pub info: EntryInfo,
 }
 
 /// An outpoint, and the entry that spends it, if there is one.
-#[derive(Clone, Copy, Debug, PartialEq, Eq)]
+#[derive(Clone, Copy, PartialEq, Eq)]
 pub struct Spending {
     pub outpoint: OutPoint,
     pub spender: Option<Txid>,
 }
 
 /// What would become of one of several transactions.
-#[derive(Clone, Copy, Debug, PartialEq, Eq)]
+#[derive(Clone, Copy, PartialEq, Eq)]
 pub enum Outcome {
     /// It would enter: it pays `fee` satoshi, and takes `vsize` virtual bytes.
     Allowed {

@@ -10,7 +10,7 @@ use gate_bytes::{Copied, Exact, Memory};
 use std::alloc::Global;
 
 /// The answer to a call.
-#[derive(Debug, Drop, PartialEq, Eq)]
+#[derive(Drop, PartialEq, Eq)]
 pub enum RpcReply {
     /// U1: the user may not call the method.
     NotAllowed,

@@ -10,7 +10,7 @@ use gate_tx::{OutPoint, Txid};
 use std::alloc::Global;
 
 /// A method with its parameters.
-#[derive(Debug, Drop, PartialEq, Eq)]
+#[derive(Drop, PartialEq, Eq)]
 pub enum Command {
     /// Lets a transaction enter the pool.
     SendRawTransaction(Prepared),
@@ -81,7 +81,7 @@ impl Copied for Command {
 }
 
 /// A call that can be made.
-#[derive(Debug, Drop, PartialEq, Eq)]
+#[derive(Drop, PartialEq, Eq)]
 pub struct Request {
     pub id: Id,
     pub command: Command,

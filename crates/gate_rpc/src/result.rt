@@ -7,7 +7,7 @@ use std::alloc::Global;
 
 /// What the pool knows of an entry. Sizes are in virtual bytes, fees in satoshi; the counts and sums of ancestors and
 /// of descendants include the entry itself.
-#[derive(Debug, Drop, PartialEq, Eq)]
+#[derive(Drop, PartialEq, Eq)]
 pub struct EntryInfo {
     pub wtxid: Wtxid,
     pub fee: u64,
@@ -30,7 +30,7 @@ pub struct EntryInfo {
 }
 
 /// The result of a call. Copies of one share its lists.
-#[derive(Debug, Drop, PartialEq, Eq)]
+#[derive(Drop, PartialEq, Eq)]
 pub enum RpcResult {
     /// The transaction is in the pool.
     Sent(Txid),

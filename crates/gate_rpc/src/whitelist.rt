@@ -8,7 +8,7 @@ use std::alloc::Global;
 use std::marker::Model;
 
 /// Who may call what: contracts see the entries in their order, and the default.
-#[derive(Debug, Drop)]
+#[derive(Drop)]
 pub struct RpcWhitelist {
     entries: Kept<RpcEntry>,
     is_default_on: bool,

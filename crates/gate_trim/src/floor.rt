@@ -7,7 +7,7 @@ use std::marker::Model;
 
 /// The least feerate that the pool asks of a transaction, beside the one for every relay, in satoshi per 1,000 virtual
 /// bytes.
-#[derive(Clone, Copy, Debug, PartialEq, Eq)]
+#[derive(Clone, Copy, PartialEq, Eq)]
 pub struct Floor {
     rate: u64,
 }

@@ -1,9 +1,11 @@
-use Rattle.std.proofs.Common.{◌≡◌, ℕ, refl}
+use Rattle.std.proofs.Common.{◌≡◌, ℕ, Bool, true, false, None, refl}
 use Rattle.gate_script.specs.declared.Template.{Template}
 use Rattle.gate_script.specs.declared.Template.TheVariants.{ScriptHash, WitnessV0Key, WitnessV0Script, Taproot, WitnessUnknown, NullData, Key, KeyHash, Multisig, Nonstandard}
 use Rattle.gate_standard.specs.Outputs.{is_standard_template, dust_threshold_of}
+use Rattle.gate_standard.specs.Rules.{left_behind}
 use Rattle.gate_admit.specs.Defaults.{standard_by_default}
 use Rattle.gate_admit.specs.Policies.{usual_policy}
+use Rattle.gate_admit.specs.Reports.{report_rules}
 use Rattle.gate_admit.specs.Rules.{fee_rules}
 use Rattle.gate_admit.proofs.law.default_settings_change_nothing.Goals as goal
 
@@ -19,14 +21,22 @@ same_template KeyHash size = refl
 same_template (Multisig required keys) size = refl
 same_template Nonstandard size = refl
 
+nothing_left : (carries : Bool) (size : ℕ) → left_behind usual_policy.standards.data_total carries size ≡ None
+nothing_left false size = refl
+nothing_left true size = refl
+
 pub returns : goal.returns
-unfolding dust_threshold_of fee_rules
+unfolding dust_threshold_of fee_rules report_rules
 returns c = record {
   template = same_template;
   dust = λ o. refl;
   whole = λ tx. refl;
+  carriers = λ o. refl;
+  unbounded = nothing_left;
+  reports = λ answers tx. refl;
   size = λ cost tx. refl;
   relay = λ floor fee vsize. refl;
+  parents = λ entries tx. refl;
   replacement = λ paid fee vsize. refl;
   first = refl;
   second = refl;

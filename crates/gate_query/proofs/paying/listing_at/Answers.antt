@@ -9,7 +9,7 @@ use Rattle.gate_query.proofs.paying.listing_at.Goals as goal
 pub returns-then-rate-eq0 : goal.returns-then-rate-eq0
 returns-then-rate-eq0 g c =
     let entries = c.args.pool.now.entries in
-    c.in_ok-txids.ensures ∙ sym (all_pay_nothing entries) ∙ ap (λ (r : ℕ). listing_at r entries) (sym c.if-rate-eq0.true)
+    c.in_ok-txids.ensures ∙ sym (all_pay_nothing c.args.rate c.if-rate-eq0.true entries)
 
 pub returns : goal.returns
 returns g c =

@@ -1,16 +1,35 @@
-use Rattle.std.proofs.Common.{◌≡◌, Bool, List, subst}
+use Rattle.std.proofs.Common.{◌≡◌, ℕ, Bool, List, sym, subst}
 use Rattle.std.specs.Prelude.{IfOk, filter}
 use Rattle.std.specs.List.{list_any}
 use Rattle.gate_tx.specs.Tx.{Tx}
 use Rattle.gate_pool.specs.Pool.{Admitted}
-use Rattle.gate_pool.specs.Family.{is_conflict, conflicts_of, AreIdsOf}
-use Rattle.gate_rbf.specs.Replacing.{adds_parent}
+use Rattle.gate_pool.specs.Family.{is_conflict, is_below_some, conflicts_of, replaced_of, all_below, AreIdsOf}
+use Rattle.gate_rbf.specs.declared.parents.ParentsOf.{ParentsOf}
+use Rattle.gate_rbf.specs.Replacing.{adds_parent, adds_unconfirmed}
 use Rattle.gate_rbf.proofs.direct.DirectConflicts.adds_parents.Goals as goal
 
-pub returns : goal.returns
-returns g c =
-    let asked = subst (λ (l : List Admitted). (test : Admitted → Bool) → AreIdsOf c.args.ids.now (filter test l) → IfOk c.adds_parents.result (λ adds. adds ≡ list_any (adds_parent l (filter test l)) c.transaction.result.now.inputs))
-    c.pool.ensures c.adds_parents.ensures in
+pub with_descendants-requires : goal.with_descendants-requires
+with_descendants-requires g c =
+    let tx = c.args.self.now.tx in
+    (is_conflict tx, subst (λ (l : List Admitted). AreIdsOf c.args.ids.now (conflicts_of l tx)) (sym c.pool-pool.ensures) c.requires)
+
+pub returns-in-Conflicts : goal.returns-in-Conflicts
+returns-in-Conflicts g c =
     let entries = c.args.self.now.entries in
-    subst (λ (t : Tx). AreIdsOf c.args.ids.now (conflicts_of entries c.args.self.now.tx) → IfOk c.adds_parents.result (λ adds. adds ≡ list_any (adds_parent entries (conflicts_of entries c.args.self.now.tx)) t.inputs))
-    c.transaction.ensures (asked (is_conflict c.args.self.now.tx))
+    let tx = c.args.self.now.tx in
+    let asked = subst (λ (l : List Admitted). (test : Admitted → Bool) → AreIdsOf c.args.ids.now (filter test l) → IfOk c.adds_parents.result (λ adds. adds ≡ list_any (adds_parent l (filter test l)) c.transaction.result.now.inputs))
+    c.pool-pool.ensures c.adds_parents.ensures in
+    subst (λ (p : ParentsOf). IfOk c.adds_parents.result (λ adds. adds ≡ adds_unconfirmed p entries tx)) (sym c.in-Conflicts.is)
+    (subst (λ (t : Tx). IfOk c.adds_parents.result (λ adds. adds ≡ list_any (adds_parent entries (conflicts_of entries tx)) t.inputs)) c.transaction.ensures (asked (is_conflict tx) c.requires))
+
+pub returns-in_ok-gone-in-Replaced : goal.returns-in_ok-gone-in-Replaced
+returns-in_ok-gone-in-Replaced g c =
+    let held = c.pool-pool.result.now.entries in
+    let entries = c.args.self.now.entries in
+    let tx = c.args.self.now.tx in
+    let are = subst (λ (l : List Admitted). AreIdsOf c.args.ids.now (conflicts_of l tx)) (sym c.pool-pool.ensures) c.requires in
+    let gone = subst (λ (ids : List (List ℕ)). AreIdsOf ids (all_below (is_conflict tx) held)) (sym c.as_slice.ensures.value) (c.in_ok-gone-in-Replaced.ensures (is_conflict tx) are) in
+    let asked = subst (λ (l : List Admitted). IfOk c.adds_parents-in-Replaced.result (λ adds. adds ≡ list_any (adds_parent l (replaced_of l tx)) c.transaction-in-Replaced.result.now.inputs)) c.pool-pool.ensures
+    (c.adds_parents-in-Replaced.ensures (is_below_some (is_conflict tx) held) gone) in
+    subst (λ (p : ParentsOf). IfOk c.adds_parents-in-Replaced.result (λ adds. adds ≡ adds_unconfirmed p entries tx)) (sym c.in-Replaced.is)
+    (subst (λ (t : Tx). IfOk c.adds_parents-in-Replaced.result (λ adds. adds ≡ list_any (adds_parent entries (replaced_of entries tx)) t.inputs)) c.transaction-in-Replaced.ensures asked)
