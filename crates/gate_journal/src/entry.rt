@@ -4,7 +4,7 @@ use gate_message::{Event, Reply};
 use std::alloc::Global;
 
 /// An event with its reply, and the number of the pass under which it was made.
-#[derive(Debug, Drop)]
+#[derive(Drop)]
 pub struct Entry {
     pub pass: u64,
     pub event: Event,

@@ -11,7 +11,7 @@ use std::marker::Model;
 pub const MAX_ENTRIES: usize = 100_000;
 
 /// At most 100,000 entries, oldest first: contracts see them, and how many more can be pushed without memory.
-#[derive(Debug, Drop)]
+#[derive(Drop)]
 pub struct Journal {
     entries: Vec<Entry>,
 }

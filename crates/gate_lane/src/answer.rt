@@ -1,7 +1,6 @@
 //! What answers the events of a lane.
 ghost use Rattle.std.specs.Prelude.{◌≡◌, ◌⊎◌, List, ℕ, OnOk, OnErr, IfOk, string_bytes};
 ghost use Rattle.gate_lane.specs.Lanes.{Answering, EventAnswered};
-ghost use Rattle.gate_events.specs.EventLines.{line_event};
 ghost use Rattle.gate_message.specs.Texts.{reply_text};
 ghost use Rattle.gate_lane.specs.Turns.{EventLost, AnswerMade, AnswerLost};
 
@@ -55,28 +54,8 @@ fn answer_read<V, A: Answers<V>>(
     }
 }
 
-/// Answers a line within the limits, of which it is known what it spells, and says whether it has a reply line: that line,
-/// with its newline, then stands in `reply`. A line that is skipped has none.
-pub(crate) fn answer_spelled<V, A: Answers<V>>(
-    answers: &A,
-    value: &mut V,
-    line: &[u8],
-    event: &Option<Event>,
-    reply: &mut String,
-) -> Result<bool, Memory>
-    requires { event.now ≡ line_event line.now }
-    ensures ok { IfOk result (λ is_answered. AnswerMade A.answers value.old line.now is_answered (string_bytes reply.new) value.new) }
-    ensures err { OnErr result (AnswerLost A.answers value.old line.now value.new) }
-{
-    if is_blank_or_comment(line) {
-        return Ok(false);
-    }
-    answer_read(answers, value, event, reply)?;
-    reply.push('\n')?;
-    Ok(true)
-}
-
-/// Answers a line within the limits as `answer_spelled` does, once it has found what the line spells.
+/// Answers a line within the limits, and says whether it has a reply line: that line, with its newline, then stands in
+/// `reply`. A line that is skipped has none.
 pub(crate) fn answer<V, A: Answers<V>>(
     alloc: Global,
     answers: &A,

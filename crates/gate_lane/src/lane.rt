@@ -1,6 +1,5 @@
 //! The lane: lines read one after another, each answered before the next is read.
-ghost use Rattle.std.specs.Prelude.{◌≡◌, ◌≢◌, ◌≤◌, [], true, OnOk, IfErr};
-ghost use Rattle.gate_lines.specs.Lines.{count_limit};
+ghost use Rattle.std.specs.Prelude.{◌≡◌, ◌≢◌, [], true, OnOk, IfErr};
 ghost use Rattle.gate_lane.specs.Lanes.{LaneRan};
 ghost use Rattle.gate_lane.specs.Turns.{LineTaken, TurnTaken, LaneCame};
 
@@ -9,7 +8,7 @@ use gate_lines::{LaneFault, Lines, Next, Sink, Source};
 use std::alloc::Global;
 
 /// How a turn ended, with the number of reply lines that it wrote.
-#[derive(Clone, Copy, Debug, PartialEq, Eq)]
+#[derive(Clone, Copy, PartialEq, Eq)]
 pub(crate) enum Turn {
     Went(u64),
     Ended(u64),
@@ -17,9 +16,9 @@ pub(crate) enum Turn {
 
 /// What is kept from turn to turn: the lines, and the memory in which reply lines are made.
 #[derive(Drop)]
-pub(crate) struct Room {
-    pub(crate) lines: Lines,
-    pub(crate) reply: String,
+struct Room {
+    lines: Lines,
+    reply: String,
 }
 
 /// Answers a line within the limits, and writes its reply line, which is made in `reply`.
@@ -42,7 +41,7 @@ fn respond<V, A: Answers<V>, W: Sink>(
 }
 
 /// Reads the next line and answers it before anything more is read. What was written is sent on before a wait.
-pub(crate) fn take_turn<V, A: Answers<V>, R: Source, W: Sink>(
+fn take_turn<V, A: Answers<V>, R: Source, W: Sink>(
     alloc: Global,
     answers: &A,
     value: &mut V,
@@ -52,7 +51,6 @@ pub(crate) fn take_turn<V, A: Answers<V>, R: Source, W: Sink>(
 ) -> Result<Turn, LaneFault>
     ensures taken { TurnTaken A.answers room.old.lines.count room.new.lines.count (R.remaining reader.old) (R.remaining reader.new)
         (W.contents writer.old) (W.contents writer.new) value.old value.new result }
-    ensures few { room.new.lines.count ≤ count_limit }
     ensures steady_reader { R.steady ≡ true → IfErr result (λ fault. fault ≢ LaneFault.Read) }
     ensures steady_writer { W.steady ≡ true → IfErr result (λ fault. fault ≢ LaneFault.Write) }
 {

@@ -1,5 +1,5 @@
 -- The replies of the lanes of a round that settles are those of one run.
-use Rattle.std.proofs.Common.{◌≡◌, ◌⊎◌, ℕ, zero, suc, ◌+◌, ◌-◌, ◌<◌, false, List, [], ◌∷◌, length, get_or, map, Option, Some, None, IsOk, Result, Ok, Err, inl, inr, refl, sym, ap, ap₂, subst, ◌∙◌, arith}
+use Rattle.std.proofs.Common.{◌≡◌, ◌⊎◌, ℕ, zero, suc, ◌+◌, ◌-◌, ◌<◌, false, List, [], ◌∷◌, length, get_or, map, Option, Some, None, IsOk, Result, Ok, Err, inl, inr, refl, sym, ap, ap₂, subst, ◌∙◌, arith, length-append}
 use Rattle.std.specs.Prelude.{slice_get}
 use Rattle.std.specs.Io.KnownBytes.{Appends}
 use Rattle.std.specs.List.{cons_option}
@@ -14,17 +14,18 @@ use Rattle.gate_journal.specs.declared.Entry.{Entry}
 use Rattle.gate_lane.specs.LaneEvents.{lane_events}
 use Rattle.gate_lines.specs.Lines.{lines_of, unlines}
 use Rattle.gate_lines.specs.declared.fault.LaneFault.{LaneFault}
+use Rattle.gate_message.specs.Callers.{caller_of}
 use Rattle.gate_message.specs.declared.caller.Caller.{Caller}
 use Rattle.gate_message.specs.declared.event.Event.{Event}
 use Rattle.gate_message.specs.declared.reply.Reply.{Reply}
 use Rattle.gate_shared.specs.Calls.{PassView, Rises}
-use Rattle.gate_shared.specs.Settling.{AreTheCalls, IsAt, owner_at}
+use Rattle.gate_shared.specs.Settling.{AreTheCalls, IsAt, claim_list, claims_from, owner_at}
 use Rattle.gate_shared.specs.declared.receipt.Made.{Made}
 use Rattle.gate_shared.specs.declared.settle.Owner.{Owner}
 use Rattle.gate_shared.specs.declared.settle.Settled.{Settled}
 use Rattle.gate_lanes.specs.Ends.{AreWhole, LaneRan, LanesRan, Left, lane_over}
-use Rattle.gate_lanes.specs.LaneCalls.{Answer, AreAnsweredFor, AreRising, HasCalls, calls_made, lane_lines}
-use Rattle.gate_lanes.specs.LaneReplies.{AreOfTheRun, EachOfTheRun, HasReceipt, LanesReplyAsTheRun, RepliesAsTheRun, SomeHasReceipt, lane_text, lane_texts}
+use Rattle.gate_lanes.specs.LaneCalls.{Answer, AreAnswered, AreAnsweredFor, AreRising, HasCalls, calls_made, lane_lines}
+use Rattle.gate_lanes.specs.LaneReplies.{AreOfTheRun, EachAnswered, EachOfTheRun, HasReceipt, LanesReplyAsTheRun, RepliesAsTheRun, SomeHasReceipt, lane_text, lane_texts, receipts_in, receipts_of}
 use Rattle.gate_lanes.specs.Rounds.{Concludes, SettlesTo}
 use Rattle.gate_lanes.specs.declared.round.Conclusion.{Conclusion}
 use Rattle.gate_lanes.specs.declared.round.Conclusion.TheVariants as conclusions
@@ -68,19 +69,19 @@ rises_from : (calls : List Made) → AreRising calls → ((j : ℕ) (c : Made) �
 rises_from [] rising some = tt
 rises_from (c ∷ cs) rising some = (some 0 c refl, rising)
 
-of_the_run : (w : World) (entries : List Entry) → IsLegal w entries → (caller : Caller) (n : ℕ) (events : List Event) (answers : List Answer) → AreAnsweredFor caller events answers
+of_the_run : (w : World) (entries : List Entry) → IsLegal w entries → (caller : Caller) (count n : ℕ) (events : List Event) (answers : List Answer) → AreAnsweredFor caller count events answers
     → Rises n (calls_made events answers) → AllStand entries (calls_made events answers) → AreOfTheRun w (events_of entries) n events answers
-of_the_run w entries legal caller n [] [] fit rises stand = tt
-of_the_run w entries legal caller n [] (answer ∷ answers) fit rises stand = absurd fit
-of_the_run w entries legal caller n (event ∷ events) [] fit rises stand = absurd fit
-of_the_run w entries legal caller n (event ∷ events) (Ok r ∷ answers) fit rises stand =
+of_the_run w entries legal caller count n [] [] fit rises stand = tt
+of_the_run w entries legal caller count n [] (answer ∷ answers) fit rises stand = absurd fit
+of_the_run w entries legal caller count n (event ∷ events) [] fit rises stand = absurd fit
+of_the_run w entries legal caller count n (event ∷ events) (Ok r ∷ answers) fit rises stand =
     let here = stand 0 (record { event = event; receipt = r }) refl in (
       rises.0,
       (here.event, subst (λ (replies : List Reply). slice_get replies (r.number - 1) ≡ Some r.reply) legal here.reply),
-      of_the_run w entries legal caller r.number events answers fit.1 rises.1 (λ j c is. stand (suc j) c is),
+      of_the_run w entries legal caller (count + 1) r.number events answers fit.1 rises.1 (λ j c is. stand (suc j) c is),
     )
-of_the_run w entries legal caller n (event ∷ events) (Err fault ∷ answers) fit rises stand =
-    of_the_run w entries legal caller n events answers fit.1 rises stand
+of_the_run w entries legal caller count n (event ∷ events) (Err fault ∷ answers) fit rises stand =
+    of_the_run w entries legal caller count n events answers fit.1 rises stand
 
 pass_replies : (w : World) (entries : List Entry) → IsLegal w entries → (events : List Event) (answers : List Answer) (pass : Option PassView) → HasCalls events answers pass
     → ((p : PassView) → pass ≡ Some p → AllStand entries p.calls) → AreOfTheRun w (events_of entries) 0 events answers
@@ -88,7 +89,48 @@ pass_replies w entries legal [] answers pass (none, is) stand = subst (AreOfTheR
 pass_replies w entries legal (event ∷ events) answers pass (p, is, caller, calls, fit, rising) stand =
     let all : AllStand entries p.calls = stand p is in
     let rises : Rises 0 p.calls = rises_from p.calls rising (λ j c at. (all j c at).some) in
-    of_the_run w entries legal p.caller 0 (event ∷ events) answers fit (subst (Rises 0) calls rises) (subst (AllStand entries) calls all)
+    of_the_run w entries legal (caller_of event) 0 0 (event ∷ events) answers fit (subst (Rises 0) calls rises) (subst (AllStand entries) calls all)
+
+pass_answered : (events : List Event) (answers : List Answer) (pass : Option PassView) → HasCalls events answers pass → AreAnswered events answers
+pass_answered [] answers pass (none, is) = none
+pass_answered (event ∷ events) answers pass (p, is, caller, calls, fit, rising) = fit
+
+-- ---- how many receipts
+
+made_count : (caller : Caller) (count : ℕ) (events : List Event) (answers : List Answer) → AreAnsweredFor caller count events answers
+    → receipts_of answers ≡ length (calls_made events answers)
+made_count caller count [] [] fit = refl
+made_count caller count [] (answer ∷ answers) fit = absurd fit
+made_count caller count (event ∷ events) [] fit = absurd fit
+made_count caller count (event ∷ events) (Ok r ∷ answers) fit = omega (arith, made_count caller (count + 1) events answers fit.1)
+made_count caller count (event ∷ events) (Err fault ∷ answers) fit = made_count caller count events answers fit.1
+
+-- the calls of a pass, and of passes
+abbrev calls_of : Option PassView → ℕ
+calls_of None = 0
+calls_of (Some p) = length p.calls
+
+abbrev calls_of_all : List PassView → ℕ
+calls_of_all [] = 0
+calls_of_all (p ∷ ps) = length p.calls + calls_of_all ps
+
+pass_count : (events : List Event) (answers : List Answer) (pass : Option PassView) → HasCalls events answers pass → receipts_of answers ≡ calls_of pass
+pass_count [] answers pass (none, is) = ap receipts_of none ∙ ap calls_of (sym is)
+pass_count (event ∷ events) answers pass (p, is, caller, calls, fit, rising) =
+    made_count (caller_of event) 0 (event ∷ events) answers fit ∙ (ap length (sym calls) ∙ ap calls_of (sym is))
+
+first_and_rest : (pass : Option PassView) (rest : List PassView) → calls_of_all (cons_option pass rest) ≡ calls_of pass + calls_of_all rest
+first_and_rest None rest = omega arith
+first_and_rest (Some p) rest = refl
+
+list_count : (place at pass : ℕ) (calls : List Made) → length (claim_list place at pass calls) ≡ length calls
+list_count place at pass [] = refl
+list_count place at pass (c ∷ cs) = ap suc (list_count place (at + 1) pass cs)
+
+claims_count : (place : ℕ) (passes : List PassView) → length (claims_from place passes) ≡ calls_of_all passes
+claims_count place [] = refl
+claims_count place (p ∷ ps) =
+    omega (arith, length-append (claim_list place 0 p.number p.calls) (claims_from (place + 1) ps), list_count place 0 p.number p.calls, claims_count (place + 1) ps)
 
 has_receipt : (events : List Event) (answers : List Answer) (j : ℕ) (c : Made) → slice_get (calls_made events answers) j ≡ Some c → HasReceipt c.receipt.number answers
 has_receipt [] answers j c is = absurd (none-some c is)
@@ -115,6 +157,8 @@ record LaneReplied (w : World) (all : List Event) (lane : List ℕ) (after : Opt
   written : after ≡ Some (lane_text lane answers)
   replies : AreOfTheRun w all 0 (lane_events 0 (lines_of lane)) answers
   receipts : (p : PassView) → pass ≡ Some p → HasAll answers p
+  count : receipts_of answers ≡ calls_of pass
+  faults : AreAnswered (lane_events 0 (lines_of lane)) answers
 
 appended : (after : Option (List ℕ)) (text : List ℕ) → Appends (Some []) after text → after ≡ Some text
 appended None text wrote = absurd wrote
@@ -129,6 +173,8 @@ lane_replied w entries legal lane after pass (Ok count) ok (replies, wrote, coun
       written = appended after (unlines replies) wrote ∙ ap (λ (ls : List (List ℕ)). Some (unlines ls)) led.2;
       replies = pass_replies w entries legal (lane_events 0 (lines_of lane)) led.0 pass led.1 stand;
       receipts = pass_receipts (lane_events 0 (lines_of lane)) led.0 pass led.1;
+      count = pass_count (lane_events 0 (lines_of lane)) led.0 pass led.1;
+      faults = pass_answered (lane_events 0 (lines_of lane)) led.0 pass led.1;
     }
 lane_replied w entries legal lane after pass (Err fault) ok ran stand = absurd (false≢true ok)
 
@@ -167,6 +213,8 @@ record LanesReplied (w : World) (all : List Event) (lanes : List (List ℕ)) (af
   written : after ≡ map Some (lane_texts lanes answers)
   replies : EachOfTheRun w all lanes answers
   receipts : HaveAll answers passes
+  count : receipts_in answers ≡ calls_of_all passes
+  faults : EachAnswered lanes answers
 
 abbrev PassesStand : List Entry → List PassView → Type 0
 PassesStand entries passes = (i : ℕ) (p : PassView) → slice_get passes i ≡ Some p → AllStand entries p.calls
@@ -178,6 +226,8 @@ lanes_replied w entries legal [] [] passes ran whole stand = record {
   written = refl;
   replies = tt;
   receipts = λ i p at. absurd (none-some p (ap (λ (ps : List PassView). slice_get ps i) (sym ran) ∙ at));
+  count = ap calls_of_all (sym ran);
+  faults = tt;
 }
 lanes_replied w entries legal [] (end ∷ ends) passes ran whole stand = absurd ran
 lanes_replied w entries legal (lane ∷ lanes) [] passes ran whole stand = absurd ran
@@ -192,6 +242,8 @@ lanes_replied w entries legal (lane ∷ lanes) (end ∷ ends) passes (pass, rest
       written = ap₂ (λ (x : Option (List ℕ)) (xs : List (Option (List ℕ))). x ∷ xs) here.written behind.written;
       replies = (here.replies, behind.replies);
       receipts = subst (HaveAll (here.answers ∷ behind.answers)) (sym is) (have_all here.answers behind.answers pass rest here.receipts behind.receipts);
+      count = omega (arith, here.count, behind.count, ap calls_of_all is, first_and_rest pass rest);
+      faults = (here.faults, behind.faults);
     }
 
 -- ---- the round
@@ -228,4 +280,6 @@ lanes_reply_as_the_run w next lanes texts round settled (passes, led, ran, concl
       written = same_texts texts (lane_texts lanes all.answers) (sym written ∙ all.written);
       each = all.replies;
       every = every entries passes settled.owners all.answers calls all.receipts;
+      count = all.count ∙ (sym (claims_count 0 passes) ∙ (calls.count ∙ sym (length-map entries (λ (x : Entry). x.event))));
+      faults = all.faults;
     }

@@ -1,12 +1,13 @@
 -- A lane leads through the events of its lines.
-use Rattle.std.proofs.Common.{◌≡◌, ℕ, ◌<◌, List, [], ◌∷◌, ◌++◌, Option, Some, None, Ok, Err, inl, inr, refl, sym, ap, subst, ◌∙◌, append_assoc, append-nil}
+use Rattle.std.proofs.Common.{◌≡◌, ℕ, ◌+◌, ◌<◌, List, [], ◌∷◌, ◌++◌, length, Option, Some, None, Ok, Err, inl, inr, refl, sym, ap, subst, ◌∙◌, append_assoc, append-nil, length-append, arith}
+use Rattle.gate_message.specs.Callers.{caller_of}
 use Rattle.gate_message.specs.declared.caller.Caller.{Caller}
 use Rattle.gate_message.specs.declared.event.Event.{Event}
 use Rattle.gate_shared.specs.Calls.{EachBelow, PassView, Rises}
 use Rattle.gate_shared.specs.Held.{Grows, IsOwn}
 use Rattle.gate_shared.specs.declared.receipt.Made.{Made}
 use Rattle.gate_shared.specs.declared.shared.CallFault.TheVariants.{WrongCaller, PassFull, HistoryShort, AuditFull, Memory}
-use Rattle.gate_lanes.specs.LaneCalls.{Answer, answer_line, calls_made, AreRising, IsAnsweredFor, AreAnsweredFor, HasCalls, LanesAreCalls}
+use Rattle.gate_lanes.specs.LaneCalls.{Answer, answer_line, calls_made, count_after, AreRising, IsAnsweredFor, AreAnsweredFor, HasCalls, LanesAreCalls}
 use Rattle.gate_lane.proofs.Led.{Leading, led, all_fit}
 use Rattle.gate_lane.specs.LaneEvents.{lane_events}
 use Rattle.gate_lanes.specs.Lanes.{Calls, IsUnder, MayFault}
@@ -39,13 +40,19 @@ leading = record { ends = λ old new same. same; goes = one_call }
 
 -- ---- the calls
 
-fits : (p q : PassView) (event : Event) (answer : Answer) → Answered p event answer q → IsAnsweredFor p.caller event answer
-fits p q event (Ok r) h = h.0.0
+fits : (p q : PassView) (event : Event) (answer : Answer) → Answered p event answer q → IsAnsweredFor p.caller (length p.calls) event answer
+fits p q event (Ok r) h = h.0
 fits p q event (Err WrongCaller) h = h.0
-fits p q event (Err PassFull) h = h.0.0
-fits p q event (Err (HistoryShort r)) h = h.0.0.0
-fits p q event (Err AuditFull) h = h.0.0
-fits p q event (Err Memory) h = h.0.0
+fits p q event (Err PassFull) h = h.0
+fits p q event (Err (HistoryShort r)) h = h.0.0
+fits p q event (Err AuditFull) h = h.0
+fits p q event (Err Memory) h = h.0
+
+count_same : (p q : PassView) (event : Event) (answer : Answer) → Answered p event answer q → length q.calls ≡ count_after (length p.calls) answer
+count_same p q event (Ok r) h =
+    let grown : length q.calls ≡ length (p.calls ++ record { event = event; receipt = r } ∷ []) = ap (λ (v : PassView). length v.calls) h.1.0 in
+    omega (arith, grown, length-append p.calls (record { event = event; receipt = r } ∷ []))
+count_same p q event (Err fault) h = ap (λ (v : PassView). length v.calls) h.1
 
 same_caller : (p q : PassView) (event : Event) (answer : Answer) → Answered p event answer q → q.caller ≡ p.caller
 same_caller p q event (Ok r) h = ap (λ (v : PassView). v.caller) h.1.0
@@ -66,8 +73,14 @@ record Held (p : PassView) (events : List Event) (answers : List Answer) (new : 
   is : new ≡ Some pass
   caller : pass.caller ≡ p.caller
   calls : pass.calls ≡ p.calls ++ calls_made events answers
-  fit : AreAnsweredFor p.caller events answers
+  fit : AreAnsweredFor p.caller (length p.calls) events answers
   rising : AreRising p.calls → AreRising pass.calls
+
+fit_after : (p q : PassView) (event : Event) (answer : Answer) (events : List Event) (answers : List Answer) → Answered p event answer q
+    → AreAnsweredFor q.caller (length q.calls) events answers → AreAnsweredFor p.caller (count_after (length p.calls) answer) events answers
+fit_after p q event answer events answers h fit =
+    subst (λ (n : ℕ). AreAnsweredFor p.caller n events answers) (count_same p q event answer h)
+    (subst (λ (c : Caller). AreAnsweredFor c (length q.calls) events answers) (same_caller p q event answer h) fit)
 
 held_call : (p q : PassView) (event : Event) (answer : Answer) (events : List Event) (answers : List Answer) (new : Option PassView)
     → Answered p event answer q → Held q events answers new → Held p (event ∷ events) (answer ∷ answers) new
@@ -76,7 +89,7 @@ held_call p q event (Ok r) events answers new h held = record {
   is = held.is;
   caller = held.caller ∙ same_caller p q event (Ok r) h;
   calls = held.calls ∙ ap (λ (v : PassView). v.calls ++ calls_made events answers) h.1.0 ∙ append_assoc p.calls (record { event = event; receipt = r } ∷ []) (calls_made events answers);
-  fit = (fits p q event (Ok r) h, subst (λ (c : Caller). AreAnsweredFor c events answers) (same_caller p q event (Ok r) h) held.fit);
+  fit = (fits p q event (Ok r) h, fit_after p q event (Ok r) events answers h held.fit);
   rising = λ rising. held.rising (subst (λ (v : PassView). AreRising v.calls) (sym h.1.0) (rising_more p.calls (record { event = event; receipt = r }) rising h.1.1));
 }
 held_call p q event (Err fault) events answers new h held = record {
@@ -84,7 +97,7 @@ held_call p q event (Err fault) events answers new h held = record {
   is = held.is;
   caller = held.caller ∙ same_caller p q event (Err fault) h;
   calls = held.calls ∙ ap (λ (v : PassView). v.calls ++ calls_made events answers) h.1;
-  fit = (fits p q event (Err fault) h, subst (λ (c : Caller). AreAnsweredFor c events answers) (same_caller p q event (Err fault) h) held.fit);
+  fit = (fits p q event (Err fault) h, fit_after p q event (Err fault) events answers h held.fit);
   rising = λ rising. held.rising (subst (λ (v : PassView). AreRising v.calls) (sym h.1) rising);
 }
 
@@ -105,7 +118,8 @@ has_calls (event ∷ events) (answer ∷ answers) new (p, q, under, answered, le
       h.is,
       h.caller ∙ under.0,
       h.calls ∙ ap (λ cs. cs ++ calls_made (event ∷ events) (answer ∷ answers)) under.1,
-      subst (λ (c : Caller). AreAnsweredFor c (event ∷ events) (answer ∷ answers)) (sym h.caller) h.fit,
+      subst (λ (n : ℕ). AreAnsweredFor (caller_of event) n (event ∷ events) (answer ∷ answers)) (ap length under.1)
+          (subst (λ (c : Caller). AreAnsweredFor c (length p.calls) (event ∷ events) (answer ∷ answers)) under.0 h.fit),
       h.rising (subst AreRising (sym under.1) tt),
     )
 

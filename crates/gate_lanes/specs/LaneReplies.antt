@@ -9,7 +9,7 @@ use Rattle.gate_message.specs.declared.event.Event.{Event}
 use Rattle.gate_shared.specs.declared.receipt.Receipt.{Receipt}
 use Rattle.gate_shared.specs.declared.settle.Settled.{Settled}
 use Rattle.gate_lanes.specs.Ends.{Left, lane_over}
-use Rattle.gate_lanes.specs.LaneCalls.{Answer, lane_lines}
+use Rattle.gate_lanes.specs.LaneCalls.{Answer, AreAnswered, lane_lines}
 use Rattle.gate_lanes.specs.Rounds.{RoundLeft, RoundRan}
 use Rattle.gate_lanes.specs.declared.round.Conclusion.TheVariants as conclusions
 
@@ -59,17 +59,37 @@ abbrev pub SomeHasReceipt : ℕ → List (List Answer) → Type 0
 SomeHasReceipt number [] = ⊥
 SomeHasReceipt number (answers ∷ more) = HasReceipt number answers ⊎ SomeHasReceipt number more
 
--- These texts are what the lanes write for answers that are of the run over all events; and each of those events is one of a
--- lane, whose answer is its receipt.
+-- how many of the answers are receipts
+abbrev pub receipts_of : List Answer → ℕ
+receipts_of [] = 0
+receipts_of (Ok receipt ∷ answers) = receipts_of answers + 1
+receipts_of (Err fault ∷ answers) = receipts_of answers
+
+abbrev pub receipts_in : List (List Answer) → ℕ
+receipts_in [] = 0
+receipts_in (answers ∷ more) = receipts_of answers + receipts_in more
+
+-- the events of each lane are answered as a pass of one caller answers them
+abbrev pub EachAnswered : List (List ℕ) → List (List Answer) → Type 0
+EachAnswered [] [] = Unit {0}
+EachAnswered [] (answers ∷ more) = ⊥
+EachAnswered (lane ∷ lanes) [] = ⊥
+EachAnswered (lane ∷ lanes) (answers ∷ more) = AreAnswered (lane_events 0 (lines_of lane)) answers × EachAnswered lanes more
+
+-- These texts are what the lanes write for answers that are of the run over all events. Each of those events is one of a lane,
+-- whose answer is its receipt, and of one lane alone, since there are as many receipts as events. A fault is `wrong-caller` exactly
+-- for an event of another caller's than that of the lane's first, and `pass-full` exactly for one of its own after 65,536 calls.
 pub record RepliesAsTheRun (w : World) (all : List Event) (lanes texts : List (List ℕ)) : Type 0 where
   pub answers : List (List Answer)
   pub written : texts ≡ lane_texts lanes answers
   pub each : EachOfTheRun w all lanes answers
   pub every : (k : ℕ) → k < length all → SomeHasReceipt (k + 1) answers
+  pub count : receipts_in answers ≡ length all
+  pub faults : EachAnswered lanes answers
 
 -- In a round that settles and is whole, the lanes write the replies of one run, over the events of the journal: those that the run
 -- gives at the numbers of their receipts, which rise in each lane, with `refused` lines for lines that don't parse and `fault`
--- lines for events that were not called.
+-- lines for events that were not called. Each event of the run is one event of one lane.
 abbrev pub LanesReplyAsTheRun : Type 0
 LanesReplyAsTheRun =
     (w next : World) (lanes texts : List (List ℕ)) (round : RoundLeft) (settled : Settled)

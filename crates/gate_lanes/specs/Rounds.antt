@@ -1,14 +1,12 @@
 -- Rounds: gates one after another, each on the state that the round before led to.
-use Rattle.std.specs.Prelude.{◌≡◌, ℕ, ◌≤◌, ◌⊎◌, List, [], ◌∷◌, length, map, Option, Some, None, IsErr, IsOk, Result}
-use Rattle.std.specs.Global.{Vec}
+use Rattle.std.specs.Prelude.{◌≡◌, ℕ, ◌≤◌, ◌⊎◌, List, length, Option, Some, None}
 use Rattle.gate_core.specs.World.{World}
 use Rattle.gate_journal.specs.Legal.{entry_limit, state_after}
 use Rattle.gate_shared.specs.Calls.{PassView}
 use Rattle.gate_shared.specs.Ends.{EndsGood}
 use Rattle.gate_shared.specs.Settling.{SettlesAll}
 use Rattle.gate_shared.specs.declared.settle.Settled.{Settled}
-use Rattle.gate_lanes.specs.Ends.{AreWhole, Given, Left, LanesRan, all_given, all_left}
-use Rattle.gate_lanes.specs.declared.lane.Lane.{Lane}
+use Rattle.gate_lanes.specs.Ends.{AreWhole, Given, Left, LanesRan, all_left}
 use Rattle.gate_lanes.specs.declared.round.Conclusion.{Conclusion}
 use Rattle.gate_lanes.specs.declared.round.RoundEnd.{RoundEnd}
 use Rattle.gate_lanes.specs.declared.round.Conclusion.TheVariants as conclusions
@@ -54,19 +52,3 @@ IsNextState IsWhole led (Some next) = IsWhole × (led ≡ Some next)
 abbrev pub RoundRan : World → List Given → RoundLeft → Option World → Type 0
 RoundRan w lanes round next = (passes : List PassView) × (led : Option World)
     × LanesRan lanes round.ends passes × Concludes w passes round.conclusion led × IsNextState (AreWhole round.ends) led next
-
--- ---- all rounds
-
--- what the lanes of each round are given, by what their readers have left and what their writers hold
-abbrev pub rounds_given : {R W : Type 0} → (R → Option (List ℕ)) → (W → Option (List ℕ)) → List (Vec (Lane R W)) → List (List Given)
-rounds_given remaining contents rounds = map (λ lanes. all_given remaining contents lanes.items) rounds
-
--- From this state the rounds of these lanes ran one after another, each on the state that the round before led to. No round ran
--- after one that is not known to settle or is not whole, nor after these if memory ran out in the next.
-abbrev pub RoundsRan : {M : Type 0} → World → List (List Given) → List RoundLeft → Result (Unit {0}) M → Type 0
-RoundsRan w [] [] result = IsOk result
-RoundsRan w [] (round ∷ rounds) result = ⊥
-RoundsRan w (lanes ∷ more) [] result = IsErr result
-RoundsRan w (lanes ∷ more) (round ∷ rounds) result =
-    ((next : World) × RoundRan w lanes round (Some next) × RoundsRan next more rounds result)
-    ⊎ (RoundRan w lanes round None × (rounds ≡ []) × IsOk result)

@@ -1,9 +1,9 @@
 //! Rounds: gates one after another, each on the state that the one before led to.
-ghost use Rattle.std.specs.Prelude.{◌≡◌, ◌≢◌, ◌↔◌, ◌+◌, ◌++◌, ◌∷◌, [], true, length, map, IfErr, IfOk, IsOk, IsTrue, OnErr, OnOk};
+ghost use Rattle.std.specs.Prelude.{◌≡◌, ◌≢◌, ◌↔◌, ◌+◌, [], true, length, IfErr, IfOk, IsOk, IsTrue, OnOk};
 ghost use Rattle.std.specs.List.{All};
 ghost use Rattle.gate_shared.specs.Tokens.{seat_limit};
 ghost use Rattle.gate_lanes.specs.Ends.{all_given};
-ghost use Rattle.gate_lanes.specs.Rounds.{Concludes, IsNextState, RoundLeft, RoundRan, RoundsRan, left_by, rounds_given};
+ghost use Rattle.gate_lanes.specs.Rounds.{Concludes, IsNextState, RoundRan, left_by};
 
 use crate::lane::{Lane, LaneEnd};
 use crate::run::run_lanes;
@@ -33,13 +33,6 @@ pub enum Conclusion {
 pub struct RoundEnd<W> {
     pub ends: Vec<LaneEnd<W>>,
     pub conclusion: Conclusion,
-}
-
-/// The rounds that ended, one after another, and whether memory ran out in the round after them.
-#[derive(Drop)]
-pub struct RoundsEnd<W> {
-    pub rounds: Vec<RoundEnd<W>>,
-    pub result: Result<(), Memory>,
 }
 
 /// A round that ended, and the state that the next round begins with: there is one if this round settles and each of its
@@ -178,83 +171,4 @@ where
 {
     let register = Register::new(alloc)?;
     run_named::<Brand, S, T, C, R, W>(rt, alloc, state, register, check, lanes, workers)
-}
-
-/// Runs a round, and adds its end to those of the rounds before it. If memory runs out, it adds none.
-fn run_next<
-    S: BuildHasher + Copy + Drop + Send + Sync,
-    T: Threads + Wait + Sync,
-    C: InputCheck + Sync,
-    R: Source + Send + Drop,
-    W: Sink + Send + Drop,
->(
-    rt: &T,
-    alloc: Global,
-    state: State<S>,
-    check: &C,
-    lanes: Vec<Lane<R, W>>,
-    workers: Workers,
-    ended: &mut Vec<RoundEnd<W>>,
-) -> Result<Option<State<S>>, Memory>
-where
-    S::Hasher: Send + Sync,
-    ensures ok { IfOk result (λ next. (round : RoundLeft) × RoundRan state (all_given R.remaining W.contents lanes.items) round next
-        × (map (left_by W.contents) ended.new.items ≡ map (left_by W.contents) ended.old.items ++ round ∷ [])) }
-    ensures err { OnErr result (ended.new.items ≡ ended.old.items) }
-{
-    if ended.reserve(1).is_err() {
-        drop(state);
-        drop(lanes);
-        return Err(Memory);
-    }
-    let Round { end, next } = run_round(rt, alloc, state, check, lanes, workers)?;
-    let kept: Result<_, _> = ended.push(end);
-    kept.unwrap();
-    Ok(next)
-}
-
-/// Runs rounds one after another, each on the state that the round before led to. The last round that ended is the first
-/// that is not known to settle, or in which a lane stopped, if there is one: no round is run after it. If memory runs out
-/// in a round, the rounds before it are returned.
-pub fn run_rounds<
-    S: BuildHasher + Copy + Drop + Send + Sync,
-    T: Threads + Wait + Sync,
-    C: InputCheck + Sync,
-    R: Source + Send + Drop,
-    W: Sink + Send + Drop,
->(
-    rt: &T,
-    alloc: Global,
-    mut state: State<S>,
-    check: &C,
-    rounds: Vec<Vec<Lane<R, W>>>,
-    workers: Workers,
-) -> RoundsEnd<W>
-where
-    S::Hasher: Send + Sync,
-    ensures { RoundsRan state (rounds_given R.remaining W.contents rounds.items) (map (left_by W.contents) result.rounds.items) result.result }
-{
-    let mut ended = Vec::new(alloc);
-    for lanes in rounds {
-        match run_next(rt, alloc, state, check, lanes, workers, &mut ended) {
-            Ok(Some(next)) => state = next,
-            Ok(None) => {
-                return RoundsEnd {
-                    rounds: ended,
-                    result: Ok(()),
-                };
-            }
-            Err(Memory) => {
-                return RoundsEnd {
-                    rounds: ended,
-                    result: Err(Memory),
-                };
-            }
-        }
-    }
-    drop(state);
-    RoundsEnd {
-        rounds: ended,
-        result: Ok(()),
-    }
 }

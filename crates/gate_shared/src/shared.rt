@@ -21,13 +21,14 @@ use gate_message::{Caller, Event, Replies};
 use gate_submission::Prepared;
 use gate_tx::Coin;
 use std::alloc::Global;
+use std::fmt;
 use std::hash::BuildHasher;
 use std::marker::{Model, PhantomData};
 use thiserror::Error;
 
 /// Why a call was not made: the first of these that holds, in their order; but memory may run out as the receipt of
 /// `HistoryShort` is copied.
-#[derive(Debug, Drop, Error)]
+#[derive(Drop, Error)]
 pub enum CallFault {
     /// The event is another caller's.
     #[error("the event is another caller's")]
@@ -43,6 +44,12 @@ pub enum CallFault {
     AuditFull,
     #[error("out of memory")]
     Memory,
+}
+
+impl fmt::Debug for CallFault {
+    fn fmt<W: fmt::Write>(&self, f: &mut fmt::Formatter<W>) -> fmt::Result {
+        write!(f, "{self}")
+    }
 }
 
 /// The state, the journal that led to it from the state of its name, and how many passes were given out; and the tokens'

@@ -1,4 +1,4 @@
-use Rattle.gate_lanes.proofs.RoundsMade.{goes_on}
+use Rattle.gate_lanes.proofs.NextState.{goes_on}
 use Rattle.gate_lanes.proofs.round.run_named.Goals as goal
 
 pub returns-in-Ok-clause-ran : goal.returns-in-Ok-clause-ran

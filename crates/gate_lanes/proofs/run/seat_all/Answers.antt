@@ -1,8 +1,7 @@
 use Rattle.std.proofs.Common.{◌≡◌, ◌<◌, ◌∷◌, [], ◌++◌, length, map, sym, ap, ◌∙◌, append_assoc, length-append, arith}
 use Rattle.std.specs.Vec.Iter.{into_iter_items}
 use Rattle.std.proofs.lemmas.List.{length-map, length_push}
-use Rattle.gate_lanes.proofs.Parting.{map_pushed, one_longer}
-use Rattle.gate_lanes.proofs.RoundsMade.{some_done}
+use Rattle.gate_lanes.proofs.Parting.{map_pushed, one_longer, some_done}
 use Rattle.gate_lanes.proofs.run.seat_all.Goals as goal
 
 pub seat-seat-requires : goal.seat-seat-requires

@@ -1,6 +1,0 @@
-use Rattle.gate_lanes.proofs.Rounds.{closed_bound}
-use Rattle.gate_lanes.proofs.split.Rounds.close.Goals as goal
-
-pub returns-clause-bounded : goal.returns-clause-bounded
-returns-clause-bounded c =
-    closed_bound c.args.self.over.items _ c.args.self.whole.items c.args.self.last c.in-Some.last _ c.args.self.count c.requires (cc c.in-Some.is) c.in_ok-push-2.ensures.items
