@@ -4,20 +4,24 @@
 #![tactic(auto)]
 
 use gate_causes::{
-    FirstWriteRecorder, InputKind, InputPosition, Limit, LineReporter, digits_cause, refusal_cause,
+    FirstWriteRecorder, InputKind, InputPosition, Limit, LineReporter, ReportForm, refusal_cause,
+    rule_near, transaction_cause,
 };
 use gate_explain::{Explaining, Telling};
-use gate_prog::{ArgsFault, Asked, Job, LaneFault, Workers, read_args, run_gate, run_job};
+use gate_prog::{
+    ArgsFault, Explain, Job, LaneFault, OutcomeRecorder, Source, Trial, TrialFault, read_args,
+    read_trial, run_gate, run_job, trial_job,
+};
 use std::alloc::{AllocError, AllocFailed, Global};
 use std::fs::Files;
 use std::hash::RandomState;
-use std::io::{BufReader, BufWriter, ErrorKind, IsTerminal};
+use std::io::{BufRead, BufReader, BufWriter, ErrorKind, IsTerminal};
 use std::process::ExitCode;
 use std::random::RandomSource;
 use std::rt::Env;
 use std::sync::Wait;
 use std::thread::Threads;
-use std::time::Clock;
+use std::time::{Clock, SystemTime, UNIX_EPOCH};
 use std::{env, fs, io};
 use thiserror::Error;
 
@@ -107,28 +111,70 @@ fn asks_for_help(args: &[String]) -> bool {
     }
 }
 
-/// What stands behind the opening that a job reads.
-fn input_kind(job: &Job) -> InputKind {
-    match job {
-        Job::Lanes { .. } => InputKind::Lanes,
-        Job::Audit { .. } => InputKind::Journal,
-        Job::Run { .. } => InputKind::Events,
-        Job::Check(_) | Job::CheckInput | Job::Rules | Job::Explain(_) => InputKind::Nothing,
+/// How a job takes its input.
+#[derive(Clone, Copy)]
+struct JobInput {
+    /// Whether it is standard input.
+    is_read: bool,
+    /// What stands behind the opening.
+    kind: InputKind,
+    /// How standard error says what is wrong with lines, if it does.
+    explains: Option<ReportForm>,
+}
+
+impl JobInput {
+    /// Input that is not read.
+    fn unread() -> JobInput {
+        JobInput {
+            is_read: false,
+            kind: InputKind::Nothing,
+            explains: None,
+        }
+    }
+
+    /// Input that is read to its end.
+    fn of(kind: InputKind, explains: bool) -> JobInput {
+        JobInput {
+            is_read: true,
+            kind,
+            explains: if explains {
+                Some(ReportForm::Words)
+            } else {
+                None
+            },
+        }
     }
 }
 
-/// Whether a job says on standard error why lines have no form.
-fn explains(job: &Job) -> bool {
-    match job {
-        Job::Run { explain } | Job::Lanes { explain, .. } | Job::Audit { explain } => *explain,
-        _ => false,
+/// The form of a run's explanation, if there is one.
+fn form_of(explain: Explain) -> Option<ReportForm> {
+    match explain {
+        Explain::No => None,
+        Explain::Words => Some(ReportForm::Words),
+        Explain::Json => Some(ReportForm::Json),
     }
 }
 
-fn reads_input(job: &Job) -> bool {
+/// How a job takes its input, one line for each.
+fn input_of(job: &Job) -> JobInput {
     match job {
-        Job::CheckInput | Job::Run { .. } | Job::Lanes { .. } | Job::Audit { .. } => true,
-        Job::Check(_) | Job::Rules | Job::Explain(_) => false,
+        Job::Check(_) => JobInput::unread(),
+        Job::CheckInput => JobInput::of(InputKind::Nothing, false),
+        Job::Run { explain, file, .. } => JobInput {
+            is_read: match file {
+                Some(path) => path.as_str() == "-",
+                None => true,
+            },
+            kind: InputKind::Events,
+            explains: form_of(*explain),
+        },
+        // Its input is its text.
+        Job::Try(_) => JobInput::unread(),
+        Job::Lanes { explain, .. } => JobInput::of(InputKind::Lanes, *explain),
+        Job::Audit { explain } => JobInput::of(InputKind::Journal, *explain),
+        Job::Rules => JobInput::unread(),
+        Job::Settings => JobInput::unread(),
+        Job::Explain(_) => JobInput::unread(),
     }
 }
 
@@ -140,78 +186,134 @@ fn fault_at(fault: LaneFault, position: &InputPosition) -> Fault {
     }
 }
 
-/// How many bytes standard input has, if it is a file.
-fn input_length(files: &impl Files) -> Option<u64> {
-    match fs::metadata(files, "/dev/stdin") {
+/// How many bytes an input has, if it is a file.
+fn input_length(files: &impl Files, path: &str) -> Option<u64> {
+    match fs::metadata(files, path) {
         Ok(metadata) if metadata.is_file() => Some(metadata.len()),
         _ => None,
     }
 }
 
-/// Runs a job over the standard streams, and gives its status.
-fn run<
-    R: AllocGlobal + Files + Clock + Input + Print + Eprint + RandomSource + Threads + Wait + Sync,
->(rt: &R, asked: &Asked, terminals: Terminals) -> Result<u8, Fault> {
+/// Where the input of a job comes from.
+#[derive(Clone, Copy)]
+struct InputSource<'a> {
+    /// The file, or `/dev/stdin`.
+    path: &'a str,
+    terminals: Terminals,
+}
+
+/// Whether the status of a job tells of its replies.
+fn is_strict(job: &Job) -> bool {
+    match job {
+        Job::Run { strict, .. } => *strict,
+        Job::Try(_) => true,
+        _ => false,
+    }
+}
+
+/// The status of a job whose status tells of its replies, by that of the replies.
+fn strict_status(job: &Job, status: u8) -> u8 {
+    match job {
+        // What a trial can't read is a fault of its words.
+        Job::Try(_) if status > 1 => 2,
+        _ => status,
+    }
+}
+
+/// Runs a job over a reader and standard output, and gives its status.
+fn run_over<
+    R: AllocGlobal + Files + Clock + Print + Eprint + RandomSource + Threads + Wait + Sync,
+    I: Source + Drop,
+>(rt: &R, job: &Job, input: JobInput, source: InputSource<'_>, reader: I) -> Result<u8, Fault> {
     let alloc = rt.alloc();
-    let job = &asked.job;
-    // One worker, which reads no line ahead, is the usual.
-    let one = Workers::new(1).unwrap_or_default();
-    let workers = asked.workers.unwrap_or(one);
     // Peers choose txids and outpoints: since they can't know the keys, they can't make the hashes collide.
     let Ok(hasher) = RandomState::new(rt) else {
         return Err(Fault::Random);
-    };
-    let Ok(reader) = BufReader::with_capacity(alloc, BUFFER, rt.reader()) else {
-        return Err(Fault::Lane(LaneFault::Memory));
     };
     let Ok(writer) = BufWriter::with_capacity(alloc, BUFFER, io::writer(rt)) else {
         return Err(Fault::Lane(LaneFault::Memory));
     };
     let position = InputPosition::new();
-    let mut reporter = LineReporter::new(
-        alloc,
-        rt,
-        reader,
-        input_kind(job),
-        explains(job),
-        &position,
-    );
-    let mut recorder = FirstWriteRecorder::new(alloc, writer);
-    let ended = match job {
-        Job::Run { explain: true } => {
+    let strict = is_strict(job);
+    let mut reporter = LineReporter::new(alloc, rt, reader, input.kind, input.explains, &position);
+    let mut recorder = FirstWriteRecorder::new(alloc, OutcomeRecorder::new(writer, strict));
+    let ended = match (job, input.explains) {
+        (Job::Run { .. } | Job::Try(_), Some(form)) => {
             let telling = Telling {
                 position: &position,
-                progress: terminals.error,
-                length: input_length(rt),
+                form,
+                progress: source.terminals.error,
+                length: input_length(rt, source.path),
             };
             let onlooker = Explaining::new(rt, alloc, telling);
-            // The line that was read last is the one that is explained, so none is read ahead.
-            run_gate(
-                rt,
-                alloc,
-                hasher,
-                one,
-                &onlooker,
-                &mut reporter,
-                &mut recorder,
-            )
+            run_gate(alloc, hasher, &onlooker, &mut reporter, &mut recorder)
         }
-        _ => run_job(
-            rt,
-            alloc,
-            hasher,
-            workers,
-            job,
-            &mut reporter,
-            &mut recorder,
-        ),
+        _ => run_job(rt, alloc, hasher, job, &mut reporter, &mut recorder),
     };
     if let (Some(refusal), Some(last)) = (recorder.first(), reporter.last()) {
         tell_refusal(rt, refusal, &position, last);
     }
     match ended {
+        Ok(0) if strict => Ok(strict_status(job, recorder.writer.outcome().status())),
         Ok(status) => Ok(status),
         Err(fault) => Err(fault_at(fault, &position)),
+    }
+}
+
+/// Runs a job over standard input and standard output, and gives its status.
+fn run_streams<
+    R: AllocGlobal + Files + Clock + Input + Print + Eprint + RandomSource + Threads + Wait + Sync,
+>(rt: &R, job: &Job, terminals: Terminals) -> Result<u8, Fault> {
+    let Ok(reader) = BufReader::with_capacity(rt.alloc(), BUFFER, rt.reader()) else {
+        return Err(Fault::Lane(LaneFault::Memory));
+    };
+    let path = "/dev/stdin";
+    run_over(
+        rt,
+        job,
+        input_of(job),
+        InputSource { path, terminals },
+        reader,
+    )
+}
+
+/// Runs a job over a file and standard output, and gives its status: 2 if the file can't be opened, which standard error
+/// says.
+fn run_file<R: AllocGlobal + Files + Clock + Print + Eprint + RandomSource + Threads + Wait + Sync>(
+    rt: &R,
+    job: &Job,
+    path: &str,
+    terminals: Terminals,
+) -> Result<u8, Fault> {
+    let file = match fs::open(rt, path) {
+        Ok(file) => file,
+        Err(error) => {
+            let _written = eprintln!(rt; "gate: {path}: {error}");
+            return Ok(2);
+        }
+    };
+    let Ok(reader) = BufReader::with_capacity(rt.alloc(), BUFFER, file) else {
+        return Err(Fault::Lane(LaneFault::Memory));
+    };
+    run_over(
+        rt,
+        job,
+        input_of(job),
+        InputSource { path, terminals },
+        reader,
+    )
+}
+
+/// Runs a job over its input and standard output, and gives its status.
+fn run<
+    R: AllocGlobal + Files + Clock + Input + Print + Eprint + RandomSource + Threads + Wait + Sync,
+>(rt: &R, job: &Job, terminals: Terminals) -> Result<u8, Fault> {
+    match job {
+        Job::Run {
+            file: Some(path),
+            ..
+        } if path.as_str() != "-" => run_file(rt, job, path.as_str(), terminals),
+        _ => run_streams(rt, job, terminals),
     }
 }
 
@@ -231,40 +333,197 @@ fn tell_refusal<R: AllocGlobal + Eprint>(
     }
 }
 
-/// Says on standard error what is wrong with a word that stands for a transaction.
-fn tell_digits<R: AllocGlobal + Eprint>(rt: &R, word: &str) {
-    if let Ok(Some(cause)) = digits_cause(rt.alloc(), word) {
-        let _written = eprintln!(rt; "gate: {cause}; gate check - reads standard input");
+/// Says on standard error why a word spells no transaction, if it doesn't.
+fn tell_undecodable<R: AllocGlobal + Eprint>(rt: &R, word: &str) {
+    if let Ok(Some(cause)) = transaction_cause(rt.alloc(), word) {
+        // Where it is no hexadecimal text, it may be the name of a file.
+        let _written = if word.bytes().all(|digit| digit.is_ascii_hexdigit()) {
+            eprintln!(rt; "gate: {cause}")
+        } else {
+            eprintln!(rt; "gate: {cause}; gate check - reads standard input")
+        };
     }
+}
+
+/// Says on standard error that nothing has this name, and what has one that is near.
+fn tell_unnamed<R: AllocGlobal + Eprint>(rt: &R, word: &str) {
+    let near = match rule_near(rt.alloc(), word) {
+        Ok(near) => near,
+        Err(_) => None,
+    };
+    let _written = match near {
+        Some(near) => eprintln!(rt;
+            "gate: no rule and no token is named \"{word}\"; is it {near}?"
+        ),
+        None => eprintln!(rt;
+            "gate: no rule and no token is named \"{word}\"; gate rules lists them"
+        ),
+    };
 }
 
 /// Runs a job over the standard streams, and gives its status. Standard error says if input is read from a terminal,
 /// and what is wrong with a word.
 fn run_told<
     R: AllocGlobal + Files + Clock + Input + Print + Eprint + RandomSource + Threads + Wait + Sync,
->(rt: &R, asked: &Asked, terminals: Terminals) -> Result<u8, Fault> {
-    let job = &asked.job;
-    if terminals.input && reads_input(job) {
+>(rt: &R, job: &Job, terminals: Terminals) -> Result<u8, Fault> {
+    if terminals.input && input_of(job).is_read {
         let _written = eprintln!(rt; "gate: reads standard input, to its end");
     }
-    let status = run(rt, asked, terminals)?;
+    let status = run(rt, job, terminals)?;
     match job {
-        Job::Explain(word) if status != 0 => {
-            let word = word.as_str();
-            let _written = eprintln!(rt;
-                "gate: no rule and no token is named \"{word}\"; gate rules lists them"
-            );
-        }
-        Job::Check(word) if status != 0 => tell_digits(rt, word.as_str()),
+        Job::Explain(word) if status != 0 => tell_unnamed(rt, word.as_str()),
+        Job::Check(word) if status != 0 => tell_undecodable(rt, word.as_str()),
         _ => {}
     }
     Ok(status)
 }
 
+/// A word of the command line by its usual name.
+fn usual<'a>(word: &'a str) -> &'a str {
+    match word {
+        "--explain=json" => "--explain-json",
+        _ => word,
+    }
+}
+
+/// The words behind `explain` as one, if there are several: a token may have more than one word.
+fn explained_word(alloc: Global, args: &[String]) -> Result<Option<String>, AllocError> {
+    let [first, second, rest @ ..] = args else {
+        return Ok(None);
+    };
+    if first.as_str() != "explain" || rest.is_empty() {
+        return Ok(None);
+    }
+    let mut word = String::from_str(alloc, second.as_str())?;
+    for more in rest {
+        if more.as_str().starts_with('-') {
+            return Ok(None);
+        }
+        word.push(' ')?;
+        word.push_str(more.as_str())?;
+    }
+    Ok(Some(word))
+}
+
+/// The most bytes that are read of transactions on standard input.
+const MAX_INPUT: usize = 1 << 30;
+
+/// All that standard input has.
+fn whole_input<R: AllocGlobal + Input>(rt: &R) -> Result<Vec<u8>, Fault> {
+    let alloc = rt.alloc();
+    let Ok(mut reader) = BufReader::with_capacity(alloc, BUFFER, rt.reader()) else {
+        return Err(Fault::Lane(LaneFault::Memory));
+    };
+    let mut input = Vec::new(alloc);
+    loop {
+        let Ok(bytes) = reader.fill_buf() else {
+            return Err(Fault::Lane(LaneFault::Read));
+        };
+        let count = bytes.len();
+        if count == 0 {
+            return Ok(input);
+        }
+        if input.len().saturating_add(count) > MAX_INPUT {
+            return Err(Fault::Lane(LaneFault::Memory));
+        }
+        input.extend_from_slice(bytes)?;
+        reader.consume(count);
+    }
+}
+
+/// The second that it is now, since 1970; 0 without a clock.
+fn second_now(clock: &impl Clock) -> u32 {
+    let Ok(now) = SystemTime::now(clock) else {
+        return 0;
+    };
+    match now.duration_since(UNIX_EPOCH) {
+        Ok(since) => u32::try_from(since.as_secs()).unwrap_or(u32::MAX),
+        Err(_) => 0,
+    }
+}
+
+/// Says on standard error that scripts are not run, and which verdict they have.
+fn tell_verdict<R: Eprint>(rt: &R, trial: &Trial<'_>) {
+    let verdict = trial.verdict;
+    let _written = if trial.json {
+        eprintln!(rt; "{{\"scripts\":\"not run\",\"verdict\":\"{verdict}\"}}")
+    } else if verdict == "ok" {
+        eprintln!(rt; "gate: scripts are not run, and count as good; --verdict says otherwise")
+    } else {
+        eprintln!(rt; "gate: scripts are not run; the verdict on each is {verdict}")
+    };
+}
+
+/// Tries what the words behind `try` name, where `-` stands for the words of standard input, and gives the status: 2 for a
+/// fault of usage.
+fn run_trial<
+    R: AllocGlobal + Files + Clock + Input + Print + Eprint + RandomSource + Threads + Wait + Sync,
+>(rt: &R, words: &[&str], terminals: Terminals) -> Result<u8, Fault> {
+    let alloc = rt.alloc();
+    let input = if words.contains(&"-") {
+        whole_input(rt)?
+    } else {
+        Vec::new(alloc)
+    };
+    let Ok(text) = std::str::from_utf8(input.as_slice()) else {
+        return Err(Fault::Words);
+    };
+    let mut all = Vec::new(alloc);
+    for word in words {
+        if *word == "-" {
+            for word in text.split_ascii_whitespace() {
+                all.push(word)?;
+            }
+        } else {
+            all.push(*word)?;
+        }
+    }
+    let trial = match read_trial(alloc, all.as_slice(), second_now(rt)) {
+        Ok(trial) => trial,
+        Err(TrialFault::Usage(text)) => {
+            let _written = eprintln!(rt;
+                "error: {text}\n\nUsage: gate try [OPTIONS] [HEX]\n\nFor more information, try '--help'."
+            );
+            return Ok(2);
+        }
+        Err(TrialFault::Memory) => return Err(Fault::Lane(LaneFault::Memory)),
+    };
+    let Ok(job) = trial_job(alloc, &trial) else {
+        return Err(Fault::Lane(LaneFault::Memory));
+    };
+    tell_verdict(rt, &trial);
+    let form = if trial.json {
+        ReportForm::Json
+    } else {
+        ReportForm::Words
+    };
+    let Job::Try(text) = &job else {
+        return Ok(2);
+    };
+    let input = JobInput {
+        is_read: false,
+        kind: InputKind::Events,
+        explains: Some(form),
+    };
+    let source = InputSource {
+        path: "",
+        terminals,
+    };
+    run_over(rt, &job, input, source, text.as_str().as_bytes())
+}
+
+/// The words behind `try`, unless they ask for help.
+fn trial_words<'a, 'b>(words: &'b [&'a str]) -> Option<&'b [&'a str]> {
+    match words {
+        ["try", rest @ ..] if !rest.contains(&"--help") && !rest.contains(&"-h") => Some(rest),
+        _ => None,
+    }
+}
+
 /// What these words ask for.
 // If it were inlined, what it takes of the stack would lie below each job.
 #[inline(never)]
-fn asked_of<'a>(alloc: Global, words: &'a [&'a str]) -> Result<Asked, ArgsFault> {
+fn job_of<'a>(alloc: Global, words: &'a [&'a str]) -> Result<Job, ArgsFault> {
     read_args(alloc, words)
 }
 
@@ -273,15 +532,23 @@ fn answer<
     R: AllocGlobal + Files + Clock + Input + Print + Eprint + RandomSource + Threads + Wait + Sync,
 >(rt: &R, args: &[String], terminals: Terminals) -> Result<u8, Fault> {
     let alloc = rt.alloc();
+    let explained = explained_word(alloc, args)?;
     let mut words = Vec::new(alloc);
     for word in args {
-        words.push(word.as_str())?;
+        words.push(usual(word.as_str()))?;
     }
     if asks_for_help(args) {
         words.truncate(1);
     }
-    match asked_of(alloc, words.as_slice()) {
-        Ok(asked) => run_told(rt, &asked, terminals),
+    if let Some(word) = &explained {
+        words.truncate(1);
+        words.push(word.as_str())?;
+    }
+    if let Some(words) = trial_words(words.as_slice()) {
+        return run_trial(rt, words, terminals);
+    }
+    match job_of(alloc, words.as_slice()) {
+        Ok(job) => run_told(rt, &job, terminals),
         Err(ArgsFault::Help(text)) => printed(rt.print(text), 0),
         Err(ArgsFault::Usage(text)) => printed(rt.eprint(text), 2),
         Err(ArgsFault::Memory) => Err(Fault::Lane(LaneFault::Memory)),

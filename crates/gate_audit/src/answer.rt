@@ -1,7 +1,7 @@
 //! What an audit finds.
 
 /// What an audit finds in a journal.
-#[derive(Clone, Copy, Debug, PartialEq, Eq)]
+#[derive(Clone, Copy, PartialEq, Eq)]
 pub enum Audit {
     /// The journal has this many entries, each with the reply of its step.
     Legal(u64),

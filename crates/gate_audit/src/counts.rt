@@ -6,7 +6,7 @@ ghost use Rattle.gate_journal.specs.Legal.{entry_limit};
 use gate_journal::MAX_ENTRIES;
 
 /// How many entries were audited: of all rounds, and of the one that is being read.
-#[derive(Clone, Copy, Debug)]
+#[derive(Clone, Copy)]
 pub(crate) struct EntryCounts {
     pub(crate) all: u64,
     pub(crate) in_round: u64,

@@ -19,7 +19,7 @@ use std::alloc::Global;
 use std::hash::BuildHasher;
 
 /// What the lines up to the end of an entry, or up to a base, turned out to be.
-#[derive(Clone, Copy, Debug, PartialEq, Eq)]
+#[derive(Clone, Copy, PartialEq, Eq)]
 pub(crate) enum Taken {
     /// They spell an event, and say its reply.
     Legal,

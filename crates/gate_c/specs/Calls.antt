@@ -4,8 +4,8 @@ use Rattle.gate_lines.specs.Lines.{line_limit, unlines}
 use Rattle.gate_opening.specs.declared.OpeningFault.TheVariants as faults
 use Rattle.gate_opening.specs.declared.OpeningToken.{OpeningToken}
 use Rattle.gate_opening.specs.Said.{spelled}
-use Rattle.gate_prog.specs.Checks.{check_lines, check_status, input_spells}
-use Rattle.gate_prog.specs.Jobs.{opening_line}
+use Rattle.gate_check.specs.Checks.{check_lines, check_status, input_spells}
+use Rattle.gate_run.specs.Refusals.{opening_line}
 use Rattle.gate_c.specs.declared.answer.Answer.{Answer}
 use Rattle.gate_c.specs.declared.reading.Reading.{Reading}
 use Rattle.gate_c.specs.declared.session.GateSession.{GateSession}

@@ -7,7 +7,7 @@ use gate_message::Reply;
 use std::alloc::Global;
 
 /// The answer to a line within the limits.
-#[derive(Debug, Drop)]
+#[derive(Drop)]
 pub enum Answer {
     /// The line asks for nothing.
     Nothing,

@@ -10,9 +10,9 @@ use crate::output::{put_nothing, put_text};
 use crate::reading::Reading;
 use crate::session::GateSession;
 use crate::status::Status;
+use gate_check::run_check_input;
 use gate_lines::MAX_LINE;
 use gate_opening::{OpeningFault, OpeningToken};
-use gate_prog::run_check_input;
 use std::alloc::Global;
 
 /// Puts a value into a box.

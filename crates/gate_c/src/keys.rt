@@ -3,7 +3,7 @@ use std::io;
 use std::random::RandomSource;
 
 /// Two random numbers. Peers that don't know them can't make txids collide in a hash table.
-#[derive(Clone, Copy, Debug)]
+#[derive(Clone, Copy)]
 #[repr(C)]
 pub struct Keys {
     pub first: u64,

@@ -25,7 +25,7 @@ use calls::{
     answer_line, answer_reading, check_input, copy_session, open_session, read_event,
     repeat_answer, tell_changes,
 };
-use gate_prog::VERSION;
+use gate_command::VERSION;
 use handle::{GateEvent, GateHandle};
 use keys::Keys;
 use output::{put_nothing, put_text};

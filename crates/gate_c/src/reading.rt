@@ -15,7 +15,7 @@ use std::alloc::Global;
 use std::hash::RandomState;
 
 /// What a line within the limits asks for. A transaction in it is decoded and hashed, and the rules on it alone are tested.
-#[derive(Debug, Drop)]
+#[derive(Drop)]
 pub enum Reading {
     /// The line asks for nothing.
     Nothing,
@@ -32,6 +32,7 @@ fn step(alloc: Global, tracked: &mut Tracked<RandomState>, event: &Event) -> Res
     ensures err { OnErr result (tracked.new.world ≡ tracked.old.world) }
     ensures moves { tracked.new.before ≡ tracked.old.world.pool }
 {
+    event.recall_spelled();
     match tracked.step(alloc, event) {
         Ok(reply) => Ok(reply),
         Err(StepFault::Memory) => Err(Memory),

@@ -1,12 +1,15 @@
 //! The rule that a reply says fails, and the fault of a call.
+use gate_bytes::Memory;
+use gate_causes::call_cause;
 use gate_lines::read_number;
-use gate_message::{PeerDenial, Reply};
+use gate_message::{Event, PeerDenial, Reply};
 use gate_rpc::{RpcError, RpcReply, RpcResult};
 use gate_standard::Denial;
+use std::alloc::Global;
 use std::fmt;
 
 /// The name of a rule: the letter of its layer, and its number.
-#[derive(Clone, Copy, Debug, PartialEq, Eq)]
+#[derive(Clone, Copy, PartialEq, Eq)]
 pub(crate) struct RuleName {
     layer: &'static str,
     number: u8,
@@ -98,19 +101,19 @@ pub(crate) fn rule_in(reply: &Reply) -> Option<RuleName> {
 }
 
 /// Why a call is answered by an error that is no denial.
-pub(crate) fn call_fault(reply: &Reply) -> Option<&'static str> {
-    let Reply::Rpc(answer) = reply else {
-        return None;
+pub(crate) fn call_fault(
+    alloc: Global,
+    event: &Event,
+    reply: &Reply,
+) -> Result<Option<String>, Memory> {
+    let (Event::Rpc(call), Reply::Rpc(answer)) = (event, reply) else {
+        return Ok(None);
     };
-    let RpcReply::Failure { error, .. } = answer.get() else {
-        return None;
-    };
-    match error {
-        RpcError::ParseError => Some("the call is not valid JSON"),
-        RpcError::InvalidRequest => Some("a call is an object with a method and a list of params"),
-        RpcError::MethodNotFound => Some("there is no such method"),
-        RpcError::InvalidParams => Some("the method does not take these params"),
-        RpcError::NotInMempool => Some("no transaction in the pool has this txid"),
-        RpcError::Denied(_) => None,
+    match answer.get() {
+        RpcReply::Failure {
+            error: RpcError::NotInMempool,
+            ..
+        } => Ok(Some(String::from_str(alloc, "no transaction in the pool has this txid")?)),
+        _ => call_cause(alloc, call.get()),
     }
 }

@@ -201,4 +201,27 @@ impl EventTotals {
         }
         Ok(text)
     }
+
+    /// The same as fields of an object, all of them.
+    pub(crate) fn fields(&self) -> Result<String, Memory> {
+        let mut rules = String::new(self.alloc);
+        for count in self.counts.as_slice() {
+            let times = count.times.get();
+            if times > 0 {
+                let before = if rules.is_empty() { "" } else { "," };
+                write!(rules, "{before}\"{}\":{times}", count.rule)?;
+            }
+        }
+        Ok(format!(in self.alloc;
+            "\"events\":{},\"admitted\":{},\"replaced\":{},\"denied\":{},\"rules\":{{{rules}}},\"learnt_coins\":{},\"learnt_verdicts\":{},\"forgotten_blocks\":{},\"out_of_memory\":{}",
+            self.events.get(),
+            self.admitted.get(),
+            self.replaced.get(),
+            self.denied.get(),
+            self.learning.coins.get(),
+            self.learning.verdicts.get(),
+            self.learning.blocks.get(),
+            self.faults.get()
+        )?)
+    }
 }

@@ -1,23 +1,26 @@
 //! Who looks on at `gate run --explain`, and speaks on standard error.
 use crate::counted_noun::CountedNoun;
 use crate::event_totals::EventTotals;
+use crate::moves::{reason_to_enter, reason_to_leave, second_of};
+use crate::object::reply_object;
 use crate::progress::Progress;
+use crate::sight::Sight;
 use crate::telling::Telling;
 use crate::told::reply_told;
 use gate_bytes::Memory;
+use gate_causes::ReportForm;
 use gate_core::State;
-use gate_figures::{Explained, explain};
 use gate_message::{Event, Reply};
-use gate_pool::Pool;
-use gate_prog::Onlooker;
+use gate_run::Onlooker;
 use gate_tx::Txid;
 use std::alloc::Global;
+use std::cell::Cell;
 use std::hash::BuildHasher;
 use std::time::Clock;
 
 /// An onlooker that says on standard error how far the run is, explains denials and tells what moved in the pool there, each
-/// with the number of its line, and says at the end what came of the events. Without memory for it nothing is said, and what
-/// standard error doesn't take is lost.
+/// with the number of its line, and says at the end what came of the events; all that in words, or as JSON objects, which also
+/// say why an entry moved. Without memory for it nothing is said, and what standard error doesn't take is lost.
 #[derive(Drop)]
 pub struct Explaining<'a, T> {
     rt: &'a T,
@@ -25,6 +28,8 @@ pub struct Explaining<'a, T> {
     telling: Telling<'a>,
     progress: Progress,
     totals: EventTotals,
+    /// The first second at which any entry came.
+    earliest: Cell<Option<u64>>,
 }
 
 impl<'a, T> Explaining<'a, T> {
@@ -36,6 +41,7 @@ impl<'a, T> Explaining<'a, T> {
             telling,
             progress: Progress::new(),
             totals: EventTotals::new(alloc),
+            earliest: Cell::new(None),
         }
     }
 
@@ -46,10 +52,35 @@ impl<'a, T> Explaining<'a, T> {
         let entries = CountedNoun::new(state.pool().count() as u64, "entry", "entries");
         let size = state.pool().size();
         Ok(format!(in self.alloc;
-            "{counts}, {lines} refused; pool: {entries}, {size} of {} virtual bytes, floor {}",
+            "gate: {counts}, {lines} refused; pool: {entries}, {size} of {} virtual bytes, floor {}",
             state.budget(),
             state.floor().rate()
         )?)
+    }
+
+    /// The summary as an object.
+    fn summary_object<S: BuildHasher + Copy + Drop>(
+        &self,
+        state: &State<S>,
+    ) -> Result<String, Memory> {
+        let counts = self.totals.fields()?;
+        Ok(format!(in self.alloc;
+            "{{{counts},\"refused\":{},\"entries\":{},\"size\":{},\"budget\":{},\"floor\":{}}}",
+            self.telling.position.refused(),
+            state.pool().count(),
+            state.pool().size(),
+            state.budget(),
+            state.floor().rate()
+        )?)
+    }
+
+    /// Notes that an entry came at a second.
+    fn note_arrival(&self, second: u64) {
+        let earliest = match self.earliest.get() {
+            Some(earliest) => earliest.min(second),
+            None => second,
+        };
+        self.earliest.set(Some(earliest));
     }
 }
 
@@ -62,58 +93,107 @@ impl<T: Eprint> Explaining<'_, T> {
         }
     }
 
+    /// Says an object for an entry that moved, if it is known why.
+    fn tell_move(&self, moved: &str, txid: &Txid, reason: Option<&str>) {
+        let line = self.telling.position.line();
+        let _written = match reason {
+            Some(reason) => eprintln!(self.rt;
+                "{{\"line\":{line},\"{moved}\":\"{txid}\",\"reason\":\"{reason}\"}}"
+            ),
+            None => eprintln!(self.rt; "{{\"line\":{line},\"{moved}\":\"{txid}\"}}"),
+        };
+    }
+
     /// Says which entries the last event took out, and then which it brought in, in order of admission.
-    fn tell_moves<S: BuildHasher + Copy + Drop>(&self, pool: &Pool<S>) {
+    fn tell_moves<S: BuildHasher + Copy + Drop>(
+        &self,
+        state: &State<S>,
+        sight: &Sight,
+        event: &Event,
+    ) {
+        let pool = state.pool();
         if let Ok(departed) = pool.departed(self.alloc) {
             if let Ok(arrived) = pool.arrived(self.alloc) {
-                self.tell_each("-", departed.as_slice());
-                self.tell_each("+", arrived.as_slice());
+                match self.telling.form {
+                    ReportForm::Words => {
+                        self.tell_each("-", departed.as_slice());
+                        self.tell_each("+", arrived.as_slice());
+                    }
+                    ReportForm::Json => {
+                        let earliest = self.earliest.get();
+                        for txid in departed.as_slice() {
+                            let reason = reason_to_leave(state, sight, event, txid, earliest);
+                            self.tell_move("left", txid, reason);
+                        }
+                        for txid in arrived.as_slice() {
+                            self.tell_move("entered", txid, Some(reason_to_enter(event)));
+                            if let Some(second) = second_of(event) {
+                                self.note_arrival(second);
+                            }
+                        }
+                    }
+                }
+            }
+        }
+    }
+
+    /// Says what is said of a reply.
+    fn tell_reply<S: BuildHasher + Copy + Drop>(
+        &self,
+        state: &State<S>,
+        sight: &Sight,
+        event: &Event,
+        reply: &Reply,
+    ) {
+        let line = self.telling.position.line();
+        match self.telling.form {
+            ReportForm::Words => {
+                if let Ok(Some(text)) = reply_told(self.alloc, state, sight, event, reply) {
+                    let _written = eprintln!(self.rt; "gate: line {line}: {text}");
+                }
+            }
+            ReportForm::Json => {
+                if let Ok(Some(object)) = reply_object(
+                    self.alloc, line, state, sight, event, reply,
+                ) {
+                    let _written = eprintln!(self.rt; "{object}");
+                }
             }
         }
     }
 }
 
 impl<S: BuildHasher + Copy + Drop, T: Clock + Eprint> Onlooker<S> for Explaining<'_, T> {
-    /// What will be decided on a submission, if it is known.
-    type Sight = Option<Explained>;
+    type Sight = Sight;
 
     fn begin(&self) {
         self.progress.begin(self.rt, &self.telling);
     }
 
-    fn before(&self, state: &State<S>, event: &Event) -> Option<Explained> {
+    fn before(&self, state: &State<S>, event: &Event) -> Sight {
         self.progress
             .tell(self.rt, &self.telling, self.totals.events());
-        match explain(self.alloc, state, event) {
-            Ok(explained) => explained,
-            Err(_) => None,
-        }
+        let with_relatives = self.telling.form == ReportForm::Json;
+        Sight::of(self.alloc, state, event, with_relatives)
     }
 
-    fn after(
-        &self,
-        sight: Option<Explained>,
-        state: &State<S>,
-        event: &Event,
-        reply: Option<&Reply>,
-    ) {
+    fn after(&self, sight: Sight, state: &State<S>, event: &Event, reply: Option<&Reply>) {
         let Some(reply) = reply else {
             self.totals.count_fault();
             return;
         };
-        self.totals.count(event, &sight, reply);
-        if let Ok(Some(text)) = reply_told(self.alloc, &sight, reply) {
-            let _written = eprintln!(self.rt;
-                "gate: line {}: {text}",
-                self.telling.position.line()
-            );
-        }
-        self.tell_moves(state.pool());
+        self.totals.count(event, &sight.explained, reply);
+        self.tell_reply(state, &sight, event, reply);
+        self.tell_moves(state, &sight, event);
     }
 
     fn end(&self, state: &State<S>) {
-        if let Ok(text) = self.summary(state) {
-            let _written = eprintln!(self.rt; "gate: {text}");
+        let summary = match self.telling.form {
+            ReportForm::Words => self.summary(state),
+            ReportForm::Json => self.summary_object(state),
+        };
+        if let Ok(text) = summary {
+            let _written = eprintln!(self.rt; "{text}");
         }
     }
 }

@@ -1,5 +1,6 @@
 //! How far a long run has come.
 use crate::telling::Telling;
+use gate_causes::ReportForm;
 use std::cell::Cell;
 use std::time::{Clock, Instant};
 
@@ -32,9 +33,9 @@ impl Progress {
         }
     }
 
-    /// The run begins now. Without a clock no progress is reported.
+    /// The run begins now. Without a clock, and among objects, no progress is reported.
     pub(crate) fn begin<T: Clock>(&self, rt: &T, telling: &Telling<'_>) {
-        if telling.progress {
+        if telling.progress && telling.form == ReportForm::Words {
             self.begun.set(Instant::now(rt).ok());
         }
     }

@@ -1,10 +1,11 @@
-use gate_causes::InputPosition;
+use gate_causes::{InputPosition, ReportForm};
 
 /// What the explanation of a run goes by.
 #[derive(Clone, Copy)]
 pub struct Telling<'a> {
     /// Where the reader of the run stands.
     pub position: &'a InputPosition,
+    pub form: ReportForm,
     /// Whether progress is reported while the run goes on.
     pub progress: bool,
     /// How many bytes the input has, if that is known.

@@ -13,29 +13,34 @@ use Rattle.gate_tx.specs.declared.TxOut.{TxOut}
 use Rattle.gate_tx.specs.Ids.{txid_of, wtxid_of}
 use Rattle.gate_tx.specs.Money.{amount_or_zero}
 use Rattle.gate_tx.specs.Tx.{Tx}
+use Rattle.gate_script.specs.declared.Template.{Template}
+use Rattle.gate_script.specs.declared.Template.TheVariants.{NullData, Multisig, Nonstandard}
+use Rattle.gate_script.specs.Templates.{template_of}
+use Rattle.gate_inputs.specs.declared.Answers.{Answers}
 use Rattle.gate_standard.specs.Amounts.{required_fee, feerate}
+use Rattle.gate_standard.specs.declared.Feerate.{Feerate}
 use Rattle.gate_standard.specs.Outputs.{carries_data, dust_threshold_of, is_below, is_dust}
-use Rattle.gate_standard.specs.Rules.{rules_of_input, rules_of_output, output_value_rules, transaction_rules, form_rules, output_rules}
+use Rattle.gate_standard.specs.Rules.{left_behind, rules_of_input, rules_of_output, rules_of_outputs, output_value_rules, transaction_rules, form_rules, output_rules}
 use Rattle.gate_standard.specs.declared.Denial.{Denial}
 use Rattle.gate_submission.specs.Alone.{alone_rules, own_rules}
-use Rattle.gate_chain.specs.Times.{tip_of}
+use Rattle.gate_chain.specs.Times.{tip_of, mtp_of}
 use Rattle.gate_locks.specs.Finality.{is_final_at, threshold_of}
-use Rattle.gate_locks.specs.Locks.{median_at}
+use Rattle.gate_locks.specs.Locks.{is_by_time, is_disabled, median_at, span_of}
 use Rattle.gate_pool.specs.Pool.{Admitted, spender_of, size_of}
 use Rattle.gate_pool.specs.Family.{ancestors_above, is_conflict, conflicts_of, replaced_of, fees_of}
-use Rattle.gate_rbf.specs.Replacing.{replacement_rules, rules_beside, signals}
+use Rattle.gate_rbf.specs.Replacing.{replacement_rules, rules_beside, sharers, signals}
 use Rattle.gate_admit.specs.declared.attempt.Attempt.TheVariants.{First}
 use Rattle.gate_admit.specs.declared.grant.Grant.{Grant}
 use Rattle.gate_admit.specs.Coins.{coins_of, view_coin}
 use Rattle.gate_admit.specs.Limits.{limit_rules}
-use Rattle.gate_admit.specs.Policies.{Policy, most_ancestors}
-use Rattle.gate_admit.specs.Reports.{reported, report_rules, vsize_of, verdict_rules, rules_of_verdict}
-use Rattle.gate_admit.specs.Rules.{final_rules, pool_rules, coin_rules, lock_rules, coin_value_rules, balance_rules, fee_rules, payment_rules, admission_rules, coins_value, outputs_value, grant_of, denied_or, decision_of, is_immature}
+use Rattle.gate_admit.specs.Policies.{Policy, feerate_by, incremental_feerate, most_ancestors, relay_feerate}
+use Rattle.gate_admit.specs.Reports.{has_relayed_witness, is_relayed, legacy_sigops, reported, report_rules, vsize_of, verdict_rules, rules_of_verdict}
+use Rattle.gate_admit.specs.Rules.{final_rules, pool_rules, coin_rules, lock_rules, coin_value_rules, balance_rules, fee_rules, floor_rule, payment_rules, relay_rule, admission_rules, coins_value, outputs_value, grant_of, denied_or, decision_of, is_immature}
 use Rattle.gate_admit.specs.Standing.{Standing}
 use Rattle.gate_admit.specs.Verdicts.{verdict_of}
 use Rattle.gate_figures.specs.declared.figures.Figures.{Figures}
-use Rattle.gate_figures.specs.declared.figures.Figures.TheVariants.{Ancestors, AncestorsSized, Dust, Input, NoCoin, Outpaid, Spent, Young}
-use Rattle.gate_figures.specs.Figures.{allowed_ancestors, coinless, crowded, doubted, dust, fee_at, figures_of, non_signalling, non_signalling_by, is_good, outpaid, outpaid_at, outpaid_by, paying_figures, pays, pays_above, sized, vsize_at, cost_at, young, young_by}
+use Rattle.gate_figures.specs.declared.figures.Figures.TheVariants.{Ancestors, AncestorsSized, BareMultisig, DataLeft, DataScript, Dust, HeightLocked, Input, LegacySigops, NoCoin, NonstandardSpend, NonstandardWitness, Outpaid, Script, Spent, TimeLocked, Young}
+use Rattle.gate_figures.specs.Figures.{allowed_ancestors, coinless, crowded, data_past, data_past_total, doubted, dust, fee_at, figures_of, height_locked, locked, locked_by, locked_coin, many_legacy, nonstandard, nonstandard_inputs, nonstandard_spend, nonstandard_witness, script_figures, time_locked, non_signalling, non_signalling_by, is_good, outpaid, outpaid_at, outpaid_by, paying_figures, pays, pays_above, sized, vsize_at, cost_at, young, young_by}
 use Rattle.gate_figures.specs.Laws.{Decide, FiguresDecide}
 
 lt_from : (m n : ℕ) → nat_lt m n ≡ true → m < n
@@ -79,7 +84,7 @@ one_or : (over : Standing) (one rest : Option Figures) → IfSome one (Decide ov
 one_or over None rest a b = b
 one_or over (Some figures) rest a b = a
 
-below : (rate : ℕ) (o : TxOut) → is_dust rate o ≡ true → is_below o.value (dust_threshold_of rate o) ≡ true
+below : (rate : Feerate) (o : TxOut) → is_dust rate o ≡ true → is_below o.value (dust_threshold_of rate o) ≡ true
 unfolding is_dust
 below rate o h = second (not (carries_data o)) (is_below o.value (dust_threshold_of rate o)) h
   where
@@ -87,13 +92,37 @@ below rate o h = second (not (carries_data o)) (is_below o.value (dust_threshold
     second true b k = k
     second false b k = absurd (false≢true k)
 
-dust_decides : (over : Standing) (rate index : ℕ) (outputs : List TxOut) → IfSome (dust rate index outputs) (Decide over)
+dust_decides : (over : Standing) (rate : Feerate) (index : ℕ) (outputs : List TxOut) → IfSome (dust rate index outputs) (Decide over)
 dust_decides over rate index [] = tt
 dust_decides over rate index (o ∷ outputs) = go (dust_decides over rate (index + 1) outputs) (is_dust rate o) refl
   where
     go : IfSome (dust rate (index + 1) outputs) (Decide over) → (b : Bool) → is_dust rate o ≡ b → IfSome (if b then Some (Dust index o.value (dust_threshold_of rate o)) else dust rate (index + 1) outputs) (Decide over)
     go later true e = below rate o e
     go later false e = later
+
+gt_from : (m n : ℕ) → nat_le m n ≡ false → n < m
+gt_from m n h = grind (arith, nat_tests)
+
+script_decides : (over : Standing) (index : ℕ) (template : Template) (size : ℕ) → IfSome (script_figures over.policy.standards index template size) (Decide over)
+script_decides over index Nonstandard size = tt
+script_decides over index (Multisig required keys) size = go over.policy.standards.bare_multisig (nat_le 1 keys && nat_le keys 3) refl
+  where
+    go : (permits few : Bool) → over.policy.standards.bare_multisig ≡ permits → IfSome (if permits then if few then None else Some (Script index) else Some (BareMultisig index)) (Decide over)
+    go true true e = tt
+    go true false e = tt
+    go false few e = e
+script_decides over index NullData size = go (nat_le size over.policy.standards.data_size) refl
+  where
+    go : (b : Bool) → nat_le size over.policy.standards.data_size ≡ b → IfSome (if b then None else Some (DataScript index size over.policy.standards.data_size)) (Decide over)
+    go true e = tt
+    go false e = (le_refl over.policy.standards.data_size, gt_from size over.policy.standards.data_size e)
+script_decides over index other size = tt
+
+nonstandard_decides : (over : Standing) (index : ℕ) (outputs : List TxOut) → IfSome (nonstandard over.policy.standards index outputs) (Decide over)
+nonstandard_decides over index [] = tt
+nonstandard_decides over index (o ∷ outputs) =
+    one_or over (script_figures over.policy.standards index (template_of o.script) (length o.script)) (nonstandard over.policy.standards (index + 1) outputs)
+    (script_decides over index (template_of o.script) (length o.script)) (nonstandard_decides over (index + 1) outputs)
 
 none_of : {X : Type 0} (o : Option X) → is_none o ≡ true → o ≡ None
 none_of None h = refl
@@ -128,6 +157,92 @@ young_decides over index [] = tt
 young_decides over index (i ∷ inputs) =
     one_or over (young_by (tip_of over.chain + 1) index (view_coin over.chain over.entries i.prevout)) (young over.chain over.entries (index + 1) inputs)
     (young_by_decides over (tip_of over.chain + 1) index (view_coin over.chain over.entries i.prevout)) (young_decides over (index + 1) inputs)
+
+more_than : (n m : ℕ) → nat_le n m ≡ false → 0 < n - m
+more_than n m h = let more = gt_from n m h in omega (arith, more)
+
+height_locked_decides : (over : Standing) (next_height index span height : ℕ) → IfSome (height_locked next_height index span height) (Decide over)
+height_locked_decides over next_height index span height = go (nat_le (height + span) next_height) refl
+  where
+    go : (b : Bool) → nat_le (height + span) next_height ≡ b → IfSome (if b then None else Some (HeightLocked index (height + span - next_height))) (Decide over)
+    go true e = tt
+    go false e = more_than (height + span) next_height e
+
+time_locked_decides : (over : Standing) (now index wait : ℕ) (start : Option ℕ) → IfSome (time_locked now index wait start) (Decide over)
+time_locked_decides over now index wait None = tt
+time_locked_decides over now index wait (Some start) = go (nat_le (start + wait) now) refl
+  where
+    go : (b : Bool) → nat_le (start + wait) now ≡ b → IfSome (if b then None else Some (TimeLocked index (start + wait - now))) (Decide over)
+    go true e = tt
+    go false e = more_than (start + wait) now e
+
+locked_by_decides : (over : Standing) (index sequence height : ℕ) → IfSome (locked_by over.chain index sequence height) (Decide over)
+unfolding locked_by
+locked_by_decides over index sequence height = go (is_disabled sequence) (is_by_time sequence)
+  where
+    go : (disabled timed : Bool) → IfSome (if disabled then None
+        else if timed then time_locked (median_at over.chain (tip_of over.chain)) index (512 * span_of sequence) (mtp_of over.chain (height - 1))
+        else height_locked (tip_of over.chain + 1) index (span_of sequence) height) (Decide over)
+    go true timed = tt
+    go false true = time_locked_decides over (median_at over.chain (tip_of over.chain)) index (512 * span_of sequence) (mtp_of over.chain (height - 1))
+    go false false = height_locked_decides over (tip_of over.chain + 1) index (span_of sequence) height
+
+locked_coin_decides : (over : Standing) (index sequence : ℕ) (o : Option Coin) → IfSome (locked_coin over.chain index sequence o) (Decide over)
+locked_coin_decides over index sequence None = tt
+locked_coin_decides over index sequence (Some coin) = locked_by_decides over index sequence coin.height
+
+locked_decides : (over : Standing) (index : ℕ) (inputs : List TxIn) → IfSome (locked over.chain over.entries index inputs) (Decide over)
+locked_decides over index [] = tt
+locked_decides over index (i ∷ inputs) =
+    one_or over (locked_coin over.chain index i.sequence (view_coin over.chain over.entries i.prevout)) (locked over.chain over.entries (index + 1) inputs)
+    (locked_coin_decides over index i.sequence (view_coin over.chain over.entries i.prevout)) (locked_decides over (index + 1) inputs)
+
+spend_decides : (over : Standing) (anchors : Bool) (index : ℕ) (answers : List Answers) → IfSome (nonstandard_spend anchors index answers) (Decide over)
+spend_decides over anchors index [] = tt
+spend_decides over anchors index (a ∷ answers) = go (spend_decides over anchors (index + 1) answers) (is_relayed anchors a)
+  where
+    go : IfSome (nonstandard_spend anchors (index + 1) answers) (Decide over) → (b : Bool) → IfSome (if b then nonstandard_spend anchors (index + 1) answers else Some (NonstandardSpend index)) (Decide over)
+    go later true = later
+    go later false = tt
+
+legacy_decides : (over : Standing) (count : ℕ) → IfSome (many_legacy over.policy.legacy_sigops count) (Decide over)
+legacy_decides over count = go over.policy.legacy_sigops refl
+  where
+    test : (most : ℕ) → over.policy.legacy_sigops ≡ Some most → (b : Bool) → nat_le count most ≡ b → IfSome (if b then None else Some (LegacySigops count most)) (Decide over)
+    test most is true h = tt
+    test most is false h = (is, gt_from count most h)
+
+    go : (limit : Option ℕ) → over.policy.legacy_sigops ≡ limit → IfSome (many_legacy limit count) (Decide over)
+    go None is = tt
+    go (Some most) is = test most is (nat_le count most) refl
+
+inputs_decide : (over : Standing) (answers : List Answers) → IfSome (nonstandard_inputs over.policy answers) (Decide over)
+inputs_decide over answers =
+    one_or over (nonstandard_spend over.policy.anchors 0 answers) (many_legacy over.policy.legacy_sigops (legacy_sigops answers)) (spend_decides over over.policy.anchors 0 answers) (legacy_decides over (legacy_sigops answers))
+
+data_here : (over : Standing) (left index size : ℕ) (rest skipped : Option Figures) → IfSome rest (Decide over) → IfSome skipped (Decide over)
+    → (carries past : Bool) → nat_lt left size ≡ past → IfSome (if carries then if past then Some (DataLeft index size left) else rest else skipped) (Decide over)
+data_here over left index size rest skipped later beside true true h = lt_from left size h
+data_here over left index size rest skipped later beside true false h = later
+data_here over left index size rest skipped later beside false past h = beside
+
+data_decides : (over : Standing) (left index : ℕ) (outputs : List TxOut) → IfSome (data_past left index outputs) (Decide over)
+data_decides over left index [] = tt
+data_decides over left index (o ∷ outputs) =
+    data_here over left index (length o.script) (data_past (left - length o.script) (index + 1) outputs) (data_past left (index + 1) outputs)
+    (data_decides over (left - length o.script) (index + 1) outputs) (data_decides over left (index + 1) outputs) (carries_data o) (nat_lt left (length o.script)) refl
+
+total_decides : (over : Standing) (total : Option ℕ) (outputs : List TxOut) → IfSome (data_past_total total outputs) (Decide over)
+total_decides over None outputs = tt
+total_decides over (Some total) outputs = data_decides over total 0 outputs
+
+witness_decides : (over : Standing) (anchors : Bool) (index : ℕ) (answers : List Answers) → IfSome (nonstandard_witness anchors index answers) (Decide over)
+witness_decides over anchors index [] = tt
+witness_decides over anchors index (a ∷ answers) = go (witness_decides over anchors (index + 1) answers) (has_relayed_witness anchors a)
+  where
+    go : IfSome (nonstandard_witness anchors (index + 1) answers) (Decide over) → (b : Bool) → IfSome (if b then nonstandard_witness anchors (index + 1) answers else Some (NonstandardWitness index)) (Decide over)
+    go later true = later
+    go later false = tt
 
 non_signalling_by_decides : (over : Standing) (index : ℕ) (o : Option Admitted) → over.policy.full_rbf ≡ false → IfSome (non_signalling_by index o) (Decide over)
 non_signalling_by_decides over index None asked = tt
@@ -194,7 +309,7 @@ doubted_decides over wtxid index (i ∷ inputs) = go (doubted_decides over wtxid
     go later true e = later
     go later false e = e
 
-pays_decides : (over : Standing) (tx : Tx) (rate fee cost : ℕ) → nat_lt fee (required_fee rate (vsize_of over.policy.sigop_size cost tx)) ≡ true → IfSome (pays rate fee (sized over.policy.sigop_size cost tx)) (Decide over)
+pays_decides : (over : Standing) (tx : Tx) (rate : Feerate) (fee cost : ℕ) → nat_lt fee (required_fee rate (vsize_of over.policy.sigop_size cost tx)) ≡ true → IfSome (pays rate fee (sized over.policy.sigop_size cost tx)) (Decide over)
 unfolding pays
 pays_decides over tx rate fee cost h = go (nat_lt 16000 cost)
   where
@@ -202,14 +317,14 @@ pays_decides over tx rate fee cost h = go (nat_lt 16000 cost)
     go true = tt
     go false = lt_from fee (required_fee rate (vsize_of over.policy.sigop_size cost tx)) h
 
-above_decides : (over : Standing) (tx : Tx) (gone fee cost : ℕ) → nat_lt (fee - gone) (required_fee over.policy.incremental_rate (vsize_of over.policy.sigop_size cost tx)) ≡ true
-    → IfSome (pays_above over.policy.incremental_rate gone fee (sized over.policy.sigop_size cost tx)) (Decide over)
+above_decides : (over : Standing) (tx : Tx) (gone fee cost : ℕ) → nat_lt (fee - gone) (required_fee (incremental_feerate over.policy) (vsize_of over.policy.sigop_size cost tx)) ≡ true
+    → IfSome (pays_above (incremental_feerate over.policy) gone fee (sized over.policy.sigop_size cost tx)) (Decide over)
 unfolding pays_above
 above_decides over tx gone fee cost h = go (nat_lt 16000 cost)
   where
-    go : (b : Bool) → IfSome (pays_above over.policy.incremental_rate gone fee (if b then None else Some (vsize_of over.policy.sigop_size cost tx))) (Decide over)
+    go : (b : Bool) → IfSome (pays_above (incremental_feerate over.policy) gone fee (if b then None else Some (vsize_of over.policy.sigop_size cost tx))) (Decide over)
     go true = tt
-    go false = lt_from (fee - gone) (required_fee over.policy.incremental_rate (vsize_of over.policy.sigop_size cost tx)) h
+    go false = lt_from (fee - gone) (required_fee (incremental_feerate over.policy) (vsize_of over.policy.sigop_size cost tx)) h
 
 -- ---- group by group
 
@@ -238,9 +353,18 @@ input_shows : (over : Standing) (tx : Tx) (i : TxIn) → AllShow over tx (rules_
 unfolding figures_of paying_figures
 input_shows over tx i = (λ _. tt, (λ _. tt, tt))
 
-output_shows : (over : Standing) (tx : Tx) (o : TxOut) → AllShow over tx (rules_of_output over.policy.standards o)
+output_shows : (over : Standing) (tx : Tx) (left : Option ℕ) (o : TxOut) → AllShow over tx (rules_of_output over.policy.standards left o)
 unfolding figures_of paying_figures
-output_shows over tx o = (λ _. tt, (λ _. dust_decides over over.policy.standards.dust_rate 0 tx.outputs, tt))
+output_shows over tx left o = (
+  λ _. nonstandard_decides over 0 tx.outputs,
+  (λ _. total_decides over over.policy.standards.data_total tx.outputs, (λ _. dust_decides over over.policy.standards.dust_rate 0 tx.outputs, tt)),
+)
+
+each_output_shows : (over : Standing) (tx : Tx) (left : Option ℕ) (outputs : List TxOut) → AllShow over tx (rules_of_outputs over.policy.standards left outputs)
+each_output_shows over tx left [] = tt
+each_output_shows over tx left (o ∷ outputs) =
+    let behind = left_behind left (carries_data o) (length o.script) in
+    both_show over tx (rules_of_output over.policy.standards left o) (rules_of_outputs over.policy.standards behind outputs) (output_shows over tx left o) (each_output_shows over tx behind outputs)
 
 form_shows : (over : Standing) (tx : Tx) → AllShow over tx (form_rules tx)
 unfolding figures_of paying_figures form_rules
@@ -249,8 +373,8 @@ form_shows over tx = (λ _. tt, (λ h. lt_from 400_000 _ h, each_shows over tx r
 outputs_show : (over : Standing) (tx : Tx) → AllShow over tx (output_rules over.policy.standards tx)
 unfolding figures_of paying_figures output_rules
 outputs_show over tx =
-    both_show over tx (flat_map (rules_of_output over.policy.standards) tx.outputs) _ (each_shows over tx (rules_of_output over.policy.standards) (output_shows over tx) tx.outputs)
-    (λ _. tt, (λ h. (omega arith, lt_from _ over.policy.standards.least_size h), tt))
+    both_show over tx (rules_of_outputs over.policy.standards over.policy.standards.data_total tx.outputs) _ (each_output_shows over tx over.policy.standards.data_total tx.outputs)
+    (λ h. (le_refl over.policy.standards.data_outputs, lt_from over.policy.standards.data_outputs _ h), (λ h. (omega arith, lt_from _ over.policy.standards.least_size h), tt))
 
 alone_shows : (over : Standing) (tx : Tx) → AllShow over tx (alone_rules over.policy.standards tx)
 unfolding alone_rules own_rules
@@ -280,7 +404,7 @@ coin_shows over tx = (λ _. tt, (λ _. coinless_decides over 0 tx.inputs, tt))
 
 lock_shows : (over : Standing) (tx : Tx) (coins : List Coin) → AllShow over tx (lock_rules over.chain coins tx)
 unfolding figures_of paying_figures lock_rules
-lock_shows over tx coins = (λ _. tt, tt)
+lock_shows over tx coins = (λ _. locked_decides over 0 tx.inputs, tt)
 
 coin_values_show : (over : Standing) (tx : Tx) (next_height sum : ℕ) (coins : List Coin) → AllShow over tx (coin_value_rules next_height sum coins)
 unfolding figures_of paying_figures coin_value_rules
@@ -292,24 +416,39 @@ balance_shows : (over : Standing) (tx : Tx) → AllShow over tx (balance_rules (
 unfolding figures_of paying_figures balance_rules
 balance_shows over tx = (λ h. lt_from _ _ h, (λ _. tt, tt))
 
-reports_show : (over : Standing) (tx : Tx) → AllShow over tx (report_rules (reported tx.inputs (coins_of over.chain over.entries tx.inputs)) tx)
+reports_show : (over : Standing) (tx : Tx) → AllShow over tx (report_rules over.policy (reported tx.inputs (coins_of over.chain over.entries tx.inputs)) tx)
 unfolding figures_of paying_figures report_rules
-reports_show over tx = (λ _. tt, (λ _. tt, (λ h. lt_from 16000 _ h, tt)))
+reports_show over tx =
+    let answers = reported tx.inputs (coins_of over.chain over.entries tx.inputs) in
+    (λ _. inputs_decide over answers, (λ _. witness_decides over over.policy.anchors 0 answers, (λ h. lt_from 16000 _ h, tt)))
 
 payment_shows : (over : Standing) (tx : Tx)
-    → AllShow over tx (payment_rules First over.policy.relay_rate over.floor (fee_at over.chain over.entries tx) (vsize_of over.policy.sigop_size (cost_at over.chain over.entries tx) tx))
+    → AllShow over tx (payment_rules First over.policy over.floor (fee_at over.chain over.entries tx) (vsize_of over.policy.sigop_size (cost_at over.chain over.entries tx) tx))
 unfolding figures_of paying_figures fee_rules
-payment_shows over tx = (
-  λ h. pays_decides over tx over.floor (fee_at over.chain over.entries tx) (cost_at over.chain over.entries tx) h,
-  (λ h. pays_decides over tx over.policy.relay_rate (fee_at over.chain over.entries tx) (cost_at over.chain over.entries tx) h, tt),
-)
+payment_shows over tx = go over.policy.relay_fee_first
+  where
+    fee : ℕ
+    fee = fee_at over.chain over.entries tx
+
+    vsize : ℕ
+    vsize = vsize_of over.policy.sigop_size (cost_at over.chain over.entries tx) tx
+
+    go : (b : Bool) → AllShow over tx (if b then relay_rule over.policy fee vsize ∷ floor_rule over.policy over.floor fee vsize ∷ [] else floor_rule over.policy over.floor fee vsize ∷ relay_rule over.policy fee vsize ∷ [])
+    go true = (
+      λ h. pays_decides over tx (relay_feerate over.policy) fee (cost_at over.chain over.entries tx) h,
+      (λ h. pays_decides over tx (feerate_by over.policy over.floor) fee (cost_at over.chain over.entries tx) h, tt),
+    )
+    go false = (
+      λ h. pays_decides over tx (feerate_by over.policy over.floor) fee (cost_at over.chain over.entries tx) h,
+      (λ h. pays_decides over tx (relay_feerate over.policy) fee (cost_at over.chain over.entries tx) h, tt),
+    )
 
 limits_show : (over : Standing) (tx : Tx) (vsize : ℕ) → AllShow over tx (limit_rules First over.policy over.entries tx vsize)
 unfolding figures_of paying_figures limit_rules
 limits_show over tx vsize = (λ _. crowded_decides over (ancestors_above over.entries tx.inputs) (vsize_at over.policy.sigop_size over.chain over.entries tx), (λ _. tt, tt))
 
 beside_shows : (over : Standing) (tx : Tx)
-    → AllShow over tx (rules_beside over.policy.incremental_rate over.entries (conflicts_of over.entries tx) (fees_of (replaced_of over.entries tx)) tx (fee_at over.chain over.entries tx) (vsize_of over.policy.sigop_size (cost_at over.chain over.entries tx) tx))
+    → AllShow over tx (rules_beside (incremental_feerate over.policy) over.entries (conflicts_of over.entries tx) (sharers over.policy.parents over.entries tx) (fees_of (replaced_of over.entries tx)) tx (fee_at over.chain over.entries tx) (vsize_of over.policy.sigop_size (cost_at over.chain over.entries tx) tx))
 unfolding figures_of paying_figures rules_beside
 beside_shows over tx = (
   λ _. outpaid_at_decides over _ tx.inputs,
@@ -326,11 +465,11 @@ beside_shows over tx = (
 )
 
 replacement_shows : (over : Standing) (tx : Tx)
-    → AllShow over tx (replacement_rules over.policy.incremental_rate over.entries tx (fee_at over.chain over.entries tx) (vsize_of over.policy.sigop_size (cost_at over.chain over.entries tx) tx))
+    → AllShow over tx (replacement_rules (incremental_feerate over.policy) over.policy.parents over.entries tx (fee_at over.chain over.entries tx) (vsize_of over.policy.sigop_size (cost_at over.chain over.entries tx) tx))
 unfolding replacement_rules
 replacement_shows over tx = go (list_any (is_conflict tx) over.entries)
   where
-    go : (b : Bool) → AllShow over tx (if b then rules_beside over.policy.incremental_rate over.entries (conflicts_of over.entries tx) (fees_of (replaced_of over.entries tx)) tx (fee_at over.chain over.entries tx) (vsize_of over.policy.sigop_size (cost_at over.chain over.entries tx) tx) else [])
+    go : (b : Bool) → AllShow over tx (if b then rules_beside (incremental_feerate over.policy) over.entries (conflicts_of over.entries tx) (sharers over.policy.parents over.entries tx) (fees_of (replaced_of over.entries tx)) tx (fee_at over.chain over.entries tx) (vsize_of over.policy.sigop_size (cost_at over.chain over.entries tx) tx) else [])
     go true = beside_shows over tx
     go false = tt
 
@@ -358,10 +497,10 @@ all_show over tx =
     (both_show over tx (lock_rules over.chain coins tx) _ (lock_shows over tx coins)
     (both_show over tx (coin_value_rules (tip_of over.chain + 1) 0 coins) _ (coin_values_show over tx (tip_of over.chain + 1) 0 coins)
     (both_show over tx (balance_rules (coins_value coins) (outputs_value tx)) _ (balance_shows over tx)
-    (both_show over tx (report_rules (reported tx.inputs coins) tx) _ (reports_show over tx)
-    (both_show over tx (payment_rules First over.policy.relay_rate over.floor (fee_at over.chain over.entries tx) (vsize_of over.policy.sigop_size (cost_at over.chain over.entries tx) tx)) _ (payment_shows over tx)
+    (both_show over tx (report_rules over.policy (reported tx.inputs coins) tx) _ (reports_show over tx)
+    (both_show over tx (payment_rules First over.policy over.floor (fee_at over.chain over.entries tx) (vsize_of over.policy.sigop_size (cost_at over.chain over.entries tx) tx)) _ (payment_shows over tx)
     (both_show over tx (limit_rules First over.policy over.entries tx (vsize_of over.policy.sigop_size (cost_at over.chain over.entries tx) tx)) _ (limits_show over tx _)
-    (both_show over tx (replacement_rules over.policy.incremental_rate over.entries tx (fee_at over.chain over.entries tx) (vsize_of over.policy.sigop_size (cost_at over.chain over.entries tx) tx)) _ (replacement_shows over tx)
+    (both_show over tx (replacement_rules (incremental_feerate over.policy) over.policy.parents over.entries tx (fee_at over.chain over.entries tx) (vsize_of over.policy.sigop_size (cost_at over.chain over.entries tx) tx)) _ (replacement_shows over tx)
     (verdict_shows over tx 0 tx.inputs)))))))))))
 
 denied : (found : Option Denial) (grant : Grant) (denial : Denial) → denied_or found grant ≡ Err denial → found ≡ Some denial

@@ -1,5 +1,6 @@
 -- What decides that a transaction is denied, in numbers.
-use Rattle.std.specs.Prelude.{ℕ, ◌+◌, ◌-◌, ◌^◌, nat_le, nat_lt, Bool, true, false, if◌then◌else◌, List, [], ◌∷◌, length, is_none, Option, Some, None}
+use Rattle.std.specs.Prelude.{ℕ, ◌+◌, ◌-◌, ◌*◌, ◌^◌, ◌&&◌, nat_le, nat_lt, Bool, true, false, if◌then◌else◌, List, [], ◌∷◌, length, is_none, Option, Some, None}
+use Rattle.std.specs.List.{count_by}
 use Rattle.std.specs.Option.{option_or}
 use Rattle.gate_tx.specs.declared.Coin.{Coin}
 use Rattle.gate_tx.specs.declared.TxIn.{TxIn}
@@ -8,33 +9,64 @@ use Rattle.gate_tx.specs.Ids.{txid_of, wtxid_of}
 use Rattle.gate_tx.specs.Sizes.{stripped_size_of, weight_of}
 use Rattle.gate_tx.specs.Tx.{Tx}
 use Rattle.gate_standard.specs.Amounts.{feerate, required_fee}
-use Rattle.gate_standard.specs.Outputs.{dust_threshold_of, is_dust}
+use Rattle.gate_script.specs.declared.Template.{Template}
+use Rattle.gate_script.specs.declared.Template.TheVariants.{NullData, Multisig, Nonstandard}
+use Rattle.gate_script.specs.Templates.{template_of}
+use Rattle.gate_inputs.specs.declared.Answers.{Answers}
+use Rattle.gate_standard.specs.Outputs.{carries_data, dust_threshold_of, is_dust}
+use Rattle.gate_standard.specs.declared.Standards.{Standards}
 use Rattle.gate_standard.specs.declared.Denial.{Denial}
-use Rattle.gate_standard.specs.declared.Denial.TheVariants.{Oversize, TxSize, Dust as BelowDust, TxSizeSmall, NonFinal, MempoolConflict, MissingOrSpent, PrematureSpend, InBelowOut, TooManySigops, MempoolMinFee, MinRelayFee, TooLongChain, LowerFeeRate, TooManyReplacements, LowerFee, LowerDifference, VerdictMissing, SoftVerdict, HardVerdict}
+use Rattle.gate_standard.specs.declared.Feerate.{Feerate}
+use Rattle.gate_standard.specs.declared.Denial.TheVariants.{Oversize, TxSize, ScriptPubKey, Dust as BelowDust, DataCarrier, MultiOpReturn, TxSizeSmall, NonFinal, MempoolConflict, MissingOrSpent, NonBip68Final, PrematureSpend, NonstandardInputs, WitnessNonstandard, InBelowOut, TooManySigops, MempoolMinFee, MinRelayFee, TooLongChain, LowerFeeRate, TooManyReplacements, LowerFee, LowerDifference, VerdictMissing, SoftVerdict, HardVerdict}
 use Rattle.gate_chain.specs.History.{History}
-use Rattle.gate_chain.specs.Times.{tip_of}
-use Rattle.gate_locks.specs.Locks.{median_at}
+use Rattle.gate_chain.specs.Times.{tip_of, mtp_of}
+use Rattle.gate_locks.specs.Locks.{is_by_time, is_disabled, median_at, span_of}
 use Rattle.gate_pool.specs.Pool.{Admitted, size_of, spender_of}
 use Rattle.gate_pool.specs.Family.{ancestors_above, conflicts_of, fees_of, replaced_of}
 use Rattle.gate_rbf.specs.Replacing.{descendant_count, signals}
 use Rattle.gate_submission.specs.declared.verdict.Verdict.{Verdict}
 use Rattle.gate_submission.specs.declared.verdict.Verdict.TheVariants.{Good}
 use Rattle.gate_admit.specs.Coins.{coins_of, view_coin}
-use Rattle.gate_admit.specs.Policies.{Policy, carve_out_size, most_ancestors}
-use Rattle.gate_admit.specs.Reports.{reported, sigop_cost, vsize_of}
+use Rattle.gate_admit.specs.Policies.{Policy, carve_out_size, feerate_by, incremental_feerate, most_ancestors, relay_feerate}
+use Rattle.gate_admit.specs.Reports.{has_relayed_witness, is_relayed, legacy_sigops, reported, sigop_cost, vsize_of}
 use Rattle.gate_admit.specs.Rules.{coins_value, is_immature, outputs_value}
 use Rattle.gate_admit.specs.Standing.{Standing}
 use Rattle.gate_admit.specs.Verdicts.{VerdictTable, verdict_of}
 use Rattle.gate_figures.specs.declared.figures.Figures.{Figures}
-use Rattle.gate_figures.specs.declared.figures.Figures.TheVariants.{Large, Small, Weighs, Dust, Final, Spent, NoCoin, Young, Balance, Costs, Pays, Ancestors, AncestorsSized, Outpaid, Descendants, Above, Input}
+use Rattle.gate_figures.specs.declared.figures.Figures.TheVariants.{Large, Small, Weighs, Script, BareMultisig, DataScript, DataOutputs, DataLeft, Dust, Final, Spent, NoCoin, Young, HeightLocked, TimeLocked, UntimedLocked, NonstandardSpend, LegacySigops, NonstandardWitness, Balance, Costs, Pays, Ancestors, AncestorsSized, Outpaid, Descendants, Above, Input}
 
 -- ---- outputs
 
 -- the first output that is dust at this rate, among outputs from this index on
-abbrev pub dust : ℕ → ℕ → List TxOut → Option Figures
+abbrev pub dust : Feerate → ℕ → List TxOut → Option Figures
 dust rate index [] = None
 dust rate index (output ∷ outputs) =
     if is_dust rate output then Some (Dust index output.value (dust_threshold_of rate output)) else dust rate (index + 1) outputs
+
+-- what is wrong with an output's script of this template and this size, at this index
+abbrev pub script_figures : Standards → ℕ → Template → ℕ → Option Figures
+script_figures standards index Nonstandard size = Some (Script index)
+script_figures standards index (Multisig required keys) size =
+    if standards.bare_multisig then if nat_le 1 keys && nat_le keys 3 then None else Some (Script index) else Some (BareMultisig index)
+script_figures standards index NullData size = if nat_le size standards.data_size then None else Some (DataScript index size standards.data_size)
+script_figures standards index template size = None
+
+-- the first output whose script is not standard, among outputs from this index on
+abbrev pub nonstandard : Standards → ℕ → List TxOut → Option Figures
+nonstandard standards index [] = None
+nonstandard standards index (output ∷ outputs) =
+    option_or (script_figures standards index (template_of output.script) (length output.script)) (nonstandard standards (index + 1) outputs)
+
+-- the first output whose script carries more data than is left of so many bytes, among outputs from this index on
+abbrev pub data_past : ℕ → ℕ → List TxOut → Option Figures
+data_past left index [] = None
+data_past left index (output ∷ outputs) =
+    if carries_data output then if nat_lt left (length output.script) then Some (DataLeft index (length output.script) left) else data_past (left - length output.script) (index + 1) outputs
+    else data_past left (index + 1) outputs
+
+abbrev pub data_past_total : Option ℕ → List TxOut → Option Figures
+data_past_total None outputs = None
+data_past_total (Some total) outputs = data_past total 0 outputs
 
 -- ---- coins
 
@@ -54,6 +86,57 @@ abbrev pub young : History → List Admitted → ℕ → List TxIn → Option Fi
 young chain entries index [] = None
 young chain entries index (input ∷ inputs) =
     option_or (young_by (tip_of chain + 1) index (view_coin chain entries input.prevout)) (young chain entries (index + 1) inputs)
+
+-- ---- relative locks
+
+-- a lock of so many blocks on a coin of this height, if the next height doesn't meet it
+abbrev pub height_locked : ℕ → ℕ → ℕ → ℕ → Option Figures
+height_locked next_height index span height =
+    if nat_le (height + span) next_height then None else Some (HeightLocked index (height + span - next_height))
+
+-- a lock of so many seconds from a second that may not be known, if it is not met now
+abbrev pub time_locked : ℕ → ℕ → ℕ → Option ℕ → Option Figures
+time_locked now index wait None = Some (UntimedLocked index)
+time_locked now index wait (Some start) = if nat_le (start + wait) now then None else Some (TimeLocked index (start + wait - now))
+
+-- the lock of the input at this index, if a coin of this height doesn't meet it
+unfoldable pub locked_by : History → ℕ → ℕ → ℕ → Option Figures
+locked_by chain index sequence height =
+    if is_disabled sequence then None
+    else if is_by_time sequence then time_locked (median_at chain (tip_of chain)) index (512 * span_of sequence) (mtp_of chain (height - 1))
+    else height_locked (tip_of chain + 1) index (span_of sequence) height
+
+abbrev pub locked_coin : History → ℕ → ℕ → Option Coin → Option Figures
+locked_coin chain index sequence None = None
+locked_coin chain index sequence (Some coin) = locked_by chain index sequence coin.height
+
+-- the first input whose relative lock is not met, among inputs from this index on
+abbrev pub locked : History → List Admitted → ℕ → List TxIn → Option Figures
+locked chain entries index [] = None
+locked chain entries index (input ∷ inputs) =
+    option_or (locked_coin chain index input.sequence (view_coin chain entries input.prevout)) (locked chain entries (index + 1) inputs)
+
+-- ---- reports
+
+-- the first input that spends what is not standard, by what is reported of the inputs from this index on
+abbrev pub nonstandard_spend : Bool → ℕ → List Answers → Option Figures
+nonstandard_spend anchors index [] = None
+nonstandard_spend anchors index (answers ∷ rest) =
+    if is_relayed anchors answers then nonstandard_spend anchors (index + 1) rest else Some (NonstandardSpend index)
+
+-- this many legacy signature operations, if they are more than a limit
+abbrev pub many_legacy : Option ℕ → ℕ → Option Figures
+many_legacy None count = None
+many_legacy (Some most) count = if nat_le count most then None else Some (LegacySigops count most)
+
+abbrev pub nonstandard_inputs : Policy → List Answers → Option Figures
+nonstandard_inputs policy answers = option_or (nonstandard_spend policy.anchors 0 answers) (many_legacy policy.legacy_sigops (legacy_sigops answers))
+
+-- the first input whose witness is not standard
+abbrev pub nonstandard_witness : Bool → ℕ → List Answers → Option Figures
+nonstandard_witness anchors index [] = None
+nonstandard_witness anchors index (answers ∷ rest) =
+    if has_relayed_witness anchors answers then nonstandard_witness anchors (index + 1) rest else Some (NonstandardWitness index)
 
 -- ---- entries that conflict with the transaction
 
@@ -111,12 +194,12 @@ abbrev pub vsize_at : ℕ → History → List Admitted → Tx → Option ℕ
 vsize_at sigop_size chain entries tx = sized sigop_size (cost_at chain entries tx) tx
 
 -- the fee that is paid, and the fee that a size needs at a feerate
-unfoldable pub pays : ℕ → ℕ → Option ℕ → Option Figures
+unfoldable pub pays : Feerate → ℕ → Option ℕ → Option Figures
 pays rate fee None = None
 pays rate fee (Some vsize) = Some (Pays fee (required_fee rate vsize))
 
 -- the fee that is paid, the fees of the entries that would be replaced, and what has to be paid above them at a feerate
-unfoldable pub pays_above : ℕ → ℕ → ℕ → Option ℕ → Option Figures
+unfoldable pub pays_above : Feerate → ℕ → ℕ → Option ℕ → Option Figures
 pays_above rate gone fee None = None
 pays_above rate gone fee (Some vsize) = Some (Above fee gone (required_fee rate vsize))
 
@@ -152,23 +235,29 @@ doubted verdicts wtxid index (input ∷ inputs) =
 unfoldable pub paying_figures : Standing → Tx → Denial → Option Figures
 paying_figures over tx InBelowOut = Some (Balance (coins_at over.chain over.entries tx) (outputs_value tx))
 paying_figures over tx TooManySigops = Some (Costs (cost_at over.chain over.entries tx))
-paying_figures over tx MempoolMinFee = pays over.floor (fee_at over.chain over.entries tx) (vsize_at over.policy.sigop_size over.chain over.entries tx)
-paying_figures over tx MinRelayFee = pays over.policy.relay_rate (fee_at over.chain over.entries tx) (vsize_at over.policy.sigop_size over.chain over.entries tx)
+paying_figures over tx MempoolMinFee = pays (feerate_by over.policy over.floor) (fee_at over.chain over.entries tx) (vsize_at over.policy.sigop_size over.chain over.entries tx)
+paying_figures over tx MinRelayFee = pays (relay_feerate over.policy) (fee_at over.chain over.entries tx) (vsize_at over.policy.sigop_size over.chain over.entries tx)
 paying_figures over tx TooLongChain = crowded over.policy (ancestors_above over.entries tx.inputs) (vsize_at over.policy.sigop_size over.chain over.entries tx)
 paying_figures over tx LowerFeeRate = outpaid_at over.entries (rate_at (fee_at over.chain over.entries tx) (vsize_at over.policy.sigop_size over.chain over.entries tx)) tx.inputs
 paying_figures over tx LowerFee = Some (Pays (fee_at over.chain over.entries tx) (fees_of (replaced_of over.entries tx)))
-paying_figures over tx LowerDifference = pays_above over.policy.incremental_rate (fees_of (replaced_of over.entries tx)) (fee_at over.chain over.entries tx) (vsize_at over.policy.sigop_size over.chain over.entries tx)
+paying_figures over tx LowerDifference = pays_above (incremental_feerate over.policy) (fees_of (replaced_of over.entries tx)) (fee_at over.chain over.entries tx) (vsize_at over.policy.sigop_size over.chain over.entries tx)
 paying_figures over tx other = None
 
 -- the figures by which a rule denies a transaction; a rule without figures has none
 unfoldable pub figures_of : Standing → Tx → Denial → Option Figures
 figures_of over tx Oversize = Some (Large (stripped_size_of tx))
 figures_of over tx TxSize = Some (Weighs (weight_of tx))
+figures_of over tx ScriptPubKey = nonstandard over.policy.standards 0 tx.outputs
+figures_of over tx MultiOpReturn = Some (DataOutputs (count_by carries_data tx.outputs) over.policy.standards.data_outputs)
+figures_of over tx DataCarrier = data_past_total over.policy.standards.data_total tx.outputs
 figures_of over tx BelowDust = dust over.policy.standards.dust_rate 0 tx.outputs
 figures_of over tx TxSizeSmall = Some (Small (stripped_size_of tx) over.policy.standards.least_size)
 figures_of over tx NonFinal = Some (Final tx.locktime (tip_of over.chain + 1) (median_at over.chain (tip_of over.chain)))
 figures_of over tx MempoolConflict = non_signalling over.entries 0 tx.inputs
 figures_of over tx MissingOrSpent = coinless over.chain over.entries 0 tx.inputs
+figures_of over tx NonBip68Final = locked over.chain over.entries 0 tx.inputs
+figures_of over tx NonstandardInputs = nonstandard_inputs over.policy (reported tx.inputs (coins_of over.chain over.entries tx.inputs))
+figures_of over tx WitnessNonstandard = nonstandard_witness over.policy.anchors 0 (reported tx.inputs (coins_of over.chain over.entries tx.inputs))
 figures_of over tx PrematureSpend = young over.chain over.entries 0 tx.inputs
 figures_of over tx TooManyReplacements = Some (Descendants (descendant_count over.entries (conflicts_of over.entries tx)))
 figures_of over tx VerdictMissing = doubted over.verdicts (wtxid_of tx) 0 tx.inputs

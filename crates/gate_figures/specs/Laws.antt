@@ -10,7 +10,7 @@ use Rattle.gate_admit.specs.Rules.{decision_of}
 use Rattle.gate_admit.specs.Standing.{Standing}
 use Rattle.gate_admit.specs.Verdicts.{verdict_of}
 use Rattle.gate_figures.specs.declared.figures.Figures.{Figures}
-use Rattle.gate_figures.specs.declared.figures.Figures.TheVariants.{Large, Small, Weighs, Dust, Final, Spent, NoCoin, Young, Balance, Costs, Pays, Ancestors, AncestorsSized, Outpaid, Descendants, Above, Input}
+use Rattle.gate_figures.specs.declared.figures.Figures.TheVariants.{Large, Small, Weighs, Script, BareMultisig, DataScript, DataOutputs, DataLeft, Dust, Final, Spent, NoCoin, Young, HeightLocked, TimeLocked, UntimedLocked, NonstandardSpend, LegacySigops, NonstandardWitness, Balance, Costs, Pays, Ancestors, AncestorsSized, Outpaid, Descendants, Above, Input}
 use Rattle.gate_figures.specs.Figures.{figures_of, is_good}
 
 -- figures are past what is allowed, and the policy allows no less than that, or below what is needed; an outpoint has no coin, or
@@ -19,11 +19,22 @@ abbrev pub Decide : Standing → Figures → Type 0
 Decide over (Large size) = 1000000 < size
 Decide over (Small size needs) = (needs ≤ over.policy.standards.least_size) × (size < needs)
 Decide over (Weighs weight) = 400000 < weight
+Decide over (Script output) = Unit {0}
+Decide over (BareMultisig output) = over.policy.standards.bare_multisig ≡ false
+Decide over (DataScript output size most) = (over.policy.standards.data_size ≤ most) × (most < size)
+Decide over (DataOutputs count most) = (over.policy.standards.data_outputs ≤ most) × (most < count)
+Decide over (DataLeft output size left) = left < size
 Decide over (Dust output value needs) = is_below value needs ≡ true
 Decide over (Final locktime height median) = threshold_of locktime height median ≤ locktime
 Decide over (Spent input by) = over.policy.full_rbf ≡ false
 Decide over (NoCoin input outpoint) = view_coin over.chain over.entries outpoint ≡ None
 Decide over (Young input height next) = next - height < 100
+Decide over (HeightLocked input blocks) = 0 < blocks
+Decide over (TimeLocked input seconds) = 0 < seconds
+Decide over (UntimedLocked input) = Unit {0}
+Decide over (NonstandardSpend input) = Unit {0}
+Decide over (LegacySigops count most) = (over.policy.legacy_sigops ≡ Some most) × (most < count)
+Decide over (NonstandardWitness input) = Unit {0}
 Decide over (Balance coins outputs) = coins < outputs
 Decide over (Costs cost) = 16000 < cost
 Decide over (Pays fee needs) = fee < needs

@@ -1,3 +1,4 @@
 pub mod Figures
 pub mod Explaining
 pub mod Laws
+pub mod Relatives

@@ -3,7 +3,7 @@ use gate_admit::Grant;
 use gate_standard::Denial;
 
 /// Why a submission is denied: the rule that decides, and its figures, if the rule has some.
-#[derive(Clone, Copy, Debug, PartialEq, Eq)]
+#[derive(Clone, Copy, PartialEq, Eq)]
 pub struct Explanation {
     pub denial: Denial,
     pub figures: Option<Figures>,

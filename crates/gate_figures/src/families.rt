@@ -56,6 +56,19 @@ pub(crate) fn crowded<S: BuildHasher + Copy + Drop>(
     Ok(None)
 }
 
+/// The ids of the entries that a transaction would replace: those that it conflicts with, and all that is below them.
+pub(crate) fn replaced<S: BuildHasher + Copy + Drop>(
+    alloc: Global,
+    pool: &Pool<S>,
+    tx: &Transaction,
+) -> Result<Vec<Txid>, Memory>
+    ensures { IfOk result (λ ids. AreIdsOf ids.items (replaced_of pool.now.entries tx.now)) }
+{
+    let ids = conflicts(alloc, pool, tx)?;
+    let found = descendants(alloc, pool, ids.as_slice(), pool.count())?;
+    Ok(found.unwrap())
+}
+
 /// The total fee of the entries that a transaction would replace, in satoshi.
 pub(crate) fn fees_gone<S: BuildHasher + Copy + Drop>(
     alloc: Global,
@@ -64,9 +77,7 @@ pub(crate) fn fees_gone<S: BuildHasher + Copy + Drop>(
 ) -> Result<u128, Memory>
     ensures { IfOk result (λ fees. fees ≡ fees_of (replaced_of pool.now.entries tx.now)) }
 {
-    let ids = conflicts(alloc, pool, tx)?;
-    let found = descendants(alloc, pool, ids.as_slice(), pool.count())?;
-    let gone = found.unwrap();
+    let gone = replaced(alloc, pool, tx)?;
     Ok(add_up(pool, gone.as_slice()).fees)
 }
 

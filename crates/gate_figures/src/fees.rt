@@ -10,7 +10,7 @@ use crate::figures::Figures;
 use gate_admit::{Chain, LentCoin, Policy, Pool, outputs_value, sigop_cost, vsize_of};
 use gate_bytes::Memory;
 use gate_inputs::{Answers, answers};
-use gate_standard::fee_at;
+use gate_standard::Feerate;
 use gate_tx::{Identified, TxIn};
 use std::alloc::Global;
 use std::hash::BuildHasher;
@@ -54,7 +54,11 @@ fn coins_value(coins: &[LentCoin<'_>]) -> u128
 }
 
 /// What is reported of each input with its coin.
-fn reported(alloc: Global, inputs: &[TxIn], coins: &[LentCoin<'_>]) -> Result<Vec<Answers>, Memory>
+pub(crate) fn reported(
+    alloc: Global,
+    inputs: &[TxIn],
+    coins: &[LentCoin<'_>],
+) -> Result<Vec<Answers>, Memory>
     requires { length coins.now ≤ length inputs.now }
     ensures reported { IfOk result (λ found. found.items ≡ reported inputs.now coins.now) }
     ensures few { IfOk result (λ found. length found.items ≤ length inputs.now) }
@@ -112,19 +116,24 @@ impl Price {
 
 /// The figures of a fee that is paid: the fee, and the fee that a size needs at a feerate.
 #[tactic(auto, unfolding(crate::specs::Figures::pays))]
-pub(crate) fn pays(rate: u64, fee: u128, vsize: Option<u64>) -> Option<Figures>
+pub(crate) fn pays(rate: Feerate, fee: u128, vsize: Option<u64>) -> Option<Figures>
     ensures { result ≡ pays rate fee vsize }
 {
-    let needs = fee_at(rate, vsize?);
+    let needs = rate.fee(vsize?);
     Some(Figures::Pays { fee, needs })
 }
 
 /// The figures of a fee that is paid: the fee, the fees of the entries that would be replaced, and what has to be paid
 /// above them at a feerate.
 #[tactic(auto, unfolding(crate::specs::Figures::pays_above))]
-pub(crate) fn pays_above(rate: u64, gone: u128, fee: u128, vsize: Option<u64>) -> Option<Figures>
+pub(crate) fn pays_above(
+    rate: Feerate,
+    gone: u128,
+    fee: u128,
+    vsize: Option<u64>,
+) -> Option<Figures>
     ensures { result ≡ pays_above rate gone fee vsize }
 {
-    let needs = fee_at(rate, vsize?);
+    let needs = rate.fee(vsize?);
     Some(Figures::Above { fee, gone, needs })
 }

@@ -3,7 +3,7 @@ use gate_tx::{OutPoint, Txid, Wtxid};
 use std::fmt;
 
 /// The figures by which a rule denies a transaction.
-#[derive(Clone, Copy, Debug, PartialEq, Eq)]
+#[derive(Clone, Copy, PartialEq, Eq)]
 pub enum Figures {
     /// The transaction's size without witnesses, in bytes, which is too large.
     Large {
@@ -17,6 +17,31 @@ pub enum Figures {
     /// The transaction's weight, which is too large.
     Weighs {
         weight: usize,
+    },
+    /// An output whose script is of no kind that is standard.
+    Script {
+        output: usize,
+    },
+    /// An output whose script asks for signatures of several keys, where the policy permits none.
+    BareMultisig {
+        output: usize,
+    },
+    /// An output whose script carries data, the size of that script, and how large it may be, in bytes.
+    DataScript {
+        output: usize,
+        size: usize,
+        most: u64,
+    },
+    /// How many outputs carry data, and how many may.
+    DataOutputs {
+        count: usize,
+        most: u64,
+    },
+    /// An output whose script carries data, the size of that script, and how many bytes the outputs before it left.
+    DataLeft {
+        output: usize,
+        size: u64,
+        left: u64,
     },
     /// An output, its value, and the value that it needs, in satoshi.
     Dust {
@@ -45,6 +70,33 @@ pub enum Figures {
         input: usize,
         height: u32,
         next: u32,
+    },
+    /// An input, and how many blocks more its relative lock asks for.
+    HeightLocked {
+        input: usize,
+        blocks: u64,
+    },
+    /// An input, and how many seconds more of median time past its relative lock asks for.
+    TimeLocked {
+        input: usize,
+        seconds: u64,
+    },
+    /// An input whose relative lock is by time, and whose coin is older than the block times that are known.
+    UntimedLocked {
+        input: usize,
+    },
+    /// An input that spends a coin whose script, or whose redeem script, is not standard.
+    NonstandardSpend {
+        input: usize,
+    },
+    /// How many legacy signature operations the transaction has, and how many it may have.
+    LegacySigops {
+        count: u128,
+        most: u64,
+    },
+    /// An input whose witness is not standard.
+    NonstandardWitness {
+        input: usize,
     },
     /// The total value of the transaction's coins, and that of its outputs, in satoshi.
     Balance {
@@ -105,6 +157,24 @@ impl fmt::Display for Figures {
                 write!(f, "{size} bytes without witnesses, needs {needs}")
             }
             Figures::Weighs { weight } => write!(f, "weight {weight}, 400000 allowed"),
+            Figures::Script { output } => {
+                write!(f, "output {output}: its script is not standard")
+            }
+            Figures::BareMultisig { output } => write!(
+                f,
+                "output {output}: a multisig script, and permitbaremultisig is 0"
+            ),
+            Figures::DataScript { output, size, most } => write!(
+                f,
+                "output {output}: a data script of {size} bytes, {most} allowed"
+            ),
+            Figures::DataOutputs { count, most } => {
+                write!(f, "{count} outputs carry data, {most} allowed")
+            }
+            Figures::DataLeft { output, size, left } => write!(
+                f,
+                "output {output}: a data script of {size} bytes, {left} left"
+            ),
             Figures::Dust {
                 output,
                 value,
@@ -134,6 +204,28 @@ impl fmt::Display for Figures {
                 f,
                 "input {input}: a coinbase of height {height}, next height {next}"
             ),
+            Figures::HeightLocked { input, blocks } => {
+                write!(f, "input {input}: locked for {blocks} more blocks")
+            }
+            Figures::TimeLocked { input, seconds } => write!(
+                f,
+                "input {input}: locked for {seconds} more seconds of median time past"
+            ),
+            Figures::UntimedLocked { input } => write!(
+                f,
+                "input {input}: locked by time, and its coin is older than the block times of the opening"
+            ),
+            Figures::NonstandardSpend { input } => write!(
+                f,
+                "input {input}: the script of its coin, or its redeem script, is not standard"
+            ),
+            Figures::LegacySigops { count, most } => write!(
+                f,
+                "{count} legacy signature operations, {most} allowed"
+            ),
+            Figures::NonstandardWitness { input } => {
+                write!(f, "input {input}: its witness is not standard")
+            }
             Figures::Balance { coins, outputs } => {
                 write!(f, "coins of {coins}, outputs of {outputs}")
             }

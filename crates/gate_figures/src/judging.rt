@@ -12,7 +12,9 @@ use crate::explanation::{Explained, Explanation};
 use crate::families::{crowded, descendant_count, fees_gone};
 use crate::fees::{Price, pays, pays_above};
 use crate::figures::Figures;
-use crate::outputs::dust;
+use crate::locks::locked;
+use crate::outputs::{carriers, data_past, dust, nonstandard};
+use crate::reports::{nonstandard_inputs, nonstandard_witness};
 use crate::rivals::{non_signalling, outpaid_at, rate_at};
 use crate::verdicts::doubted;
 use gate_admit::{Prepared, judge, tip_median};
@@ -44,8 +46,12 @@ fn paying_figures<S: BuildHasher + Copy + Drop>(
             outputs: price.outputs,
         })),
         Denial::TooManySigops => Ok(Some(Figures::Costs { cost: price.cost })),
-        Denial::MempoolMinFee => Ok(pays(state.floor().rate(), price.fee, price.vsize)),
-        Denial::MinRelayFee => Ok(pays(policy.relay_rate(), price.fee, price.vsize)),
+        Denial::MempoolMinFee => Ok(pays(
+            policy.feerate(state.floor().rate()),
+            price.fee,
+            price.vsize,
+        )),
+        Denial::MinRelayFee => Ok(pays(policy.relay_feerate(), price.fee, price.vsize)),
         Denial::TooLongChain => crowded(alloc, policy, pool, inputs, price.vsize),
         Denial::LowerFeeRate => Ok(outpaid_at(pool, inputs, rate_at(price.fee, price.vsize))),
         Denial::LowerFee => Ok(Some(Figures::Pays {
@@ -54,7 +60,7 @@ fn paying_figures<S: BuildHasher + Copy + Drop>(
         })),
         Denial::LowerDifference => {
             let gone = fees_gone(alloc, pool, transaction)?;
-            let rate = policy.incremental_rate();
+            let rate = policy.incremental_feerate();
             Ok(pays_above(rate, gone, price.fee, price.vsize))
         }
         _ => Ok(None),
@@ -75,7 +81,8 @@ fn figures_of<S: BuildHasher + Copy + Drop>(
     let inputs = transaction.inputs();
     let chain = state.chain();
     let pool = state.pool();
-    let standards = state.policy().standards();
+    let policy = state.policy();
+    let standards = policy.standards();
     match denial {
         Denial::Oversize => Ok(Some(Figures::Large {
             size: transaction.stripped_size(),
@@ -84,7 +91,16 @@ fn figures_of<S: BuildHasher + Copy + Drop>(
             size: transaction.stripped_size(),
             needs: standards.least_size,
         })),
+        Denial::ScriptPubKey => Ok(nonstandard(&standards, transaction.outputs())),
         Denial::Dust => Ok(dust(standards.dust_rate, transaction.outputs())),
+        Denial::DataCarrier => match standards.data_total {
+            Some(total) => Ok(data_past(total, transaction.outputs())),
+            None => Ok(None),
+        },
+        Denial::MultiOpReturn => Ok(Some(Figures::DataOutputs {
+            count: carriers(transaction.outputs()),
+            most: standards.data_outputs,
+        })),
         Denial::TxSize => Ok(Some(Figures::Weighs {
             weight: tx.weight(),
         })),
@@ -98,7 +114,10 @@ fn figures_of<S: BuildHasher + Copy + Drop>(
         Denial::VerdictMissing | Denial::SoftVerdict | Denial::HardVerdict => {
             Ok(doubted(state.verdicts(), tx))
         }
+        Denial::NonBip68Final => Ok(locked(chain, pool, inputs)),
         Denial::PrematureSpend => Ok(young(chain, pool, inputs)),
+        Denial::NonstandardInputs => nonstandard_inputs(alloc, policy, chain, pool, inputs),
+        Denial::WitnessNonstandard => nonstandard_witness(alloc, policy, chain, pool, inputs),
         Denial::TooManyReplacements => Ok(Some(Figures::Descendants {
             count: descendant_count(alloc, pool, transaction)?,
         })),

@@ -10,11 +10,18 @@ mod fees;
 mod figures;
 mod judging;
 mod laws;
+mod least;
+mod locks;
 mod outputs;
+mod relating;
+mod reports;
 mod rivals;
+mod room;
 mod verdicts;
 
 pub use explanation::{Explained, Explanation};
 pub use figures::Figures;
 pub use judging::explain;
 pub use laws::figures_decide;
+pub use least::least_fee;
+pub use relating::{Relatives, relatives_in};

@@ -1,11 +1,12 @@
-//! The output that is dust.
+//! The output that is not standard, the one whose data don't fit, and the one that is dust.
 ghost use Rattle.std.specs.Prelude.{◌≡◌};
+ghost use Rattle.std.specs.List.{count_by};
 ghost use Rattle.gate_standard.specs.Outputs.{carries_data, is_dust};
-ghost use Rattle.gate_figures.specs.Figures.{dust};
+ghost use Rattle.gate_figures.specs.Figures.{data_past, dust, nonstandard, script_figures};
 
 use crate::figures::Figures;
 use gate_script::{Template, template};
-use gate_standard::dust_threshold;
+use gate_standard::{Feerate, Standards, dust_threshold};
 use gate_tx::TxOut;
 
 #[tactic(auto, unfolding(gate_standard::specs::Outputs::carries_data))]
@@ -17,7 +18,7 @@ fn carries_data(output: &TxOut) -> bool
 
 /// Whether an output is worth less than it has to be at this rate.
 #[tactic(auto, unfolding(gate_standard::specs::Outputs::is_dust))]
-fn is_dust(rate: u64, output: &TxOut) -> bool
+fn is_dust(rate: Feerate, output: &TxOut) -> bool
     ensures { result ≡ is_dust rate output.now }
 {
     if carries_data(output) {
@@ -26,8 +27,8 @@ fn is_dust(rate: u64, output: &TxOut) -> bool
     output.value < 0 || (output.value as u128) < dust_threshold(rate, output)
 }
 
-/// The first output that is dust at this rate, in satoshi per 1,000 bytes.
-pub(crate) fn dust(rate: u64, outputs: &[TxOut]) -> Option<Figures>
+/// The first output that is dust at this rate for 1,000 bytes.
+pub(crate) fn dust(rate: Feerate, outputs: &[TxOut]) -> Option<Figures>
     ensures { result ≡ dust rate 0 outputs.now }
 {
     for output in 0..outputs.len() {
@@ -38,6 +39,77 @@ pub(crate) fn dust(rate: u64, outputs: &[TxOut]) -> Option<Figures>
                 value: found.value,
                 needs: dust_threshold(rate, found),
             });
+        }
+    }
+    None
+}
+
+/// The figures of an output's script of this template and this size in bytes, if it is not standard.
+fn script_figures(
+    standards: &Standards,
+    output: usize,
+    template: Template,
+    size: usize,
+) -> Option<Figures>
+    ensures { result ≡ script_figures standards.now output template size }
+{
+    let most = standards.data_size;
+    match template {
+        Template::Nonstandard => Some(Figures::Script { output }),
+        Template::Multisig { .. } if !standards.bare_multisig => {
+            Some(Figures::BareMultisig { output })
+        }
+        Template::Multisig { keys, .. } if keys == 0 || keys > 3 => {
+            Some(Figures::Script { output })
+        }
+        Template::NullData if size as u64 > most => Some(Figures::DataScript {
+            output,
+            size,
+            most,
+        }),
+        _ => None,
+    }
+}
+
+/// The first output whose script is not standard.
+pub(crate) fn nonstandard(standards: &Standards, outputs: &[TxOut]) -> Option<Figures>
+    ensures { result ≡ nonstandard standards.now 0 outputs.now }
+{
+    for output in 0..outputs.len() {
+        let script = outputs[output].script.as_slice();
+        if let Some(found) = script_figures(standards, output, template(script), script.len()) {
+            return Some(found);
+        }
+    }
+    None
+}
+
+/// How many outputs carry data.
+pub(crate) fn carriers(outputs: &[TxOut]) -> usize
+    ensures { result ≡ count_by carries_data outputs.now }
+{
+    let mut count = 0;
+    for output in outputs {
+        match carries_data(output) {
+            true => count += 1,
+            false => {}
+        }
+    }
+    count
+}
+
+/// The first output whose script carries more data than the outputs before it left of so many bytes.
+pub(crate) fn data_past(total: u64, outputs: &[TxOut]) -> Option<Figures>
+    ensures { result ≡ data_past total 0 outputs.now }
+{
+    let mut left = total;
+    for output in 0..outputs.len() {
+        if carries_data(&outputs[output]) {
+            let size = outputs[output].script.len() as u64;
+            if size > left {
+                return Some(Figures::DataLeft { output, size, left });
+            }
+            left -= size;
         }
     }
     None

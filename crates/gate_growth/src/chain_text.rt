@@ -25,8 +25,14 @@ fn push_times(text: &mut String, time: Option<u32>, mtp: Option<u32>) -> Result<
 }
 
 /// The coin at an outpoint.
-fn push_coin(text: &mut String, coin: Option<&Coin>) -> Result<(), Memory> {
-    write!(text, "{coin:?}\n")?;
+pub(crate) fn push_coin(text: &mut String, coin: Option<&Coin>) -> Result<(), Memory> {
+    let Some(coin) = coin else {
+        text.push_str("no coin\n")?;
+        return Ok(());
+    };
+    let (value, height, coinbase) = (coin.value, coin.height, coin.coinbase);
+    let script = coin.script.as_slice();
+    write!(text, "coin {value} {height} {coinbase} {script:?}\n")?;
     Ok(())
 }
 
@@ -92,7 +98,13 @@ fn push_learnt_coin(
 }
 
 fn push_verdict(text: &mut String, verdict: Option<Verdict>) -> Result<(), Memory> {
-    write!(text, "{verdict:?}\n")?;
+    let word = match verdict {
+        Some(Verdict::Good) => "good\n",
+        Some(Verdict::Soft) => "soft\n",
+        Some(Verdict::Hard) => "hard\n",
+        None => "no verdict\n",
+    };
+    text.push_str(word)?;
     Ok(())
 }
 

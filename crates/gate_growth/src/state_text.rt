@@ -1,5 +1,5 @@
 //! What is seen of a state, as text.
-use crate::chain_text::{push_chain, push_named};
+use crate::chain_text::{push_chain, push_coin, push_named};
 use crate::colliding::Colliding;
 use crate::events::Events;
 use crate::pool_text::push_pool;
@@ -24,13 +24,19 @@ fn push_limits(text: &mut String, floor: u64, budget: u64) -> Result<(), Memory>
 
 /// What the operator may turn on and off.
 fn push_switches(text: &mut String, switches: &Switches) -> Result<(), Memory> {
-    write!(text, "{switches:?}\n")?;
+    let Switches {
+        bloom,
+        upload,
+        historic,
+        download,
+    } = *switches;
+    write!(text, "switches {bloom} {upload} {historic} {download}\n")?;
     Ok(())
 }
 
 fn push_each_coin(text: &mut String, coins: &[Option<Coin>]) -> Result<(), Memory> {
     for coin in coins {
-        write!(text, "{coin:?}\n")?;
+        push_coin(text, coin.as_ref())?;
     }
     Ok(())
 }
@@ -46,8 +52,14 @@ fn push_coins(
     push_each_coin(text, coins.as_slice())
 }
 
-fn push_session(text: &mut String, session: &Option<Session>) -> Result<(), Memory> {
-    write!(text, "{session:?}\n")?;
+fn push_session(alloc: Global, text: &mut String, session: &Option<Session>) -> Result<(), Memory> {
+    let Some(session) = session else {
+        text.push_str("no session\n")?;
+        return Ok(());
+    };
+    let (is_open, rate) = (session.is_open, session.rate);
+    let flags = session.flags.text(alloc)?;
+    write!(text, "session {is_open} {rate} {flags}\n")?;
     Ok(())
 }
 
@@ -64,7 +76,7 @@ fn push_event(
     }
     push_named(text, state, event)?;
     if let Caller::Peer(peer) = event.caller(alloc)? {
-        push_session(text, &state.session(peer))?;
+        push_session(alloc, text, &state.session(peer))?;
     }
     Ok(())
 }

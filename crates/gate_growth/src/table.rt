@@ -149,7 +149,16 @@ fn push_calls(alloc: Global, text: &mut String, calls: &[Made]) -> Result<(), Me
 
 /// The number of a pass, and whose it is.
 fn push_owner(text: &mut String, number: u64, caller: &Caller) -> Result<(), Memory> {
-    write!(text, "pass {number} {caller:?}\n")?;
+    write!(text, "pass {number} ")?;
+    match caller {
+        Caller::Peer(peer) => write!(text, "peer {peer}\n")?,
+        Caller::User(name) => {
+            let name = name.as_str();
+            write!(text, "user {name}\n")?
+        }
+        Caller::Operator => text.push_str("operator\n")?,
+        Caller::Chain => text.push_str("chain\n")?,
+    }
     Ok(())
 }
 

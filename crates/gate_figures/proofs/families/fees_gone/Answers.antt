@@ -1,24 +1,11 @@
-use Rattle.std.proofs.Common.{ap, sym, subst, List, ℕ, Option, arith}
-use Rattle.std.specs.Prelude.{IfSome, Vec}
+use Rattle.std.proofs.Common.{ap, sym, subst, List, ℕ}
 use Rattle.gate_graph.specs.declared.held.Sums.{Sums}
-use Rattle.gate_pool.specs.Family.{is_conflict, is_below_some, conflicts_of, all_below, AreIdsOf}
-use Rattle.gate_pool.proofs.Walking.{shorter}
-use Rattle.gate_rbf.proofs.Rivals.{some_unless_none}
+use Rattle.gate_pool.specs.Family.{is_conflict, is_below_some, all_below, AreIdsOf}
 use Rattle.gate_figures.proofs.families.fees_gone.Goals as goal
-
-pub unwrap-gone-requires : goal.unwrap-gone-requires
-unwrap-gone-requires g c =
-    let entries = c.args.pool.now.entries in
-    let tx = c.args.tx.now in
-    let are = subst (λ (l : List (List ℕ)). AreIdsOf l (conflicts_of entries tx)) (sym c.as_slice.ensures.value) c.in_ok-ids.ensures in
-    some_unless_none c.in_ok-found.found (λ none.
-    absurd (omega (arith, c.in_ok-found.ensures.many (is_conflict tx) are none, c.count.ensures, shorter (is_below_some (is_conflict tx) entries) entries)))
 
 pub returns : goal.returns
 returns g c =
     let entries = c.args.pool.now.entries in
     let tx = c.args.tx.now in
-    let are = subst (λ (l : List (List ℕ)). AreIdsOf l (conflicts_of entries tx)) (sym c.as_slice.ensures.value) c.in_ok-ids.ensures in
-    let gone = subst (λ (o : Option (Vec (List ℕ) _)). IfSome o (λ ids. AreIdsOf ids.items (all_below (is_conflict tx) entries))) c.unwrap-gone.ensures (c.in_ok-found.ensures.found (is_conflict tx) are) in
     ap (λ (s : Sums). s.fees) (c.add_up.ensures.sums (is_below_some (is_conflict tx) entries)
-    (subst (λ (l : List (List ℕ)). AreIdsOf l (all_below (is_conflict tx) entries)) (sym c.as_slice-2.ensures.value) gone))
+    (subst (λ (l : List (List ℕ)). AreIdsOf l (all_below (is_conflict tx) entries)) (sym c.as_slice.ensures.value) c.in_ok-gone.ensures))

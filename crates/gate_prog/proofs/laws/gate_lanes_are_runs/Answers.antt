@@ -1,5 +1,0 @@
-use Rattle.gate_prog.proofs.AuditedLanes.{gate_lanes_are_runs}
-use Rattle.gate_prog.proofs.laws.gate_lanes_are_runs.Goals as goal
-
-pub returns : goal.returns
-returns c = gate_lanes_are_runs

@@ -1,0 +1,3 @@
+pub mod AuditRefusals
+pub mod RulesTold
+pub mod SettingsTold

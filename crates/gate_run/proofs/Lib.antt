@@ -1,0 +1,6 @@
+pub mod Refusals
+pub mod GateRuns
+pub mod LedLanes
+pub mod FaultedLanes
+pub mod GateRunning
+pub mod Outcomes

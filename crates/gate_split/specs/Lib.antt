@@ -1,0 +1,4 @@
+pub mod Parts
+pub mod Splitting
+pub mod Examples
+pub mod PartedLines

@@ -1,0 +1,59 @@
+-- The text of an opening and of events that tries transactions one after another.
+use Rattle.std.specs.Prelude.{ℕ, ◌+◌, ◌-◌, ◌==◌, Bool, true, false, if◌then◌else◌, List, ◌++◌, codes, length}
+use Rattle.std.specs.Borrow.{Bor}
+use Rattle.std.specs.Fmt.{decimal}
+use Rattle.std.specs.List.{flat_map}
+use Rattle.gate_try.specs.declared.trial.Trial.{Trial}
+use Rattle.gate_try.specs.declared.trial.TrialCoin.{TrialCoin}
+
+-- the times of the tip's block, at this second, and of ten blocks before it, as far as there are so many
+abbrev pub opening_head : ℕ → ℕ → List ℕ
+opening_head tip time =
+    codes "from " ++ (decimal (tip - 10) ++ (codes "\ntimes " ++ (decimal (tip - (tip - 10) + 1) ++ (codes " " ++ (decimal (time - 6000) ++ codes " 600\n")))))
+
+abbrev pub kind_word : Bool → List ℕ
+kind_word is_coinbase = if is_coinbase then codes "cb" else codes "plain"
+
+abbrev pub coin_line : TrialCoin → List ℕ
+coin_line coin =
+    codes "coin " ++ (coin.txid.now ++ (codes " " ++ (coin.index.now ++ (codes " " ++ (coin.value.now ++ (codes " " ++ (coin.height.now ++ (
+    codes " " ++ (kind_word coin.is_coinbase ++ (codes " " ++ (coin.script.now ++ codes "\n")))))))))))
+
+abbrev pub coin_lines : List TrialCoin → List ℕ
+coin_lines coins = flat_map coin_line coins
+
+-- a peer sends a transaction at this second
+abbrev pub peer_line : ℕ → List ℕ → List ℕ
+peer_line time transaction = codes "peer 1 tx " ++ (decimal time ++ (codes " " ++ (transaction ++ codes "\n")))
+
+abbrev pub sent_lines : ℕ → List (Bor (List ℕ)) → List ℕ
+sent_lines time transactions = flat_map (λ (tx : Bor (List ℕ)). peer_line time tx.now) transactions
+
+-- a peer enters, and sends them
+abbrev pub peer_lines : ℕ → List (Bor (List ℕ)) → List ℕ
+peer_lines time transactions = codes "peer 1 enter 127.0.0.1\n" ++ sent_lines time transactions
+
+-- a user sends a transaction at this second, or only asks whether it would be taken
+abbrev pub call_line : ℕ → List ℕ → Bool → List ℕ
+call_line time transaction true =
+    codes "user try rpc " ++ (decimal time ++ (codes " {\"id\":1,\"method\":\"testmempoolaccept\",\"params\":[[\"" ++ (transaction ++ codes "\"]]}\n")))
+call_line time transaction false =
+    codes "user try rpc " ++ (decimal time ++ (codes " {\"id\":1,\"method\":\"sendrawtransaction\",\"params\":[\"" ++ (transaction ++ codes "\"]}\n")))
+
+-- a user sends them, or only asks if there is one alone
+abbrev pub call_lines : ℕ → List (Bor (List ℕ)) → List ℕ
+call_lines time transactions = flat_map (λ (tx : Bor (List ℕ)). call_line time tx.now (length transactions == 1)) transactions
+
+-- every input has this verdict, and the opening ends
+abbrev pub verdict_line : List ℕ → List ℕ
+verdict_line verdict = codes "verdict * " ++ (verdict ++ codes "\n---\n")
+
+abbrev pub opening_lines : Trial → List ℕ
+opening_lines trial = opening_head trial.tip trial.time ++ (coin_lines trial.coins.items ++ verdict_line trial.verdict.now)
+
+abbrev pub event_lines : Trial → List ℕ
+event_lines trial = if trial.json then call_lines trial.time trial.transactions.items else peer_lines trial.time trial.transactions.items
+
+-- the text of a trial
+abbrev pub trial_text : Trial → List ℕ
+trial_text trial = opening_lines trial ++ event_lines trial

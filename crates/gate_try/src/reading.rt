@@ -1,0 +1,132 @@
+//! The words of a trial.
+use crate::fault::TrialFault;
+use crate::trial::{Trial, TrialCoin};
+use gate_lines::read_small_number;
+use std::alloc::{AllocError, Global};
+
+/// The words of `--coin`.
+const COIN: &str = "TXID:N,VALUE,HEIGHT,SCRIPT";
+
+fn usage(text: Result<String, AllocError>) -> TrialFault {
+    match text {
+        Ok(text) => TrialFault::Usage(text),
+        Err(_) => TrialFault::Memory,
+    }
+}
+
+/// The number that a word behind an option says.
+fn number_in(alloc: Global, option: &str, word: &str, what: &str) -> Result<u32, TrialFault> {
+    match read_small_number(word) {
+        Some(number) => Ok(number),
+        None => Err(usage(format!(in alloc; "\"{word}\" behind {option} is not {what}"))),
+    }
+}
+
+/// `TXID:N,VALUE,HEIGHT,SCRIPT`, and `,cb` behind it for a coin of a coinbase.
+fn coin_in<'a>(alloc: Global, word: &'a str) -> Result<TrialCoin<'a>, TrialFault> {
+    let mut parts = word.split(',');
+    let outpoint = parts.next().unwrap_or("");
+    let (Some(value), Some(height), Some(script)) = (parts.next(), parts.next(), parts.next())
+    else {
+        return Err(usage(format!(in alloc; "\"{word}\" is no coin; expected {COIN}")));
+    };
+    let is_coinbase = match parts.next() {
+        None => false,
+        Some("cb") => true,
+        Some(other) => {
+            return Err(usage(format!(in alloc;
+                "\"{other}\" behind a coin is unknown; expected cb, for a coin of a coinbase"
+            )));
+        }
+    };
+    let is_whole = parts.next().is_none();
+    match outpoint.split_once(':') {
+        Some((txid, index)) if is_whole => Ok(TrialCoin {
+            txid,
+            index,
+            value,
+            height,
+            script,
+            is_coinbase,
+        }),
+        _ => Err(usage(format!(in alloc; "\"{word}\" is no coin; expected {COIN}"))),
+    }
+}
+
+/// Whether a word is a verdict on scripts.
+fn is_verdict(word: &str) -> bool {
+    word == "ok" || word == "soft" || word == "hard"
+}
+
+/// Takes an option with its value into a trial.
+fn take_option<'a>(
+    alloc: Global,
+    trial: &mut Trial<'a>,
+    option: &str,
+    value: &'a str,
+) -> Result<(), TrialFault> {
+    match option {
+        "--coin" => trial.coins.push(coin_in(alloc, value)?)?,
+        "--tip" => trial.tip = number_in(alloc, option, value, "a height")?,
+        "--time" => trial.time = number_in(alloc, option, value, "a second since 1970")?,
+        _ => {
+            if !is_verdict(value) {
+                return Err(usage(format!(in alloc;
+                    "\"{value}\" behind {option} is unknown; expected ok, soft or hard"
+                )));
+            }
+            trial.verdict = value;
+        }
+    }
+    Ok(())
+}
+
+/// Whether a word has white space, which would end a word or a line of the text.
+fn has_space(word: &str) -> bool {
+    word.chars().any(|character| character.is_whitespace())
+}
+
+fn takes_value(option: &str) -> bool {
+    option == "--coin" || option == "--tip" || option == "--time" || option == "--verdict"
+}
+
+/// Reads the words behind `try` as a trial, at this second if they name none. `--tip` and a transaction have to be there.
+pub fn read_trial<'a>(alloc: Global, words: &[&'a str], now: u32) -> Result<Trial<'a>, TrialFault> {
+    let mut trial = Trial::new(alloc, now);
+    let mut has_tip = false;
+    let mut place = 0;
+    while place < words.len() {
+        let word = words[place];
+        place += 1;
+        if has_space(word) {
+            return Err(usage(format!(in alloc; "\"{word}\" is more than one word")));
+        }
+        if word == "--json" {
+            trial.json = true;
+        } else if takes_value(word) {
+            if place >= words.len() {
+                return Err(usage(format!(in alloc; "a value is required for {word}")));
+            }
+            let value = words[place];
+            place += 1;
+            if has_space(value) {
+                return Err(usage(format!(in alloc; "\"{value}\" is more than one word")));
+            }
+            has_tip = has_tip || word == "--tip";
+            take_option(alloc, &mut trial, word, value)?;
+        } else if word.starts_with('-') {
+            return Err(usage(format!(in alloc; "unexpected option {word}")));
+        } else {
+            trial.transactions.push(word)?;
+        }
+    }
+    if trial.transactions.is_empty() {
+        return Err(usage(format!(in alloc; "a transaction is required, in hexadecimal digits")));
+    }
+    if !has_tip {
+        return Err(usage(format!(in alloc;
+            "--tip is required: the height of the chain's last block"
+        )));
+    }
+    Ok(trial)
+}

@@ -1,0 +1,46 @@
+//! What is tried.
+use std::alloc::Global;
+
+/// A coin that transactions may spend, by its words.
+#[derive(Clone, Copy)]
+pub struct TrialCoin<'a> {
+    pub txid: &'a str,
+    pub index: &'a str,
+    /// In satoshi.
+    pub value: &'a str,
+    pub height: &'a str,
+    /// In hexadecimal digits.
+    pub script: &'a str,
+    pub is_coinbase: bool,
+}
+
+/// Transactions that are tried one after another, and what they are tried on.
+#[derive(Drop)]
+pub struct Trial<'a> {
+    /// Each in hexadecimal digits, parents first.
+    pub transactions: Vec<&'a str>,
+    pub coins: Vec<TrialCoin<'a>>,
+    /// The height of the tip.
+    pub tip: u32,
+    /// The second at which they are tried, since 1970. It is the tip's block time too, and the ten blocks before it are 600
+    /// seconds apart.
+    pub time: u32,
+    /// The verdict on each input: `ok`, `soft` or `hard`.
+    pub verdict: &'a str,
+    /// Whether they are sent by a user, whose answers are JSON, and not by a peer.
+    pub json: bool,
+}
+
+impl<'a> Trial<'a> {
+    /// A trial of nothing yet, with good scripts, at height 0 and this second.
+    pub(crate) fn new(alloc: Global, time: u32) -> Trial<'a> {
+        Trial {
+            transactions: Vec::new(alloc),
+            coins: Vec::new(alloc),
+            tip: 0,
+            time,
+            verdict: "ok",
+            json: false,
+        }
+    }
+}
