@@ -1,11 +1,7 @@
-//! Tests of calls by RPC and of the answers that they get, and of decisions with reports at hand.
+//! Tests of a submission by one call, of copies of requests, and of the words for texts that are none.
 #![tactic(auto)]
 
 #[cfg(test)]
-mod queries;
-#[cfg(test)]
-mod reports;
-#[cfg(test)]
-mod rpc;
+mod requests;
 #[cfg(test)]
 mod submitting;

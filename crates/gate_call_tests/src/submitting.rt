@@ -1,9 +1,8 @@
-//! Submissions that are judged and entered at once, with and without reports that were made beforehand.
+//! A submission that is judged and entered by one call, which no part of the gate makes.
 use gate_admit::{
-    Chain, Floor, Grant, InputReport, OpeningCoin, Piece, Policy, Pool, Prepared, Verdict,
-    Verdicts, report, submit,
+    Chain, Floor, Grant, OpeningCoin, Policy, Pool, Prepared, Verdict, Verdicts, submit,
 };
-use gate_bytes::{Copied, Kept, Memory};
+use gate_bytes::{Kept, Memory};
 use gate_standard::Denial;
 use gate_tx::{Coin, OutPoint, Txid};
 use std::alloc::Global;
@@ -22,26 +21,35 @@ const SCRIPT: [u8; 22] = [
 const PAYMENT: &str =
     "0200000000010111111111111111111111111111111111111111111111111111111111111111110000000000fdffffff013286010000000000160014222222222222222222222222222222222222222202483030303030303030303030303030303030303030303030303030303030303030303030303030303030303030303030303030303030303030303030303030303030303030303030302102020202020202020202020202020202020202020202020202020202020202020200000000";
 
-fn coin(alloc: Global, value: i64) -> Result<Coin, Memory> {
+fn coin(alloc: Global) -> Result<Coin, Memory> {
     let script = Vec::from_slice(alloc, &SCRIPT)?;
     Ok(Coin {
-        value,
+        value: 100_000,
         script: Kept::from_vec(script),
         height: 1,
         coinbase: false,
     })
 }
 
-/// A chain of two blocks with the one coin.
-fn chain(alloc: Global) -> Result<Chain<Hasher>, Fail> {
-    let times = Vec::from_slice(alloc, &[1000, 1600])?;
-    let coin = coin(alloc, 100_000)?;
+/// The one coin, behind its outpoint.
+fn coins(alloc: Global) -> Result<Vec<OpeningCoin>, Memory> {
+    let coin = coin(alloc)?;
     let outpoint = OutPoint {
         txid: Txid::new([0x11; 32]),
         index: 0,
     };
-    let coins = Vec::from_array(alloc, [OpeningCoin { outpoint, coin }])?;
+    Ok(Vec::from_array(alloc, [OpeningCoin { outpoint, coin }])?)
+}
+
+/// A chain of two blocks with these coins.
+fn opened(alloc: Global, coins: Vec<OpeningCoin>) -> Result<Chain<Hasher>, Fail> {
+    let times = Vec::from_slice(alloc, &[1000, 1600])?;
     Ok(Chain::open(alloc, BuildHasherDefault::new(), coins, times)?)
+}
+
+fn chain(alloc: Global) -> Result<Chain<Hasher>, Fail> {
+    let coins = coins(alloc)?;
+    opened(alloc, coins)
 }
 
 fn payment(alloc: Global) -> Result<Prepared, Fail> {
@@ -65,81 +73,40 @@ fn answer(
     )
 }
 
-/// What a submission gets from an empty pool, and what it gets when it is made once more.
-fn answers(
+/// Whether a payment is granted, and denied when it is made once more, since it is in the pool.
+fn is_entered_once(
     alloc: Global,
+    chain: &Chain<Hasher>,
+    pool: &mut Pool<Hasher>,
     prepared: &Prepared,
-) -> Result<(Result<Grant, Denial>, Result<Grant, Denial>), Fail> {
-    let chain = chain(alloc)?;
-    let mut pool = Pool::new(alloc, BuildHasherDefault::new())?;
-    let first = answer(alloc, &chain, &mut pool, prepared)?;
-    let second = answer(alloc, &chain, &mut pool, prepared)?;
-    Ok((first, second))
-}
-
-/// Granted, and then found in the pool.
-const ENTERED_ONCE: (Result<Grant, Denial>, Result<Grant, Denial>) = (
-    Ok(Grant {
+) -> Result<bool, Memory> {
+    let granted = Ok(Grant {
         fee: 110,
         vsize: 110,
         replaced: 0,
-    }),
-    Err(Denial::AlreadyInMempool),
-);
+    });
+    let first = answer(alloc, chain, pool, prepared)?;
+    let second = answer(alloc, chain, pool, prepared)?;
+    Ok(first == granted && second == Err(Denial::AlreadyInMempool))
+}
+
+fn is_entered_in(
+    alloc: Global,
+    chain: &Chain<Hasher>,
+    pool: &mut Pool<Hasher>,
+) -> Result<bool, Fail> {
+    let prepared = payment(alloc)?;
+    Ok(is_entered_once(alloc, chain, pool, &prepared)?)
+}
+
+fn is_entered_on(alloc: Global, chain: &Chain<Hasher>) -> Result<bool, Fail> {
+    let mut pool = Pool::new(alloc, BuildHasherDefault::new())?;
+    is_entered_in(alloc, chain, &mut pool)
+}
 
 #[test]
 fn a_payment_is_entered_once(rt: HostRuntime) -> Result<(), Fail> {
-    let prepared = payment(rt.alloc())?;
-    let found = answers(rt.alloc(), &prepared)?;
-    assert!(rt; found == ENTERED_ONCE);
-    Ok(())
-}
-
-/// The report on the payment's input, if its coin has this value.
-fn reports(
-    alloc: Global,
-    prepared: &Prepared,
-    value: i64,
-) -> Result<Option<Kept<InputReport>>, Memory> {
-    let (Some(wtxid), Some(transaction)) = (prepared.wtxid(), prepared.transaction()) else {
-        return Ok(None);
-    };
-    let Some(input) = transaction.inputs().first() else {
-        return Ok(None);
-    };
-    let input = input.copy(alloc)?;
-    let coin = coin(alloc, value)?;
-    let report = report(
-        alloc,
-        Piece {
-            wtxid,
-            index: 0,
-            input,
-            coin,
-        },
-    )?;
-    Ok(Some(Kept::from_vec(Vec::from_array(alloc, [report])?)))
-}
-
-/// What the payment gets with a report on a coin of this value.
-fn reported(
-    alloc: Global,
-    value: i64,
-) -> Result<Option<(Result<Grant, Denial>, Result<Grant, Denial>)>, Fail> {
-    let prepared = payment(alloc)?;
-    let Some(reports) = reports(alloc, &prepared, value)? else {
-        return Ok(None);
-    };
-    let prepared = prepared.with_reports(reports);
-    Ok(Some(answers(alloc, &prepared)?))
-}
-
-// A report counts for its own coin alone, so a report on another coin changes nothing.
-#[test]
-fn reports_change_no_answer(rt: HostRuntime) -> Result<(), Fail> {
-    for value in [100_000, 99_000] {
-        let found = reported(rt.alloc(), value)?;
-        assert!(rt; found == Some(ENTERED_ONCE), "{value}");
-    }
+    let chain = chain(rt.alloc())?;
+    assert!(rt; is_entered_on(rt.alloc(), &chain)?);
     Ok(())
 }

@@ -6,8 +6,4 @@ mod blocks;
 #[cfg(test)]
 mod chain;
 #[cfg(test)]
-mod hundred;
-#[cfg(test)]
-mod living;
-#[cfg(test)]
 mod locks;

@@ -1,8 +1,8 @@
 //! The words in which faults of steps, calls and openings are printed.
 use gate_core::{Reply, StepFault};
-use gate_lanes::SplitFault;
 use gate_opening::{OpeningFault, OpeningToken};
 use gate_shared::{CallFault, Receipt};
+use gate_split::SplitFault;
 use std::alloc::Global;
 use std::fmt;
 use std::test::Fail;

@@ -1,27 +1,7 @@
-//! Tests of the ranking of feerates, of the graph of ancestors, of the pool, of replacement, and of expiry and trim.
+//! Tests of what the crates of the pool offer beside what the gate calls: graphs, and replacement by itself.
 #![tactic(auto)]
 
 #[cfg(test)]
-mod draw;
+mod families;
 #[cfg(test)]
-mod graph;
-#[cfg(test)]
-mod graph_edits;
-#[cfg(test)]
-mod graph_laws;
-#[cfg(test)]
-mod nodes;
-#[cfg(test)]
-mod paying;
-#[cfg(test)]
-mod plain_graph;
-#[cfg(test)]
-mod plain_pool;
-#[cfg(test)]
-mod pool;
-#[cfg(test)]
-mod ranking;
-#[cfg(test)]
-mod replacement;
-#[cfg(test)]
-mod trimming;
+mod replacing;

@@ -1,10 +1,22 @@
-//! Journals of 3,000 entries, replayed.
-use crate::passes::{Hasher, add, opened};
+//! Journals of 3,000 entries, replayed by the call that no part of the gate makes.
+ghost use Rattle.std.specs.Prelude.{◌≡◌, ◌+◌, ◌<◌, length, OnOk};
+
 use gate_bytes::Memory;
-use gate_core::{Event, Reply, State};
+use gate_core::State;
 use gate_journal::{Entry, Journal, replay_check};
+use gate_message::{Event, Reply};
+use gate_opening::read_opening;
 use std::alloc::Global;
+use std::hash::{BuildHasherDefault, FoldHasher};
 use std::test::Fail;
+
+pub(crate) type Hasher = BuildHasherDefault<FoldHasher>;
+
+/// A state of one block.
+pub(crate) fn opened(alloc: Global) -> Result<State<Hasher>, Fail> {
+    let mut text = b"times 1 1000 600\n".as_slice();
+    Ok(read_opening(alloc, BuildHasherDefault::new(), &mut text)?)
+}
 
 const ENTRIES: u64 = 3_000;
 
@@ -14,6 +26,23 @@ fn entry(rate: u64, is_right: bool) -> Entry {
         pass: 1,
         event: Event::SetFloor { rate },
         reply: if is_right { Reply::Set } else { Reply::Left },
+    }
+}
+
+/// Adds an entry to a journal that has room for one.
+fn add(journal: &mut Journal, entry: Entry) -> Result<(), Memory>
+    requires { length journal.old.entries < 100000 }
+    ensures { OnOk result (length journal.new.entries ≡ length journal.old.entries + 1) }
+{
+    match journal.reserve() {
+        Ok(()) => {
+            journal.push(entry);
+            Ok(())
+        }
+        Err(Memory) => {
+            drop(entry);
+            Err(Memory)
+        }
     }
 }
 

@@ -1,11 +1,7 @@
-//! Tests of passes at a shared gate, of its end, of looks before calls, and of journals.
+//! Tests of what the shared gate and its journal offer beside what lanes call: one call and its settlement, and replays.
 #![tactic(auto)]
 
 #[cfg(test)]
-mod finishing;
-#[cfg(test)]
 mod journals;
-#[cfg(test)]
-mod looking;
 #[cfg(test)]
 mod passes;

@@ -107,12 +107,6 @@ fn gives_all<R: Threads + Wait + Abort + Sync, C: InputCheck + Sync>(
     Ok(true)
 }
 
-#[test]
-fn three_pieces_in_order(rt: HostRuntime) -> Result<(), Fail> {
-    assert!(rt; gives_all(&rt, rt.alloc(), &PolicyCheck)?);
-    Ok(())
-}
-
 /// A check that is out of memory.
 #[derive(Drop)]
 struct Forgets;
@@ -159,13 +153,6 @@ fn each_piece_is_checked_once(rt: HostRuntime) -> Result<(), Fail> {
     let check = Counts(AtomicU64::new(0));
     assert!(rt; gives_all(&rt, rt.alloc(), &check)?);
     assert_eq!(rt; check.0.load(Ordering::SeqCst), 9);
-    Ok(())
-}
-
-#[test]
-fn no_pieces_have_no_reports(rt: HostRuntime) -> Result<(), Fail> {
-    let reports = verify_all(&rt, rt.alloc(), &PolicyCheck, &[], Workers::default())?;
-    assert!(rt; reports.is_empty());
     Ok(())
 }
 
@@ -227,15 +214,4 @@ fn a_crew_with_workers(rt: HostRuntime) -> Result<(), Fail> {
         assert!(rt; gives_beside_workers(&rt, rt.alloc(), times)?);
     }
     Ok(())
-}
-
-#[test]
-fn numbers_of_workers(rt: HostRuntime) {
-    for count in [1, 2, 64] {
-        assert!(rt; Workers::new(count).map(|workers| workers.count()) == Some(count));
-    }
-    for count in [0, 65, usize::MAX] {
-        assert!(rt; Workers::new(count).is_none());
-    }
-    assert!(rt; Workers::default().count() == 2);
 }

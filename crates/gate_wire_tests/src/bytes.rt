@@ -1,3 +1,4 @@
+//! Counts and numbers in bytes that were worked out by hand.
 use gate_bytes::*;
 use std::alloc::Global;
 use std::test::Fail;
@@ -76,51 +77,4 @@ fn numbers_have_their_lowest_byte_first(rt: HostRuntime) {
     assert!(rt; matches!(cursor.take(2), Ok([1, 2])));
     assert_eq!(rt; cursor.left(), 0);
     assert!(rt; cursor.u8() == Err(ByteFault::Short));
-}
-
-#[test]
-fn copies_of_texts_are_equal(rt: HostRuntime) -> Result<(), Fail> {
-    let text = Text::from_string(String::from_str(rt.alloc(), "coinbase")?);
-    let again = text.copy(rt.alloc())?;
-    assert!(rt; text == again);
-    assert_eq!(rt; again.as_str(), "coinbase");
-    Ok(())
-}
-
-fn kept(alloc: Global, bytes: &[u8]) -> Result<Kept<u8>, Memory> {
-    Ok(Kept::from_vec(Vec::from_slice(alloc, bytes)?))
-}
-
-#[test]
-fn bytes_are_kept(rt: HostRuntime) -> Result<(), Fail> {
-    let bytes = kept(rt.alloc(), &[1, 2, 3])?;
-    assert!(rt; matches!(bytes.as_slice(), [1, 2, 3]));
-    assert_eq!(rt; bytes.into_vec().as_slice(), [1u8, 2, 3].as_slice());
-    Ok(())
-}
-
-#[test]
-fn copies_of_lists_are_equal(rt: HostRuntime) -> Result<(), Fail> {
-    let mut items = Vec::new(rt.alloc());
-    items.push(kept(rt.alloc(), &[1, 2, 3])?)?;
-    let items = Kept::from_vec(items);
-    assert!(rt; is_same(&items, &items.copy(rt.alloc())?));
-    assert!(rt; !items.is_empty());
-    assert_eq!(rt; items.len(), 1);
-    Ok(())
-}
-
-#[test]
-fn copies_of_plain_values_are_equal(rt: HostRuntime) -> Result<(), Fail> {
-    let heights = Kept::from_vec(Vec::from_array(rt.alloc(), [Some(7u32), None])?);
-    assert!(rt; heights.copy(rt.alloc())? == heights);
-    assert_eq!(rt; 7u64.copy(rt.alloc())?, 7);
-    assert!(rt; true.copy(rt.alloc())?);
-    Ok(())
-}
-
-#[test]
-fn laws_are_called(_rt: HostRuntime) {
-    numbers_are_read();
-    counts_are_read();
 }

@@ -1,3 +1,4 @@
+//! Scripts of each template, their operations and their pushes.
 use gate_script::{Op, Template, is_push_only, ops, push_stack, sigops, template, witness_program};
 use std::process::Abort;
 use std::test::Fail;
@@ -24,7 +25,7 @@ fn assert_templates(
         let script = joined(rt, parts)?;
         let found = template(script.as_slice());
         drop(script);
-        assert_eq!(rt; found, *wanted, "{parts:?}");
+        assert!(rt; found == *wanted, "{parts:?}");
     }
     Ok(())
 }
@@ -158,27 +159,25 @@ fn pushed_items(rt: HostRuntime) -> Result<(), Fail> {
 
 #[test]
 fn instructions_of_each_kind(rt: HostRuntime) {
+    let wanted = [
+        Op::Push {
+            opcode: 0x02,
+            bytes: &[0xaa, 0xbb],
+        },
+        Op::Push {
+            opcode: 0x4e,
+            bytes: &[0xcc],
+        },
+        Op::Plain(0x61),
+        Op::Truncated { opcode: 0x4d },
+    ];
     let mut left = ops(&[
         0x02, 0xaa, 0xbb, 0x4e, 0x01, 0, 0, 0, 0xcc, 0x61, 0x4d, 0x01,
     ]);
-    assert_eq!(rt;
-        left.next(),
-        Some(Op::Push {
-            opcode: 0x02,
-            bytes: &[0xaa, 0xbb]
-        })
-    );
-    assert_eq!(rt;
-        left.next(),
-        Some(Op::Push {
-            opcode: 0x4e,
-            bytes: &[0xcc]
-        })
-    );
-    assert_eq!(rt; left.next(), Some(Op::Plain(0x61)));
-    assert_eq!(rt; left.next(), Some(Op::Truncated { opcode: 0x4d }));
-    assert_eq!(rt; left.next(), None);
-    assert_eq!(rt; is_push_only(&[0x00, 0x60, 0x02, 0x61, 0x61, 0x50]), true);
-    assert_eq!(rt; is_push_only(&[0x61]), false);
-    assert_eq!(rt; is_push_only(&[0x02, 0x61]), false);
+    for op in wanted {
+        assert!(rt; left.next() == Some(op));
+    }
+    assert!(rt; left.next().is_none());
+    assert!(rt; is_push_only(&[0x00, 0x60, 0x02, 0x61, 0x61, 0x50]));
+    assert!(rt; !is_push_only(&[0x61]) && !is_push_only(&[0x02, 0x61]));
 }

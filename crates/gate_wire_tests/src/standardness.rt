@@ -1,3 +1,4 @@
+//! Transactions at the limits of Bitcoin Core 22.0's `IsStandardTx` and `CheckTransaction`.
 use gate_bytes::Kept;
 use gate_standard::*;
 use gate_tx::{OutPoint, Transaction, TxIn, TxOut, Txid, Witness};
@@ -86,26 +87,6 @@ fn first_denial(
 }
 
 #[test]
-fn denials_in_print(rt: HostRuntime) -> Result<(), Fail> {
-    let names = [
-        (Denial::Decode, 1, "tx-decode"),
-        (Denial::Coinbase, 11, "coinbase"),
-        (Denial::Dust, 17, "dust"),
-        (Denial::MissingOrSpent, 25, "bad-txns-inputs-missingorspent"),
-        (Denial::MinRelayFee, 35, "min relay fee not met"),
-        (Denial::LowerFee, 41, "insufficient fee"),
-        (Denial::MempoolFull, 46, "mempool full"),
-    ];
-    for (denial, rule, token) in names {
-        assert_eq!(rt; denial.rule(), rule);
-        assert_eq!(rt; denial.token(), token);
-        let printed = format!(in rt.alloc(); "{denial}")?;
-        assert_eq!(rt; printed.as_str(), token);
-    }
-    Ok(())
-}
-
-#[test]
 fn dust_of_each_template(rt: HostRuntime) -> Result<(), Fail> {
     let thresholds: [(&[&[u8]], u128); 7] = [
         (&[&[0x76, 0xa9, 20], &[0x22; 20], &[0x88, 0xac]], 546),
@@ -118,7 +99,7 @@ fn dust_of_each_template(rt: HostRuntime) -> Result<(), Fail> {
     ];
     for (parts, threshold) in thresholds {
         let output = paying(rt.alloc(), &(0, parts))?;
-        let found = dust_threshold(3000, &output);
+        let found = dust_threshold(Standards::default().dust_rate, &output);
         drop(output);
         assert_eq!(rt; found, threshold);
     }
@@ -149,12 +130,9 @@ fn inputs_of_a_transaction(rt: HostRuntime) -> Result<(), Fail> {
         ),
     ];
     for (inputs, wanted) in cases {
-        assert_eq!(rt;
-            first_denial(rt.alloc(), inputs, &[(90_000, TO_KEY)])?,
-            wanted
-        );
+        assert!(rt; first_denial(rt.alloc(), inputs, &[(90_000, TO_KEY)])? == wanted);
     }
-    assert_eq!(rt; first_denial(rt.alloc(), &[], &[])?, Some(Denial::VinEmpty));
+    assert!(rt; first_denial(rt.alloc(), &[], &[])? == Some(Denial::VinEmpty));
     Ok(())
 }
 
@@ -184,7 +162,7 @@ fn standard_outputs(rt: HostRuntime) -> Result<(), Fail> {
         ),
     ];
     for (outputs, wanted) in cases {
-        assert_eq!(rt; first_denial(rt.alloc(), &[(0x11, &[])], outputs)?, wanted);
+        assert!(rt; first_denial(rt.alloc(), &[(0x11, &[])], outputs)? == wanted);
     }
     Ok(())
 }
@@ -207,10 +185,8 @@ fn signatures_of_many_keys(rt: HostRuntime) -> Result<(), Fail> {
         &[0x54, 0xae],
     ];
     let spent: [Input<'_>; 1] = [(0x11, &[])];
-    assert_eq!(rt; first_denial(rt.alloc(), &spent, &[(1000, &three)])?, None);
-    assert_eq!(rt;
-        first_denial(rt.alloc(), &spent, &[(1000, &four)])?,
-        Some(Denial::ScriptPubKey)
-    );
+    assert!(rt; first_denial(rt.alloc(), &spent, &[(1000, &three)])?.is_none());
+    let denied = first_denial(rt.alloc(), &spent, &[(1000, &four)])?;
+    assert!(rt; denied == Some(Denial::ScriptPubKey));
     Ok(())
 }

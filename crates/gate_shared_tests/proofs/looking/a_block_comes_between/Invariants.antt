@@ -1,4 +1,0 @@
-use Rattle.gate_shared_tests.proofs.looking.a_block_comes_between.Given as goal
-
-abbrev pub ghosts-holds_over : goal.ghosts-holds_over
-ghosts-holds_over g a = record { base = a.state; registry = a.register }
