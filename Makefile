@@ -2,12 +2,12 @@
 # tests/     the program's own tests: what no contract can see, and random streams next to a plain model
 # mutants/   wrong bodies that the prover has to refuse, beside those in crates/*/must-fail
 # bench/     the streams and figures of make bench
-# examples/  what the examples in the help read, and a replacement
+# examples/  inputs of the commands, among them what the examples in the help read
 # lib/       the header of the library for C, and what embeds it in C++, Rust, Python and CMake
-# share/     the manual page, which tools/manual makes of the help, and completions for shells
+# share/     the manual page and completions for shells, which tools/manual and tools/completions make of the help
 # tools/     what stands behind these words, and opening and compare, which ask a node
 # gated/     a host of the library that lives beside a node, with its own tests
-.PHONY: help gate demo lib check test prove mutants try bench install uninstall build
+.PHONY: help gate demo lib check setup test prove mutants try bench install uninstall build
 
 PROGRAM := crates/gate/out/gate
 CALLS := crates/gate_growth/out/gate_growth
@@ -27,12 +27,14 @@ LIBRARY_FILES := include/gate.h include/gate.hpp lib/libgate_c.a lib/libgate_c.s
 define HELP
 make gate      proves and builds the program, several crates at once, and says where it lies
                make gate CPU=x86-64-v3 compiles it for processors with AVX2 and BMI2
-make demo      prints its replies to examples/first-path.txt; without a built program it compiles one
-               without the proofs, in about two minutes, and keeps it as $(PROGRAM)-unproved;
+make demo      prints its replies to examples/first-path.txt, and why; without a built program it compiles one
+               without the proofs, in two to four minutes, and keeps it as $(PROGRAM)-unproved;
                make demo EXAMPLE=replacement takes another example
 make lib       proves and builds the library for C, and says in which folder it lies with its header
                (docs/LIBRARY.md); it may prove once more what make gate or make prove has proved
-make check     quick: what has to agree in the repository, then proves what changed
+make check     what has to agree in the repository, and then the proofs of what changed since they last passed here: on
+               a fresh clone of every crate, as make gate does
+make setup     installs what make test would leave parts out for, by apt-get: tools/setup --missing says what that is
 make test      every test that needs no proof, in about ten minutes on four processors: compiled without
                the proofs; on the proved program too, if make gate has built it
 make prove     everything from nothing, in about two hours: proofs, must-fail edits, tests, the program;
@@ -46,8 +48,8 @@ make try       the rows and the program's own tests alone, on the built program;
 make bench     what the program costs, in instructions and time; make bench LONG=1 with larger pools too
                bench/run --beside OTHER PROGRAM compares two programs
 make install   puts the program that make gate built below PREFIX (/usr/local), with its manual page, completions
-               for bash, zsh and fish, the documents, the examples and what goes beside a node (gate-opening,
-               gate-compare, gated), and the library if make lib built it; DESTDIR stands before it;
+               for bash, zsh and fish, the documents, the examples, the settings of releases and what goes beside a
+               node (gate-opening, gate-compare, gated), and the library if make lib built it; DESTDIR stands before it;
                make uninstall takes all of it away
 endef
 export HELP
@@ -72,8 +74,13 @@ check:
 	@tools/consistent
 	@rt all check
 
+setup:
+	@tools/need python3
+	@tools/setup
+
 test:
 	@tools/need rt python3
+	@tools/setup --missing || true
 	@tools/test $(PROGRAM)
 
 prove:
@@ -103,10 +110,13 @@ install:
 	install -D -m 644 -t "$(DOCUMENTS)/docs" docs/*
 	install -D -m 644 -t "$(DOCUMENTS)/gated" gated/README.md
 	install -D -m 644 -t "$(SHARED)/examples" examples/*
+	install -D -m 644 -t "$(SHARED)/settings" settings/*
 	install -D -m 755 -t "$(SHARED)/tools" tools/opening tools/compare
-	install -D -m 644 -t "$(SHARED)/tools" tools/node.py tools/differences.py
 	install -D -m 755 gated/bin/gated "$(TOP)/bin/gated"
-	install -D -m 644 -t "$(SHARED)/gated" gated/gated/*.py gated/gated/py.typed gated/share/gated.service gated/share/gated.toml
+	install -D -m 644 -t "$(SHARED)/gated/gated" gated/gated/*.py gated/gated/py.typed
+	install -D -m 644 -t "$(SHARED)/gated/gated/node" gated/gated/node/*.py
+	install -D -m 644 -t "$(SHARED)/gated" gated/share/gated.service gated/share/gated.toml
+	sed -i 's|/usr/local/|$(PREFIX)/|g' "$(SHARED)/gated/gated.service" "$(SHARED)/gated/gated.toml"
 	install -D -m 644 gated/share/gated.1 "$(TOP)/share/man/man1/gated.1"
 	ln -sfn ../share/gate/tools/opening "$(TOP)/bin/gate-opening"
 	ln -sfn ../share/gate/tools/compare "$(TOP)/bin/gate-compare"

@@ -1,21 +1,28 @@
-# Completions of gate for bash: of its commands and options, and of nothing else.
+# Completions of gate for bash, which tools/completions makes of the help.
 _gate() {
-    local word=${COMP_WORDS[COMP_CWORD]} before=${COMP_WORDS[COMP_CWORD - 1]} words=
+    local word=${COMP_WORDS[COMP_CWORD]} command=${COMP_WORDS[1]} words=
     COMPREPLY=()
-    if ((COMP_CWORD == 1)); then
-        words="check run lanes audit rules explain help --help --version"
-    elif [[ $before == --workers ]]; then
-        words="1 2 4 8 16 32 64"
-    else
-        case ${COMP_WORDS[1]} in
-            run) words="--workers --explain --help" ;;
-            audit) words="--explain --help" ;;
-            lanes) words="--workers --journal --explain --help" ;;
-            check) words="- --help" ;;
-            rules | explain) words="--help" ;;
-            help) words="check run lanes audit rules explain" ;;
-        esac
-    fi
-    mapfile -t COMPREPLY < <(compgen -W "$words" -- "$word")
+    ((COMP_CWORD > 1)) || command=
+    case "$command ${COMP_WORDS[COMP_CWORD - 1]}" in
+        "try --coin") words="" ;;
+        "try --tip") words="" ;;
+        "try --time") words="" ;;
+        "try --verdict") words="ok soft hard" ;;
+        "try "*) words="- --coin --tip --time --verdict --json --help" ;;
+        "check "*) words="- --help" ;;
+        "run "*)
+            words="--explain --explain-json --strict --help"
+            [[ $word == -* ]] || mapfile -t COMPREPLY < <(compgen -f -- "$word")
+            ;;
+        "lanes --workers") words="1 2 4 8 16 32 64" ;;
+        "lanes "*) words="--workers --journal --explain --help" ;;
+        "audit "*) words="--explain --help" ;;
+        "rules "*) words="--help" ;;
+        "settings "*) words="--help" ;;
+        "explain "*) words="--help" ;;
+        "help "*) words="try check run lanes audit rules settings explain" ;;
+        " "*) words="try check run lanes audit rules settings explain help --help --version" ;;
+    esac
+    mapfile -t -O "${#COMPREPLY[@]}" COMPREPLY < <(compgen -W "$words" -- "$word")
 }
 complete -F _gate gate

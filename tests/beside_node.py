@@ -10,9 +10,9 @@ import tempfile
 from bitcoin import Input, Output, Transaction, WITNESS_KEY_HASH, number_hash
 from gate import ROOT, same, same_lines
 
-sys.path.insert(0, os.path.join(ROOT, "tools"))
+sys.path.insert(0, os.path.join(ROOT, "gated"))
 
-import node
+from gated import node
 
 DATA = os.path.join(ROOT, "tests", "data")
 NODES = ("knots-29", "litecoin-0.21")
@@ -81,10 +81,10 @@ def test_pools_and_trials(gate):
     same("standard error and status", (said, status), ("", 0))
 
 
-def opened_from(recorded):
+def opened_from(recorded, *words):
     """The lines that tools/opening makes of a recording."""
     with tempfile.TemporaryDirectory() as folder:
-        lines, said, status = ran("opening", "--from", written(folder, recorded))
+        lines, said, status = ran("opening", "--from", written(folder, recorded), *words)
     same("standard error and status", (said, status), ("", 0))
     return lines
 
@@ -95,11 +95,11 @@ def test_full_replacement_is_told(gate):
     recorded = calls(NODES[0])
     for is_on, release, wanted in (
         (True, 240000, ["mempoolfullrbf 1"]),
-        (False, 280000, []),
+        (False, 280000, ["mempoolfullrbf 0"]),
         (None, 280000, ["mempoolfullrbf 1"]),
         (None, 310000, ["mempoolfullrbf 1"]),
-        (None, 220000, []),
-        (None, 270200, []),
+        (None, 220000, ["mempoolfullrbf 0"]),
+        (None, 270200, ["mempoolfullrbf 0"]),
     ):
         result_of(recorded, "getnetworkinfo")["version"] = release
         told = result_of(recorded, "getmempoolinfo")
@@ -108,6 +108,18 @@ def test_full_replacement_is_told(gate):
             told["fullrbf"] = is_on
         lines = opened_from(recorded)
         same_lines([it for it in lines[: lines.index("---")] if it.startswith("mempoolfullrbf")], wanted)
+
+
+def test_settings_of_releases(gate):
+    """Every line of a file of settings stands in the opening, in the place of what the node's release has."""
+    recorded = calls(NODES[0])
+    for name in sorted(os.listdir(os.path.join(ROOT, "settings"))):
+        path = os.path.join(ROOT, "settings", name)
+        with open(path, encoding="utf-8") as file:
+            said = dict(line.split() for line in file if not line.startswith("#"))
+        lines = opened_from(recorded, "--settings", path)
+        found = dict(line.split(" ", 1) for line in lines[: lines.index("---")] if line.split(" ")[0] in said)
+        same(name, found, said)
 
 
 def test_the_floor(gate):
@@ -125,7 +137,7 @@ def test_the_floor(gate):
         told["minrelaytxfee"], told["mempoolminfee"] = float(minimum), float(floor)
         lines, rate = opened_from(recorded), round(float(minimum) * 100000000)
         same_lines([it for it in lines if it.startswith("operator")], wanted)
-        same_lines([it for it in lines if it.startswith("minrelaytxfee")], ["minrelaytxfee %d" % rate] if rate != 1000 else [])
+        same_lines([it for it in lines if it.startswith("minrelaytxfee")], ["minrelaytxfee %d" % rate])
     told["minrelaytxfee"], told["mempoolminfee"] = 0.00001, 0.00001
     found, said, status = compared_with(gate, recorded, NODES[1])
     same("the last line, standard error, status", (found[-1], said, status), ("71 compared: 71 alike, 0 known differences, 0 others", "", 0))

@@ -11,14 +11,6 @@ from model import CLOSING, TOKENS, Entry, Model, Opening, fees_of, size_of
 FLAGS = ("bloomfilter", "noban", "forcerelay", "relay", "mempool", "download", "addr")
 WORDS = {"": (), "bloom": ("bloomfilter",), "noban": ("noban", "download"), "forcerelay": ("forcerelay", "relay"), "all": FLAGS}
 WEEK = 604800
-CALLER_TOKENS = {
-    "P4": "blocks-only",
-    "P7": "mempool-upload-target",
-    "P8": "headers-during-download",
-    "P9": "unknown-block",
-    "P10": "historical-upload-target",
-}
-CLOSING_TOO = CLOSING + ["P4", "P7", "P10"]
 METHODS = (
     "sendrawtransaction", "testmempoolaccept", "getrawmempool", "getmempoolentry", "getmempoolancestors", "getmempooldescendants", "getmempoolinfo",
     "getrawtransaction", "gettxspendingprevout",
@@ -157,10 +149,10 @@ class CallerModel(Model):
 
     def denied(self, rule, peer):
         flags = self.flags(peer)
-        then = "close" if rule in CLOSING_TOO and ("noban" not in flags or rule == "P4") else "relay" if rule == "P5" and "forcerelay" in flags else "keep"
+        then = "close" if rule in CLOSING and ("noban" not in flags or rule == "P4") else "relay" if rule == "P5" and "forcerelay" in flags else "keep"
         if then == "close":
             self.sessions[peer].is_open = False
-        return "denied %s %s %s" % (rule, then, CALLER_TOKENS.get(rule) or TOKENS[rule])
+        return "denied %s %s %s" % (rule, then, TOKENS[rule])
 
     def switch(self, name, is_on):
         self.switches[name] = is_on

@@ -76,7 +76,7 @@ def test_calls_that_are_not_read(gate):
 def test_ids_come_back(gate):
     """An id is echoed as it came, by its shortest text."""
     for told, id in (
-        ("null", None), ('"1"', "1"), ("1", 1), ("0", 0), ("18446744073709551615", 2**64 - 1), ("-9223372036854775808", -2**63), ("-1", -1),
+        ("null", None), ('"1"', "1"), ("1", 1), ("0", 0), ("9007199254740993", 2**53 + 1), ("18446744073709551615", 2**64 - 1), ("-9223372036854775808", -2**63), ("-1", -1),
         ('"\\u00e9\\u0001\\u001f\\/\\"\\\\\\n\\ud83d\\ude00"', "\u00e9\x01\x1f/\"\\\n\U0001f600"), ('""', ""),
     ):
         gate.answers([TIMES], [(asked('{"method":"getrawmempool","id":%s}' % told), result([], id))])

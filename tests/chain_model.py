@@ -5,15 +5,10 @@ from dataclasses import dataclass
 from typing import List
 
 from bitcoin import Transaction, counted
-from model import HOUR, KILO, NULL, SMALL, Coin, Entry, Model, carries_data, outpoints, size_of
+from model import HOUR, KILO, NULL, SMALL, TOKENS, Coin, Entry, Model, carries_data, outpoints, size_of
 
 GREATEST_DEPTH = 100
 GREATEST_HEIGHT = 10000000
-FAULTS = {
-    "C1": "block-decode", "C2": "block-coinbase", "C3": "block-inputs", "C4": "block-txid-repeated",
-    "C5": "time-too-old", "C6": "no-undo", "C7": "chain-full", "C8": "coin-value", "C9": "coin-unspendable",
-    "C10": "coin-above-opening", "C11": "coin-known", "C12": "verdict-known",
-}
 
 
 @dataclass
@@ -46,7 +41,7 @@ def spent_by(blocks):
 
 
 def refused(fault):
-    return "refused %s %s" % (fault, FAULTS[fault])
+    return "refused %s %s" % (fault, TOKENS[fault])
 
 
 class ChainModel(Model):
@@ -144,7 +139,7 @@ class ChainModel(Model):
                 if tx.hash() not in confirmed:
                     self.try_again(tx, now)
         self.remove([entry for entry in self.pool if self.is_premature(entry.tx)], "premature")
-        self.remove([entry for entry in self.pool if entry.time + HOUR * self.opening.hours < now], "expired")
+        self.remove([entry for entry in self.pool if entry.time + HOUR * self.opening["mempoolexpiry"] < now], "expired")
         self.trim()
 
     def try_again(self, tx, now):
@@ -189,10 +184,10 @@ class ChainModel(Model):
     def limits_met(self, entry):
         """Which limits of what comes back an entry is over, and which counts it just has."""
         above, below = self.above(entry.tx) | {entry}, self.below([entry])
-        most_above, most_below = max(self.opening.ancestors, 2), self.opening.descendants + 1
+        most_above, most_below = max(self.opening["limitancestorcount"], 2), self.opening["limitdescendantcount"] + 1
         found = {
-            "over the most ancestors": len(above) > most_above, "over the size of ancestors": size_of(above) > KILO * self.opening.ancestors_size,
-            "over the most descendants": len(below) > most_below, "over the size of descendants": size_of(below) > KILO * self.opening.descendants_size + SMALL,
+            "over the most ancestors": len(above) > most_above, "over the size of ancestors": size_of(above) > KILO * self.opening["limitancestorsize"],
+            "over the most descendants": len(below) > most_below, "over the size of descendants": size_of(below) > KILO * self.opening["limitdescendantsize"] + SMALL,
             "back with the most ancestors": len(above) == most_above, "back with the most descendants": len(below) == most_below,
         }
         return [limit for limit, holds in found.items() if holds]

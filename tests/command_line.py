@@ -21,6 +21,7 @@ GENESIS = (
 GENESIS_ID = "4a5e1e4baab89f3a32518a88c31bc87f618f76673e2cc77ab2127b7afdeda33b"
 GENESIS_CHECK = "%s %s 816\ndenied A11 coinbase\n" % (GENESIS_ID, GENESIS_ID)
 UNDECODABLE = b"denied A1 tx-decode\n"
+TRIED = "gate try --tip 100 --coin %s:0,100000,1,%s - < examples/payment.hex" % ("11" * 32, "0014" + "22" * 20)
 COIN = b"\x11" * 32
 
 
@@ -66,12 +67,11 @@ def test_gate_alone(gate):
 
 def test_words_that_ask_for_nothing(gate):
     """Unknown commands, missing words, words too many and unknown options are faults of usage."""
-    for words in ("check", "check 00 00", "check - -", "run -", "run x", "run run", "admit", "--nothing", "run --nothing", "check --nothing", "RUN",
-                  "lanes x", "lanes -", "lanes --workers 0", "lanes --workers 65", "lanes --workers 02", "lanes --workers +2", "lanes --workers -1", "lanes --workers two",
-                  "lanes --workers 2 --workers 2", "run --workers 0", "run --workers 65", "run --workers 02", "run --workers -1", "run --workers two --explain",
-                  "run --workers 2 --workers 2", "audit --workers 2", "--workers 2 lanes", "--workers 2 run", "lanes --journal x", "lanes --journal=1", "lanes --journal --journal", "lanes -j",
-                  "run --journal", "--journal lanes", "audit x", "audit -", "audit --journal", "audit lanes", "rules x", "rules A1", "explain", "explain A1 A2",
-                  "explain -x", "--explain run", "run --explain --explain", "run --explain x", "audit --explain=1", "rules --explain", "check --explain 00"):
+    for words in ("check", "check 00 00", "check - -", "run x y", "admit", "--nothing", "run --nothing", "check --nothing", "RUN",
+                  "lanes x", "lanes -", "lanes --workers 0", "lanes --workers 65", "lanes --workers 02", "lanes --workers +2", "lanes --workers -1", "lanes --workers two", "lanes --workers 18446744073709551617",
+                  "lanes --workers 2 --workers 2", "run --workers 2 --workers 2", "audit --workers 2", "--workers 2 lanes", "--workers 2 run", "lanes --journal x", "lanes --journal=1", "lanes --journal --journal", "lanes -j",
+                  "run --journal", "--journal lanes", "audit x", "audit -", "audit --journal", "audit lanes", "rules x", "rules A1", "settings x", "settings --explain", "explain", "explain A1 -x",
+                  "explain -x", "--explain run", "run --explain --explain", "run --strict --strict", "run --explain=xml", "lanes --strict", "audit --explain=1", "rules --explain", "check --explain 00"):
         is_usage(gate, words)
 
 
@@ -82,6 +82,16 @@ def test_workers_without_a_number(gate):
         same("standard output of gate " + words, done.stdout, b"")
         true("standard error of gate %s: %r" % (words, done.stderr), b"'--workers <N>'" in done.stderr)
         same("status of gate " + words, done.status, 2)
+
+
+def test_workers_of_a_run(gate):
+    """`gate run --workers` is gone: standard error says so, and where lines that are read on several threads are told of."""
+    for words in ("run --workers 1", "run --workers 4", "run --workers=2", "run --explain --workers 64", "run --workers 0", "run --workers two --explain"):
+        done = gate.run(words)
+        same("standard output of gate " + words, done.stdout, b"")
+        true("standard error of gate %s: %r" % (words, done.stderr), done.stderr.startswith(b"error: '--workers' of gate run is gone") and b"docs/LIBRARY.md" in done.stderr)
+        same("status of gate " + words, done.status, 2)
+    true("the help of gate run names no workers", "--workers" not in help_of(gate, "run --help"))
 
 
 def test_words_that_are_no_text(gate):
@@ -96,7 +106,7 @@ def test_help(gate):
     """`gate --help` names the commands, on standard output with status 0."""
     for words in ("--help", "-h", "help"):
         text = help_of(gate, words)
-        for word in ("run", "check", "lanes", "audit", "rules", "explain", "--version"):
+        for word in ("try", "run", "check", "lanes", "audit", "rules", "settings", "explain", "--version"):
             true("the help does not name %s" % word, word in text)
 
 
@@ -114,23 +124,29 @@ def test_examples_in_the_help(gate):
         "gate run < examples/permissions.txt": 0,
         "gate run < examples/policies.txt": 0,
         "gate run < examples/rpc.txt": 0,
+        "gate run < examples/reorganisation.txt": 0,
         "gate run < examples/living-chain.txt": 0,
-        "gate run --workers 4 < examples/policies.txt": 0,
+        "gate run --explain examples/own-payment.txt": 0,
+        "gate run --strict examples/own-payment.txt": 1,
+        TRIED: 0,
         "gate check - < examples/payment.hex": 0,
         "gate check 01000000000000000000": 1,
         "gate lanes --journal < examples/lanes.txt": 0,
         "gate lanes --workers 4 < examples/lanes.txt": 0,
+        "gate lanes < examples/rounds.txt": 0,
         "gate audit < examples/journal.txt": 0,
+        "gate audit < examples/rounds-journal.txt": 0,
         "gate rules": 0,
+        "gate settings": 0,
         "gate explain A36": 0,
-        "gate explain 'insufficient fee'": 0,
+        "gate explain insufficient fee": 0,
         "gate run <<'END'\ntimes 101 1000 600\n---\npeer 1 enter 192.0.2.1\nEND": 0,
         "gate check - <<'END'\n01000000000000000000\nEND": 1,
         "gate lanes <<'END'\ntimes 101 1000 600\n---\npeer 1 enter 192.0.2.1\n---\nuser a rpc 0 {\"method\":\"getmempoolinfo\",\"id\":1}\nEND": 0,
         "gate audit <<'END'\ntimes 101 1000 600\n---\n> peer 1 enter 192.0.2.1\n< entered none\nEND": 0,
     }
     everywhere = [command for command in wanted if command.startswith("gate run <<") or "<<" not in command]
-    for word in ("", "run", "check", "lanes", "audit", "rules", "explain"):
+    for word in ("", "try", "run", "check", "lanes", "audit", "rules", "settings", "explain"):
         found = examples(help_of(gate, (word + " --help").strip()))
         own = [command for command in wanted if command.startswith("gate " + word)] if word else everywhere
         same("examples of gate " + word, sorted(found), sorted(own))
@@ -142,7 +158,7 @@ def test_examples_in_the_help(gate):
         for command in wanted:
             done = subprocess.run(["sh", "-c", command], cwd=ROOT, env=path, capture_output=True)
             same("status of " + command, done.returncode, wanted[command])
-            same("standard error of " + command, done.stderr, b"")
+            same("standard error of " + command, bool(done.stderr), "--explain" in command or " try " in command)
             true("nothing is printed by " + command, done.stdout)
 
 
@@ -182,12 +198,22 @@ def test_example_of_a_replacement(gate):
 
 def test_check_of_other_digits(gate):
     """What is no hexadecimal text of a transaction prints the denial A1 alone; standard error says where it is none of digits."""
-    for word in (GENESIS[:-2], GENESIS + "00"):
-        ends(gate, "check " + word, b"", 1, UNDECODABLE)
-    for word in ("0x" + GENESIS, GENESIS[:-1], GENESIS + "g", "0", "zz", "\u00e9", "examples/payment.hex"):
-        shown = word if len(word.encode()) <= 40 else word[:40] + ".."
-        told = 'gate: "%s" is not an even number of hexadecimal digits; gate check - reads standard input\n' % shown
-        ends(gate, "check " + word, b"", 1, UNDECODABLE, told.encode())
+    size = len(GENESIS) // 2
+    odd, other = "has an odd number of hexadecimal digits", "is not hexadecimal: character %d is '%s'"
+    for word, cause in (
+        (GENESIS[:-2], "is cut behind byte %d, in the locktime" % (size - 1)),
+        (GENESIS[:2], "is cut behind byte 1, in the version"),
+        (GENESIS[:-1], odd),
+        ("0", odd),
+    ):
+        ends(gate, "check " + word, b"", 1, UNDECODABLE, ("gate: the transaction %s\n" % cause).encode())
+    ends(gate, "check " + GENESIS + "00", b"", 1, UNDECODABLE, b"gate: bytes are left over behind the transaction: 1 of %d\n" % (size + 1))
+    ends(gate, "check " + GENESIS_ID, b"", 1, UNDECODABLE, b"gate: 32 bytes, as a txid has; expected those of the transaction\n")
+    for word, cause in (("0x" + GENESIS, other % (2, "x")), (GENESIS + "g", odd), ("zz", other % (1, "z")), ("examples/payment.hex", other % (2, "x"))):
+        ends(gate, "check " + word, b"", 1, UNDECODABLE, ("gate: the transaction %s; gate check - reads standard input\n" % cause).encode())
+    psbt = "a PSBT; expected the transaction that is extracted from it once it is final"
+    ends(gate, "check 70736274ff0100", b"", 1, UNDECODABLE, ("gate: %s\n" % psbt).encode())
+    ends(gate, "check cHNidP8BAA==", b"", 1, UNDECODABLE, ("gate: %s; gate check - reads standard input\n" % psbt).encode())
 
 
 def test_check_takes_either_case(gate):
@@ -233,3 +259,92 @@ def test_check_reads_no_further_than_it_says(gate):
         os.close(folder)
     same("standard output", done.stdout, GENESIS_CHECK.encode())
     same("standard error", done.stderr, b"")
+
+
+def test_help_fits(gate):
+    """Help, in lines of at most 80 columns, names the statuses; a command that doesn't fit one is given on its own."""
+    for word in ("", "try", "run", "check", "lanes", "audit", "rules", "settings", "explain"):
+        text = help_of(gate, (word + " --help").strip())
+        true("the help of gate %s has no statuses" % word, "\nExit status:\n  0  " in text)
+        for line in text.splitlines():
+            true("a line of the help of gate %s is too long: %s" % (word, line), len(line) <= 80 or line.startswith("  gate "))
+
+
+def test_the_manual(gate):
+    """The manual page is the one that is made of the help, and has the statuses."""
+    made = subprocess.run([os.path.join(ROOT, "tools", "manual"), gate.program], capture_output=True, check=True).stdout
+    with open(os.path.join(ROOT, "share", "gate.1"), "rb") as file:
+        same("share/gate.1", file.read(), made)
+    true("the manual page has no statuses", b".SH EXIT STATUS" in made)
+
+
+def events_file(folder, name, text):
+    path = os.path.join(folder, name)
+    with open(path, "w") as file:
+        file.write(text)
+    return path
+
+
+def test_a_run_of_a_file(gate):
+    """`gate run FILE` does with the file what `gate run` does with standard input; `-` is standard input."""
+    text = replacement_text()
+    replies = lines(reply for _, _, reply in replacement())
+    with tempfile.TemporaryDirectory() as folder:
+        path = events_file(folder, "events", text)
+        ends(gate, "run " + path, b"not read", 0, replies)
+        explained = gate.run("run --explain", text)
+        ends(gate, "run --explain " + path, b"", 0, replies, explained.stderr)
+        ends(gate, "run %s --explain" % path, b"", 0, replies, explained.stderr)
+        ends(gate, "run -", text, 0, replies)
+        missing = os.path.join(folder, "none")
+        done = gate.run("run " + missing, text)
+        same("status", (done.status, done.stdout), (2, b""))
+        true("standard error: %r" % done.stderr, re.fullmatch(rb"gate: %s: .*No such file.*\n" % re.escape(missing.encode()), done.stderr))
+        refused = events_file(folder, "refused", "bloom 2\n")
+        same("an opening that fails", gate.run("run " + refused), gate.run("run", "bloom 2\n"))
+
+
+def test_a_strict_run(gate):
+    """`--strict` changes the status alone: 3 if a line was refused, or else 1 if something was denied, or else 0."""
+    opened = "times 101 1000 600\nbloom 0\nrpcwhitelist a:getmempoolinfo,testmempoolaccept,getmempoolentry\n---\n"
+    enter, denied = "peer 1 enter 192.0.2.1\n", "peer 1 mempool\n"
+    call = 'user a rpc 0 {"method":"%s","params":%s,"id":1}\n'
+    for events, status in (
+        ("", 0),
+        (enter, 0),
+        (enter + denied, 1),
+        (enter + "peer 1 tx 5000 00\n", 1),
+        (enter + "nonsense\n", 3),
+        (enter + denied + "nonsense\n" + denied, 3),
+        ("chain forget 1\n" + denied, 3),
+        (call % ("getmempoolinfo", "[]"), 0),
+        (call % ("testmempoolaccept", '[["%s"]]' % payment(1, 1000).hex()), 1),
+        (call % ("getmempoolentry", '["%s"]' % GENESIS_ID), 1),
+        (call % ("getrawmempool", "[]"), 1),
+        ("user a rpc 0 {\n", 1),
+    ):
+        plain = gate.run("run", opened + events)
+        for words in ("run --strict", "run --strict --explain"):
+            done = gate.run(words, opened + events)
+            same("status of gate %s with %r" % (words, events), done.status, status)
+            same("standard output of gate %s with %r" % (words, events), done.stdout, plain.stdout)
+    same("an opening that fails", gate.run("run --strict", "bloom 2\n").status, 2)
+
+
+def test_explained_words(gate):
+    """`gate explain` takes a name or a token as a reply prints it, in either case, in one word or in several."""
+    def first_of(words):
+        done = gate.run_words(["explain"] + words)
+        same("status of gate explain %r" % words, done.status, 0)
+        return [line.split(":")[0] for line in done.stdout.decode().splitlines()]
+    same("a rule", first_of(["a35"]), ["A35 min relay fee not met"])
+    for words in (["insufficient fee"], ["insufficient", "fee"], ["Insufficient", "FEE"]):
+        same("a token", first_of(words), ["A38 insufficient fee", "A41 insufficient fee", "A42 insufficient fee"])
+    same("a name of testmempoolaccept", first_of(["missing-inputs"]), ["call missing-inputs"])
+    same("an error of a call", first_of(["Invalid", "params"]), ["call Invalid params"])
+    for words, near in ((["insuficient", "fee"], "insufficient fee"), (["missing-input"], "missing-inputs"), (["A355"], "A35"), (["relay fee"], "min relay fee not met")):
+        done = gate.run_words(["explain"] + words)
+        same("status of gate explain %r" % words, (done.status, done.stdout), (1, b""))
+        same("standard error", done.stderr.decode(), 'gate: no rule and no token is named "%s"; is it %s?\n' % (" ".join(words), near))
+    done = gate.run_words(["explain", "what", "is", "this"])
+    same("standard error", done.stderr.decode(), 'gate: no rule and no token is named "what is this"; gate rules lists them\n')

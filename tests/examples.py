@@ -1,4 +1,5 @@
-"""The files of examples/ on permissions, policies, RPC, a living chain, lanes and rounds stand as they are made here, and each event gets the reply that is told."""
+"""The files of examples/ on permissions, policies, RPC, a payment of one's own, a living chain, lanes and rounds stand as they are made here,
+and each event gets the reply that is told."""
 
 import os
 
@@ -86,6 +87,31 @@ def answer(value):
 
 def error(status, code, message, rule):
     return "rpc %d %s" % (status, json_text({"error": {"code": code, "message": message, "rule": rule}, "id": 1, "result": None}))
+
+
+def tried(tx):
+    """What `testmempoolaccept` says of a payment that is allowed."""
+    return answer([{"allowed": True, "fees": {"base": 110}, "txid": tx.txid(), "vsize": 110, "wtxid": tx.wtxid()}])
+
+
+def own_payment():
+    """An opening for a payment of one's own, and the two tries of it."""
+    opening = [
+        "# would my payment be relayed? Four lines say what a node would know of it",
+        "# the height of the first block time, and eleven times, the last of them the tip's: here 600 seconds apart",
+        "from 976990",
+        "times 11 1764400000 600",
+        "# no script is run here: what it says is believed",
+        "verdict * ok",
+        "# the coin that is spent: txid, output, satoshi, height, plain (or cb, of a coinbase), script",
+        "coin %s 0 100000 976000 plain %s" % (printed(COIN), WITNESS_KEY_HASH.hex()),
+    ]
+    poor = spending(COIN, 99900)
+    denied = {"allowed": False, "reject-reason": "min relay fee not met", "rule": "A35", "txid": poor.txid(), "wtxid": poor.wtxid()}
+    return opening, [
+        ("the payment, in hexadecimal: it pays 100 satoshi for 110 virtual bytes", call("me", 1764406300, "testmempoolaccept", [poor.hex()]), answer([denied])),
+        ("ten satoshi more are enough", call("me", 1764406301, "testmempoolaccept", [PARENT.hex()]), tried(PARENT)),
+    ]
 
 
 def rpc():
@@ -202,6 +228,11 @@ def test_example_of_policies(gate):
 def test_example_of_rpc(gate):
     """examples/rpc.txt."""
     holds(gate, "rpc.txt", rpc())
+
+
+def test_example_of_a_payment(gate):
+    """examples/own-payment.txt."""
+    holds(gate, "own-payment.txt", own_payment())
 
 
 def test_example_of_a_living_chain(gate):

@@ -18,9 +18,14 @@ TIMES = "times 101 1000 600"
 OPENING = [TIMES, "verdict * ok", "bloom 1"]
 ENTER = "peer 1 enter 192.0.2.1"
 MULTISIG = b"\x51" + 3 * (b"\x21\x02" + b"\x02" * 32) + b"\x53\xae"
-LONG_CHAIN = (
-    "A36 With its ancestors in the pool it would be more transactions than limitancestorcount says (25) or more thousand virtual bytes than limitancestorsize says (101),"
-    " or an ancestor would get more descendants than limitdescendantcount says (25) or more thousand virtual bytes of them than limitdescendantsize says (101)"
+# by the number of descendants that the opening allows
+LONG_CHAIN = "A36 with it an entry would have more than %d descendants, itself among them, or more than 101000 virtual bytes of them; no fee helps"
+# 101 for 1,000 virtual bytes is 8.28 for the 82 of a payment
+ROUNDED_UP = ["feesroundup 1", "minrelaytxfee 101", "incrementalrelayfee 101"]
+NO_VERDICT = " has no verdict; `verdict * ok` in the opening gives one for every input"
+METHODS = (
+    "sendrawtransaction, testmempoolaccept, getrawmempool, getmempoolentry, getmempoolancestors, getmempooldescendants, getmempoolinfo, getrawtransaction"
+    " or gettxspendingprevout"
 )
 FORGETTING = "C6 More blocks are to be disconnected than are connected, or than 100; or more are to be forgotten than are connected"
 
@@ -48,9 +53,9 @@ def said_of(gate, opening, events):
 
 
 def explains(gate, opening, events):
-    """Of each pair the event gets the reply that denies it by this rule, with these figures."""
+    """Of each pair the event gets the reply that denies it by this rule, with these figures; a line break parts two lines of one."""
     told, _ = said_of(gate, opening, [event for event, _ in events])
-    same_lines(["%s: %s" % it for it in told], ["%s: %s" % (event, figures) for event, figures in events if figures])
+    same_lines(["%s: %s" % it for it in told], ["%s: %s" % (event, line) for event, figures in events if figures for line in figures.split("\n")])
 
 
 def spending(*spent, value):
@@ -63,11 +68,11 @@ def test_fees(gate):
     low, floor = payment(1, 99950), payment(2, 99900)
     explains(gate, OPENING + [coin(1), coin(2), coin(3)], [
         (ENTER, None),
-        (sent(low), "A35 pays 50, needs 82"),
-        ('user a rpc 5000 {"method":"sendrawtransaction","params":["%s"],"id":1}' % low.hex(), "A35 pays 50, needs 82"),
-        ('user a rpc 5000 {"method":"testmempoolaccept","params":[["%s"]],"id":1}' % low.hex(), "A35 pays 50, needs 82"),
+        (sent(low), "A35 pays 50, needs 82; the least fee is 82"),
+        ('user a rpc 5000 {"method":"sendrawtransaction","params":["%s"],"id":1}' % low.hex(), "A35 pays 50, needs 82; the least fee is 82"),
+        ('user a rpc 5000 {"method":"testmempoolaccept","params":[["%s"]],"id":1}' % low.hex(), "A35 pays 50, needs 82; the least fee is 82"),
         ("operator floor 2000", None),
-        (sent(floor), "A34 pays 100, needs 164"),
+        (sent(floor), "A34 pays 100, needs 164; the least fee is 164"),
         (sent(payment(3, 100001)), "A29 coins of 100000, outputs of 100001"),
     ])
 
@@ -96,6 +101,97 @@ def test_sizes_and_locks(gate):
     ])
 
 
+def test_outputs_that_are_not_standard(gate):
+    """The first output whose script is not, by the opening's numbers; and how many carry data."""
+    data, other = b"\x6a" + b"\x29" + b"\x00" * 41, b"\xac"
+    one_key = b"\x51\x21\x02" + b"\x02" * 32 + b"\x51\xae"
+    def paying(*scripts):
+        return Transaction([Input(number_hash(1))], [Output(1000)] + [Output(0 if it == data else 1000, it) for it in scripts])
+    explains(gate, OPENING + [coin(1), "datacarriersize 40", "datacarrieroutputs 2"], [
+        (ENTER, None),
+        (sent(paying(data)), "A16 output 1: a data script of 43 bytes, 40 allowed"),
+        (sent(paying(one_key, other)), "A16 output 2: its script is not standard"),
+    ])
+    explains(gate, OPENING + [coin(1), "permitbaremultisig 0"], [(ENTER, None), (sent(paying(one_key)), "A16 output 1: a multisig script, and permitbaremultisig is 0")])
+    for allowed in (1, 2):
+        explains(gate, OPENING + [coin(1), "datacarrieroutputs %d" % allowed], [(ENTER, None), (sent(paying(*[data] * 3)), "A18 3 outputs carry data, %d allowed" % allowed)])
+    explains(gate, OPENING + [coin(1), "datacarrieroutputs 3", "datacarriertotal 100"], [
+        (ENTER, None),
+        (sent(paying(data, one_key, data, data)), "A51 output 4: a data script of 43 bytes, 14 left"),
+    ])
+
+
+def test_relative_locks(gate):
+    """How long the first lock is that is not met: the next height is 101, and the median time past of height 100 that of height 95."""
+    def locked(*sequences):
+        return Transaction([Input(number_hash(number + 1), sequence=it) for number, it in enumerate(sequences)], [Output(1000)])
+    explains(gate, OPENING + [coin(1, height=95), coin(2, height=90)], [
+        (ENTER, None),
+        (sent(locked(7)), "A26 input 0: locked for 1 more blocks"),
+        (sent(locked(6, 100)), "A26 input 1: locked for 89 more blocks"),
+        # the block before the coin's has height 89, whose median time past is that of height 84: 11 * 600 seconds before
+        (sent(locked(0, 1 << 22 | 13)), "A26 input 1: locked for 56 more seconds of median time past"),
+    ])
+
+
+def test_inputs_that_are_not_standard(gate):
+    """The first input whose coin has a script of no kind, and the first one with a witness where none belongs."""
+    bare = coin(2, script=b"\xac")
+    spent = Transaction([Input(number_hash(1)), Input(number_hash(2))], [Output(1000)])
+    pays_key_hash = coin(3, script=b"\x76\xa9\x14" + b"\x22" * 20 + b"\x88\xac")
+    witnessed = Transaction([Input(number_hash(1)), Input(number_hash(3), witness=[b"\x01"])], [Output(1000)])
+    explains(gate, OPENING + [coin(1), bare, pays_key_hash], [
+        (ENTER, None),
+        (sent(spent), "A31 input 1: the script of its coin, or its redeem script, is not standard"),
+        (sent(witnessed), "A32 input 1: its witness is not standard"),
+    ])
+    anchor, keys = coin(2, script=b"\x51\x02\x4e\x73"), coin(3, script=MULTISIG)
+    signed = Transaction([Input(number_hash(1)), Input(number_hash(2), witness=[b""])], [Output(1000)])
+    counted = Transaction([Input(number_hash(1)), Input(number_hash(3), script=b"\x01\x01")], [Output(1000)])
+    explains(gate, OPENING + [coin(1), anchor, keys, "maxtxlegacysigops 2"], [
+        (ENTER, None),
+        (sent(signed), "A31 input 1: the script of its coin, or its redeem script, is not standard"),
+        (sent(counted), "A31 3 legacy signature operations, 2 allowed"),
+    ])
+    explains(gate, OPENING + [coin(1), anchor, "anchors 1"], [(ENTER, None), (sent(signed), "A32 input 1: its witness is not standard")])
+
+
+def test_the_least_fee(gate):
+    """With the fee that is told a transaction is taken, and with one satoshi less it is denied by a rule of A34 to A42."""
+    first, wide = payment(1, 99000), padded(500, 2, 300)
+    below = spending((first, 0), value=98000)
+    both = [Input(number_hash(1)), Input(number_hash(2))]
+    value = 200000
+    before = [ENTER, sent(first), sent(below), sent(wide)]
+    for settings in ([], ["incrementalrelayfee 0"], ["incrementalrelayfee 5000"], ["minrelaytxfee 3000"], ["minrelaytxfee 0", "incrementalrelayfee 1"], ROUNDED_UP):
+        for inputs, paid in ((both[:1], 100000), (both[1:], 100000), (both, value)):
+            opening = OPENING + [coin(1), coin(2)] + settings
+            told, _ = said_of(gate, opening, before + [sent(Transaction(inputs, [Output(paid - 1)]))])
+            least = int(re.search(r"; the least fee is (\d+)$", told[-1][1])[1])
+            for fee, wanted in ((least, "admitted "), (least - 1, "denied A")):
+                reply = gate.replies(opening, before + [sent(Transaction(inputs, [Output(paid - fee)]))])[-1]
+                true("with a fee of %d: %s" % (fee, reply), reply.startswith(wanted))
+                if wanted == "denied A":
+                    true("its rule: " + reply, 34 <= int(reply.split()[1][1:]) <= 42)
+    explains(gate, OPENING + [coin(1)] + ROUNDED_UP, [(ENTER, None), (sent(payment(1, 99992)), "A35 pays 8, needs 9; the least fee is 9"), (sent(payment(1, 99991)), None)])
+
+
+def test_no_fee_helps(gate):
+    """Where another rule fails with any fee."""
+    first = payment(1, 99000)
+    stranger = payment(2, 99000)
+    joined = Transaction([Input(number_hash(1)), Input(stranger.hash())], [Output(198000)])
+    low = spending((first, 0), value=98990)
+    explains(gate, OPENING + [coin(1), coin(2)], [(ENTER, None), (sent(first), None), (sent(stranger), None),
+        (sent(joined), "A38 pays 8130 per 1000 virtual bytes, needs more than the 12195 of %s; no fee helps" % first.txid())])
+    explains(gate, OPENING + [coin(1), "limitancestorcount 1", "limitdescendantcount 1"], [(ENTER, None), (sent(first), None), (sent(low), "A35 pays 10, needs 82; the least fee is 82")])
+    many = Transaction([Input(number_hash(1))], [Output(30000), Output(30000), Output(30000)])
+    children = [spending((many, index), value=29000) for index in range(2)]
+    explains(gate, OPENING + [coin(1), "limitdescendantcount 2"], [(ENTER, None), (sent(many), None)] + [(sent(tx), None) for tx in children] + [
+        (sent(spending((many, 2), value=29999)), "A35 pays 1, needs 82; no fee helps"),
+    ])
+
+
 def test_signature_operations(gate):
     """The script of an output with several keys counts 20 operations, each four times; the witness of the input costs 1."""
     many = Transaction([Input(number_hash(1))], [Output(2000, MULTISIG)] * 201)
@@ -114,10 +210,10 @@ def test_families(gate):
     size = large.virtual_size() + child.virtual_size() + second.virtual_size()
     opening = OPENING + [coin(1), coin(2, 100000000), coin(3, 100000000)]
     explains(gate, opening, [(ENTER, None)] + [(sent(tx), None) for tx in chain[:-1]] + [
-        (sent(chain[-1]), "A36 26 ancestors, 25 allowed"),
+        (sent(chain[-1]), "A36 26 ancestors, 25 allowed; no fee helps"),
         (sent(large), None),
         (sent(child), None),
-        (sent(second), "A36 ancestors of %d virtual bytes, 101000 allowed" % size),
+        (sent(second), "A36 ancestors of %d virtual bytes, 101000 allowed; no fee helps" % size),
     ])
 
 
@@ -130,9 +226,9 @@ def test_replacements(gate):
     opening = OPENING + [coin(number) for number in [1, 2] + list(range(10, 111))]
     size = len(payment(2, 0).stripped())
     explains(gate, opening, [(ENTER, None), (sent(first), None)] + [(sent(tx), None) for tx in [large] + many] + [
-        (sent(payment(1, 98950)), "A42 1050 - 1000 = 50, needs %d" % size),
-        (sent(payment(2, 100000 - paid + 1)), "A41 pays %d, needs %d" % (paid - 1, paid)),
-        (sent(all_of_them), "A39 101 descendants, 100 allowed"),
+        (sent(payment(1, 98950)), "A42 1050 - 1000 = 50, needs %d; the least fee is %d" % (size, 1000 + size)),
+        (sent(payment(2, 100000 - paid + 1)), "A41 pays %d, needs %d; the least fee is %d" % (paid - 1, paid, paid + size)),
+        (sent(all_of_them), "A39 101 descendants, 100 allowed; no fee helps"),
     ])
 
 
@@ -145,7 +241,7 @@ def test_rates_and_signals(gate):
         (ENTER, None),
         (sent(first), None),
         (sent(firm), None),
-        (sent(again), "A38 pays %d per 1000 virtual bytes, needs more than the %d of %s" % (rate, rate, first.txid())),
+        (sent(again), "A38 pays %d per 1000 virtual bytes, needs more than the %d of %s; the least fee is %d" % (rate, rate, first.txid(), 1000 + first.virtual_size())),
         (sent(rival), "A23 input 0: %s spends its coin, and does not signal replacement" % firm.txid()),
     ])
 
@@ -157,12 +253,12 @@ def test_families_under_a_policy(gate):
         chain.append(spending((chain[-1], 0), value=chain[-1].outputs[0].value - 1000))
     another, large = payment(3, 99000), padded(10001, 2, 300)
     large.inputs.append(Input(another.hash()))
-    three = [(sent(chain[-1]), "A36 4 ancestors, 3 allowed")]
+    three = [(sent(chain[-1]), "A36 4 ancestors, 3 allowed; no fee helps")]
     explains(gate, OPENING + [coin(1), "limitancestorcount 3"], [(ENTER, None)] + [(sent(tx), None) for tx in chain[:3]] + three)
     explains(gate, OPENING + [coin(1), "limitancestorcount 4", "limitdescendantcount 4"], [(ENTER, None)] + [(sent(tx), None) for tx in chain])
     explains(gate, OPENING + [coin(1), coin(2, 100000000), coin(3), "limitancestorcount 1"], [(ENTER, None)] + [(sent(tx), None) for tx in chain[:2] + [another]] + [
-        (sent(chain[2]), "A36 3 ancestors, 2 allowed"),
-        (sent(large), "A36 2 ancestors, 1 allowed"),
+        (sent(chain[2]), "A36 3 ancestors, 2 allowed; no fee helps"),
+        (sent(large), "A36 2 ancestors, 1 allowed; no fee helps"),
     ])
 
 
@@ -171,9 +267,9 @@ def test_descendants_under_a_policy(gate):
     parent = Transaction([Input(number_hash(1))], [Output(30000), Output(30000), Output(30000)])
     children = [spending((parent, index), value=29000) for index in range(3)]
     for limits in (["limitdescendantcount 1"], ["limitdescendantcount 1", "limitancestorcount 1"]):
-        explains(gate, OPENING + [coin(1)] + limits, [(ENTER, None), (sent(parent), None), (sent(children[0]), None), (sent(children[1]), LONG_CHAIN)])
+        explains(gate, OPENING + [coin(1)] + limits, [(ENTER, None), (sent(parent), None), (sent(children[0]), None), (sent(children[1]), LONG_CHAIN % 1)])
     explains(gate, OPENING + [coin(1), "limitdescendantcount 2"], [(ENTER, None), (sent(parent), None)] + [(sent(tx), None) for tx in children[:2]] + [
-        (sent(children[2]), LONG_CHAIN),
+        (sent(children[2]), LONG_CHAIN % 2),
     ])
 
 
@@ -186,8 +282,8 @@ def test_full_replacement(gate):
     explains(gate, opening + ["mempoolfullrbf 1"], [
         (ENTER, None),
         (sent(firm), None),
-        (sent(same_fee), "A38 pays 12195 per 1000 virtual bytes, needs more than the 12195 of %s" % firm.txid()),
-        (sent(short), "A42 1081 - 1000 = 81, needs 82"),
+        (sent(same_fee), "A38 pays 12195 per 1000 virtual bytes, needs more than the 12195 of %s; the least fee is 1082" % firm.txid()),
+        (sent(short), "A42 1081 - 1000 = 81, needs 82; the least fee is 1082"),
         (sent(enough), None),
     ])
 
@@ -199,7 +295,7 @@ def test_verdicts(gate):
     verdicts = ["verdict %s 0 ok" % two.wtxid(), "verdict %s 0 soft" % soft.wtxid()]
     explains(gate, [TIMES] + [coin(number) for number in (1, 2, 3)] + verdicts, [
         (ENTER, None),
-        (sent(two), "A43 input 1 of " + two.wtxid()),
+        (sent(two), "A43 input 1 of " + two.wtxid() + NO_VERDICT),
         (sent(soft), "A44 input 0 of " + soft.wtxid()),
     ])
 
@@ -212,7 +308,7 @@ def test_rules_without_figures(gate):
         (ENTER, None),
         (sent(tx), None),
         (sent(tx), "P5 The pool has the transaction already, by its wtxid"),
-        ("peer 1 tx 5000 00", "A1 The bytes are not the text of a transaction"),
+        ("peer 1 tx 5000 00", "the transaction is cut behind byte 1, in the version\nA1 The bytes are not the text of a transaction"),
         ('user a rpc 5000 {"method":"getrawmempool","id":1}', "U1 The user may not call this method"),
         ("chain 101 5000", FORGETTING),
     ])
@@ -246,7 +342,7 @@ def test_a_lock_by_time_below_the_first_height(gate):
     tx = Transaction([Input(number_hash(1), sequence=1 << 22)], [Output(99000)])
     explains(gate, OPENING + ["from 900000", coin(1, height=900000), coin(2, height=900001)], [
         (ENTER, None),
-        (sent(tx), "A26 The sequence of an input asks for more blocks or more time than have passed since its coin was made"),
+        (sent(tx), "A26 input 0: locked by time, and its coin is older than the block times of the opening"),
         (sent(Transaction([Input(number_hash(2), sequence=1 << 22)], [Output(99000)])), None),
     ])
 
@@ -254,10 +350,11 @@ def test_a_lock_by_time_below_the_first_height(gate):
 def test_calls(gate):
     """What is wrong with a call that is answered by an error."""
     explains(gate, OPENING, [
-        ("user a rpc 0 {", "the call is not valid JSON"),
+        ("user a rpc 0 {", "the call is not valid JSON; its texts stand between double quotes"),
         ('user a rpc 0 {"method":1}', "a call is an object with a method and a list of params"),
-        ('user a rpc 0 {"method":"getrawmempol"}', "there is no such method"),
-        ('user a rpc 0 {"method":"getrawmempool","params":[1]}', "the method does not take these params"),
+        ('user a rpc 0 {"method":"getrawmempol"}', 'there is no such method: "getrawmempol" is unknown; is it getrawmempool?'),
+        ('user a rpc 0 {"method":"getbalance"}', 'there is no such method: "getbalance" is unknown; expected ' + METHODS),
+        ('user a rpc 0 {"method":"getrawmempool","params":[1]}', "getrawmempool does not take these params; expected [], [false] or [true]"),
         ('user a rpc 0 {"method":"getmempoolentry","params":["%s"]}' % printed(number_hash(1)), "no transaction in the pool has this txid"),
     ])
 
@@ -350,7 +447,7 @@ def test_the_example(gate):
     same("standard error", done.stderr.decode().splitlines(), [
         "gate: line 10: + " + parent,
         "gate: line 12: + " + child,
-        "gate: line 14: A42 329 - 220 = 109, needs 110",
+        "gate: line 14: A42 329 - 220 = 109, needs 110; the least fee is 330",
         "gate: line 16: - " + parent,
         "gate: line 16: - " + child,
         "gate: line 16: + " + instead,

@@ -11,7 +11,7 @@ import subprocess
 import tempfile
 from collections import namedtuple
 
-from gate import SECONDS, Differs, as_bytes, with_workers
+from gate import SECONDS, Differs, as_bytes
 
 HERE = os.path.dirname(os.path.abspath(__file__))
 EIO, EINTR, ENOSPC = 5, 4, 28
@@ -50,7 +50,7 @@ def failing(program, words, text, **how):
         file.seek(0)
         given = dict(os.environ, LD_PRELOAD=library(), FAILING_TELL=str(told.fileno()))
         given.update({"FAILING_" + name.upper(): str(value) for name, value in how.items()})
-        done = subprocess.run([program] + with_workers(words), stdin=file, capture_output=True, env=given, pass_fds=[told.fileno()], timeout=SECONDS)
+        done = subprocess.run([program] + words.split(), stdin=file, capture_output=True, env=given, pass_fds=[told.fileno()], timeout=SECONDS)
         refused = os.fstat(told.fileno()).st_size > 0
         return Failed(done.returncode, done.stdout, done.stderr, refused, os.lseek(file.fileno(), 0, os.SEEK_CUR))
 

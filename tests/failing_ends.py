@@ -1,6 +1,6 @@
 """Inputs and outputs that fail anywhere, or give and take a few bytes at a time; and that nothing is read past a limit."""
 
-from bitcoin import coin, payment
+from bitcoin import Input, Output, Transaction, coin, number_hash, payment
 from failing import ALWAYS, EINTR, EIO, ENOSPC, failing
 from gate import lines, same, true
 from sizes import ENTER, admitted, opening, submitted
@@ -13,7 +13,7 @@ MOST_DIGITS = 67108864
 UNDECODABLE = "denied A1 tx-decode\n"
 HEAD = lines(opening(coin(1))) + "---\n"
 HEAD_LINES = HEAD.count("\n")
-FORM = past(1, '"2" is unknown')
+FORM = past(1, '"2" is unknown; expected 0 or 1')
 TX = payment(1, 99000)
 TALK = [
     ENTER,
@@ -137,13 +137,16 @@ def test_no_random_numbers(gate):
 
 
 def test_no_threads(gate):
-    """Where a thread can't be made, and where none can, every lane is answered all the same."""
-    lanes = ["peer %d leave\n" % peer * 3 for peer in range(4)]
-    text = HEAD + "---\n".join(lanes)
-    wanted = "".join("lane %d\n" % number + "denied P1 keep peer-unknown\n" * 3 for number in range(1, 5)) + "settled 12\n"
-    for thread in (1, 2, 3, 4, ALWAYS):
-        done = failing(gate.program, "lanes", text, thread=thread)
-        same("without thread %d" % thread, (done.status, done.stdout.decode(), done.stderr), (0, wanted, b""))
+    """Where a thread can't be made, and where none can, every lane is answered all the same, and two inputs are checked."""
+    both = Transaction([Input(number_hash(1)), Input(number_hash(2))], [Output(199000)])
+    lanes = [lines(["peer 0 enter 192.0.2.1", "peer 0 tx 5000 " + both.hex()])] + ["peer %d leave\n" % peer * 3 for peer in range(1, 4)]
+    text = lines(opening(coin(1), coin(2))) + "".join("---\n" + lane for lane in lanes)
+    replies = [["entered none", admitted(both, 1000, 2)]] + [["denied P1 keep peer-unknown"] * 3] * 3
+    wanted = "".join(lines(["lane %d" % (number + 1)] + told) for number, told in enumerate(replies)) + "settled 11\n"
+    for words in ("lanes", "lanes --workers 3"):
+        for thread in (*range(1, 8), ALWAYS):
+            done = failing(gate.program, words, text, thread=thread)
+            same("gate %s without thread %d" % (words, thread), (done.status, done.stdout.decode(), done.stderr), (0, wanted, b""))
 
 
 def reads_no_further(gate, words, text, limit, status, stdout, stderr=b""):

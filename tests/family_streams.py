@@ -129,7 +129,7 @@ class Families:
             return []
         above, size, tries = self.model.above(tx), self.model.size(tx), self.model.tries(tx)
         passed = [self.model.passed(limits, above, size) for limits in tries]
-        counts = {"ancestors": self.opening.ancestors, "descendants": self.opening.descendants}
+        counts = {"ancestors": self.opening["limitancestorcount"], "descendants": self.opening["limitdescendantcount"]}
         if all(passed):
             return ["by " + limit for limit in passed[0]] + ["by %s of %s" % (limit, among(count)) for limit, count in counts.items() if limit in passed[0]]
         goes = size_of(self.model.below(self.model.conflicts(tx)))

@@ -8,10 +8,9 @@ from collections import namedtuple
 ROOT = os.path.join(os.path.dirname(os.path.abspath(__file__)), "..")
 SECONDS = 120
 SHOWN = 20
-# how many workers read the lines of `gate run` where a test names no number: none, and the program chooses
-workers = None
 
 Done = namedtuple("Done", "status stdout stderr")
+Range = namedtuple("Range", "least most usual")
 
 
 class Differs(AssertionError):
@@ -32,7 +31,7 @@ class Gate:
         self.program, self.calls, self.says_causes, self.seconds = program, calls, says_causes, seconds
 
     def words(self, words):
-        return [self.program] + (with_workers(words) if self.says_causes else words.split())
+        return [self.program] + words.split()
 
     def run(self, words, stdin=b"", stdout=subprocess.PIPE, **more):
         """Runs it on an input, text, bytes or an open file, to its end."""
@@ -45,6 +44,12 @@ class Gate:
         done = subprocess.run([self.program] + words, stdin=subprocess.DEVNULL, capture_output=True, timeout=self.seconds, check=False)
         return Done(done.returncode, done.stdout, done.stderr)
 
+    def settings(self):
+        """What `gate settings` prints: by its word the range of each setting, whose usual number may be None. The row
+        `settings-of-an-opening` has it by hand."""
+        printed = self.run("settings").stdout.decode().splitlines()
+        return {word: Range(*(None if it == "none" else int(it) for it in numbers)) for word, *numbers in (line.split(" ")[:4] for line in printed)}
+
     def replies(self, opening, events):
         """The reply lines of `gate run`, which has to end with status 0."""
         done = self.run("run", lines(opening) + "---\n" + lines(events))
@@ -55,12 +60,6 @@ class Gate:
     def answers(self, opening, events):
         """Runs events, each with the reply line that it has to get."""
         same_lines(self.replies(opening, [event for event, _ in events]), [reply for _, reply in events])
-
-
-def with_workers(words):
-    """The words of a command, which name the number of workers if it is `gate run` and they are asked for."""
-    first, *rest = words.split() or [""]
-    return [first, "--workers", str(workers), *rest] if first == "run" and workers and "--workers" not in rest else words.split()
 
 
 def as_bytes(text):

@@ -315,7 +315,7 @@ def test_each_growth_of_a_check(gate):
     right = ("%s %s %d\nstandard\n" % (tx.txid(), tx.wtxid(), tx.weight())).encode()
     fault = b"opening 1 bad-line\n"
     for words, text, answer, status, said in (
-        ("check " + tx.hex(), "", right, 0, b""), ("check -", tx.hex(), right, 0, b""), ("run", "bloom 2\n", fault, 2, past(1, '"2" is unknown')),
+        ("check " + tx.hex(), "", right, 0, b""), ("check -", tx.hex(), right, 0, b""), ("run", "bloom 2\n", fault, 2, past(1, '"2" is unknown; expected 0 or 1')),
     ):
         ended = 0
         for growth, done in each_growth(gate.program, words, text):

@@ -43,9 +43,11 @@ def installed():
         + ["share/doc/gate/docs/" + it for it in os.listdir(os.path.join(ROOT, "docs"))]
         + ["share/doc/gate/gated/README.md"]
         + ["share/gate/examples/" + it for it in os.listdir(os.path.join(ROOT, "examples"))]
-        + ["share/gate/tools/" + it for it in ("opening", "compare", "node.py", "differences.py")]
-        + ["share/gate/gated/" + it for it in ("gated.service", "gated.toml", "py.typed")]
-        + ["share/gate/gated/" + it for it in os.listdir(os.path.join(ROOT, "gated", "gated")) if it.endswith(".py")]
+        + ["share/gate/settings/" + it for it in os.listdir(os.path.join(ROOT, "settings"))]
+        + ["share/gate/tools/" + it for it in ("opening", "compare")]
+        + ["share/gate/gated/" + it for it in ("gated.service", "gated.toml", "gated/py.typed")]
+        + ["share/gate/gated/gated/" + it for it in os.listdir(os.path.join(ROOT, "gated", "gated")) if it.endswith(".py")]
+        + ["share/gate/gated/gated/node/" + it for it in os.listdir(os.path.join(ROOT, "gated", "gated", "node")) if it.endswith(".py")]
     )
 
 
@@ -61,6 +63,13 @@ def test_installing(gate):
         opening = done_by(os.path.join(programs, "gate-opening"), "--from", recorded + ".jsonl")
         same("the opening", opening, done_by(os.path.join(ROOT, "tools", "opening"), "--from", recorded + ".jsonl"))
         compared = done_by(os.path.join(programs, "gate-compare"), "--from", recorded + ".jsonl", "--try", recorded + ".hex", os.path.join(programs, "gate"))
+        gated = subprocess.run([os.path.join(programs, "gated"), "--version"], cwd=folder, capture_output=True, text=True, timeout=SECONDS, check=False)
+        if "No module named" not in gated.stderr:
+            same("gated", (gated.stdout, gated.stderr, gated.returncode), ("gated 0.1.0\n", "", 0))
+        for name, line in (("gated.service", "ExecStart=/opt/bin/gated --settings /etc/gated.toml"), ("gated.toml", 'gate = "/opt/bin/gate"')):
+            text = text_of(folder, "opt", "share", "gate", "gated", name)
+            true("%s has %s" % (name, line), line in text.splitlines())
+            true("%s names no other prefix" % name, "/usr/local" not in text)
         same("the comparison", compared, "71 compared: 71 alike, 0 known differences, 0 others\n")
         other = os.path.join(programs, "other")
         open(other, "w").close()
@@ -84,10 +93,10 @@ def sentences(text):
 def test_the_manual_page_has_the_help(gate):
     """Each sentence, option and example of every help text stands on the page."""
     page = sentences(text_of("share", "gate.1"))
-    for command in ("", "check", "run", "lanes", "audit", "rules", "explain"):
+    for command in ("", "try", "check", "run", "lanes", "audit", "rules", "settings", "explain"):
         for line in gate.run((command + " --help").strip()).stdout.decode().splitlines():
             for part in re.split(r"\s{2,}", line.strip()):
-                is_title = re.fullmatch(r"[A-Z]\w+:", part)
+                is_title = re.fullmatch(r"[A-Z][\w ]+:", part)
                 if part and not is_title:
                     wanted = sentences(part.removeprefix("Usage: "))
                     true("the page lacks %r of gate %s --help" % (part, command), wanted in page or wanted[0].lower() + wanted[1:] in page)
@@ -108,10 +117,17 @@ def words_of_the_help(gate):
     return commands, options
 
 
+def test_completions_are_made(gate):
+    """The completions of each shell are what tools/completions makes of the program's help."""
+    for name in COMPLETIONS:
+        found = done_by(os.path.join(ROOT, "tools", "completions"), "--print", name, gate.program)
+        same_lines(text_of("share", name).splitlines(), found.splitlines())
+
+
 def test_completions(gate):
     """The completions of each shell have the commands and the options of the help, and no other option."""
     commands, options = words_of_the_help(gate)
-    true("few words: %s %s" % (commands, options), len(commands) == 7 and len(options) > 4)
+    true("few words: %s %s" % (commands, options), len(commands) == 9 and len(options) > 4)
     for name in COMPLETIONS:
         text = text_of("share", name)
         for word in commands:
@@ -141,8 +157,10 @@ def test_completing_in_a_shell(gate):
         for words, wanted in (
             (["gate", "l"], ["lanes"]),
             (["gate", "lanes", "--"], ["--explain", "--help", "--journal", "--workers"]),
-            (["gate", "run", "--"], ["--explain", "--help", "--workers"]),
-            (["gate", "run", "--e"], ["--explain"]),
+            (["gate", "run", "--"], ["--explain", "--explain-json", "--help", "--strict"]),
+            (["gate", "run", "--s"], ["--strict"]),
+            (["gate", "try", "--t"], ["--time", "--tip"]),
+            (["gate", "try", "--verdict", "s"], ["soft"]),
             (["gate", "lanes", "--workers", "6"], ["64"]),
             (["gate", "help", "e"], ["explain"]),
         ):

@@ -1,9 +1,9 @@
 """Tests that are not run always."""
 
-# files whose tests are quick on a program without proofs, which is several times slower and needs more memory
+# files whose tests are quick on a program without proofs, which is some hundred times slower and needs more memory
 QUICK_UNPROVED = (
     "beside_node", "caller_streams", "calls", "causes", "chain_streams", "command_line", "decoding", "embedding", "examples", "explained", "heights", "installing",
-    "json_texts", "living_streams", "openings", "permissions", "progress", "random_streams", "replies", "rules", "samples",
+    "json_texts", "living_streams", "mistakes", "objects", "openings", "permissions", "progress", "random_streams", "replies", "rules", "samples", "trying",
 )
 
 

@@ -1,7 +1,7 @@
-"""A plain model of docs/POLICY.md for transactions that spend version 0 key hashes alone.
+"""A plain model of docs/POLICY.md for transactions that spend version 0 key hashes, bare multisig of one key, and anchors.
 
-Their outputs are these too, or bare multisig of one key, or they carry data. Their inputs have no scripts, so A14 to A16
-and A32 fail nowhere, and A31 for a coin without a script alone; sizes stay far below A4. The pool is a list, and families
+Their outputs are these too, but for anchors, or they carry data. Their inputs have no scripts, so A14 and A15 fail nowhere,
+A31 for a coin without a script, an anchor or its count alone, and A32 for an anchor alone; sizes stay far below A4. The pool is a list, and families
 are found by asking all of it again and again.
 """
 
@@ -16,9 +16,9 @@ from gate import ROOT
 
 GREATEST_AMOUNT = 2100000000000000
 NULL = (bytes(32), 0xFFFFFFFF)
-CLOSING = ["A%d" % number for number in list(range(2, 12)) + [28, 29, 30, 37, 45]] + ["P6"]
 RETURN = 0x6A
 MULTISIG = bytes.fromhex("5121" + "02" * 33 + "51ae")
+ANCHOR = bytes.fromhex("51024e73")
 LAST_SIGNAL = 0xFFFFFFFD
 SMALL = 10000
 MOST_REPLACED = 100
@@ -27,13 +27,37 @@ HOUR = 3600
 KILO = 1000
 
 
-def tokens():
-    """The token of each rule, from the tables of the policy."""
-    with open(os.path.join(ROOT, "docs", "POLICY.md")) as file:
-        return dict(re.findall(r"^\| ([AP]\d+) \| `([^`]+)` \|", file.read(), re.MULTILINE))
+def text_of(*path):
+    with open(os.path.join(ROOT, *path), encoding="utf-8") as file:
+        return file.read()
 
 
-TOKENS = tokens()
+def closing(policy):
+    """The rules after which a session is closed: of admission by a sentence of the policy, of peers by its table."""
+    listed = re.search(r"((?:A\d+(?: to A\d+)?(?:, | and )?)+) close the session", policy)[1]
+    found = re.findall(r"^\| (P\d+) \| .* \| close[^|]*\|$", policy, re.MULTILINE)
+    for first, last in re.findall(r"A(\d+)(?: to A(\d+))?", listed):
+        found += ["A%d" % number for number in range(int(first), int(last or first) + 1)]
+    return found
+
+
+POLICY = text_of("docs", "POLICY.md")
+TOKENS = dict(re.findall(r"^\| ([APC]\d+) \| `([^`]+)` \|", POLICY, re.MULTILINE))
+CLOSING = closing(POLICY)
+# the settings of admission and their defaults; a limit that no opening without its line has is None
+SETTINGS = text_of("docs", "FORMATS.md").partition("\n### Settings\n")[2].partition("\nWhat peers and users may do:\n")[0]
+DEFAULTS = re.findall(r"^\| `(\w+)` \|.*\| ([\d,]+|none) \|[^|]*\|$", SETTINGS, re.MULTILINE)
+USUAL = {word: None if number == "none" else int(number.replace(",", "")) for word, number in DEFAULTS}
+
+
+def releases():
+    """By its name, the settings that a release has otherwise than usual."""
+    table, found = text_of("docs", "FORMATS.md").partition("\n### Releases\n")[2].partition("\n### ")[0], {}
+    for name, told in re.findall(r"^\| `([\w-]+)` \| [^|]+ \| ([^|]*) \|", table, re.MULTILINE):
+        found[name] = {}
+        for word, number in re.findall(r"`([\w-]+)(?: (\d+))?`", told):
+            found[name].update({word: int(number)} if number else found[word])
+    return found
 
 
 @dataclass
@@ -52,28 +76,19 @@ class Coin:
 @dataclass
 class Opening:
     """What an opening says: times from the first height on, coins by outpoint, verdicts by wtxid and input, `*` for the rest,
-    and what is asked of families."""
+    and by their words the settings of admission that it has."""
 
     times: list
     coins: dict = field(default_factory=dict)
     verdicts: dict = field(default_factory=dict)
     bloom: bool = False
     budget: int = 300000000
-    ancestors: int = 25
-    descendants: int = 25
-    full_rbf: bool = False
     first: int = 0
-    ancestors_size: int = 101
-    descendants_size: int = 101
-    relay_rate: int = 1000
-    incremental_rate: int = 1000
-    hours: int = 336
-    sigop_size: int = 20
-    dust_rate: int = 3000
-    data_size: int = 83
-    data_outputs: int = 1
-    bare_multisig: bool = True
-    least_size: int = 82
+    settings: dict = field(default_factory=dict)
+
+    def __getitem__(self, word):
+        """The number of a setting."""
+        return self.settings.get(word, USUAL[word])
 
     def tip(self):
         """The height of the last time."""
@@ -99,28 +114,19 @@ class Entry:
         return any(one.sequence <= LAST_SIGNAL for one in self.tx.inputs)
 
 
-# the lines of settings that stand only if they say something else than usual, and the fields of an opening
-SETTINGS = {
-    "limitancestorsize": "ancestors_size", "limitdescendantsize": "descendants_size", "minrelaytxfee": "relay_rate", "incrementalrelayfee": "incremental_rate",
-    "mempoolexpiry": "hours", "bytespersigop": "sigop_size", "dustrelayfee": "dust_rate", "datacarriersize": "data_size", "datacarrieroutputs": "data_outputs",
-    "permitbaremultisig": "bare_multisig", "mintxsize": "least_size",
-}
-
-
 def policy_lines(opening, spoken):
-    """The lines of what is asked of families and of replacements: what is usual stands only where `spoken` says so."""
-    told = {"limitancestorcount": (opening.ancestors, 25), "limitdescendantcount": (opening.descendants, 25), "mempoolfullrbf": (int(opening.full_rbf), 0)}
-    lines = ["%s %d" % (name, value) for name, (value, usual) in told.items() if value != usual or spoken()]
-    return lines + ["%s %d" % (word, getattr(opening, name)) for word, name in SETTINGS.items() if getattr(opening, name) != getattr(Opening, name)]
+    """The lines of settings: what is usual stands only where `spoken` says so."""
+    said = {word: opening[word] for word, usual in USUAL.items() if opening[word] != usual or spoken()}
+    return ["%s %d" % (word, number) for word, number in said.items() if number is not None]
 
 
 def draw_policy(random, opening):
     """Limits from 1 to 40, of which the least and the usual one come most often, and full replacement."""
-    for name in ("ancestors", "descendants"):
+    for word in ("limitancestorcount", "limitdescendantcount"):
         draw = random.random()
         if draw < 0.7:
-            setattr(opening, name, random.choice((1, 1, 2, 3)) if draw < 0.35 else random.randint(1, 40))
-    opening.full_rbf = random.random() < 0.5
+            opening.settings[word] = random.choice((1, 1, 2, 3)) if draw < 0.35 else random.randint(1, 40)
+    opening.settings["mempoolfullrbf"] = int(random.random() < 0.5)
 
 
 def among(limit):
@@ -147,14 +153,16 @@ def carries_data(output):
     return output.script[:1] == bytes([RETURN])
 
 
-def dust(output, rate):
+def dust(output, opening):
     """What an output has at least: what it costs to make and to spend it."""
-    return 0 if carries_data(output) else fee_at(rate, 194 if output.script == MULTISIG else 98)
+    return 0 if carries_data(output) else fee_at(opening["dustrelayfee"], 194 if output.script == MULTISIG else 98, opening["feesroundup"])
 
 
-def cost_of(tx):
-    """The signature operations: one for each input, 80 for each multisig output."""
-    return len(tx.inputs) + 80 * len([output for output in tx.outputs if output.script == MULTISIG])
+def cost_of(tx, coins):
+    """The signature operations: one for each input that spends a key hash, 80 for each multisig output. Coins of other scripts are
+    the opening's."""
+    others = [one for one in tx.inputs if (one.hash, one.index) in coins and coins[one.hash, one.index].script != WITNESS_KEY_HASH]
+    return len(tx.inputs) - len(others) + 80 * len([output for output in tx.outputs if output.script == MULTISIG])
 
 
 def size_of(entries):
@@ -170,9 +178,9 @@ def rate_of(fee, size):
     return fee * 1000 // size
 
 
-def fee_at(rate, size):
-    """What a rate asks of a size: 1 where it asks for less than that, and for anything."""
-    return rate * size // 1000 or min(1, rate)
+def fee_at(rate, size, rounds_up=False):
+    """What a rate asks of a size: rounded up, or rounded down and 1 where that is less, and the rate asks for anything."""
+    return (rate * size + 999) // 1000 if rounds_up else rate * size // 1000 or min(1, rate)
 
 
 class Model:
@@ -206,9 +214,13 @@ class Model:
             return self.denied(refusal, peer)
         return self.listing(peer)
 
+    def fee_at(self, rate, size):
+        """What a rate asks of a size under this opening."""
+        return fee_at(rate, size, self.opening["feesroundup"])
+
     def listing(self, peer):
         """What a peer is told: the entries that its own rate doesn't hide."""
-        told = [entry for entry in self.pool if entry.fee >= fee_at(self.rates.get(peer, 0), entry.size)]
+        told = [entry for entry in self.pool if entry.fee >= self.fee_at(self.rates.get(peer, 0), entry.size)]
         return " ".join(["listing", str(len(told))] + [entry.tx.txid() for entry in told])
 
     def fee_filter(self, peer, rate):
@@ -232,7 +244,7 @@ class Model:
         entry = Entry(tx, self.fee(tx), self.size(tx), now)
         replaced = self.remove(self.conflicts(tx), "replaced")
         self.pool.append(entry)
-        self.remove([one for one in self.pool if one.time + HOUR * self.opening.hours < now], "expired")
+        self.remove([one for one in self.pool if one.time + HOUR * self.opening["mempoolexpiry"] < now], "expired")
         self.trim()
         if entry not in self.pool:
             return self.denied("A46", peer)
@@ -248,7 +260,7 @@ class Model:
     def trim(self):
         while size_of(self.pool) > self.opening.budget:
             family = self.remove([self.least()], "trimmed")
-            self.floor = max(self.floor, rate_of(fees_of(family), size_of(family)) + self.opening.incremental_rate)
+            self.floor = max(self.floor, rate_of(fees_of(family), size_of(family)) + self.opening["incrementalrelayfee"])
             self.gone["trimmed as a family"] += len(family) > 1
 
     def least(self):
@@ -260,7 +272,7 @@ class Model:
         return max(Fraction(entry.fee, entry.size), Fraction(fees_of(family), size_of(family)))
 
     def denied(self, rule, peer):
-        closes = rule in CLOSING
+        closes = rule in CLOSING and not (self.opening["keepinvalid"] and rule.startswith("A"))
         if closes:
             self.sessions[peer] = False
         return "denied %s %s %s" % (rule, "close" if closes else "keep", TOKENS[rule])
@@ -307,19 +319,24 @@ class Model:
             yield "A12"
         if tx.weight() > 400000:
             yield "A13"
+        left = self.opening["datacarriertotal"]
         for output in tx.outputs:
             if self.is_strange(output):
                 yield "A16"
-            if output.value < dust(output, self.opening.dust_rate):
+            if left is not None and carries_data(output):
+                left -= len(output.script)
+                if left < 0:
+                    yield "A51"
+            if output.value < dust(output, self.opening):
                 yield "A17"
-        if len([output for output in tx.outputs if carries_data(output)]) > self.opening.data_outputs:
+        if len([output for output in tx.outputs if carries_data(output)]) > self.opening["datacarrieroutputs"]:
             yield "A18"
-        if len(tx.stripped()) < self.opening.least_size:
+        if len(tx.stripped()) < self.opening["mintxsize"]:
             yield "A19"
 
     def is_strange(self, output):
         """Whether an output is one that the operator doesn't take for standard."""
-        return output.script == MULTISIG and not self.opening.bare_multisig or carries_data(output) and len(output.script) > self.opening.data_size
+        return output.script == MULTISIG and not self.opening["permitbaremultisig"] or carries_data(output) and len(output.script) > self.opening["datacarriersize"]
 
     def in_pool_and_chain(self, tx):
         if not self.is_final(tx):
@@ -327,7 +344,7 @@ class Model:
         hash = tx.hash()
         if any(entry.hash == hash for entry in self.pool):
             yield "A22"
-        if not self.opening.full_rbf and not all(entry.signals() for entry in self.conflicts(tx)):
+        if not self.opening["mempoolfullrbf"] and not all(entry.signals() for entry in self.conflicts(tx)):
             yield "A23"
         lacks = any(self.coin(one) is None for one in tx.inputs)
         own = any((hash, index) in self.chain_coins() for index in range(len(tx.outputs)))
@@ -349,14 +366,20 @@ class Model:
                 yield "A28"
         if self.fee(tx) < 0:
             yield "A29"
-        if not all(self.coin(one).script for one in tx.inputs):
+        scripts = [self.coin(one).script for one in tx.inputs]
+        most = self.opening["maxtxlegacysigops"]
+        if most is not None and scripts.count(MULTISIG) > most:
             yield "A31"
-        if cost_of(tx) > 16000:
+        if not all(script and (script != ANCHOR or self.opening["anchors"]) for script in scripts):
+            yield "A31"
+        if any(script == ANCHOR and one.witness for script, one in zip(scripts, tx.inputs)):
+            yield "A32"
+        if cost_of(tx, self.opening.coins) > 16000:
             yield "A33"
-        if self.fee(tx) < fee_at(self.floor, self.size(tx)):
-            yield "A34"
-        if self.fee(tx) < fee_at(self.opening.relay_rate, self.size(tx)):
-            yield "A35"
+        asked = [("A34", self.floor), ("A35", self.opening["minrelaytxfee"])]
+        for rule, rate in reversed(asked) if self.opening["relayfeefirst"] else asked:
+            if self.fee(tx) < self.fee_at(rate, self.size(tx)):
+                yield rule
 
     def families(self, tx):
         above, direct = self.above(tx), self.conflicts(tx)
@@ -374,13 +397,13 @@ class Model:
             yield "A38"
         if sum(len(self.below([entry])) for entry in direct) > MOST_REPLACED:
             yield "A39"
-        spent = {hash for entry in direct for hash in entry.parents}
+        spent = {hash for entry in (self.below(direct) if self.opening["replacedparents"] else direct) for hash in entry.parents}
         if any(entry.hash not in spent for entry in self.parents(tx)):
             yield "A40"
         paid = fees_of(self.below(direct))
         if fee < paid:
             yield "A41"
-        if fee - paid < fee_at(self.opening.incremental_rate, size):
+        if fee - paid < self.fee_at(self.opening["incrementalrelayfee"], size):
             yield "A42"
 
     def judged(self, tx):
@@ -409,7 +432,7 @@ class Model:
         return self.opening.times
 
     def size(self, tx):
-        return tx.virtual_size(cost_of(tx), self.opening.sigop_size)
+        return tx.virtual_size(cost_of(tx, self.opening.coins), self.opening["bytespersigop"])
 
     def conflicts(self, tx):
         """The entries that spend what it spends."""
@@ -439,11 +462,11 @@ class Model:
 
     def tries(self, tx):
         """The limits of its family: the usual ones, and for a small transaction those of the carve-out."""
-        direct, descendants, size = self.conflicts(tx), self.opening.descendants, KILO * self.opening.descendants_size
+        direct, descendants, size = self.conflicts(tx), self.opening["limitdescendantcount"], KILO * self.opening["limitdescendantsize"]
         if len(direct) == 1:
             descendants, size = descendants + 1, size + size_of(self.below(direct))
-        most = KILO * self.opening.ancestors_size
-        usual = Limits(self.opening.ancestors, most, descendants, size)
+        most = KILO * self.opening["limitancestorsize"]
+        usual = Limits(self.opening["limitancestorcount"], most, descendants, size)
         carved_out = Limits(2, most, descendants + 1, size + SMALL)
         return [usual, carved_out] if self.size(tx) <= SMALL else [usual]
 

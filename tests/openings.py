@@ -3,6 +3,7 @@
 from bitcoin import coin, number_hash, payment, printed
 from gate import lines, same, true
 from kinds import heavy
+from model import releases
 
 LIMIT = 16777216
 TIMES = "times 101 1000 600"
@@ -134,17 +135,24 @@ def test_coins_above_a_first_height(gate):
     opens(gate, [coin(1, height=101), "from 1", TIMES])
 
 
-def test_limits_of_families(gate):
-    """From 1 to 1,000, each at most once; full replacement is 0 or 1."""
-    for name in ("limitancestorcount", "limitdescendantcount"):
-        for number in ("1", "25", "1000"):
-            opens(gate, [TIMES, "%s %s" % (name, number)])
-        for number in ("0", "1001", "01", "-1", "9007199254740992", "", "1 1"):
-            fails(gate, [TIMES, "%s %s" % (name, number)], 2, "bad-line")
-        fails(gate, [TIMES, name + " 25", name + " 25"], 3, "bad-line")
-    opens(gate, ["limitdescendantcount 3", "limitancestorcount 2", "mempoolfullrbf 0", TIMES])
-    fails(gate, [TIMES, "mempoolfullrbf 2"], 2, "bad-line")
-    fails(gate, [TIMES, "mempoolfullrbf 1", "mempoolfullrbf 0"], 3, "bad-line")
+def test_settings(gate):
+    """Each setting opens by its least and by its greatest number, and by nothing past them or that is no number; and once."""
+    for word, (least, most, _) in gate.settings().items():
+        for number in (least, most):
+            opens(gate, [TIMES, "%s %d" % (word, number)])
+        for rest in ("", " ", " x", " 01", " %d %d" % (most, most), " %d" % (least - 1), " %d" % (most + 1), " 9007199254740992"):
+            fails(gate, [TIMES, word + rest], 2, "bad-line")
+        fails(gate, [TIMES] + ["%s %d" % (word, most)] * 2, 3, "bad-line")
+
+
+def test_releases(gate):
+    """Each release opens by its name, wherever it stands and once, and nothing else does."""
+    for name in releases():
+        opens(gate, [TIMES, "policy " + name])
+        opens(gate, ["policy " + name, TIMES])
+        for rest in ("", " ", " " + name[:-1], " " + name + "0", " " + name.upper(), " %s %s" % (name, name), " " + name[-2:]):
+            fails(gate, [TIMES, "policy" + rest], 2, "bad-line")
+    fails(gate, [TIMES, "policy core-26", "mintxsize 65", "policy core-27"], 4, "bad-line")
 
 
 def test_an_opening_alone(gate):

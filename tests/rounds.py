@@ -5,6 +5,7 @@ import subprocess
 import tempfile
 
 from bitcoin import coin, payment
+from causes import CALLERS
 from chain_model import Block
 from failing import each_growth
 from gate import lines, same, same_lines, true
@@ -148,7 +149,7 @@ def test_rounds_without_a_lane(gate):
     is_unread(gate, OPENING + "---\n===\n---\n===\n#\n #\n---\n", 6, NO_LANE)
     done = gate.run("lanes --explain", OPENING + "---\nx\n===\n---\ny\n===\nz\n")
     same("lines that are told of", done.stderr.decode().splitlines(), [
-        'gate: line %d: "%s" is unknown' % (BEFORE + line, word) for line, word in ((2, "x"), (5, "y"))] + ["gate: line %d: %s" % (BEFORE + 7, NO_LANE)])
+        'gate: line %d: "%s" is unknown; expected %s' % (BEFORE + line, word, CALLERS) for line, word in ((2, "x"), (5, "y"))] + ["gate: line %d: %s" % (BEFORE + 7, NO_LANE)])
 
 
 def test_lanes_are_counted_over_all_rounds(gate):

@@ -1,10 +1,10 @@
 """`gate rules` and `gate explain`, beside the contracts and docs/POLICY.md."""
 
-import os
 import re
 from collections import namedtuple
 
-from gate import ROOT, same, same_lines, true
+from gate import same, same_lines, true
+from model import CLOSING, text_of
 
 Rule = namedtuple("Rule", "name token says then core")
 
@@ -15,14 +15,14 @@ UNCHANGED, RUN_ENDS, PROGRAM_ENDS = "Nothing changes.", "The run ends there.", "
 THENS = (KEPT, CLOSED, ALWAYS_CLOSED, RELAYED, UNCHANGED, RUN_ENDS, PROGRAM_ENDS)
 LINE = re.compile(r"(\S+) ([^:]+): (.+)\. (%s)(?: Core: (.+)\.)?" % "|".join(map(re.escape, THENS)))
 
-ORDER = [letter + str(number) for letter, last in (("A", 46), ("P", 10), ("U", 1), ("N", 3), ("C", 12), ("L", 3)) for number in range(1, last + 1)]
-OPENINGS = ["bad-line", "times-limit", "no-times", "coin-value", "coin-unspendable", "coin-above-tip", "coin-twice"]
-FAULTS = ["wrong-caller", "pass-full", "audit-full", "history-short", "memory"]
-
-
-def text_of(*path):
-    with open(os.path.join(ROOT, *path), encoding="utf-8") as file:
-        return file.read()
+POLICY, FORMATS = text_of("docs", "POLICY.md"), text_of("docs", "FORMATS.md")
+LETTERS = "APUNCL"
+NUMBERED = set(re.findall(r"^\| \**([APUNC]\d+)\W", POLICY, re.MULTILINE) + re.findall(r"^\| `refused (L\d+) ", FORMATS, re.MULTILINE))
+ORDER = sorted(NUMBERED, key=lambda it: (LETTERS.index(it[0]), int(it[1:])))
+OPENINGS = re.findall(r"^(?:\| |If no line fails, )`([\w-]+)` ", FORMATS.partition("\n### Faults of an opening\n")[2].partition("\n## ")[0], re.MULTILINE)
+FAULTS = re.findall(r"^\| `fault ([\w-]+)` \|", FORMATS, re.MULTILINE)
+# docs/POLICY.md has them in several tables
+CALLS = ["missing-inputs", "Parse error", "Invalid Request", "Method not found", "Invalid params", "Transaction not in mempool"]
 
 
 def printed(gate, words):
@@ -49,9 +49,10 @@ def numbered(gate):
 def test_order(gate):
     """Every rule stands in its order, and then the words of openings and of lanes."""
     found = rules(gate)
-    same_lines([it.name for it in found], ORDER + ["opening"] * len(OPENINGS) + ["fault"] * len(FAULTS))
+    same_lines([it.name for it in found], ORDER + ["opening"] * len(OPENINGS) + ["fault"] * len(FAULTS) + ["call"] * len(CALLS))
     same("openings", [it.token for it in found if it.name == "opening"], OPENINGS)
     same("faults", [it.token for it in found if it.name == "fault"], FAULTS)
+    same("calls", [it.token for it in found if it.name == "call"], CALLS)
 
 
 def equations(path, name):
@@ -66,7 +67,10 @@ def quoted(text):
 
 
 def by_number(path, letter):
-    """The tokens of denials, by their rules, as the contracts have them."""
+    """The tokens of denials, by their rules, as the contracts have them: in one table of both, or in two."""
+    table = re.findall(r'^row_of \w+ = row (\d+) \(codes "([^"]*)"\)$', text_of("crates", *path.split("/")), re.MULTILINE)
+    if table:
+        return {letter + number: token for number, token in table}
     numbers = dict(equations(path, "rule_of"))
     return {letter + numbers[variant]: quoted(text) for variant, text in equations(path, "token_of")}
 
@@ -122,23 +126,13 @@ def test_policy(gate):
             same("what follows " + name, found[name].then, thens[cells[2]])
 
 
-def closing():
-    """The rules of admission that close, from the sentence of docs/POLICY.md."""
-    listed = re.search(r"((?:A\d+(?: to A\d+)?(?:, | and )?)+) close the session", text_of("docs", "POLICY.md"))[1]
-    found = set()
-    for first, last in re.findall(r"A(\d+)(?: to A(\d+))?", listed):
-        found.update("A%d" % number for number in range(int(first), int(last or first) + 1))
-    return found
-
-
 def test_what_follows(gate):
     """The rules of admission close the session where docs/POLICY.md says so, and the others say what they end."""
-    closes = closing()
-    same("how many close", len(closes), 15)
+    same("how many close", len([it for it in CLOSING if it[0] == "A"]), 15)
     for rule in rules(gate):
         letter = rule.name[0]
         if letter == "A":
-            wanted = CLOSED if rule.name in closes else KEPT
+            wanted = CLOSED if rule.name in CLOSING else KEPT
         elif rule.name in ("L2", "L3"):
             wanted = RUN_ENDS
         elif letter == "N" or rule.name == "opening":
@@ -153,14 +147,13 @@ def test_what_follows(gate):
 def test_formats(gate):
     """docs/FORMATS.md has the words for openings, lines and lanes, and their numbers."""
     found = rules(gate)
-    page = text_of("docs", "FORMATS.md")
     for rule in found:
         if rule.name == "opening":
-            true("FORMATS lacks " + rule.token, "`%s`" % rule.token in page)
+            true("FORMATS lacks " + rule.token, "`%s`" % rule.token in FORMATS)
         elif rule.name == "fault":
-            true("FORMATS lacks fault " + rule.token, "| `fault %s` |" % rule.token in page)
+            true("FORMATS lacks fault " + rule.token, "| `fault %s` |" % rule.token in FORMATS)
         elif rule.name[0] == "L":
-            true("FORMATS lacks " + rule.name, "| `refused %s %s` |" % (rule.name, rule.token) in page)
+            true("FORMATS lacks " + rule.name, "| `refused %s %s` |" % (rule.name, rule.token) in FORMATS)
     numbers_of_lines = {"L2": "16,777,216", "L3": "1,000,000"}
     for rule in found:
         if rule.name in numbers_of_lines:
@@ -189,10 +182,13 @@ def test_explain(gate):
     same("coin-unspendable", explained(gate, "coin-unspendable"), ([("C9", "coin-unspendable"), ("opening", "coin-unspendable")], "", 0))
     same("opening", explained(gate, "opening"), ([("opening", token) for token in OPENINGS], "", 0))
     same("fault", explained(gate, "fault"), ([("fault", token) for token in FAULTS], "", 0))
+    same("a36", explained(gate, "a36"), ([("A36", "too-long-mempool-chain")], "", 0))
+    same("INSUFFICIENT FEE", explained(gate, "INSUFFICIENT FEE"), (fees, "", 0))
+    same("call", explained(gate, "call"), ([("call", token) for token in CALLS], "", 0))
 
 
 def test_explain_nothing(gate):
     """A word that names nothing prints nothing, standard error says so, and the status is 1."""
-    for word in ("A47", "C13", "a36", "A", "A036", "fee", "", "insufficient  fee"):
-        told = 'gate: no rule and no token is named "%s"; gate rules lists them\n' % word
+    for word, near in (("A47", None), ("C13", None), ("A", None), ("A036", "A36"), ("fee", None), ("", None), ("insufficient  fee", "insufficient fee")):
+        told = 'gate: no rule and no token is named "%s"; %s\n' % (word, "is it %s?" % near if near else "gate rules lists them")
         same("explain %r" % word, explained(gate, word), ([], told, 1))

@@ -175,13 +175,15 @@ def test_the_other_pages(gate):
 
 
 def test_each_example_of_the_demo(gate):
-    """`make demo EXAMPLE=..` prints what `gate run` prints of each example that it reads, and names those if there is no such one."""
+    """`make demo EXAMPLE=..` prints what `gate run --explain` prints of each example that it reads, the replies first, and names the
+    examples if there is no such one."""
     needs_a_new_program(gate)
     with tempfile.TemporaryDirectory() as folder:
         place = Place(gate, folder)
-        same("of none", place.run("make --silent demo").stdout, place.run("gate run < examples/first-path.txt").stdout)
+        explained = "gate run --explain < examples/%s.txt 2>said.txt; cat said.txt"
+        same("of none", place.run("make --silent demo").stdout, place.run(explained % "first-path").stdout)
         done = place.run("make --silent demo EXAMPLE=lanes 2>&1 >replies.txt | head -n 1")
         names = done.stdout.strip().partition("there are: ")[2].split()
         true("few examples: %s" % done.stdout, len(names) > 5)
         for name in names:
-            same(name, place.run("make --silent demo EXAMPLE=%s" % name).stdout, place.run("gate run < examples/%s.txt" % name).stdout)
+            same(name, place.run("make --silent demo EXAMPLE=%s" % name).stdout, place.run(explained % name).stdout)

@@ -6,25 +6,22 @@ Each kind of event is made to fall on one side of a setting or on the other, by 
 import os
 import random
 from collections import Counter
+from itertools import product
 
 from bitcoin import Input, Output, Transaction, number_hash
 from gate import ROOT, same
-from model import HOUR, KILO, MULTISIG, RETURN, SETTINGS, Coin, Model, Opening, dust, fee_at, fees_of, policy_lines
+from model import ANCHOR, HOUR, KILO, MULTISIG, RETURN, USUAL, Coin, Model, Opening, dust, fees_of, policy_lines, releases
 from random_streams import compared
 
 STREAMS = 150
 EVENTS = 40
 COINS = 60
+OTHERS = 20
 VALUE = 10000000
 LAST = 0xFFFFFFFF
 SIGNAL = 0xFFFFFFFD
-# for each setting what is drawn: its bounds, what is usual, and what lies between
-DRAWN = {
-    "relay_rate": (0, 1, 100, 999, 1000, 1001, 5000, 100000000), "incremental_rate": (0, 1, 100, 1000, 3000, 100000000), "hours": (1, 2, 336, 100000),
-    "sigop_size": (1, 5, 19, 20, 21, 25), "dust_rate": (0, 1, 3000, 3001, 30000, 100000000), "data_size": (0, 1, 40, 83, 84, 200, 100000),
-    "data_outputs": (0, 1, 2, 3, 10000), "bare_multisig": (False, True), "least_size": (60, 61, 65, 81, 82), "ancestors_size": (101, 102, 103, 10000),
-    "descendants_size": (101, 102, 103, 10000),
-}
+# what stands for the usual number of a limit that is usually none
+BETWEEN = {"maxtxlegacysigops": 2, "datacarriertotal": 166}
 BUDGETS = (300000000, 300000000, 2000, 1000, 300)
 
 
@@ -33,29 +30,52 @@ def data(length):
     return bytes([RETURN]) + b"\x51" * (length - 1)
 
 
-class Stream:
-    """An opening and events that fit it, of one seed."""
+def near(word, setting):
+    """The bounds of a setting, its usual number, and what lies next to these."""
+    least, most, _ = setting
+    usual = BETWEEN.get(word, setting.usual)
+    return [number for number in sorted({least, least + 1, usual - 1, usual, usual + 1, most}) if least <= number <= most]
 
-    def __init__(self, seed):
+
+class Stream:
+    """An opening and events that fit it, of one seed. It says about every second setting, and may name a release."""
+
+    def __init__(self, seed, settings, release=None):
         self.random = random.Random(seed)
         self.opening = Opening([1000 + 600 * number for number in range(101)], bloom=True)
-        for name, drawn in DRAWN.items():
+        for word in USUAL:
             if self.random.random() < 0.5:
-                setattr(self.opening, name, self.random.choice(drawn))
+                self.opening.settings[word] = self.random.choice(near(word, settings[word]))
+        self.release, self.said = release, self.opening.settings
+        self.opening.settings = {**releases().get(release, {}), **self.said}
         self.opening.budget = self.random.choice(BUDGETS)
         self.opening.verdicts["*"] = "ok"
         self.free = [(number_hash(number), 0) for number in range(1, COINS + 1)]
         for outpoint in self.free:
             self.opening.coins[outpoint] = Coin(VALUE, 1, False)
+        self.anchors = self.others(1000, ANCHOR)
+        self.keys = self.others(2000, MULTISIG)
         self.model = Model(self.opening)
         self.now = 5000
         self.asked = Counter()
 
+    def others(self, first, script):
+        """The outpoints of coins of a script."""
+        found = [(number_hash(number), 0) for number in range(first, first + OTHERS)]
+        for outpoint in found:
+            self.opening.coins[outpoint] = Coin(VALUE, 1, False, script)
+        return found
+
     def opening_lines(self):
         told = [coin.line(outpoint) for outpoint, coin in self.opening.coins.items()]
-        told += ["verdict * ok", "bloom 1", "budget %d" % self.opening.budget] + policy_lines(self.opening, lambda: self.random.random() < 0.3)
+        told += ["verdict * ok", "bloom 1", "budget %d" % self.opening.budget] + self.setting_lines()
         self.random.shuffle(told)
         return ["times 101 1000 600"] + told
+
+    def setting_lines(self):
+        if self.release is None:
+            return policy_lines(self.opening, lambda: self.random.random() < 0.3)
+        return ["policy " + self.release] + ["%s %d" % setting for setting in self.said.items()]
 
     # --- transactions
 
@@ -71,7 +91,7 @@ class Stream:
 
     def asked_of(self, tx):
         """What every transaction of this size has to pay."""
-        return fee_at(max(self.opening.relay_rate, self.model.floor), self.model.size(tx))
+        return self.model.fee_at(max(self.opening["minrelaytxfee"], self.model.floor), self.model.size(tx))
 
     def payment(self, extra=()):
         """A payment of about what is asked, with these outputs more."""
@@ -90,20 +110,46 @@ class Stream:
         tx = Transaction(inputs, [Output(1000)] * self.random.choice((1, 2)), 2, 0)
         tx.outputs = [Output(output.value) for output in tx.outputs]
         paid = fees_of(self.model.below([entry]))
-        return self.paying(tx, value, paid + fee_at(self.opening.incremental_rate, self.model.size(tx)) + self.random.choice((-1, 0, 0, 1)))
+        return self.paying(tx, value, paid + self.model.fee_at(self.opening["incrementalrelayfee"], self.model.size(tx)) + self.random.choice((-1, 0, 0, 1)))
 
     def dusty(self):
         """An output at its threshold, or one satoshi below."""
         script = self.random.choice((MULTISIG, Output(0).script))
         output = Output(0, script)
-        output.value = max(0, dust(output, self.opening.dust_rate) + self.random.choice((-1, 0)))
+        output.value = max(0, dust(output, self.opening) + self.random.choice((-1, 0)))
         return self.payment([output])
 
     def carrying(self):
         """As much data as is allowed or a byte more, in as many outputs as are allowed or one more."""
-        length = max(1, min(300, self.opening.data_size) + self.random.choice((0, 0, 1)))
-        count = min(4, self.opening.data_outputs) + self.random.choice((0, 0, 1))
+        length = max(1, min(300, self.opening["datacarriersize"]) + self.random.choice((0, 0, 1)))
+        count = min(4, self.opening["datacarrieroutputs"]) + self.random.choice((0, 0, 1))
         return self.payment([Output(0, data(length))] * count)
+
+    def limit(self, word):
+        """What a limit is, or what stands for one that there isn't."""
+        return BETWEEN[word] if self.opening[word] is None else self.opening[word]
+
+    def filling(self):
+        """Two outputs with data that are as many bytes together as are allowed, or one more."""
+        total = min(400, self.limit("datacarriertotal")) + self.random.choice((0, 0, 1))
+        first = self.random.randint(1, max(1, min(total - 1, self.opening["datacarriersize"])))
+        return self.payment([Output(0, data(length)) for length in (first, total - first) if length > 0])
+
+    def beside(self, outpoints, count, witness=()):
+        """A payment that also spends so many of these."""
+        tx = self.payment()
+        taken = [outpoints.pop() for _ in range(min(count, len(outpoints)))]
+        tx.inputs = [Input(*outpoint, witness=list(witness)) for outpoint in taken] + tx.inputs
+        value = sum(self.model.coin(one).value for one in tx.inputs)
+        return self.paying(tx, value, self.asked_of(tx) + self.random.choice((-1, 0, 0)))
+
+    def anchored(self):
+        """A spend of an anchor without a witness, or with an empty item."""
+        return self.beside(self.anchors, 1, self.random.choice(((), (), (b"",))))
+
+    def legacy(self):
+        """As many legacy signature operations as are allowed, or one more."""
+        return self.beside(self.keys, min(3, self.limit("maxtxlegacysigops")) + self.random.choice((0, 1)))
 
     def counting(self):
         """Outputs of several keys, whose operations count for more than the bytes."""
@@ -112,7 +158,7 @@ class Stream:
     def small(self):
         """A transaction of the least size, or a byte less: its one output carries data."""
         (hash, index), _ = self.coin()
-        length = self.opening.least_size - 60 + self.random.choice((-1, 0, 0))
+        length = self.opening["mintxsize"] - 60 + self.random.choice((-1, 0, 0))
         return Transaction([Input(hash, index)], [Output(0, data(max(1, length)))], 2, 0)
 
     def sized(self, outpoint, value, size):
@@ -120,29 +166,43 @@ class Stream:
         empty = len(Transaction([Input(*outpoint)], [Output(0)] * 253, 2, 0).stripped())
         many = (size - empty) // 31 - 1
         rest = size - empty - 31 * many - 9
-        tx = Transaction([Input(*outpoint)], [Output(dust(Output(0), self.opening.dust_rate)) for _ in range(253 + many)] + [Output(0, data(rest))], 2, 0)
+        tx = Transaction([Input(*outpoint)], [Output(dust(Output(0), self.opening)) for _ in range(253 + many)] + [Output(0, data(rest))], 2, 0)
         return self.paying(tx, value, self.asked_of(tx))
+
+    def spending(self, outpoints, fee):
+        """A transaction that spends these, and may be replaced, with two outputs and this fee."""
+        value = sum(self.model.coin(Input(*one)).value for one in outpoints)
+        tx = Transaction([Input(*one, sequence=SIGNAL) for one in outpoints], [Output(1000), Output(1000)], 2, 0)
+        return self.paying(tx, value, fee)
+
+    def overspending(self):
+        """A payment of more than it spends."""
+        tx = self.spending([self.free[0]], 0)
+        tx.outputs[0].value += 1
+        return tx
 
     # --- events
 
-    def submitted(self, tx):
-        return "peer 1 tx %d %s" % (self.now, tx.hex()), self.model.submit(1, self.now, tx)
+    def submitted(self, tx, peer=1):
+        return "peer %d tx %d %s" % (peer, self.now, tx.hex()), self.model.submit(peer, self.now, tx)
 
     def later(self):
         """A second at which an entry has stayed as long as it may, or one after."""
         if self.model.pool:
-            self.now = max(self.now, self.random.choice(self.model.pool).time + HOUR * self.opening.hours + self.random.choice((0, 1)))
+            self.now = max(self.now, self.random.choice(self.model.pool).time + HOUR * self.opening["mempoolexpiry"] + self.random.choice((0, 1)))
 
     def event(self):
         draw = self.random.random()
         if draw < 0.04:
-            rate = self.random.choice((0, 1, self.opening.relay_rate, self.opening.relay_rate + 1))
+            rate = self.random.choice((0, 1, self.opening["minrelaytxfee"], self.opening["minrelaytxfee"] + 1))
             return "operator floor %d" % rate, self.model.set_floor(rate)
+        if draw > 0.98:
+            return self.submitted(self.overspending(), 2)
         if draw < 0.1:
             self.later()
         elif draw < 0.3:
             self.now += self.random.randint(0, 100)
-        make = self.random.choice((self.payment, self.payment, self.replacement, self.replacement, self.dusty, self.carrying, self.counting, self.small))
+        make = self.random.choice((self.payment, self.payment, self.replacement, self.replacement, self.dusty, self.carrying, self.filling, self.anchored, self.legacy, self.counting, self.small))
         return self.submitted(make())
 
 
@@ -152,23 +212,59 @@ def entered(peer, model):
 
 def test_settings(gate):
     """What is asked of fees, of outputs, of sizes and of the time in the pool, each by its setting."""
-    met = Counter()
+    met, settings = Counter(), gate.settings()
     for seed in range(STREAMS):
-        made = Stream(seed)
-        events = [entered(1, made.model)] + [made.event() for _ in range(EVENTS)]
+        made = Stream(seed, settings)
+        events = [entered(1, made.model), entered(2, made.model)] + [made.event() for _ in range(EVENTS)]
         for reply in compared(gate, seed, made, events):
             met[reply.split()[1] if reply.startswith("denied") else reply.split()[0]] += 1
         met.update(made.model.gone)
-    same("rules of settings that no stream met", [rule for rule in ("A16", "A17", "A18", "A19", "A34", "A35", "A42", "A46", "admitted", "expired", "trimmed", "replaced") if met[rule] < 20], [])
+    same("rules of settings that no stream met", [rule for rule in ("A16", "A17", "A18", "A19", "A31", "A32", "A34", "A35", "A42", "A46", "A51", "admitted", "expired", "trimmed", "replaced") if met[rule] < 20], [])
+
+
+def test_releases(gate):
+    """The settings of each release by its name, and about every second one by a line in front of that or behind it."""
+    settings = gate.settings()
+    for release in releases():
+        for seed in range(12):
+            made = Stream(seed, settings, release)
+            compared(gate, seed, made, [entered(1, made.model), entered(2, made.model)] + [made.event() for _ in range(EVENTS)])
+
+
+def test_parents_of_what_is_replaced(gate):
+    """A replacement that spends from a parent of its conflict, of what is below that, or of nothing that it replaces."""
+    met, settings = Counter(), gate.settings()
+    for seed in range(60):
+        for wide in (False, True):
+            made = Stream(seed, settings)
+            made.opening = Opening(made.opening.times, bloom=True, coins=made.opening.coins, settings={"replacedparents": int(wide)})
+            made.opening.verdicts["*"] = "ok"
+            made.model = Model(made.opening)
+            events = [entered(1, made.model)]
+
+            def sent(outpoints, fee):
+                tx = made.spending(outpoints, fee)
+                events.append(made.submitted(tx))
+                return tx.hash()
+
+            first, second, third = (sent([made.coin()[0]], 1000) for _ in range(3))
+            outpoint = (first, 0)
+            conflict = sent([outpoint], 1000)
+            sent([(conflict, 0), (second, 0)], 1000)
+            for parent in made.random.sample((first, second, third), 3):
+                sent([outpoint, (parent, 1)], 10000)
+            for reply in compared(gate, seed, made, events)[-3:]:
+                met[wide, reply.split()[1] if reply.startswith("denied") else reply.split()[0]] += 1
+    same("replies that no stream met", [it for it in ((False, "A40"), (False, "admitted"), (True, "A40"), (True, "admitted")) if met[it] < 10], [])
 
 
 def test_sizes_of_families(gate):
     """A parent, and a child that fills what a family may have or is one byte too large, under each pair of limits."""
-    met = Counter()
-    for seed, (above, below) in enumerate((a, b) for a in DRAWN["ancestors_size"][:3] for b in DRAWN["descendants_size"][:3]):
+    met, settings = Counter(), gate.settings()
+    for seed, (above, below) in enumerate(product((101, 102, 103), repeat=2)):
         for more in (0, 1):
-            made = Stream(seed)
-            made.opening = Opening([1000 + 600 * number for number in range(101)], bloom=True, ancestors_size=above, descendants_size=below)
+            made = Stream(seed, settings)
+            made.opening = Opening(made.opening.times, bloom=True, settings={"limitancestorsize": above, "limitdescendantsize": below})
             made.opening.verdicts["*"] = "ok"
             outpoint = (number_hash(1), 0)
             made.opening.coins[outpoint] = Coin(10 * VALUE, 1, False)
@@ -178,15 +274,6 @@ def test_sizes_of_families(gate):
             events = [entered(1, made.model), made.submitted(parent), made.submitted(child)]
             met[compared(gate, seed, made, events)[-1].split()[1 if more else 0]] += 1
     same("what came of the children", dict(met), {"admitted": 9, "A36": 9})
-
-
-def test_each_bound_of_a_setting(gate):
-    """Each setting opens at its least and at its greatest, and what lies past it is no line."""
-    for word, name in SETTINGS.items():
-        least, most = int(min(DRAWN[name])), int(max(DRAWN[name]))
-        for number, opens in ((least, True), (most, True), (least - 1, False), (most + 1, False)):
-            done = gate.run("run", "times 101 1000 600\n%s %d\n" % (word, number))
-            same("%s %d" % (word, number), (done.status, done.stdout), (0, b"") if opens else (2, b"opening 2 bad-line\n"))
 
 
 def test_files_of_settings(gate):

@@ -144,3 +144,26 @@ def test_too_many_lines(gate):
         done = gate.run("run", head + more)
         same("standard output", done.stdout, b"entered none\nleft\nrefused L3 too-many-lines\n")
         same("status", done.status, 0)
+
+
+def visits(count):
+    """Events whose replies depend on their order, among lines without a reply and lines that do not parse."""
+    for number in range(count):
+        peer = number + 1
+        yield "peer %d enter 192.0.2.1" % peer, "entered none"
+        yield "# a comment", None
+        yield "peer %d enter 192.0.2.1" % peer, "denied P3 keep peer-known"
+        yield "x" * (number % 40 + 1), "refused L1 bad-line"
+        yield "peer %d leave" % peer, "left"
+        yield "", None
+        yield "peer %d leave" % peer, "denied P2 keep peer-closed"
+
+
+def test_lines_around_the_buffer(gate):
+    """Many lines, a few as long as the buffer of standard input or longer among short ones, and a last line without a newline."""
+    told = list(visits(3000))
+    told[1000:1000] = [("#" + "y" * 70000, None), ("z" * 200000, "refused L1 bad-line")]
+    told[20:20] = [("#" + "y" * 65534, None), ("#" + "y" * 65535, None), ("#" + "y" * 65536, None)]
+    done = gate.run("run", lines(opening()) + "---\n" + "\n".join(line for line, _ in told))
+    same("the end", (done.status, done.stderr), (0, b""))
+    same_lines(done.stdout.decode().splitlines(), [reply for _, reply in told if reply is not None])

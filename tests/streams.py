@@ -138,7 +138,7 @@ def test_a_full_device(gate):
             said(gate.run(words, stdin, stdout=full), 1, UNWRITTEN)
     for words in ("run", "lanes", "audit"):
         with open("/dev/full", "wb") as full:
-            said(gate.run(words, "x\n", stdout=full), 1, past(1, '"x" is unknown') + UNWRITTEN)
+            said(gate.run(words, "bloom 2\n", stdout=full), 1, past(1, '"2" is unknown; expected 0 or 1') + UNWRITTEN)
 
 
 def test_nothing_to_write_on_a_full_device(gate):

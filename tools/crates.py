@@ -5,14 +5,15 @@ import os
 ROOT = os.path.dirname(os.path.dirname(os.path.abspath(__file__)))
 
 
+def lines():
+    """The line of each crate of the repository in crates.txt, in their order."""
+    with open(os.path.join(ROOT, "crates.txt"), encoding="utf-8") as file:
+        return {line.split(":")[0].split()[0]: line for line in file if ":" in line.partition("#")[0]}
+
+
 def uses():
     """Each crate of the repository, in the order of crates.txt, with the crates of the repository that it uses."""
-    found = {}
-    with open(os.path.join(ROOT, "crates.txt"), encoding="utf-8") as file:
-        for line in file:
-            names, colon, used = line.partition("#")[0].partition(":")
-            if colon:
-                found[names.split()[0]] = used.split()
+    found = {name: line.partition("#")[0].partition(":")[2].split() for name, line in lines().items()}
     return {crate: [lower for lower in used if lower in found] for crate, used in found.items()}
 
 
@@ -59,4 +60,4 @@ def unproved(program):
 
 def is_product(crate):
     """Whether the crate is part of the product, or one of its tests."""
-    return not crate.endswith("_tests") and crate not in ("gate_rows", "gate_growth", "gate_testing")
+    return not crate.endswith("_tests") and crate != "gate_growth"

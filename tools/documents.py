@@ -4,9 +4,9 @@
 - The names in the column "Contracts" of a crate's README.md are public in its sources, those of a type as `Type::name`.
 - Each file that a README.md or a page of docs/ names is there, and each name that follows a file in a
   table of docs/READING.md stands in that file.
-- The tokens at the end of docs/POLICY.md are those of the rules in its tables.
-- The numbers of edits, rows and tests in docs/TESTING.md are those of the repository, and so are how many rows stand as tests,
-  and how many of the program's own tests run only when asked for.
+- The rules in the tables of docs/POLICY.md have the tokens that the program prints, and its end names those that rules share.
+- The numbers of edits, rows and tests in docs/TESTING.md are those of the repository, and so is how many of the program's
+  own tests run only when asked for.
 - No page and no file of the tools names a place of one machine.
 - Each link of a page leads to a file, and to a heading if it names one.
 - docs/rooms.svg has each crate of the product once, in a row above those of the crates that it uses.
@@ -119,14 +119,17 @@ def reading_faults():
 
 
 def token_faults():
-    """Where the tokens at the end of docs/POLICY.md are not those of the rules in its tables."""
-    text, found = text_of("docs", "POLICY.md"), {}
-    rules = re.findall(r"^\| ([APNC]\d+) \| `([^`]*)` \|", text, re.MULTILINE) + re.findall(r"\*\*(U\d+)\*\* `([^`]*)`", text)
-    for rule, token in rules:
-        found.setdefault(token, []).append(rule)
-    listed = {token: rules.split(", ") for token, rules in re.findall(r"^\| `([^`]*)` \| ([A-Z]\d+(?:, [A-Z]\d+)*) \|$", text, re.MULTILINE)}
-    for token in sorted(set(found) | set(listed)):
-        if sorted(found.get(token, [])) != sorted(listed.get(token, [])):
+    """Where docs/POLICY.md has other rules and tokens than the table that the program prints, or tells of other shared tokens."""
+    text = text_of("docs", "POLICY.md")
+    found = dict(re.findall(r"^\| ([APNC]\d+) \| `([^`]*)` \|", text, re.MULTILINE) + re.findall(r"\*\*(U\d+)\*\* `([^`]*)`", text))
+    keys = re.findall(r'\(codes "([APUNC]\d+)"\) \(codes "([^"]*)"\)', text_of("crates", "gate_rules", "specs", "Keys.antt"))
+    for rule, token in sorted(set(found.items()) ^ set(keys)):
+        yield "docs/POLICY.md and crates/gate_rules/specs/Keys.antt disagree on %s %s" % (rule, token)
+    shared = {token: {it for it in found if found[it] == token} for token in found.values()}
+    told = re.findall(r"`([^`]*)` is ((?:[A-Z]\d+(?:, | or )?)+)", text.partition("\n## Tokens")[2])
+    listed = {token: set(re.findall(r"[A-Z]\d+", rules)) for token, rules in told}
+    for token in sorted(shared.keys() | listed.keys()):
+        if len(shared.get(token, ())) != 1 and shared.get(token) != listed.get(token):
             yield "docs/POLICY.md: the rules of the token %s" % token
 
 
@@ -162,17 +165,27 @@ def headings(text):
     return found
 
 
-def link_faults():
-    """Links that lead nowhere."""
-    pages = pages_of_all()
-    for page in pages + ["gated/README.md"] + ["crates/%s/README.md" % it for it in crates.uses()]:
+def links_of_all():
+    """Each link of a page that leads to a file of the repository: the page, the file, and the heading or an empty text."""
+    for page in pages_of_all() + ["gated/README.md"] + ["crates/%s/README.md" % it for it in crates.uses()]:
         if os.path.isfile(os.path.join(crates.ROOT, page)):
             for target, heading in re.findall(r"\]\(([^)#:]*)(?:#([^)]*))?\)", text_of(page)):
-                path = os.path.normpath(os.path.join(os.path.dirname(page), target)) if target else page
-                if not os.path.exists(os.path.join(crates.ROOT, path)):
-                    yield "%s: there is no %s" % (page, target)
-                elif heading and heading not in headings(text_of(path)):
-                    yield "%s: %s has no heading %s" % (page, path, heading)
+                yield page, target, heading
+
+
+def links():
+    """How many such links there are."""
+    return len(list(links_of_all()))
+
+
+def link_faults():
+    """Links that lead nowhere."""
+    for page, target, heading in links_of_all():
+        path = os.path.normpath(os.path.join(os.path.dirname(page), target)) if target else page
+        if not os.path.exists(os.path.join(crates.ROOT, path)):
+            yield "%s: there is no %s" % (page, target)
+        elif heading and heading not in headings(text_of(path)):
+            yield "%s: %s has no heading %s" % (page, path, heading)
 
 
 def picture_faults():
@@ -205,11 +218,6 @@ def tests_of_the_program():
     return "%d, and %d more when asked for" % (always, asked_for)
 
 
-def rows_as_tests():
-    """How many rows stand in the tables that tools/row-tests writes."""
-    return sum(text.count("    Row {") for text in sources("gate_rows"))
-
-
 def count_faults():
     """Numbers of docs/TESTING.md that are not those of the repository."""
     tests = sum(text.count("#[test]") for crate in crates.uses() for text in sources(crate))
@@ -220,11 +228,7 @@ def count_faults():
         "Tests in crates": str(tests),
         "The program's own tests": tests_of_the_program(),
     }
-    text = text_of("docs", "TESTING.md")
-    told = re.findall(r"(\d+) of them stand as tests too", text)
-    if told != [str(rows_as_tests())]:
-        yield "docs/TESTING.md: the rows that stand as tests are %d, and not %s" % (rows_as_tests(), told)
-    for line in text.split("\n"):
+    for line in text_of("docs", "TESTING.md").split("\n"):
         row = cells(line) if line.startswith("|") else []
         if row and row[0] in wanted and row[1] != wanted[row[0]]:
             yield "docs/TESTING.md: %s are %s, and not %s" % (row[0], wanted[row[0]], row[1])

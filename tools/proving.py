@@ -1,22 +1,19 @@
 """Proving crates, several at once, and saying meanwhile which are at work."""
 
 import os
+import re
 import subprocess
 import sys
 import threading
 import time
 
 import crates
+from checks import places
 
-GIGABYTES_EACH = 4
 SECONDS_BETWEEN = 5
 SHOWN = 20
-
-
-def places():
-    """How many crates may be proved at once."""
-    memory = os.sysconf("SC_PAGE_SIZE") * os.sysconf("SC_PHYS_PAGES")
-    return max(1, min(len(os.sched_getaffinity(0)), round(memory / 2**30) // GIGABYTES_EACH))
+# a crate that was proved, or that was kept by an earlier run
+ENDED = re.compile(r"== gate|rt: gate\w* is kept")
 
 
 def at_work(tree):
@@ -63,12 +60,13 @@ class Progress(threading.Thread):
 
 
 class Proving:
-    """Commands of rt in one crate's folder, of this tree or of a copy, whose output goes to a log there."""
+    """Commands of rt in one crate's folder, of this tree or of a copy, whose output goes to a log in this tree."""
 
     def __init__(self, crate, tree=crates.ROOT):
         self.began = time.monotonic()
+        self.tree = tree
         self.folder = os.path.join(tree, "crates", crate)
-        self.path = os.path.join(os.path.relpath(self.folder, crates.ROOT), "out", "build.log")
+        self.path = os.path.join("crates", crate, "out", "build.log")
         os.chdir(crates.ROOT)
         os.makedirs(os.path.dirname(self.path), exist_ok=True)
         self.log = open(self.path, "w", encoding="utf-8")
@@ -82,11 +80,12 @@ class Proving:
         self.progress.ended.set()
         self.log.close()
 
-    def ran(self, *words):
-        """Whether a command succeeds."""
+    def ran(self, *words, cwd=None, **variables):
+        """Whether a command succeeds, with these variables set beside those of the environment."""
         run = subprocess.Popen(
             words,
-            cwd=self.folder,
+            cwd=cwd or self.folder,
+            env={**os.environ, **variables},
             stdin=subprocess.DEVNULL,
             stdout=subprocess.PIPE,
             stderr=subprocess.STDOUT,
@@ -95,7 +94,7 @@ class Proving:
         )
         for line in run.stdout:
             self.log.write(line)
-            if self.progress.done is not None and line.startswith("== gate"):
+            if self.progress.done is not None and ENDED.match(line):
                 self.progress.done += 1
         return run.wait() == 0
 
@@ -103,6 +102,13 @@ class Proving:
         """Whether the crate and all that it stands on are proved. Each of them has a line in the output as it ends."""
         self.progress.done = 0
         is_proved = self.ran("rt", "all", "check", "--jobs", str(places()))
+        self.progress.done = None
+        return is_proved
+
+    def kept(self):
+        """Whether all crates of the tree pass `rt ci`, which keeps on this machine what passes."""
+        self.progress.done = 0
+        is_proved = self.ran("rt", "ci", cwd=self.tree, RT_JOBS=str(places()), PYTHONUNBUFFERED="1")
         self.progress.done = None
         return is_proved
 
