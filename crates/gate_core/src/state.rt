@@ -19,8 +19,6 @@ use crate::switches::Switches;
 use gate_admit::{Chain, Floor, OpenFault, OpeningCoin, Policy, Pool, Prepared, Verdicts};
 use gate_bytes::{Kept, Memory};
 use gate_message::{Event, Replies, Reply};
-use gate_net::Whitelist;
-use gate_rpc::RpcWhitelist;
 use std::alloc::Global;
 use std::hash::BuildHasher;
 use std::marker::Model;
@@ -214,25 +212,6 @@ impl<S: BuildHasher + Copy + Drop> State<S> {
         ensures { result.now ≡ self.now.verdicts }
     {
         &self.parts.verdicts
-    }
-
-    pub fn whitelist(&self) -> &Whitelist
-        ensures { result.now ≡ self.now.whitelist }
-    {
-        &self.parts.whitelist
-    }
-
-    pub fn rpcwhitelist(&self) -> &RpcWhitelist
-        ensures { result.now ≡ self.now.rpcwhitelist }
-    {
-        &self.parts.rpcwhitelist
-    }
-
-    /// Whether the node takes blocks only.
-    pub fn blocksonly(&self) -> bool
-        ensures { result ≡ self.now.blocksonly }
-    {
-        self.parts.blocksonly
     }
 
     pub fn switches(&self) -> &Switches

@@ -1,11 +1,10 @@
 -- Ids among others, and nodes of which no two have one id.
 use Rattle.std.proofs.Common.{◌≡◌, ℕ, Bool, true, false, cond, not, ◌||◌, List, [], ◌∷◌, ◌++◌, refl, sym, ap, ◌∙◌, subst, ⊎_elim, arith}
-use Rattle.std.specs.Prelude.{Contains, All, filter}
+use Rattle.std.specs.Prelude.{Contains, filter}
 use Rattle.std.specs.List.{list_all}
 use Rattle.std.specs.Str.{bytes_eq}
 use Rattle.std.specs.Cmp.Lexicographic.{bytes_decides}
 use Rattle.std.proofs.lemmas.Bool.{false_from_ne_true, true≢false, not-true, or_parts, and_parts, and_from}
-use Rattle.std.proofs.lemmas.List.Elements.{All-nil, All-cons}
 use Rattle.std.proofs.lemmas.List.Folds.{list_any-append}
 use Rattle.gate_graph.specs.Family.{Node}
 use Rattle.gate_graph.specs.Families.{among, has, are_apart}
@@ -37,11 +36,6 @@ among-push ids last id = list_any-append (bytes_eq id) ids (last ∷ []) ∙ ap 
 
 pub has-append : (g h : List Node) (x : Id) → has (g ++ h) x ≡ (has g x || has h x)
 has-append g h x = list_any-append (λ (n : Node). bytes_eq n.id x) g h
-
--- no node of a list without the id has it
-pub others : (g : List Node) (x : Id) → has g x ≡ false → All (λ m. m.id ≡ x → ⊥) g
-others [] x h = All-nil (λ (m : Node). m.id ≡ x → ⊥)
-others (n ∷ g) x h = All-cons (λ (m : Node). m.id ≡ x → ⊥) n g (λ e. true≢false (sym ((bytes_decides n.id x).1 e) ∙ (or_parts _ _ h).0)) (others g x (or_parts _ _ h).1)
 
 pub has-node : (g : List Node) (m : Node) → Contains g m → has g m.id ≡ true
 has-node g m c = list_any_of (λ n. bytes_eq n.id m.id) g m c (same_id m.id)

@@ -1,20 +1,18 @@
 -- A node put below some nodes and above others.
-use Rattle.std.proofs.Common.{◌≡◌, ℕ, Bool, true, false, cond, not, ◌&&◌, ◌||◌, List, [], ◌∷◌, ◌++◌, refl, sym, ap, ◌∙◌, subst, ◌⊎◌, inl, inr, ⊎_elim, arith, map, append-nil}
-use Rattle.std.specs.Prelude.{Contains, filter}
+use Rattle.std.proofs.Common.{◌≡◌, ℕ, Bool, true, false, cond, not, ◌&&◌, ◌||◌, List, [], ◌∷◌, ◌++◌, refl, sym, ap, ◌∙◌, subst, ◌⊎◌, inl, inr, ⊎_elim, arith, map}
+use Rattle.std.specs.Prelude.{Contains}
 use Rattle.std.specs.List.{list_any, list_all}
 use Rattle.std.specs.Str.{bytes_eq}
 use Rattle.std.specs.Cmp.Lexicographic.{bytes_decides}
 use Rattle.std.proofs.lemmas.Bool.{false_from_ne_true, true≢false, or_cases, or_left, or_right, and_parts, and_from}
-use Rattle.std.proofs.lemmas.List.{map-append}
-use Rattle.std.proofs.lemmas.List.Elements.{Contains-append_cases, Contains-append_left, Contains-append_right, filter-append, filter_agree}
-use Rattle.std.proofs.lemmas.Simd.{map-map}
+use Rattle.std.proofs.lemmas.List.Elements.{Contains-append_cases, Contains-append_left, Contains-append_right}
 use Rattle.gate_graph.specs.Family.{reaches, Leads, here, down, Node, steps_of}
-use Rattle.gate_graph.specs.Families.{among, has, ids_of, children_of, with_parent, with_above, are_apart, IsGraph}
+use Rattle.gate_graph.specs.Families.{among, has, with_parent, with_above, are_apart, IsGraph}
 use Rattle.gate_bytes.proofs.Members.{Contains-cons_cases, Contains-head, not_in_none, any_is, list_any_of}
 use Rattle.gate_graph.proofs.Reaching.{reaches_from_Leads, Leads_from_reaches, Leads_more, Leads_trans, reaches-same, reaches_trans, reaches_step}
 use Rattle.gate_graph.proofs.Steps.{step_node, node_step, same_bool}
 use Rattle.gate_graph.proofs.Apart.{has-node, has-append, are_apart-push, all_listed, among_from, Contains-among}
-use Rattle.gate_graph.proofs.Filters.{filter_same_on, filter-map, Contains-map, Contains-from_map}
+use Rattle.gate_graph.proofs.Filters.{Contains-map, Contains-from_map}
 
 abbrev Id : Type 0
 Id = List ℕ
@@ -45,17 +43,6 @@ has-with_parent x cs (n ∷ g) y = ap (λ b. bytes_eq n.id y || b) (has-with_par
 are_apart-with_parent : (x : Id) (cs : List Id) (g : List Node) → are_apart (map (with_parent x cs) g) ≡ are_apart g
 are_apart-with_parent x cs [] = refl
 are_apart-with_parent x cs (n ∷ g) = ap (λ b. not b && are_apart (map (with_parent x cs) g)) (has-with_parent x cs g n.id) ∙ ap (λ b. not (has g n.id) && b) (are_apart-with_parent x cs g)
-
--- one more at the end stands last among the children of its parents
-pub children_of-push : (g : List Node) (n : Node) (x : Id) → children_of (g ++ n ∷ []) x ≡ children_of g x ++ cond (among n.parents x) (n.id ∷ []) []
-children_of-push g n x =
-    ap ids_of (filter-append (λ m. among m.parents x) g (n ∷ []))
-    ∙ map-append (λ (m : Node). m.id) (filter (λ m. among m.parents x) g) (filter (λ m. among m.parents x) (n ∷ []))
-    ∙ ap (λ l. children_of g x ++ l) (one (among n.parents x))
-  where
-    one : (b : Bool) → ids_of (cond b (n ∷ []) []) ≡ cond b (n.id ∷ []) []
-    one true = refl
-    one false = refl
 
 module _ (g : List Node) (n : Node) (children : List Id) (ok : IsGraph g) (new : has g n.id ≡ false) (known : list_all (λ p. has g p) n.parents ≡ true) (below : list_all (λ c. has g c) children ≡ true) where
   -- where a step comes from
@@ -220,36 +207,5 @@ module _ (g : List Node) (n : Node) (children : List Id) (ok : IsGraph g) (new :
     acyclic = acyclic-with_above apart;
   }
 
-  -- the others have one child more if it is below them
-  pub children_of-above : (y : Id) → (y ≡ n.id → ⊥) → children_of (with_above g n children) y ≡ children_of g y ++ cond (among n.parents y) (n.id ∷ []) []
-  children_of-above y ne =
-      children_of-push (map (with_parent n.id children) g) n y
-      ∙ ap (λ l. ids_of l ++ cond (among n.parents y) (n.id ∷ []) []) (filter-map (with_parent n.id children) (λ m. among m.parents y) g)
-      ∙ ap (λ l. l ++ cond (among n.parents y) (n.id ∷ []) []) (map-map (λ (m : Node). m.id) (with_parent n.id children) (filter (λ m. among (with_parent n.id children m).parents y) g))
-      ∙ ap (λ l. ids_of l ++ cond (among n.parents y) (n.id ∷ []) []) (filter_agree (λ (m : Node). among (with_parent n.id children m).parents y) (λ (m : Node). among m.parents y) (λ m. named (among children m.id) m.parents) g)
-    where
-      named : (b : Bool) (ps : List Id) → among (ps ++ cond b (n.id ∷ []) []) y ≡ among ps y
-      named b ps = same_bool _ _
-          (λ t. ⊎_elim (λ c. among_from ps y c) (λ k. absurd (ne (sym k.1))) (push_cases b ps n.id y (Contains-among (ps ++ cond b (n.id ∷ []) []) y t)))
-          (λ t. among_from (ps ++ cond b (n.id ∷ []) []) y (push_old b ps n.id y (Contains-among ps y t)))
-
   pub unnamed : (m : Node) → Contains g m → among m.parents n.id ≡ false
   unnamed m c = false_from_ne_true _ (λ t. not_new n.id (ok.closed n.id m.id (node_step g m n.id c (Contains-among m.parents n.id t))) refl)
-
-  -- and its own are those that it was put above
-  pub children_of_above : children_of (with_above g n children) n.id ≡ ids_of (filter (λ m. among children m.id) g)
-  children_of_above =
-      children_of-push (map (with_parent n.id children) g) n n.id
-      ∙ ap (λ b. children_of (map (with_parent n.id children) g) n.id ++ cond b (n.id ∷ []) []) own
-      ∙ append-nil (children_of (map (with_parent n.id children) g) n.id)
-      ∙ ap ids_of (filter-map (with_parent n.id children) (λ m. among m.parents n.id) g)
-      ∙ map-map (λ (m : Node). m.id) (with_parent n.id children) (filter (λ m. among (with_parent n.id children m).parents n.id) g)
-      ∙ ap ids_of (filter_same_on (λ (m : Node). among (with_parent n.id children m).parents n.id) (λ (m : Node). among children m.id) g (λ m c. named (among children m.id) m.parents (unnamed m c)))
-    where
-      own : among n.parents n.id ≡ false
-      own = false_from_ne_true _ (λ t. not_new n.id (all_listed (λ p. has g p) n.parents n.id known (Contains-among n.parents n.id t)) refl)
-
-      named : (b : Bool) (ps : List Id) → among ps n.id ≡ false → among (ps ++ cond b (n.id ∷ []) []) n.id ≡ b
-      named b ps h = same_bool _ _
-          (λ t. ⊎_elim (λ c. absurd (true≢false (sym (among_from ps n.id c) ∙ h))) (λ k. k.0) (push_cases b ps n.id n.id (Contains-among (ps ++ cond b (n.id ∷ []) []) n.id t)))
-          (λ t. among_from (ps ++ cond b (n.id ∷ []) []) n.id (push_new b ps n.id t))

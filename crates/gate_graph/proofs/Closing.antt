@@ -43,11 +43,6 @@ module _ {E : Type 0} where
   pub at_read : (slots : List (Option E)) (i : ℕ) (s : Option E) → i < length slots → s ≡ get_or slots i s → at slots i ≡ s
   at_read slots i s h is = sym (get_or_read slots i s h is None)
 
-  within : (test : E → Bool) (slots : List (Option E)) (i : ℕ) → passes test (at slots i) ≡ true → i < length slots
-  within test [] i h = absurd (true≢false (sym h))
-  within test (s ∷ slots) zero h = omega arith
-  within test (s ∷ slots) (suc i) h = omega (arith, within test slots i h)
-
 some_is : {X : Type 0} (o : Option X) → is_some o ≡ true → (x : X) × (o ≡ Some x)
 some_is None h = absurd (true≢false (sym h))
 some_is (Some x) h = (x, refl)
@@ -66,9 +61,6 @@ pub record Moved {E K : Type 0} (has : E → K → Bool) (slots : List (Option E
   pub same : (k : K) → is_some (look k) ≡ is_some (first k)
 
 module _ {E K : Type 0} {has : E → K → Bool} {slots : List (Option E)} {first : K → Option ℕ} where
-  pub Moved-none : Moved has slots 0 first first
-  Moved-none = record { done = λ k j l p. absurd (omega (arith, l)); same = λ k. refl }
-
   pub Moved-skip : {i : ℕ} {look : K → Option ℕ} → Moved has slots i first look → at slots i ≡ None → Moved has slots (i + 1) first look
   Moved-skip {i} {look} m none = record {
     done = λ k j l p.
@@ -106,12 +98,3 @@ module _ {E K : Type 0} {has : E → K → Bool} {slots : List (Option E)} {firs
             | inl t ↦ ap is_some (there k t) ∙ sym (c.known k i (ap (passes (λ e. has e k)) here ∙ t))
             | inr t ↦ ap is_some (elsewhere k t) ∙ m.same k
           ]
-
-  pub Moved-all : {look : K → Option ℕ} → Covers has slots first → Moved has slots (length slots) first look → Indexes has slots look
-  Moved-all {look} c m = record {
-    sound = λ k i l.
-        let w = c.had k (sym (m.same k) ∙ ap is_some l) in
-        let here : i ≡ w.0 = same_Some i w.0 (sym l ∙ m.done k w.0 (within (λ e. has e k) slots w.0 w.1) w.1) in
-        ap (λ j. passes (λ e. has e k) (at slots j)) here ∙ w.1;
-    whole = λ k i p. m.done k i (within (λ e. has e k) slots i p) p;
-  }

@@ -5,17 +5,6 @@ use Rattle.std.proofs.lemmas.Bool.{true≢false, cond-true, cond-false}
 use Rattle.gate_bytes.proofs.Members.{Contains-cons_cases, Contains-head, Contains-rest}
 
 module _ {X : Type 0} where
-  -- filters in either order
-  pub filter_swap : (p q : X → Bool) (xs : List X) → filter p (filter q xs) ≡ filter q (filter p xs)
-  filter_swap p q [] = refl
-  filter_swap p q (x ∷ xs) = go (filter_swap p q xs) (q x) (p x) refl refl
-    where
-      go : filter p (filter q xs) ≡ filter q (filter p xs) → (b c : Bool) → q x ≡ b → p x ≡ c → filter p (cond b (x ∷ filter q xs) (filter q xs)) ≡ filter q (cond c (x ∷ filter p xs) (filter p xs))
-      go ih true true e f = cond-true (p x) (x ∷ filter p (filter q xs)) (filter p (filter q xs)) f ∙ ap (λ l. x ∷ l) ih ∙ sym (cond-true (q x) (x ∷ filter q (filter p xs)) (filter q (filter p xs)) e)
-      go ih true false e f = cond-false (p x) (x ∷ filter p (filter q xs)) (filter p (filter q xs)) f ∙ ih
-      go ih false true e f = ih ∙ sym (cond-false (q x) (x ∷ filter q (filter p xs)) (filter q (filter p xs)) e)
-      go ih false false e f = ih
-
   -- what passes stays
   pub Contains-filter : (p : X → Bool) (xs : List X) (x : X) → Contains xs x → p x ≡ true → Contains (filter p xs) x
   Contains-filter p [] x c h = absurd (omega arith)

@@ -1,5 +1,5 @@
 -- Nodes that are held, found by their ids.
-use Rattle.std.proofs.Common.{◌≡◌, ℕ, Bool, true, false, cond, not, ◌||◌, List, [], ◌∷◌, Some, None, is_some, refl, sym, ap, ◌∙◌, subst, true≢false}
+use Rattle.std.proofs.Common.{◌≡◌, ℕ, Bool, true, false, cond, not, ◌||◌, List, [], ◌∷◌, Some, is_some, refl, sym, ap, ◌∙◌, subst, true≢false}
 use Rattle.std.specs.Prelude.{find, Contains}
 use Rattle.std.specs.List.{list_all}
 use Rattle.std.specs.Str.{bytes_eq}
@@ -7,7 +7,7 @@ use Rattle.std.specs.Cmp.Lexicographic.{bytes_decides}
 use Rattle.std.proofs.lemmas.Option.{none-some, same_Some}
 use Rattle.gate_graph.specs.Family.{Node, steps_of}
 use Rattle.gate_graph.proofs.Steps.{step_node, node_step}
-use Rattle.gate_graph.proofs.Apart.{one_node, has-node, all_listed}
+use Rattle.gate_graph.proofs.Apart.{one_node, all_listed}
 use Rattle.gate_graph.proofs.Filters.{Contains-map}
 use Rattle.gate_graph.specs.Families.{has, are_apart}
 use Rattle.gate_bytes.proofs.Members.{Contains-head, Contains-rest}
@@ -48,12 +48,6 @@ module _ {T : Type 0} where
       let w = find_is hs x h e in
       let v = step_node (nodes_of hs) b x s in
       subst (λ (m : Node). Contains m.parents b) (one_node (nodes_of hs) v.0 (node_of h) a v.1 (node_in hs h w.0) (v.2 ∙ sym w.1)) v.3
-
-  -- none leads up from an id that no node has
-  pub no_up : (hs : List (Held T)) (x : Id) → find (λ h. has_id h x) hs ≡ None → (b : Id) → Contains (steps_of (nodes_of hs)) (b, x) → ⊥
-  no_up hs x e b s =
-      let v = step_node (nodes_of hs) b x s in
-      true≢false (sym (has-node (nodes_of hs) v.0 v.1) ∙ ap (has (nodes_of hs)) v.2 ∙ sym (found_has hs x) ∙ ap is_some e)
 
   -- a node of which each parent is no node names none
   pub names_no_node : (hs : List (Held T)) (x : Id) (h : Held T) → are_apart (nodes_of hs) ≡ true → find (λ h. has_id h x) hs ≡ Some h → list_all (λ p. not (has (nodes_of hs) p)) h.parents.items ≡ true

@@ -161,10 +161,3 @@ module _ {E K : Type 0} {has : E → K → Bool} {slots : List (Option E)} {look
           let other : j ≢ i = λ s. true≢false (sym p ∙ ap (passes (λ e. has e k)) (ap (at (slice_set slots i None)) s ∙ emptied_at slots i)) in
           let old = h.whole k j (sym (ap (passes (λ e. has e k)) (get_or-set_other slots i j None None other)) ∙ p) in
           elsewhere k (false_from_ne_true _ (λ t. other (same_Some j i (sym old ∙ h.whole k i (ap (passes (λ e. has e k)) here ∙ t))))) ∙ old
-
--- the same slots and the same look-ups
-pub Indexes-same : {E K : Type 0} {has : E → K → Bool} {slots slots' : List (Option E)} {look look' : K → Option ℕ} → Indexes has slots look → slots' ≡ slots → ((k : K) → look' k ≡ look k) → Indexes has slots' look'
-Indexes-same {has = has} h is same = record {
-  sound = λ k i l. ap (λ s. passes (λ e. has e k) (at s i)) is ∙ h.sound k i (sym (same k) ∙ l);
-  whole = λ k i p. same k ∙ h.whole k i (sym (ap (λ s. passes (λ e. has e k) (at s i)) is) ∙ p);
-}

@@ -1,5 +1,5 @@
 -- Laws of families: nodes put between others, and roots that go.
-use Rattle.std.proofs.Common.{◌≡◌, ℕ, Bool, true, false, cond, not, ◌&&◌, ◌||◌, List, [], ◌∷◌, ◌++◌, length, refl, sym, ap, ◌∙◌, subst, ⊎_elim, map, append-nil, None}
+use Rattle.std.proofs.Common.{◌≡◌, ℕ, Bool, true, false, cond, not, ◌&&◌, ◌||◌, List, [], ◌∷◌, ◌++◌, length, refl, sym, ap, ◌∙◌, subst, ⊎_elim, map, append-nil}
 use Rattle.std.specs.Prelude.{Contains, filter, ◌==◌}
 use Rattle.std.specs.Str.{bytes_eq}
 use Rattle.std.specs.Cmp.Lexicographic.{bytes_decides}
@@ -9,15 +9,13 @@ use Rattle.std.proofs.lemmas.List.Elements.{filter-append}
 use Rattle.std.proofs.lemmas.Simd.{map-map}
 use Rattle.gate_graph.specs.Family.{Node, Leads, here, down, steps_of, reaches}
 use Rattle.gate_graph.specs.Families.{among, has, ids_of, with_parent, with_above, without_id, without_parent, is_root, are_apart, IsGraph}
-use Rattle.gate_graph.specs.Faults.{fault_of_above}
-use Rattle.gate_graph.specs.Laws.{is_above, is_below, HaveEachOnce, HasNoFamily, JoinsFamilies, LeavesFamilies, ComesAndGoes}
+use Rattle.gate_graph.specs.Laws.{is_above, is_below, HaveEachOnce, HasNoFamily, FitsBetween, JoinsFamilies, LeavesFamilies, ComesAndGoes}
 use Rattle.gate_bytes.proofs.Members.{Contains-head, Contains-rest, any_is, list_any_of}
 use Rattle.gate_graph.proofs.Reaching.{Leads_from_reaches, reaches-same}
 use Rattle.gate_graph.proofs.Steps.{same_bool, step_node}
 use Rattle.gate_graph.proofs.Apart.{same_id, has-node, are_apart-filter}
 use Rattle.gate_graph.proofs.Filters.{filter_same_on, filter_all, filter_none, filter-map}
 use Rattle.gate_graph.proofs.Between.{reaches-with_above, IsGraph-with_above, unnamed, unknown_leads}
-use Rattle.gate_graph.proofs.Faultless.{Fits, faultless}
 use Rattle.gate_graph.proofs.Root.{not_same, without_id_none, reaches-without_root, IsGraph-without_root, rootless}
 
 abbrev Id : Type 0
@@ -54,10 +52,7 @@ module _ (g : List Node) (x : Id) (ok : IsGraph g) (new : has g x ≡ false) whe
     below = filter_none (λ m. reaches (steps_of g) x m.id) g from_stranger;
   }
 
-module _ (g : List Node) (n : Node) (children : List Id) (ok : IsGraph g) (fault : fault_of_above g n.id n.parents children ≡ None) where
-  fits : Fits g n.id n.parents children
-  fits = faultless g n.id n.parents children fault
-
+module _ (g : List Node) (n : Node) (children : List Id) (ok : IsGraph g) (fits : FitsBetween g n children) where
   chains : (a b : Id) → reaches (steps_of (with_above g n children)) a b ≡ (reaches (steps_of g) a b || ((bytes_eq a n.id || is_above g n.parents a) && (bytes_eq b n.id || is_below g children b)))
   chains a b = reaches-with_above g n children ok fits.new fits.parents fits.children a b
 

@@ -3,7 +3,6 @@ pub mod Steps
 pub mod Filters
 pub mod Apart
 pub mod Between
-pub mod Removal
 pub mod Root
 pub mod Indexing
 pub mod Closing
@@ -33,11 +32,7 @@ pub mod Crowning
 pub mod Merging
 pub mod Writes
 pub mod Going
-pub mod Naming
-pub mod Relisting
 pub mod Searching
-pub mod Ordering
-pub mod Faultless
 pub mod Joining
 pub mod Childhood
 pub mod Least

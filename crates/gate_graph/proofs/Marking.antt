@@ -123,11 +123,6 @@ apart_at spots (p ∷ places) zero (suc k) d o lt l e =
 apart_at spots (p ∷ places) (suc i) zero d o lt l e = omega (arith, lt)
 apart_at spots (p ∷ places) (suc i) (suc k) d o lt l e = apart_at spots places i k d (and_parts _ _ o).1 (omega (arith, lt)) (omega (arith, l)) e
 
-pub ids_take : (spots : Spots) (places : List ℕ) (i : ℕ) → ids_at spots (take i places) ≡ take i (ids_at spots places)
-ids_take spots places zero = refl
-ids_take spots [] (suc i) = refl
-ids_take spots (p ∷ places) (suc i) = ap (λ l. id_at spots p ∷ l) (ids_take spots places i)
-
 -- one of the places, while what stands in the slots stays
 pub same_at : (spots spots' : Spots) (places : List ℕ) (i d : ℕ) → spots' ≡ spots → i < length places → id_at spots' (get_or places i d) ≡ get_or (ids_at spots places) i []
 same_at spots spots' places i d e lt = ap (λ s. id_at s (get_or places i d)) e ∙ sym (id_of spots places i d [] lt)

@@ -13,7 +13,7 @@ use Rattle.gate_graph.specs.Slots.{entries_of, at, passes, Indexes}
 use Rattle.gate_graph.specs.Holding.{has_id, id_at, spots_of, at_id, with_totals, nodes_of, IsPlaced}
 use Rattle.gate_graph.specs.Families.{has, ids_of}
 use Rattle.gate_graph.proofs.Holdings.{found_has}
-use Rattle.gate_graph.proofs.Indexing.{searched, unknown, Indexes-push, entries_of-push, only_place, IsOnly, entries_of-take, all_stay, length-take_one, Indexes-take}
+use Rattle.gate_graph.proofs.Indexing.{searched, unknown, Indexes-push, entries_of-push, only_place, IsOnly, entries_of-take, length-take_one, Indexes-take}
 
 abbrev Id : Type 0
 Id = List ℕ
@@ -74,9 +74,6 @@ module _ {T : Type 0} {slots : List (Option (Held T))} {n : ℕ} {look : Id → 
   pub held_written : (x : Id) (i : ℕ) (totals : Totals) (slots' : List (Option (Held T))) → look x ≡ Some i → slots' ≡ slice_set slots i (option_map (with_totals totals) (at slots i)) → entries_of slots' ≡ map (at_id x (with_totals totals)) (entries_of slots)
   held_written x i totals slots' l is = ap entries_of is ∙ entries_of-write (λ e. has_id e x) (with_totals totals) slots i (h.places.sound x i l) (only_place h.places x i l)
 
-  pub held_absent : (x : Id) (totals : Totals) → look x ≡ None → entries_of slots ≡ map (at_id x (with_totals totals)) (entries_of slots)
-  held_absent x totals l = sym (none_changed (λ e. has_id e x) (with_totals totals) slots (λ j. false_from_ne_true _ (λ p. none-some j (sym l ∙ h.places.whole x j p))))
-
   pub IsPlaced-written : (x : Id) (i : ℕ) (totals : Totals) (slots' : List (Option (Held T))) → look x ≡ Some i → slots' ≡ slice_set slots i (option_map (with_totals totals) (at slots i)) → IsPlaced slots' n look
   IsPlaced-written x i totals slots' l is = record {
     places = subst (λ s. Indexes has_id s look) (sym is) (Indexes-write (with_totals totals) i (λ e k. refl) h.places);
@@ -93,9 +90,6 @@ module _ {T : Type 0} {slots : List (Option (Held T))} {n : ℕ} {look : Id → 
 
   pub held_taken : (x : Id) (i : ℕ) (slots' : List (Option (Held T))) → look x ≡ Some i → slots' ≡ slice_set slots i None → entries_of slots' ≡ filter (λ e. not (has_id e x)) (entries_of slots)
   held_taken x i slots' l is = ap entries_of is ∙ entries_of-take (λ e. has_id e x) slots i (h.places.sound x i l) (only_place h.places x i l)
-
-  pub none_taken : (x : Id) → look x ≡ None → entries_of slots ≡ filter (λ e. not (has_id e x)) (entries_of slots)
-  none_taken x l = all_stay (λ e. has_id e x) slots (λ j. false_from_ne_true _ (λ p. none-some j (sym l ∙ h.places.whole x j p)))
 
   pub IsPlaced-taken : (x : Id) (i : ℕ) (slots' : List (Option (Held T))) (n' : ℕ) (look' : Id → Option ℕ) → look x ≡ Some i → slots' ≡ slice_set slots i None → ((k : Id) → look' k ≡ cond (bytes_eq x k) None (look k)) → n' + 1 ≡ n → IsPlaced slots' n' look'
   IsPlaced-taken x i slots' n' look' l is less fewer =
@@ -204,12 +198,6 @@ module _ {T : Type 0} (f : Held T → Held T) (same : (e : Held T) → (f e).id 
       places = subst (λ s. Indexes has_id s look) (sym is) (Indexes-write f i (λ e k. ap (λ y. bytes_eq y k) (same e)) h.places);
       count = h.count ∙ sym (ap length held_changed ∙ length-changed (λ e. has_id e x) f (entries_of slots));
     }
-
-  pub spots_of-changed : (slots : List (Option (Held T))) (i : ℕ) → spots_of (slice_set slots i (option_map f (at slots i))) ≡ spots_of slots
-  spots_of-changed [] i = refl
-  spots_of-changed (None ∷ slots) zero = refl
-  spots_of-changed (Some h ∷ slots) zero = ap (λ y. Some y ∷ spots_of slots) (same h)
-  spots_of-changed (x ∷ slots) (suc i) = ap (λ l. option_map (λ h. h.id) x ∷ l) (spots_of-changed slots i)
 
 -- the ids of the nodes, in order, are those that stand in the slots
 pub spots_entries : {T : Type 0} (slots : List (Option (Held T))) → ids_of (nodes_of (entries_of slots)) ≡ entries_of (spots_of slots)

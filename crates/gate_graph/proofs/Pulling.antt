@@ -83,12 +83,6 @@ module _ {T : Type 0} (hs : List (Held T)) (x : Id) where
           at true e ih = cc
           at false e ih = ap (λ l. h ∷ l) (ih e)
 
-  pub IsLinked-none : (lists : Lists) → find (λ h. has_id h x) hs ≡ None → IsLinked (nodes_of hs) lists → IsLinked (nodes_of (filter others hs)) lists
-  IsLinked-none lists e l = subst (λ k. IsLinked (nodes_of k) lists) (sym (none_there e)) l
-
-  pub same_length : find (λ h. has_id h x) hs ≡ None → length (filter others hs) ≡ length hs
-  same_length e = ap length (none_there e)
-
   pub pulled_fewer : (h : Held T) → find (λ h. has_id h x) hs ≡ Some h → length (filter others hs) < length hs
   pulled_fewer h e = go hs e
     where

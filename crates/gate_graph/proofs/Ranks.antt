@@ -48,16 +48,6 @@ module _ {T : Type 0} where
   total_small [] small = omega arith
   total_small (h ∷ hs) small = omega (arith, added h hs, small (node_of h) (Contains-head (node_of h) (nodes_of hs)), total_small hs (λ n c. small n (Contains-rest (node_of h) (nodes_of hs) n c)))
 
-  -- a write of what no rate reads
-  keys_of-same : (f : Held T → Held T) → ((h : Held T) → rate_of (f h) ≡ rate_of h) → (slots : List (Option (Held T))) (i : ℕ) → map (option_map rate_of) (slice_set slots i (option_map f (at slots i))) ≡ map (option_map rate_of) slots
-  keys_of-same f same [] i = refl
-  keys_of-same f same (None ∷ slots) zero = refl
-  keys_of-same f same (Some h ∷ slots) zero = ap (λ k. Some k ∷ map (option_map rate_of) slots) (same h)
-  keys_of-same f same (s ∷ slots) (suc i) = ap (λ l. option_map rate_of s ∷ l) (keys_of-same f same slots i)
-
-  pub same_keys : (f : Held T → Held T) → ((h : Held T) → rate_of (f h) ≡ rate_of h) → (slots slots' : List (Option (Held T))) (i : ℕ) (keys : List (Option Fraction)) → keys ≡ map (option_map rate_of) slots → slots' ≡ slice_set slots i (option_map f (at slots i)) → keys ≡ map (option_map rate_of) slots'
-  same_keys f same slots slots' i keys k is = k ∙ sym (ap (map (option_map rate_of)) is ∙ keys_of-same f same slots i)
-
   -- what a rate reads is written at a place, and the rate with it
   pub written_keys : (f : Held T → Held T) (slots slots' : List (Option (Held T))) (i : ℕ) (h : Held T) (k : Fraction) (keys keys' : List (Option Fraction)) → keys ≡ map (option_map rate_of) slots
       → slots' ≡ slice_set slots i (option_map f (at slots i)) → option_map f (at slots i) ≡ Some h → k ≡ rate_of h → keys' ≡ slice_set keys i (Some k) → keys' ≡ map (option_map rate_of) slots'

@@ -4,14 +4,12 @@ use Rattle.std.specs.Prelude.{Contains, filter, ◌==◌}
 use Rattle.std.specs.Str.{bytes_eq}
 use Rattle.std.specs.Cmp.Lexicographic.{bytes_decides}
 use Rattle.std.proofs.lemmas.Bool.{false_from_ne_true, true≢false, not-true, and_parts, eqb-true}
-use Rattle.std.proofs.lemmas.List.Elements.{filter_agree}
-use Rattle.std.proofs.lemmas.Simd.{map-map}
 use Rattle.gate_graph.specs.Family.{reaches, Node, steps_of}
-use Rattle.gate_graph.specs.Families.{among, has, ids_of, children_of, without_id, without_parent, without_root, is_root, are_apart, IsGraph}
+use Rattle.gate_graph.specs.Families.{among, has, without_id, without_parent, without_root, is_root, are_apart, IsGraph}
 use Rattle.gate_bytes.proofs.Members.{any_is, list_any_of}
-use Rattle.gate_graph.proofs.Steps.{same_bool, step_node, node_step, root_reaches}
-use Rattle.gate_graph.proofs.Apart.{among_from, Contains-among, are_apart-filter, one_node}
-use Rattle.gate_graph.proofs.Filters.{filter_swap, filter_all, filter-map, Contains-map, Contains-from_map, Contains-filter, Contains-from_filter}
+use Rattle.gate_graph.proofs.Steps.{step_node, node_step, root_reaches}
+use Rattle.gate_graph.proofs.Apart.{among_from, are_apart-filter, one_node}
+use Rattle.gate_graph.proofs.Filters.{filter_all, Contains-map, Contains-from_map, Contains-filter, Contains-from_filter}
 
 abbrev Id : Type 0
 Id = List ℕ
@@ -25,16 +23,6 @@ differs a x h e = true≢false (sym ((bytes_decides a x).1 e) ∙ not-true _ h)
 -- an id that is not among others changes nothing where it is left out
 pub without_id_none : (x : Id) (ids : List Id) → among ids x ≡ false → without_id x ids ≡ ids
 without_id_none x ids h = filter_all (λ y. not (bytes_eq y x)) ids (λ y c. not_same y x (λ e. true≢false (sym (among_from ids x (subst (Contains ids) e c)) ∙ h)))
-
--- left out twice, it is left out
-pub without_id_twice : (x : Id) (ids : List Id) → without_id x (without_id x ids) ≡ without_id x ids
-without_id_twice x ids = filter_all (λ y. not (bytes_eq y x)) (without_id x ids) (λ y c. (Contains-from_filter (λ y. not (bytes_eq y x)) ids y c).1)
-
--- the others are among what is left as before
-pub among_without : (x y : Id) (ids : List Id) → (y ≡ x → ⊥) → among (without_id x ids) y ≡ among ids y
-among_without x y ids ne = same_bool _ _
-    (λ t. among_from ids y (Contains-from_filter (λ z. not (bytes_eq z x)) ids y (Contains-among (without_id x ids) y t)).0)
-    (λ t. among_from (without_id x ids) y (Contains-filter (λ z. not (bytes_eq z x)) ids y (Contains-among ids y t) (not_same y x ne)))
 
 module _ (g : List Node) (x : Id) (ok : IsGraph g) (root : is_root g x ≡ true) where
   -- a root's node names no parent
@@ -102,15 +90,3 @@ module _ (g : List Node) (x : Id) (ok : IsGraph g) (root : is_root g x ≡ true)
         (Contains-filter (λ n. not (bytes_eq n.id x)) g v.0 v.1 (ap (λ z. not (bytes_eq z x)) ((bytes_decides v.0.id a).0 v.2) ∙ not_same a x (left_ends a b s).0)) v.2;
     acyclic = λ a b s. sym (reaches-without_root b a (left_ends a b s).1) ∙ ok.acyclic a b (fewer_steps a b s);
   }
-
-  -- the others have the children that they had
-  pub children_of-without_root : (y : Id) → (y ≡ x → ⊥) → children_of (without_root g x) y ≡ children_of g y
-  children_of-without_root y ne =
-      ap ids_of (filter-map (without_parent x) (λ n. among n.parents y) (filter (λ n. not (bytes_eq n.id x)) g))
-      ∙ map-map (λ (n : Node). n.id) (without_parent x) (filter (λ n. among (without_id x n.parents) y) (filter (λ n. not (bytes_eq n.id x)) g))
-      ∙ ap ids_of (filter_agree (λ (n : Node). among (without_id x n.parents) y) (λ (n : Node). among n.parents y) (λ n. among_without x y n.parents ne) (filter (λ n. not (bytes_eq n.id x)) g)
-      ∙ filter_swap (λ n. among n.parents y) (λ n. not (bytes_eq n.id x)) g
-      ∙ filter_all (λ n. not (bytes_eq n.id x)) (filter (λ n. among n.parents y) g)
-      (λ m c.
-      let w = Contains-from_filter (λ n. among n.parents y) g m c in
-      not_same m.id x (λ e. parentless m w.0 e y (Contains-among m.parents y w.1))))

@@ -1,5 +1,5 @@
 -- Where the steps of nodes come from, and how reaching changes with steps at one id.
-use Rattle.std.proofs.Common.{◌≡◌, ℕ, Bool, true, false, List, [], ◌∷◌, ◌++◌, refl, sym, ap, ◌∙◌, subst, ◌⊎◌, inl, inr, ⊎_elim, arith, map, append_assoc}
+use Rattle.std.proofs.Common.{◌≡◌, ℕ, Bool, true, false, List, [], ◌∷◌, refl, sym, ap, ◌∙◌, subst, ◌⊎◌, inl, inr, ⊎_elim, arith, map}
 use Rattle.std.specs.Prelude.{Contains}
 use Rattle.std.specs.Str.{bytes_eq}
 use Rattle.std.specs.Cmp.Lexicographic.{bytes_decides}
@@ -20,10 +20,6 @@ same_bool true true h k = refl
 same_bool true false h k = sym (h refl)
 same_bool false true h k = k refl
 same_bool false false h k = refl
-
-pub steps_of-append : (xs ys : List Node) → steps_of (xs ++ ys) ≡ steps_of xs ++ steps_of ys
-steps_of-append [] ys = refl
-steps_of-append (x ∷ xs) ys = ap (λ l. map (λ p. (p, x.id)) x.parents ++ l) (steps_of-append xs ys) ∙ sym (append_assoc (map (λ p. (p, x.id)) x.parents) (steps_of xs) (steps_of ys))
 
 -- a node's own steps lead to it
 pub own_step : (ps : List Id) (x a b : Id) → Contains {X = Id × Id} (map (λ p. (p, x)) ps) (a, b) → (x ≡ b) × Contains ps a
@@ -86,9 +82,6 @@ module _ (ss ts : List (Id × Id)) (D : Id → Bool) (fewer : (a b : Id) → Con
       (λ r. reaches_from_Leads (kept_leads (Leads_from_reaches ss a b r) h))
       (λ r. reaches_from_Leads (Leads_more fewer (Leads_from_reaches ts a b r)))
 
-  pub closed_reaches : (a b : Id) → reaches ss a b ≡ true → D a ≡ true → D b ≡ true
-  closed_reaches a b r h = closed_leads (Leads_from_reaches ss a b r) h
-
 -- a step comes from a node that names the parent
 pub step_node : (g : List Node) (a b : Id) → Contains (steps_of g) (a, b) → (m : Node) × Contains g m × (m.id ≡ b) × Contains m.parents a
 step_node [] a b c = absurd (omega arith)
@@ -105,7 +98,3 @@ node_step (n ∷ g) m a c p =
     (λ e. Contains-append_left (map (λ p. (p, n.id)) n.parents) (steps_of g) (a, m.id) (subst (λ (k : Node). Contains {X = Id × Id} (map (λ p. (p, n.id)) n.parents) (a, k.id)) e (own_step_of n.parents n.id a (subst (λ (k : Node). Contains k.parents a) (sym e) p))))
     (λ k. Contains-append_right (map (λ p. (p, n.id)) n.parents) (steps_of g) (a, m.id) (node_step g m a k p))
     (Contains-cons_cases n g m c)
-
--- steps with the same members reach the same
-pub same_steps : (ss ts : List (Id × Id)) → ((a b : Id) → Contains ss (a, b) → Contains ts (a, b)) → ((a b : Id) → Contains ts (a, b) → Contains ss (a, b)) → (a b : Id) → reaches ss a b ≡ reaches ts a b
-same_steps ss ts f g a b = same_bool _ _ (λ r. reaches_from_Leads (Leads_more f (Leads_from_reaches ss a b r))) (λ r. reaches_from_Leads (Leads_more g (Leads_from_reaches ts a b r)))

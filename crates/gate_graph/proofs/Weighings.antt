@@ -5,9 +5,9 @@ use Rattle.std.specs.Str.{bytes_eq}
 use Rattle.std.specs.Cmp.Lexicographic.{bytes_decides}
 use Rattle.std.proofs.lemmas.List.Sums.{sum_by-cons}
 use Rattle.gate_graph.specs.Family.{Node}
-use Rattle.gate_graph.specs.Families.{among, has, are_apart}
+use Rattle.gate_graph.specs.Families.{among, are_apart}
 use Rattle.gate_bytes.proofs.Members.{Contains-head, Contains-rest}
-use Rattle.gate_graph.proofs.Apart.{same_id, among-push, has-node}
+use Rattle.gate_graph.proofs.Apart.{same_id, among-push}
 use Rattle.gate_graph.proofs.Filters.{filter_same_on}
 use Rattle.gate_graph.specs.Weighing.{sums_of, more, Fits, AreSmall}
 use Rattle.gate_graph.proofs.Counting.{are_more, AreMore}
@@ -24,9 +24,6 @@ sum_small f test (n ∷ g) h = go (test n) (sum_small f test g (λ m c. h m (Con
     go : (b : Bool) → sum_by f (filter test g) ≤ 18446744073709551615 * length g → sum_by f (cond b (n ∷ filter test g) (filter test g)) ≤ 18446744073709551615 * length (n ∷ g)
     go true l = omega (arith, l, sum_by-cons f n (filter test g), h n (Contains-head n g))
     go false l = omega (arith, l)
-
-more_of : (a b c : ℕ) → a ≡ b + c → b + c ≡ a
-more_of a b c e = sym e
 
 module _ (g : List Node) (ids : List Id) (x : Id) (apart : are_apart g ≡ true) (new : among ids x ≡ false) where
   before : (n : Node) → n.id ≡ x → filter (λ m. among (ids ++ x ∷ []) m.id && not (bytes_eq m.id n.id)) g ≡ filter (λ m. among ids m.id) g
@@ -64,16 +61,6 @@ module _ (g : List Node) (ids : List Id) (x : Id) (apart : are_apart g ≡ true)
         size_fits = omega (arith, w.size, ap (sum_by (λ n. n.size)) rest, sum_small (λ n. n.size) all g small.size, len);
         fee_fits = omega (arith, w.fees, ap (sum_by (λ n. n.fee)) rest, sum_small (λ n. n.fee) all g small.fee, len);
       }
-
--- an id that no node has adds nothing
-pub weighed_none : (g : List Node) (ids : List Id) (x : Id) → has g x ≡ false → filter (λ (m : Node). among ids m.id) g ≡ filter (λ (m : Node). among (ids ++ x ∷ []) m.id) g
-weighed_none g ids x none = filter_same_on (λ m. among ids m.id) (λ m. among (ids ++ x ∷ []) m.id) g
-    (λ m c. sym (among-push ids x m.id ∙ go (among ids m.id) (bytes_eq m.id x) (λ t. true≢false (sym (has-node g m c) ∙ ap (has g) ((bytes_decides m.id x).0 t) ∙ none))))
-  where
-    go : (a b : Bool) → (b ≡ true → ⊥) → (a || b) ≡ a
-    go a true k = absurd (k refl)
-    go true false k = refl
-    go false false k = refl
 
 pub weighed_start : (g : List Node) → filter (λ (m : Node). among [] m.id) g ≡ []
 weighed_start [] = refl

@@ -27,10 +27,6 @@ ancestors_of g id = filter (λ n. reaches (steps_of g) n.id id) g
 abbrev pub descendants_of : List Node → List ℕ → List Node
 descendants_of g id = filter (λ n. reaches (steps_of g) id n.id) g
 
--- the nodes, except that of an id and all that are below it
-abbrev pub without_family : List Node → List ℕ → List Node
-without_family g id = filter (λ n. not (reaches (steps_of g) id n.id)) g
-
 -- the ids of the nodes that name an id among their parents, in the order of adding
 abbrev pub children_of : List Node → List ℕ → List (List ℕ)
 children_of g id = ids_of (filter (λ n. among n.parents id) g)

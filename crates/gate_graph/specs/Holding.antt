@@ -1,7 +1,6 @@
 -- What the slots hold.
 use Rattle.std.specs.Prelude.{◌≡◌, ◌≢◌, ◌<◌, ◌++◌, ℕ, Bool, true, not, List, [], Contains, Option, None, Some, length, cond, map, filter, find, if◌then◌else◌}
 use Rattle.std.specs.List.{filter_map, AllPairs}
-use Rattle.std.specs.Global.{Vec}
 use Rattle.std.specs.Option.{option_map, unwrap_or}
 use Rattle.gate_graph.specs.Families.{among}
 use Rattle.std.specs.Str.{bytes_eq}
@@ -35,10 +34,6 @@ module _ {T : Type 0} where
   -- a node with other totals
   abbrev pub with_totals : Totals → Held T → Held T
   with_totals totals h = record h { totals = totals }
-
-  -- a node with other parents
-  abbrev pub with_parents : Vec (List ℕ) → Held T → Held T
-  with_parents parents h = record h { parents = parents }
 
   -- a change that is made to the node of an id alone
   abbrev pub at_id : List ℕ → (Held T → Held T) → Held T → Held T

@@ -1,10 +1,9 @@
 -- Laws of families.
-use Rattle.std.specs.Prelude.{◌≡◌, ◌≢◌, ℕ, Bool, true, false, ◌&&◌, ◌||◌, List, [], ◌∷◌, ◌++◌, filter, None}
-use Rattle.std.specs.List.{list_any}
+use Rattle.std.specs.Prelude.{◌≡◌, ◌≢◌, ℕ, Bool, true, false, ◌&&◌, ◌||◌, List, [], ◌∷◌, ◌++◌, filter}
+use Rattle.std.specs.List.{list_all, list_any}
 use Rattle.std.specs.Str.{bytes_eq}
 use Rattle.gate_graph.specs.Family.{Node, steps_of, reaches}
 use Rattle.gate_graph.specs.Families.{has, ids_of, ancestors_of, descendants_of, with_above, without_root, is_root, are_apart, IsGraph}
-use Rattle.gate_graph.specs.Faults.{fault_of_above}
 
 -- an id is one of these, or a chain leads down from it to one
 abbrev pub is_above : List Node → List (List ℕ) → List ℕ → Bool
@@ -30,6 +29,13 @@ pub record HasNoFamily (g : List Node) (id : List ℕ) : Type 0 where
 abbrev pub StrangersHaveNoFamily : Type 0
 StrangersHaveNoFamily = (g : List Node) (id : List ℕ) → IsGraph g → has g id ≡ false → HasNoFamily g id
 
+-- a node fits between parents and children: its id is new, they are nodes, and no child is a parent or above one
+pub record FitsBetween (g : List Node) (n : Node) (ids : List (List ℕ)) : Type 0 where
+  pub new : has g n.id ≡ false
+  pub parents : list_all (λ p. has g p) n.parents ≡ true
+  pub children : list_all (λ c. has g c) ids ≡ true
+  pub apart : list_any (λ c. list_any (λ p. reaches (steps_of g) c p) n.parents) ids ≡ false
+
 -- a node put between others joins their families: a chain leads where one led, and from the node, its parents and all
 -- above them to the node, its children and all below them; below the node are its children and all below them, and
 -- itself, above it its parents and all above them, and itself
@@ -40,7 +46,7 @@ pub record JoinsFamilies (g : List Node) (n : Node) (children : List (List ℕ))
   pub above : ids_of (ancestors_of (with_above g n children) n.id) ≡ ids_of (filter (λ m. is_above g n.parents m.id) g) ++ n.id ∷ []
 
 abbrev pub NodesJoinFamilies : Type 0
-NodesJoinFamilies = (g : List Node) (n : Node) (children : List (List ℕ)) → IsGraph g → fault_of_above g n.id n.parents children ≡ None → JoinsFamilies g n children
+NodesJoinFamilies = (g : List Node) (n : Node) (children : List (List ℕ)) → IsGraph g → FitsBetween g n children → JoinsFamilies g n children
 
 -- without a node that has no parents, a graph stays a graph, with the same chains between all other nodes; no other node
 -- was above it
@@ -58,4 +64,4 @@ pub record ComesAndGoes (g : List Node) (n : Node) (children : List (List ℕ)) 
   pub back : without_root (with_above g n children) n.id ≡ g
 
 abbrev pub RootsComeAndGo : Type 0
-RootsComeAndGo = (g : List Node) (n : Node) (children : List (List ℕ)) → IsGraph g → n.parents ≡ [] → fault_of_above g n.id n.parents children ≡ None → ComesAndGoes g n children
+RootsComeAndGo = (g : List Node) (n : Node) (children : List (List ℕ)) → IsGraph g → n.parents ≡ [] → FitsBetween g n children → ComesAndGoes g n children

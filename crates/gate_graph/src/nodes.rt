@@ -1,25 +1,23 @@
-ghost use Rattle.std.specs.Prelude.{◌≡◌, ◌≤◌, ◌<◌, ◌+◌, ◌++◌, ◌∷◌, [], Some, false, true, ℕ, List, Contains, map, filter, sum_by, IfOk, OnOk, IfSome, IfNone, length, vec_len, is_some};
+ghost use Rattle.std.specs.Prelude.{◌≡◌, ◌≤◌, ◌<◌, ◌+◌, ◌++◌, ◌∷◌, [], Some, false, ℕ, List, Contains, sum_by, IfOk, OnOk, IfSome, IfNone, length, vec_len, is_some};
 ghost use Rattle.std.specs.Option.{option_copied, option_map};
 ghost use Rattle.std.specs.Vec.{vec_capacity};
-ghost use Rattle.gate_graph.specs.Families.{among, children_of, has, ids_of, is_root, with_parent, without_parent};
+ghost use Rattle.gate_graph.specs.Families.{among, children_of, has};
 ghost use Rattle.std.specs.Str.{bytes_eq};
-ghost use Rattle.gate_graph.specs.Family.{Node, reaches, steps_of};
-ghost use Rattle.gate_graph.specs.Leading.{are_led};
+ghost use Rattle.gate_graph.specs.Family.{reaches, steps_of};
 ghost use Rattle.gate_graph.specs.Holding.{without_below, without_one, node_of, nodes_in, load_in, loaded, spots_of, vacated, AreGone};
 ghost use Rattle.gate_graph.specs.Ranks.{least_of};
 ghost use Rattle.gate_graph.specs.Slots.{at, entries_of};
 ghost use Rattle.gate_graph.specs.Weighing.{totals_of};
 
 use crate::copy::{copy_each, scratch_for};
-use crate::find::{children, find, in_order};
+use crate::find::children;
 use crate::held::{Gone, Held, Sums, Totals};
-use crate::id::{Id, NodeId};
+use crate::id::NodeId;
 use crate::links::Links;
-use crate::name::{name_each, unname};
 use crate::put::put_node;
 use crate::slots::Slots;
 use crate::take::{take_family, take_one};
-use crate::walk::{Scratch, Way, tidy};
+use crate::walk::{Scratch, tidy};
 use gate_bytes::{Copied, Memory};
 use indexmap::IndexSet;
 use std::alloc::Global;
@@ -252,76 +250,6 @@ impl<T: Drop, S: BuildHasher + Copy + Drop> Nodes<T, S> {
 }
 
 impl<T: Drop, S: BuildHasher + Copy + Drop> Nodes<T, S> {
-    /// Whether an id is that of a node without parents.
-    pub(crate) fn is_root(&self, id: &NodeId) -> bool
-        ensures { result ≡ is_root (nodes_in self.now.nodes) id.now }
-    {
-        match self.slots.place(id) {
-            Some(place) => self.slots.at(place).parents.as_slice().is_empty(),
-            None => false,
-        }
-    }
-
-    /// All ids to which a chain leads this way from one of these, each once and these first, whether they are nodes or
-    /// not.
-    pub(crate) fn find(
-        &self,
-        alloc: Global,
-        ids: &[Id],
-        way: Way,
-    ) -> Result<IndexSet<NodeId, S>, Memory>
-        ensures { IfOk result (λ found. (other : List ℕ) → among found.keys other ≡ are_led way (nodes_in self.now.nodes) ids.now other) }
-    {
-        find(alloc, &self.slots, &self.links, ids, way)
-    }
-
-    /// The ids of the nodes that were found, each once, in the order of adding.
-    pub(crate) fn in_order(&self, alloc: Global, found: &[NodeId]) -> Result<Vec<Id>, Memory>
-        ensures { IfOk result (λ ids. ids.items ≡ ids_of (filter (λ n. among found.now n.id) (nodes_in self.now.nodes))) }
-    {
-        in_order(alloc, &self.slots, found)
-    }
-
-    /// Makes the nodes of these ids name `parent`, which nothing names, as their last parent. If memory runs out, some
-    /// of them may name it.
-    pub(crate) fn name_each(&mut self, children: &[Id], parent: &NodeId) -> Result<(), Memory>
-        requires none { has (nodes_in self.old.nodes) parent.now ≡ false }
-        requires unnamed { (n : Node) → Contains (nodes_in self.old.nodes) n → among n.parents parent.now ≡ false }
-        ensures ok { OnOk result (nodes_in self.new.nodes ≡ map (with_parent parent.now children.now) (nodes_in self.old.nodes)) }
-        ensures back { map (without_parent parent.now) (nodes_in self.new.nodes) ≡ map (without_parent parent.now) (nodes_in self.old.nodes) }
-    {
-        self.room = 0;
-        name_each(&mut self.slots, &mut self.links, children, parent)
-    }
-
-    /// Makes ready for a node that is put above its children: they name its id, and there is memory for it and for this
-    /// many parents.
-    pub(crate) fn make_ready(
-        &mut self,
-        id: &NodeId,
-        parents: usize,
-        children: &[Id],
-    ) -> Result<(), Memory>
-        requires none { has (nodes_in self.old.nodes) id.now ≡ false }
-        requires unnamed { (n : Node) → Contains (nodes_in self.old.nodes) n → among n.parents id.now ≡ false }
-        ensures ok { OnOk result (nodes_in self.new.nodes ≡ map (with_parent id.now children.now) (nodes_in self.old.nodes)) }
-        ensures room { OnOk result (parents < self.new.room) }
-        ensures back { map (without_parent id.now) (nodes_in self.new.nodes) ≡ map (without_parent id.now) (nodes_in self.old.nodes) }
-    {
-        self.name_each(children, id)?;
-        self.reserve(parents)
-    }
-
-    /// Takes an id that no node has out of the parents of all nodes that name it. It takes no memory, and gives up the
-    /// room that was taken.
-    pub(crate) fn unname(&mut self, id: &NodeId)
-        requires { has (nodes_in self.old.nodes) id.now ≡ false }
-        ensures { nodes_in self.new.nodes ≡ map (without_parent id.now) (nodes_in self.old.nodes) }
-    {
-        self.room = 0;
-        unname(&mut self.slots, &mut self.links, id);
-    }
-
     /// A copy of the nodes, with what they carry. Their totals are copied, and the holes are left out.
     pub fn copy(&self, alloc: Global) -> Result<Nodes<T, S>, Memory>
     where
@@ -339,9 +267,5 @@ impl<T: Drop, S: BuildHasher + Copy + Drop> Nodes<T, S> {
             scratch,
             room: 0,
         })
-    }
-
-    pub(crate) fn alloc(&self) -> Global {
-        self.slots.alloc()
     }
 }

@@ -1,10 +1,10 @@
-ghost use Rattle.std.specs.Prelude.{◌≡◌, Option, None, Some, true, is_some, filter, slice_set, vec_len};
+ghost use Rattle.std.specs.Prelude.{◌≡◌, None, Some, true, is_some, filter, slice_set, vec_len};
 ghost use Rattle.std.specs.Vec.{vec_capacity};
 ghost use Rattle.std.specs.Option.{option_map};
 ghost use Rattle.std.specs.Str.{bytes_eq};
 ghost use Rattle.indexmap.specs.IndexMap.{get, index_map_len};
 ghost use Rattle.gate_graph.specs.Slots.{at, Covers, Indexes};
-ghost use Rattle.gate_graph.specs.Holding.{has_id, with_parents, with_totals};
+ghost use Rattle.gate_graph.specs.Holding.{has_id, with_totals};
 
 use crate::held::{Held, Totals};
 use crate::id::NodeId;
@@ -40,37 +40,6 @@ pub(crate) fn write<T: Drop>(slots: &mut Vec<Option<Held<T>>>, place: usize, tot
         if let Some(held) = &mut slots[place] {
             held.totals = totals;
         }
-    }
-}
-
-/// Writes the parents of the node at a place, and returns those that it had.
-pub(crate) fn rewrite<T: Drop>(
-    slots: &mut Vec<Option<Held<T>>>,
-    place: usize,
-    parents: Vec<NodeId>,
-) -> Vec<NodeId>
-    requires { is_some (at slots.old.items place) ≡ true }
-    ensures had { option_map (λ h. h.parents) (at slots.old.items place) ≡ Some result }
-    ensures written { slots.new.items ≡ slice_set slots.old.items place (option_map (with_parents parents) (at slots.old.items place)) }
-    ensures len { vec_len slots.new ≡ vec_len slots.old }
-    ensures capacity { vec_capacity slots.new ≡ vec_capacity slots.old }
-{
-    match &mut slots[place] {
-        Some(held) => std::mem::replace(&mut held.parents, parents),
-        None => parents,
-    }
-}
-
-/// The id of the node at a place; none for a hole or beyond the end.
-pub(crate) fn id_at<T: Drop>(slots: &[Option<Held<T>>], place: usize) -> Option<NodeId>
-    ensures { result ≡ option_map (λ h. h.id) (at slots.now place) }
-{
-    if place >= slots.len() {
-        return None;
-    }
-    match &slots[place] {
-        Some(held) => Some(held.id),
-        None => None,
     }
 }
 

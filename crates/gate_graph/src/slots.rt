@@ -2,9 +2,9 @@ ghost use Rattle.std.specs.Prelude.{◌≡◌, ◌<◌, ◌+◌, ◌^◌, [], �
 ghost use Rattle.std.specs.Vec.{vec_capacity};
 ghost use Rattle.indexmap.specs.IndexMap.{get, spare, index_map_len};
 ghost use Rattle.std.specs.Str.{bytes_eq};
-ghost use Rattle.std.specs.Option.{option_copied, option_map};
+ghost use Rattle.std.specs.Option.{option_copied};
 ghost use Rattle.gate_graph.specs.Families.{has, ids_of};
-ghost use Rattle.gate_graph.specs.Holding.{has_id, id_at, at_id, with_parents, with_totals, nodes_of, spots_of};
+ghost use Rattle.gate_graph.specs.Holding.{has_id, id_at, at_id, with_totals, nodes_of, spots_of};
 ghost use Rattle.gate_graph.specs.Slots.{at, entries_of};
 ghost use Rattle.gate_graph.specs.Ranks.{rate_of};
 ghost use Rattle.gate_ranking.specs.Rate.{rate_cmp};
@@ -12,7 +12,7 @@ ghost use Rattle.gate_ranking.specs.Lesser.{least_by};
 
 use crate::held::{Held, Totals};
 use crate::id::NodeId;
-use crate::places::{close, empty, id_at, renumber, rewrite, standing, write};
+use crate::places::{close, empty, renumber, standing, write};
 use gate_bytes::Memory;
 use gate_ranking::{Ranking, Rate};
 use indexmap::IndexMap;
@@ -55,7 +55,6 @@ pub(crate) struct Slots<T: Drop, S: BuildHasher + Drop> {
 }
 
 impl<T: Drop, S: BuildHasher + Drop> Model for Slots<T, S> {
-    ghost use Rattle.std.specs.Prelude.{List};
     ghost use Rattle.std.specs.Str.{bytes_eq};
     ghost use Rattle.std.specs.Vec.{vec_len, vec_capacity};
     ghost use Rattle.indexmap.specs.IndexMap.{get, spare, index_map_len};
@@ -103,13 +102,6 @@ impl<T: Drop, S: BuildHasher + Drop> Slots<T, S> {
         ensures ids { ids_of (nodes_of self.now.held) ≡ entries_of self.now.spots }
     {
         self.slots.as_slice().len()
-    }
-
-    /// The id of the node at a place; none for a hole or beyond the end.
-    pub(crate) fn id(&self, place: usize) -> Option<NodeId>
-        ensures { result ≡ at self.now.spots place }
-    {
-        id_at(&self.slots, place)
     }
 
     pub(crate) fn count(&self) -> usize
@@ -173,17 +165,6 @@ impl<T: Drop, S: BuildHasher + Drop> Slots<T, S> {
         self.ranking.update(place, rate);
     }
 
-    /// Writes the parents of a node, and returns those that it had.
-    pub(crate) fn relist(&mut self, place: usize, parents: Vec<NodeId>) -> Vec<NodeId>
-        requires { is_some (at self.old.spots place) ≡ true }
-        ensures had { option_map (λ h. h.parents) (find (λ h. has_id h (id_at self.old.spots place)) self.old.held) ≡ Some result }
-        ensures held { self.new.held ≡ map (at_id (id_at self.old.spots place) (with_parents parents)) self.old.held }
-        ensures spots { self.new.spots ≡ self.old.spots }
-        ensures room { self.new.room ≡ self.old.room }
-    {
-        rewrite(&mut self.slots, place, parents)
-    }
-
     /// Takes out a node and leaves a hole.
     pub(crate) fn pull(&mut self, place: usize) -> Held<T>
         requires { is_some (at self.old.spots place) ≡ true }
@@ -245,9 +226,5 @@ impl<T: Drop, S: BuildHasher + Drop> Slots<T, S> {
 impl<T: Drop, S: BuildHasher + Copy + Drop> Slots<T, S> {
     pub(crate) fn hasher(&self) -> S {
         *self.places.hasher()
-    }
-
-    pub(crate) fn alloc(&self) -> Global {
-        *self.places.allocator()
     }
 }

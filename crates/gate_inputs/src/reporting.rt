@@ -28,7 +28,7 @@ impl Model for InputReport {
 }
 
 impl InputReport {
-    ghost use Rattle.gate_inputs.specs.Reports.{is_standard_spend, is_witness_standard, sigop_cost_of};
+    ghost use Rattle.gate_inputs.specs.Reports.{sigop_cost_of};
     ghost use Rattle.gate_inputs.specs.Answers.{answers_of};
 
     pub fn piece(&self) -> &Piece
@@ -41,18 +41,6 @@ impl InputReport {
         ensures { result ≡ answers_of self.now.input self.now.coin.script }
     {
         self.answers
-    }
-
-    pub fn standard(&self) -> bool
-        ensures { result ≡ is_standard_spend self.now.input self.now.coin.script }
-    {
-        self.answers.standard
-    }
-
-    pub fn witness_standard(&self) -> bool
-        ensures { result ≡ is_witness_standard self.now.input self.now.coin.script }
-    {
-        self.answers.witness_standard
     }
 
     /// The cost of the signature operations; at most 2^64 - 1, which no input of less than 2^50 bytes reaches.

@@ -1,10 +1,9 @@
 -- Journals, and which of them are those of a run; rounds, each of which goes on from the state that the round before it leaves.
-use Rattle.std.specs.Prelude.{◌≡◌, ◌≢◌, ◌<◌, ◌≤◌, ℕ, ◌-◌, Bool, MatchBool, List, [], ◌∷◌, flat_map, map, take, length}
+use Rattle.std.specs.Prelude.{◌≡◌, ℕ, List, [], ◌∷◌, flat_map, map}
 use Rattle.gate_message.specs.declared.event.Event.{Event}
 use Rattle.gate_message.specs.declared.reply.Reply.{Reply}
 use Rattle.gate_core.specs.World.{World}
 use Rattle.gate_core.specs.Runs.{run_of}
-use Rattle.gate_core.specs.Steps.{step_of}
 use Rattle.gate_journal.specs.declared.entry.Entry.{Entry}
 
 -- an event under the pass of this number, and its reply
@@ -30,20 +29,9 @@ replies_of entries = map (λ (e : Entry). e.reply) entries
 abbrev pub IsLegal : World → List Entry → Type 0
 IsLegal w entries = replies_of entries ≡ (run_of w (events_of entries)).0
 
--- whether the reply of an entry is that of the step from a state; if it is, the step leads to the next state
-abbrev pub Replays : World → Entry → World → Bool → Type 0
-Replays w e next same = MatchBool same ((e.reply, next) ≡ step_of w e.event) (e.reply ≢ (step_of w e.event).0)
-
 -- the state that a journal leads to
 abbrev pub state_after : World → List Entry → World
 state_after w entries = (run_of w (events_of entries)).1
-
--- the journal is legal up to the entry before the one with this number, from 1, but not with that entry
-pub record IsFirstIllegal (w : World) (entries : List Entry) (number : ℕ) : Type 0 where
-  pub counted : 0 < number
-  pub within : number ≤ length entries
-  pub before : IsLegal w (take (number - 1) entries)
-  pub with_it : ¬ IsLegal w (take number entries)
 
 -- ---- rounds
 

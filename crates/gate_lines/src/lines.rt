@@ -81,15 +81,6 @@ impl Lines {
         self.count
     }
 
-    /// Counts a line that was read apart from the others, ahead of them for example.
-    pub fn count_one(&mut self)
-        requires { self.old.count < count_limit }
-        ensures line { self.new.line ≡ self.old.line }
-        ensures count { self.new.count ≡ self.old.count + 1 }
-    {
-        self.count += 1;
-    }
-
     /// Puts a newline behind the line that was read last.
     pub fn push_newline(&mut self) -> Result<(), Memory>
         ensures line { OnOk result (self.new.line ≡ self.old.line ++ 10 ∷ []) }

@@ -213,13 +213,6 @@ impl Permissions {
         self.download
     }
 
-    /// Whether the peer may ask for addresses as often as it wants.
-    pub fn addr(&self) -> bool
-        ensures { result ≡ self.now.addr }
-    {
-        self.addr
-    }
-
     /// The names of the flags with a comma between each two, in the order of the fields; without any, `none`.
     pub fn text(&self, alloc: Global) -> Result<String, Memory>
         ensures { IfOk result (λ text. string_bytes text ≡ permissions_text self.now) }

@@ -181,12 +181,6 @@ impl Subnet {
         }
     }
 
-    pub fn address(&self) -> Address
-        ensures { result ≡ self.now.address }
-    {
-        self.address
-    }
-
     /// How many of the first bits count: at most 32 of an IPv4 address, and at most 128 of an IPv6 address.
     pub fn prefix(&self) -> u8
         ensures value { result ≡ self.now.prefix }

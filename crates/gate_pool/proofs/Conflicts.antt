@@ -1,14 +1,13 @@
 -- What conflicts with a transaction is gone once none spends what it spends.
-use Rattle.std.proofs.Common.{◌≡◌, ℕ, Bool, false, cond, List, [], ◌∷◌, ◌++◌, None, Some, sym, ap, ◌∙◌, refl, true≢false, not}
+use Rattle.std.proofs.Common.{◌≡◌, ℕ, Bool, false, cond, List, [], ◌∷◌, None, Some, sym, ap, ◌∙◌, refl, true≢false, not}
 use Rattle.std.specs.Prelude.{Contains, find}
-use Rattle.std.specs.List.{list_any}
 use Rattle.std.proofs.lemmas.Bool.{false_from_ne_true}
 use Rattle.gate_tx.specs.declared.TxIn.{TxIn}
 use Rattle.gate_tx.specs.Ids.{txid_of, wtxid_of}
 use Rattle.gate_tx.specs.Coins.{spends}
-use Rattle.gate_bytes.proofs.Members.{Contains-head, Contains-rest, any_is, list_any_of}
+use Rattle.gate_bytes.proofs.Members.{Contains-head, Contains-rest, any_is}
 use Rattle.gate_pool.specs.Pool.{Admitted, has_txid, has_wtxid, spender_of, entry_by_txid, entry_by_wtxid}
-use Rattle.gate_pool.specs.Family.{names, spends_one_of, is_conflict, without_below, is_below_some, entered}
+use Rattle.gate_pool.specs.Family.{names, spends_one_of, without_below, is_below_some}
 use Rattle.gate_pool.specs.Keeping.{IsNew}
 use Rattle.gate_pool.proofs.Entries.{find_none}
 use Rattle.gate_pool.proofs.Walking.{none-filter}
@@ -35,8 +34,3 @@ IsNew-left e old rest txid wtxid is gone = record {
   wtxid = ap (λ l. entry_by_wtxid l (wtxid_of e.tx)) is ∙ none-filter (λ x. has_wtxid x (wtxid_of e.tx)) (λ x. not (is_below_some (spends_one_of e.tx.inputs) old x)) old wtxid;
   points = gone;
 }
-
--- an entry that conflicts with none stands behind what was there
-pub entered-free : (entries : List Admitted) (e : Admitted) → list_any (is_conflict e.tx) entries ≡ false → entered entries e ≡ entries ++ e ∷ []
-entered-free entries e free = ap (λ l. l ++ e ∷ []) (without_below-none (is_conflict e.tx) entries (find_absent (is_conflict e.tx) entries (λ d m. false_from_ne_true _ (λ t.
-    true≢false (sym (list_any_of (is_conflict e.tx) entries d m t) ∙ free)))))

@@ -1,34 +1,14 @@
 -- The earliest of some arrivals, and the arrivals of the first slots.
-use Rattle.std.proofs.Common.{◌≡◌, ◌<◌, ◌≤◌, ◌+◌, ℕ, false, List, [], ◌∷◌, ◌++◌, length, get_or, Bool, refl, sym, ap, ◌∙◌, subst, ◌⊎◌, inl, inr, arith}
+use Rattle.std.proofs.Common.{◌≡◌, ◌<◌, ◌≤◌, ◌+◌, ℕ, List, [], ◌∷◌, ◌++◌, length, sym, ap, ◌∙◌, subst, inl, inr, arith}
 use Rattle.std.specs.Prelude.{Contains}
 use Rattle.std.specs.List.Sorted.{IsPermutation}
-use Rattle.std.specs.Ordering.{is_lt, nat_cmp}
-use Rattle.std.specs.BinaryHeap.{IsUpperBound}
-use Rattle.std.proofs.lemmas.Bool.Decides.{nat_tests}
 use Rattle.std.proofs.lemmas.List.Elements.{Contains-append_cases}
 use Rattle.std.proofs.lemmas.List.Sorted.{Contains-permutation, length_permutation}
 use Rattle.gate_tx.specs.Ids.{txid_of}
 use Rattle.gate_bytes.proofs.Members.{Contains-cons_cases, Contains-head, Contains-rest, not_in_none}
-use Rattle.gate_pool.specs.Pool.{Admitted, is_before}
-use Rattle.gate_pool.specs.Arrivals.{arrival_of, arrival_cmp, HaveArrived, IsTaken}
+use Rattle.gate_pool.specs.Pool.{Admitted}
+use Rattle.gate_pool.specs.Arrivals.{arrival_of, HaveArrived, IsTaken}
 use Rattle.gate_pool.specs.declared.arrivals.Arrival.{Arrival}
-
-not_below : (m n : ℕ) → is_lt (nat_cmp m n) ≡ false → n ≤ m
-not_below m n h = grind (arith, nat_tests)
-
--- no arrival is earlier than the first of a heap
-pub none_earlier : (first : Arrival) (list : List Arrival) → IsUpperBound arrival_cmp first list → (a : Arrival) → Contains list a → first.time ≤ a.time
-none_earlier first [] bound a m = not_in_none a m
-none_earlier first (b ∷ list) bound a m =
-    elim (Contains-cons_cases b list a m) [
-      | inl same ↦ subst (λ (x : Arrival). first.time ≤ x.time) same (not_below b.time first.time bound.0)
-      | inr rest ↦ none_earlier first list bound.1 a rest
-    ]
-
--- what stands first in a list
-pub same_first : (list : List Arrival) (a b : Arrival) → a ≡ get_or list 0 a → b ≡ get_or list 0 b → 0 < length list → a ≡ b
-same_first [] a b h k l = absurd (omega (arith, l))
-same_first (x ∷ list) a b h k l = h ∙ sym k
 
 -- one entry more has arrived
 pub HaveArrived-more : {entries more : List Admitted} {list after : List Arrival} (e : Admitted) → HaveArrived entries list → more ≡ entries ++ e ∷ [] → IsPermutation (arrival_of e ∷ list) after → HaveArrived more after

@@ -14,7 +14,7 @@ use Rattle.gate_graph.proofs.Reaching.{reaches-same, reaches_trans, reaches_step
 use Rattle.gate_pool.specs.Pool.{Admitted, has_txid, entry_by_txid}
 use Rattle.gate_pool.specs.Family.{steps, children_of, ancestors_above, all_below, is_below_some, AreIdsOf}
 use Rattle.gate_pool.specs.Search.{IsEntry, IsFound, parents_of}
-use Rattle.gate_pool.proofs.Adding.{DifferById, passed, found_by_id}
+use Rattle.gate_pool.proofs.Adding.{DifferById, passed}
 use Rattle.gate_pool.proofs.Entries.{Id, Contains-map, Contains-from_map, entry_step, step_entry, find_some}
 use Rattle.gate_pool.proofs.Ids.{same_txid}
 use Rattle.gate_pool.proofs.Searching.{IsSound, IsSound-none, IsSound-more, IsSound-few, IsWalk, IsWalk-start, IsWalk-open}
@@ -123,12 +123,6 @@ module _ (g : List Admitted) (inputs : List TxIn) where
   -- the parents are added
   pub WalkUp-start : {most : ℕ} {before found : List Id} {w : Bool} → before ≡ [] → IsFound most g (parents_of inputs) before found w → w ≡ true → WalkUp g inputs 0 found
   WalkUp-start is h e = IsWalk-start is h e parent_above
-
-  -- the next is that of an entry
-  pub next_entry : AllPairs DifferById g → {opened : ℕ} {found : List Id} → WalkUp g inputs opened found → (x : Id) → opened < length found → x ≡ get_or found opened x → (e : Admitted) × (entry_by_txid g x ≡ Some e)
-  next_entry distinct {opened} w x lt is =
-      let has = w.sound.entry x (opened, lt, sym is) in
-      (has.0, ap (entry_by_txid g) (sym has.2) ∙ found_by_id g distinct has.0 has.1)
 
   -- so are those of the next
   above_next : {opened : ℕ} {found : List Id} → WalkUp g inputs opened found → (x : Id) → opened < length found → x ≡ get_or found opened x

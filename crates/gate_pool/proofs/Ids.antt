@@ -68,11 +68,6 @@ ids_length ids entries apart are =
     let least : length entries ≤ length ids = no_more (λ (e : Admitted). txid_of e.tx) (λ (id : Id). id) entries ids apart (λ e m. (txid_of e.tx, are.all e m, refl)) in
     omega (arith, most, least)
 
--- the ids of a pool's entries that pass a test are as many as these
-pub ids_length-filter : (ids : List Id) (entries : List Admitted) (test : Admitted → Bool) → AreDistinct entries → AreIdsOf ids (filter test entries) → length ids ≡ length (filter test entries)
-ids_length-filter ids entries test distinct are =
-    ids_length ids (filter test entries) (AllPairs-filter (λ (a : Admitted) (b : Admitted). txid_of a.tx ≢ txid_of b.tx) test entries distinct.txids) are
-
 -- what is below the entry of an id is what is below the id
 pub descendants_of_one : (entries : List Admitted) (e : Admitted) → Contains entries e → all_below (λ x. has_txid x (txid_of e.tx)) entries ≡ descendants_of entries (txid_of e.tx)
 descendants_of_one entries e m =

@@ -4,7 +4,6 @@ use Rattle.std.specs.Prelude.{Contains}
 use Rattle.std.specs.List.{list_any}
 use Rattle.std.specs.Str.{bytes_eq}
 use Rattle.std.specs.Cmp.Lexicographic.{bytes_decides}
-use Rattle.std.proofs.Math.Bool.{or-false}
 use Rattle.std.proofs.lemmas.Bool.{false_from_ne_true, not-true}
 use Rattle.gate_tx.specs.Ids.{txid_of}
 use Rattle.gate_tx.specs.declared.OutPoint.{OutPoint}
@@ -91,10 +90,6 @@ taken_none es places x none = record {
   only = λ y c. not_in_none y c;
   once = λ i j d lt within. absurd (omega (arith, within));
 }
-
--- one is asked alone
-pub any_one : {X : Type 0} (t : X → Bool) (x : X) → list_any t (x ∷ []) ≡ t x
-any_one t x = or-false (t x)
 
 -- with the family of its spender an outpoint has none
 pub spender_gone : (es : List Admitted) (p : OutPoint) (e : Admitted) → AreDistinct es → spender_of es p ≡ Some e → spender_of (without_family es (txid_of e.tx)) p ≡ None

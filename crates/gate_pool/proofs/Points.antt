@@ -1,7 +1,6 @@
 -- What a loop over inputs has written.
-use Rattle.std.proofs.Common.{◌≡◌, ℕ, zero, suc, ◌+◌, ◌<◌, Bool, true, false, cond, ◌||◌, ◌⊎◌, inl, inr, subst, List, [], ◌∷◌, ◌++◌, length, take, get_or, refl, sym, ap, ◌∙◌, arith, Option, Some, None, is_some, Result, Ok, Err, IsOk, OnErr, true≢false}
+use Rattle.std.proofs.Common.{◌≡◌, ℕ, ◌+◌, ◌<◌, Bool, true, false, cond, ◌||◌, ◌⊎◌, inl, inr, subst, List, [], ◌∷◌, ◌++◌, length, take, get_or, refl, sym, ap, ◌∙◌}
 use Rattle.std.specs.Prelude.{Contains}
-use Rattle.std.proofs.lemmas.Bool.{or_right}
 use Rattle.std.proofs.lemmas.List.Elements.{Contains-append_cases}
 use Rattle.gate_bytes.proofs.Members.{Contains-cons_cases, not_in_none}
 use Rattle.std.specs.List.{list_any}
@@ -24,20 +23,6 @@ written_more {X} {Y} test xs i x value first before after h is was now =
     by true false = refl
     by false true = refl
     by false false = refl
-
-pub any_at : {X : Type 0} (test : X → Bool) (xs : List X) (i : ℕ) (x : X) → i < length xs → x ≡ get_or xs i x → test x ≡ true → list_any test xs ≡ true
-any_at test [] i x h is t = absurd (omega (arith, h))
-any_at test (y ∷ xs) zero x h is t = ap (λ b. b || list_any test xs) (ap test (sym is) ∙ t)
-any_at test (y ∷ xs) (suc i) x h is t = or_right (test y) _ (any_at test xs i x (omega (arith, h)) is t)
-
-pub some-cond : {V : Type 0} (b : Bool) (v : V) (o : Option V) → is_some o ≡ true → is_some (cond b (Some v) o) ≡ true
-some-cond true v o h = refl
-some-cond false v o h = h
-
--- an insert at a key that is there succeeds
-pub ok_where_present : {A E V : Type 0} (r : Result A E) (o : Option V) → OnErr r (o ≡ None) → is_some o ≡ true → IsOk r
-ok_where_present (Ok a) o none some = refl
-ok_where_present (Err e) o none some = absurd (true≢false (sym some ∙ ap is_some none))
 
 -- one more input
 pub Contains-take_more : {X : Type 0} (xs : List X) (i : ℕ) (x y : X) → i < length xs → x ≡ get_or xs i x → Contains (take (i + 1) xs) y → Contains (take i xs) y ⊎ (x ≡ y)

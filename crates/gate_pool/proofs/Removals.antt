@@ -6,7 +6,7 @@ use Rattle.gate_tx.specs.Ids.{txid_of}
 use Rattle.gate_graph.specs.Family.{reaches}
 use Rattle.gate_bytes.proofs.Members.{Contains-head, Contains-rest, any_is, list_any_of}
 use Rattle.gate_graph.proofs.Reaching.{reaches-same, reaches_trans, reaches_step}
-use Rattle.gate_graph.proofs.Steps.{same_bool, kept_reaches, closed_reaches}
+use Rattle.gate_graph.proofs.Steps.{same_bool, kept_reaches}
 use Rattle.gate_pool.specs.Pool.{Admitted}
 use Rattle.gate_pool.specs.Family.{steps, without_family, without_below, is_below_some}
 use Rattle.gate_pool.proofs.Entries.{Id, find_none, entry_step, step_entry}
@@ -33,9 +33,6 @@ module _ (g : List Admitted) (D : Id → Bool) (closed : (a b : Id) → Contains
 
   pub reaches_kept : (a b : Id) → D b ≡ false → reaches (steps g) a b ≡ reaches (steps (kept D g)) a b
   reaches_kept = kept_reaches (steps g) (steps (kept D g)) D kept_was kept_stays closed
-
-  pub reaches_closed : (a b : Id) → reaches (steps g) a b ≡ true → D a ≡ true → D b ≡ true
-  reaches_closed = closed_reaches (steps g) (steps (kept D g)) D kept_was kept_stays closed
 
 -- filters one after the other
 pub filter_twice : {X : Type 0} (p k q : X → Bool) (xs : List X) → ((x : X) → Contains xs x → k x ≡ true → p x ≡ q x) → ((x : X) → Contains xs x → k x ≡ false → q x ≡ false) → filter p (filter k xs) ≡ filter q xs

@@ -1,5 +1,5 @@
 -- Filters of entries, and ids that are the same.
-use Rattle.std.proofs.Common.{◌≡◌, ℕ, Bool, true, false, cond, not, ◌||◌, List, [], ◌∷◌, refl, sym, ap, ◌∙◌, subst, ◌⊎◌, inl, inr, true≢false, arith}
+use Rattle.std.proofs.Common.{◌≡◌, ℕ, Bool, true, false, cond, List, [], ◌∷◌, refl, sym, ap, ◌∙◌, subst, ◌⊎◌, inl, inr, true≢false, arith}
 use Rattle.std.specs.Prelude.{Contains, filter, find, length, ◌<◌, ◌≤◌, None, Some}
 use Rattle.std.specs.Str.{bytes_eq}
 use Rattle.std.specs.List.{list_any}
@@ -31,19 +31,6 @@ module _ {X : Type 0} (p : X → Bool) where
       go : (Contains (filter p xs) x → Contains xs x) → (b : Bool) → Contains (cond b (y ∷ filter p xs) (filter p xs)) x → Contains (y ∷ xs) x
       go ih true k = elim (Contains-cons_cases y (filter p xs) x k) [ inl same ↦ subst (Contains (y ∷ xs)) same (Contains-head y xs) | inr m ↦ Contains-rest y xs x (ih m) ]
       go ih false k = Contains-rest y xs x (ih k)
-
--- one filter after another
-pub filter_both : {X : Type 0} (p q : X → Bool) (xs : List X) → filter (λ x. not (p x)) (filter (λ x. not (q x)) xs) ≡ filter (λ x. not (q x || p x)) xs
-filter_both p q [] = refl
-filter_both {X} p q (x ∷ xs) = go (q x) (p x) (filter_both p q xs)
-  where
-    rest : List X
-    rest = filter (λ x. not (q x)) xs
-
-    go : (b d : Bool) → filter (λ x. not (p x)) rest ≡ filter (λ x. not (q x || p x)) xs
-        → filter (λ x. not (p x)) (cond (not b) (x ∷ rest) rest) ≡ cond (not (b || p x)) (x ∷ filter (λ x. not (q x || p x)) xs) (filter (λ x. not (q x || p x)) xs)
-    go true d h = h
-    go false d h = ap (λ l. cond (not (p x)) (x ∷ l) l) h
 
 -- an id is its own
 pub same_id : (a : Id) → bytes_eq a a ≡ true

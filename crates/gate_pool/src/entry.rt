@@ -1,11 +1,10 @@
 ghost use Rattle.std.specs.Prelude.{◌≡◌, ◌≤◌};
 ghost use Rattle.gate_tx.specs.Ids.{txid_of, wtxid_of};
 ghost use Rattle.gate_tx.specs.Money.{max_money};
-ghost use Rattle.gate_tx.specs.Coins.{spends};
 ghost use Rattle.gate_pool.specs.Pool.{IsBounded, largest_vsize};
 
 use gate_bytes::{Copied, Counted, Memory};
-use gate_tx::{Identified, OutPoint, Transaction, Txid, Wtxid};
+use gate_tx::{Identified, Transaction, Txid, Wtxid};
 use std::alloc::Global;
 use std::marker::Model;
 
@@ -101,15 +100,6 @@ impl Entry {
         ensures { result ≡ self.now.time }
     {
         self.time
-    }
-
-    pub fn spends(&self, point: &OutPoint) -> bool
-        ensures { result ≡ spends self.now.tx.inputs point.now }
-    {
-        self.transaction()
-            .inputs()
-            .iter()
-            .any(|input| input.prevout == *point)
     }
 }
 

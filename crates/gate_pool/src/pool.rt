@@ -124,10 +124,6 @@ impl<S: BuildHasher + Copy + Drop> Pool<S> {
         self.store.hasher()
     }
 
-    pub(crate) fn allocator(&self) -> Global {
-        self.store.allocator()
-    }
-
     /// States that no two entries share an id or spend one outpoint, for proofs: it does nothing.
     pub fn recall_distinct(&self)
         ensures { AreDistinct self.now.entries }

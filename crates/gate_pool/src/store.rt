@@ -247,10 +247,6 @@ impl<S: BuildHasher + Copy + Drop> Store<S> {
         *self.wtxids.hasher()
     }
 
-    pub(crate) fn allocator(&self) -> Global {
-        *self.wtxids.allocator()
-    }
-
     /// States that no two entries share an id or spend one outpoint, for proofs: it does nothing.
     pub(crate) fn recall_distinct(&self)
         ensures { AreDistinct self.now.entries }

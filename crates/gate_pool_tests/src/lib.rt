@@ -1,7 +1,5 @@
-//! Tests of what the crates of the pool offer beside what the gate calls: graphs, and replacement by itself.
+//! Tests of replacement by itself, beside what the gate calls.
 #![tactic(auto)]
 
-#[cfg(test)]
-mod families;
 #[cfg(test)]
 mod replacing;

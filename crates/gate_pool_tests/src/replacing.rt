@@ -64,12 +64,6 @@ fn conflicts_with(
     Ok(direct.as_slice() == [entry].as_slice() && below.as_slice() == [entry].as_slice())
 }
 
-/// Whether the entry leaves the pool, which is empty then.
-fn leaves(pool: &mut Pool<Hashing>, entry: Txid) -> Result<bool, Fail> {
-    let gone = pool.remove_family(&entry)?;
-    Ok(gone.as_slice() == [entry].as_slice() && pool.count() == 0)
-}
-
 /// Whether an entry of the first transaction, with the fee and the size that `REPLACEMENTS` are judged by, is replaced.
 fn is_replaced(
     alloc: Global,
@@ -84,7 +78,7 @@ fn is_replaced(
     pool.admit(entry)?;
     let is_judged = are_judged(alloc, pool, replacement)?;
     let is_alone = conflicts_with(alloc, pool, replacement, txid)?;
-    Ok(is_judged && is_alone && leaves(pool, txid)?)
+    Ok(is_judged && is_alone)
 }
 
 /// An entry with a fee of 1,000 satoshi and 100 virtual bytes.

@@ -1,5 +1,5 @@
 ghost use Rattle.std.specs.Prelude.{◌≡◌, ◌<◌, ◌≤◌, ◌+◌, ◌++◌, ◌∷◌, [], Some, None, filter, is_some, length, slice_set, IfOk, IfSome, IfNone, OnOk, OnErr, max};
-ghost use Rattle.std.specs.Option.{option_copied, option_map};
+ghost use Rattle.std.specs.Option.{option_map};
 ghost use Rattle.gate_ranking.specs.Ranking.{at, IsLeast, IsBare};
 ghost use Rattle.gate_ranking.specs.Lesser.{held_in, least_by};
 
@@ -47,13 +47,6 @@ impl<K: Ord + Copy> Ranking<K> {
         ensures { result ≡ length self.now.keys }
     {
         self.keys.len()
-    }
-
-    /// The key at a place; none if the place is empty or beyond the end.
-    pub fn key(&self, place: usize) -> Option<&K>
-        ensures { option_copied result ≡ at self.now.keys place }
-    {
-        key_at(&self.keys, place)
     }
 
     /// The least of all keys and its place, of equal ones that of the last place; none if all places are empty.

@@ -1,5 +1,5 @@
 -- What tokens tell of passes.
-use Rattle.std.proofs.Common.{◌≡◌, ◌≢◌, ◌⊎◌, inl, inr, ℕ, zero, suc, ◌+◌, ◌-◌, ◌<◌, ◌≤◌, List, [], ◌∷◌, ◌++◌, length, take, drop, cond, eqb, Bool, true, false, refl, sym, ap, ◌∙◌, subst, arith, append_assoc, append-nil, length-append}
+use Rattle.std.proofs.Common.{◌≡◌, ◌≢◌, ◌⊎◌, inl, inr, ℕ, zero, suc, ◌+◌, ◌-◌, ◌<◌, ◌≤◌, List, [], ◌∷◌, ◌++◌, length, take, drop, cond, eqb, Bool, true, false, refl, sym, ap, ◌∙◌, subst, arith, length-append}
 use Rattle.std.specs.Prelude.{map, Contains, slice_index_or}
 use Rattle.std.proofs.lemmas.Bool.Decides.{nat_tests}
 use Rattle.atomic_table.specs.Table.{Me}
@@ -21,12 +21,6 @@ use Rattle.gate_shared.proofs.Totals.{weigh-append}
 known_same : (keeps : Bool) (all : List Entry) (s t : ℕ) (cs ds : List PassCall) → s ≡ t → cs ≡ ds
     → let known : ℕ → List PassCall → Known = λ seats calls. record { keeps = keeps; seats = seats; all = all; calls = calls } in known s cs ≡ known t ds
 known_same keeps all s t cs ds e f = λ i. record { keeps = keeps; seats = e i; all = all; calls = f i }
-
-pub told_alone : (k : Known) → IsTold k → IsTold (gathered k (holder 0 []))
-told_alone k told = subst IsTold (known_same k.keeps k.all k.seats (k.seats + 0) k.calls (k.calls ++ []) (omega arith) (sym (append-nil k.calls))) told
-
-pub told_more : (k : Known) (n : ℕ) (cs ds : List PassCall) → IsTold (gathered (gathered k (holder 1 cs)) (holder n ds)) → IsTold (gathered k (holder (suc n) (cs ++ ds)))
-told_more k n cs ds told = subst IsTold (known_same k.keeps k.all ((k.seats + 1) + n) (k.seats + suc n) ((k.calls ++ cs) ++ ds) (k.calls ++ (cs ++ ds)) (omega arith) (append_assoc k.calls cs ds)) told
 
 take_front : (cs ds : List PassCall) → take (length cs) (cs ++ ds) ≡ cs
 take_front [] ds = refl

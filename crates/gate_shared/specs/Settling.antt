@@ -11,7 +11,6 @@ use Rattle.gate_shared.specs.declared.settle.Settled.{Settled}
 use Rattle.gate_shared.specs.declared.settle.Unsettled.{Unsettled}
 use Rattle.gate_shared.specs.declared.settle.Unsettled.TheVariants.{Missing, CountDiffers, Memory}
 use Rattle.gate_shared.specs.Calls.{PassView, Stands}
-use Rattle.gate_shared.specs.Held.{Held, IsHeld}
 
 -- a call of the pass with this number, and its place: that of the pass in the list, and its own in the pass
 pub record Claim : Type 0 where
@@ -86,11 +85,3 @@ IsNotMissing Memory = Unit {0}
 -- the journal that was settled is legal
 abbrev pub SettlesAll : World → List PassView → Settled → Type 0
 SettlesAll base passes s = IsLegal base s.journal.entries × IsSettled s.journal.entries passes s
-
--- there was a legal journal that the passes don't settle with, or memory ran out
-abbrev pub WhyNone : World → List PassView → Unsettled → Type 0
-WhyNone base passes why = (s : Held) × IsHeld base s × WhyUnsettled s.journal passes why
-
--- there was a legal journal without an entry of its own for each call, or with more entries than calls
-abbrev pub DontSettle : World → List PassView → Type 0
-DontSettle base passes = (why : Unsettled) × (why ≢ Memory) × WhyNone base passes why

@@ -1,15 +1,12 @@
 //! One state under one lock, for many callers.
-ghost use Rattle.std.specs.Prelude.{◌≡◌, ◌+◌, ◌<◌, ◌≤◌, [], length, Some, IfOk, IfErr, OnErr, IsErrOf};
+ghost use Rattle.std.specs.Prelude.{◌≡◌, ◌+◌, ◌<◌, ◌≤◌, [], length, Some, IfOk, OnErr, IsErrOf};
 ghost use Rattle.gate_message.specs.Callers.{caller_of};
 ghost use Rattle.gate_shared.specs.declared.receipt.Made.{Made as TheMade};
 ghost use Rattle.gate_shared.specs.declared.receipt.Receipt.{Receipt as TheReceipt};
 ghost use Rattle.gate_shared.specs.Calls.{call_limit, last_call};
-ghost use Rattle.gate_journal.specs.Legal.{state_after};
-ghost use Rattle.gate_shared.specs.Ends.{EndsGood};
 ghost use Rattle.std.specs.Option.{option_copied};
 ghost use Rattle.gate_core.specs.Submissions.{StandsFor, submission_of};
 ghost use Rattle.gate_shared.specs.Held.{Called, Enrolled, Grows, IsHeld, IsRecorded, Looked};
-ghost use Rattle.gate_shared.specs.Settling.{SettlesAll, WhyNone};
 ghost use Rattle.gate_shared.specs.Tokens.{seat_limit};
 
 use crate::base::Base;
@@ -17,7 +14,6 @@ use crate::pass::Pass;
 use crate::receipt::Receipt;
 use crate::register::Register;
 use crate::seat::{Rest, Seat};
-use crate::settle::{SettleFault, Settled};
 use crate::shared::{CallFault, Shared};
 use gate_bytes::Memory;
 use gate_core::State;
@@ -154,20 +150,5 @@ impl<N: Base, S: BuildHasher + Copy + Drop> Gate<N, S> {
         self.shared
             .lock(rt)
             .apply_prepared(alloc, pass, event, prepared)
-    }
-
-    /// Settles passes, as `Shared::settle` does, with the journal at that moment: its entries are exactly their calls,
-    /// each once and at its receipt's number. A fault hands the passes back.
-    pub fn settle<R: Wait>(
-        &self,
-        rt: &R,
-        alloc: Global,
-        passes: Vec<Pass<N>>,
-    ) -> Result<Settled, SettleFault<N>>
-        ensures ok { IfOk result (SettlesAll N.base passes.items) }
-        ensures good { IfOk result (λ s. EndsGood N.base passes.items (state_after N.base s.journal.entries)) }
-        ensures err { IfErr result (λ fault. WhyNone N.base passes.items fault.why × (fault.passes ≡ passes)) }
-    {
-        self.shared.lock(rt).settle(alloc, passes)
     }
 }

@@ -1,8 +1,8 @@
 //! The shared gate: one state behind one lock, the journal of its events, and passes whose receipts settle with it.
 //!
 //! The main clauses are those of `Shared::apply`, the one change that is made under the lock, of `Gate::call`, and of
-//! `Gate::settle`, by which the entries of the journal are exactly the calls of the passes. If `finish` can't settle
-//! the passes, it hands back the value under the lock, as it was, and the passes.
+//! `finish`, by which the entries of the journal are exactly the calls of the passes. If `finish` can't settle the passes,
+//! it hands back the value under the lock, as it was, and the passes.
 #![tactic(auto)]
 
 mod base;

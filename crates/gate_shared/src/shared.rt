@@ -405,11 +405,4 @@ impl<N: Base, S: BuildHasher + Copy + Drop> Shared<N, S> {
     {
         self.passes
     }
-
-    pub fn into_state(self) -> State<S>
-        ensures { result ≡ self.state }
-    {
-        let Shared { state, .. } = self;
-        state
-    }
 }

@@ -1,7 +1,5 @@
-//! Tests of what the shared gate and its journal offer beside what lanes call: one call and its settlement, and replays.
+//! Tests of what the shared gate offers beside what lanes call: one call, and a gate that goes on.
 #![tactic(auto)]
 
-#[cfg(test)]
-mod journals;
 #[cfg(test)]
 mod passes;

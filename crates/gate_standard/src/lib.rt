@@ -20,5 +20,5 @@ pub use gate_tx::MAX_MONEY;
 pub use law::{outpoints_are_spent_once, rates_are_rounded_down, values_are_in_range};
 pub use order::the_order;
 pub use outputs::dust_threshold;
-pub use standard::{check_form, check_outputs, is_standard};
+pub use standard::{check_form, check_outputs};
 pub use standards::Standards;

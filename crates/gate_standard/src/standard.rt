@@ -3,7 +3,7 @@ ghost use Rattle.std.specs.Prelude.{◌≡◌, None, Some, IfOk, IfErr, OnOk, tr
 ghost use Rattle.std.specs.List.{flat_map, count_by};
 ghost use Rattle.gate_bytes.specs.Order.{first_failing};
 ghost use Rattle.gate_standard.specs.Outputs.{carries_data};
-ghost use Rattle.gate_standard.specs.Rules.{rules_of_input, rules_of_output, rules_of_outputs, left_behind, form_rules, output_rules, standard_rules};
+ghost use Rattle.gate_standard.specs.Rules.{rules_of_input, rules_of_output, rules_of_outputs, left_behind, form_rules, output_rules};
 ghost use Rattle.gate_standard.specs.Standards.{is_past};
 
 use crate::Denial;
@@ -123,15 +123,4 @@ pub fn check_outputs(standards: &Standards, tx: &Transaction) -> Option<Denial>
         return Some(Denial::TxSizeSmall);
     }
     None
-}
-
-/// The first rule that fails, of the rules of policy on a transaction alone: A12 to A19, and A51.
-#[tactic(auto, using(gate_bytes::proofs::OrderLemmas::first_failing_append), unfolding(crate::specs::Rules::standard_rules))]
-pub fn is_standard(standards: &Standards, tx: &Transaction) -> Option<Denial>
-    ensures { result ≡ first_failing (standard_rules standards.now tx.now) }
-{
-    match check_form(tx) {
-        Some(denial) => Some(denial),
-        None => check_outputs(standards, tx),
-    }
 }

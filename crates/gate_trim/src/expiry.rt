@@ -1,7 +1,6 @@
-ghost use Rattle.std.specs.Prelude.{◌≡◌, IsOk};
+ghost use Rattle.std.specs.Prelude.{◌≡◌};
 ghost use Rattle.gate_trim.specs.Expiry.{expired};
 
-use gate_bytes::Memory;
 use gate_pool::Pool;
 use std::hash::BuildHasher;
 
@@ -12,18 +11,4 @@ pub fn expire<S: BuildHasher + Copy + Drop>(pool: &mut Pool<S>, stay: u64, now: 
     ensures before { pool.new.before ≡ pool.old.before }
 {
     pool.take_before(now.saturating_sub(stay));
-}
-
-/// `expire` for callers whose changes of a pool may run out of memory: this one never fails.
-pub fn try_expire<S: BuildHasher + Copy + Drop>(
-    pool: &mut Pool<S>,
-    stay: u64,
-    now: u64,
-) -> Result<(), Memory>
-    ensures done { IsOk result }
-    ensures entries { pool.new.entries ≡ expired stay now pool.old.entries }
-    ensures before { pool.new.before ≡ pool.old.before }
-{
-    expire(pool, stay, now);
-    Ok(())
 }

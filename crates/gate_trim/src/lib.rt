@@ -10,10 +10,10 @@ mod floor;
 mod law;
 mod trimming;
 
-pub use expiry::{expire, try_expire};
+pub use expiry::expire;
 pub use floor::Floor;
 pub use law::{
     expiry_leaves_the_young, trimming_keeps_the_budget, trimming_raises_the_floor,
     trimming_takes_the_least,
 };
-pub use trimming::{trim, try_trim};
+pub use trimming::trim;

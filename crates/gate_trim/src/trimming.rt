@@ -1,8 +1,7 @@
-ghost use Rattle.std.specs.Prelude.{◌≡◌, ◌≤◌, IsOk};
+ghost use Rattle.std.specs.Prelude.{◌≡◌, ◌≤◌};
 ghost use Rattle.gate_trim.specs.Trimming.{largest_step, trim_of};
 
 use crate::floor::Floor;
-use gate_bytes::Memory;
 use gate_pool::Pool;
 use std::hash::BuildHasher;
 
@@ -27,20 +26,4 @@ pub fn trim<S: BuildHasher + Copy + Drop>(
         pool.take_family(&score.txid);
         floor.raise(step, score.family);
     }
-}
-
-/// `trim` for callers whose changes of a pool may run out of memory: this one never fails.
-pub fn try_trim<S: BuildHasher + Copy + Drop>(
-    pool: &mut Pool<S>,
-    floor: &mut Floor,
-    step: u64,
-    budget: u64,
-) -> Result<(), Memory>
-    requires { step ≤ largest_step }
-    ensures done { IsOk result }
-    ensures trimmed { trim_of step budget pool.old.entries floor.old ≡ record { entries = pool.new.entries; floor = floor.new } }
-    ensures before { pool.new.before ≡ pool.old.before }
-{
-    trim(pool, floor, step, budget);
-    Ok(())
 }

@@ -85,13 +85,6 @@ impl Witness {
         Ok(())
     }
 
-    /// The items, from the first.
-    pub fn items(&self) -> WitnessItems<'_>
-        ensures { result ≡ self.now }
-    {
-        WitnessItems::of(self.count, &self.texts)
-    }
-
     /// The item at a place, counted from 0. It is found by going over the items before it.
     pub fn item(&self, place: usize) -> Option<&[u8]>
         ensures { option_map (λ item. item.now) result ≡ slice_get self.now place }

@@ -5,8 +5,8 @@ use std::alloc::Global;
 
 /// A check of inputs, which may take long: whoever embeds the gate hands one in.
 ///
-/// By its type, what it gives is the report of some piece. `verify_all` takes it if it is the report of the piece that
-/// was to be checked.
+/// By its type, what it gives is the report of some piece. It is taken if it is the report of the piece that was to be
+/// checked.
 pub trait InputCheck {
     fn check(&self, alloc: Global, piece: &Piece) -> Result<InputReport, Memory>;
 }

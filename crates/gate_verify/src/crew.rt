@@ -159,9 +159,10 @@ impl Crew {
         }
     }
 
-    /// The reports of the pieces, in their order, whatever the workers do, as `verify_all` gives them, but by workers
-    /// that wait already. A single piece is checked by the caller, who also takes pieces that no worker has taken, so
-    /// the reports come even without a worker.
+    /// The reports of the pieces, in their order, whatever the workers do. A single piece is checked by the caller, who
+    /// also takes pieces that no worker has taken, so the reports come even without a worker. If the check gives no report
+    /// on a piece or one on another piece, the caller makes it, so a worker whose memory runs out does not make the call
+    /// fail.
     pub fn verify<T: Wait, C: InputCheck>(
         &self,
         rt: &T,

@@ -2,7 +2,7 @@
 use gate_bytes::{Copied, Kept, Memory};
 use gate_inputs::report;
 use gate_tx::{Coin, OutPoint, TxIn, Txid, Witness, Wtxid};
-use gate_verify::{Crew, InputCheck, InputReport, Piece, PolicyCheck, Workers, serve, verify_all};
+use gate_verify::{Crew, InputCheck, InputReport, Piece, PolicyCheck, Workers, serve};
 use std::alloc::Global;
 use std::process::Abort;
 use std::sync::Wait;
@@ -91,16 +91,53 @@ fn workers<R: Abort>(rt: &R, count: usize) -> Workers {
     Workers::new(count).expect(rt, "a number from 1 to 64")
 }
 
+/// Whether a crew with this check gives the reports of the three pieces in their order each time that it is asked for
+/// them.
+fn gives_each_time<R: Wait, C: InputCheck>(
+    rt: &R,
+    alloc: Global,
+    check: &C,
+    pieces: &[Piece],
+    crew: Crew,
+    times: usize,
+) -> Result<bool, Fail> {
+    for _ in 0..times {
+        let reports = crew.verify(rt, alloc, check, pieces)?;
+        if !are_of_three(reports.as_slice()) {
+            return Ok(false);
+        }
+    }
+    Ok(true)
+}
+
+/// The same of a crew that so many workers serve, which end with it.
+fn gives_beside_workers<R: Threads + Wait + Abort + Sync, C: InputCheck + Sync>(
+    rt: &R,
+    alloc: Global,
+    check: &C,
+    count: usize,
+    times: usize,
+) -> Result<bool, Fail> {
+    let pieces = three_pieces(alloc)?;
+    let pieces = pieces.as_slice();
+    let workers = workers(rt, count);
+    let (crew, post) = Crew::new(alloc)?;
+    let ((), gives) = thread::join(
+        rt,
+        move || serve(rt, alloc, check, post, workers),
+        move || gives_each_time(rt, alloc, check, pieces, crew, times),
+    );
+    gives
+}
+
 /// Whether 1, 2 and 64 workers with this check give the reports of the three pieces in their order.
 fn gives_all<R: Threads + Wait + Abort + Sync, C: InputCheck + Sync>(
     rt: &R,
     alloc: Global,
     check: &C,
 ) -> Result<bool, Fail> {
-    let pieces = three_pieces(alloc)?;
     for count in [1, 2, 64] {
-        let reports = verify_all(rt, alloc, check, pieces.as_slice(), workers(rt, count))?;
-        if !are_of_three(reports.as_slice()) {
+        if !gives_beside_workers(rt, alloc, check, count, 1)? {
             return Ok(false);
         }
     }
@@ -172,46 +209,11 @@ fn a_crew_without_workers(rt: HostRuntime) -> Result<(), Fail> {
     Ok(())
 }
 
-/// Whether a crew gives the reports of the pieces each time that it is asked for them.
-fn gives_each_time<R: Wait>(
-    rt: &R,
-    alloc: Global,
-    pieces: &[Piece],
-    crew: Crew,
-    times: usize,
-) -> Result<bool, Fail> {
-    for _ in 0..times {
-        let reports = crew.verify(rt, alloc, &PolicyCheck, pieces)?;
-        if !are_of_three(reports.as_slice()) {
-            return Ok(false);
-        }
-    }
-    Ok(true)
-}
-
-/// The same of a crew that 64 workers serve, which end with it.
-fn gives_beside_workers<R: Threads + Wait + Abort + Sync>(
-    rt: &R,
-    alloc: Global,
-    times: usize,
-) -> Result<bool, Fail> {
-    let pieces = three_pieces(alloc)?;
-    let pieces = pieces.as_slice();
-    let workers = workers(rt, 64);
-    let (crew, post) = Crew::new(alloc)?;
-    let ((), gives) = thread::join(
-        rt,
-        move || serve(rt, alloc, &PolicyCheck, post, workers),
-        move || gives_each_time(rt, alloc, pieces, crew, times),
-    );
-    gives
-}
-
 /// Workers that get no piece end, and others report on one list after another.
 #[test]
 fn a_crew_with_workers(rt: HostRuntime) -> Result<(), Fail> {
     for times in [0, 1, 200] {
-        assert!(rt; gives_beside_workers(&rt, rt.alloc(), times)?);
+        assert!(rt; gives_beside_workers(&rt, rt.alloc(), &PolicyCheck, 64, times)?);
     }
     Ok(())
 }

@@ -67,11 +67,19 @@ fn transaction(
     Ok(Transaction::new(2, inputs, outputs, 0)?)
 }
 
+/// The denial by the rules of policy: by those that no operator sets, or else by those on outputs and the least size.
+fn policy_denial(tx: &Transaction) -> Option<Denial> {
+    match check_form(tx) {
+        Some(denial) => Some(denial),
+        None => check_outputs(&Standards::default(), tx),
+    }
+}
+
 /// The denial by the rules of every transaction, or else by those of policy.
 fn denial_of(alloc: Global, tx: &Transaction) -> Result<Option<Denial>, Fail> {
     Ok(match check_transaction(alloc, tx)? {
         Some(denial) => Some(denial),
-        None => is_standard(&Standards::default(), tx),
+        None => policy_denial(tx),
     })
 }
 
