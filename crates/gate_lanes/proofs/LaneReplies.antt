@@ -1,15 +1,15 @@
 -- The replies of the lanes of a round that settles are those of one run.
-use Rattle.std.proofs.Common.{◌≡◌, ◌⊎◌, ℕ, zero, suc, ◌+◌, ◌-◌, ◌<◌, false, List, [], ◌∷◌, length, get_or, map, Option, Some, None, IsOk, Result, Ok, Err, inl, inr, refl, sym, ap, ap₂, subst, ◌∙◌, arith, length-append}
+use Rattle.std.proofs.Common.{◌≡◌, ◌⊎◌, ℕ, zero, suc, ◌+◌, ◌-◌, ◌<◌, ◌≤◌, false, List, [], ◌∷◌, length, get_or, map, Option, Some, None, IsOk, Result, Ok, Err, inl, inr, refl, sym, ap, ap₂, subst, ◌∙◌, arith, length-append}
 use Rattle.std.specs.Prelude.{slice_get}
 use Rattle.std.specs.Io.KnownBytes.{Appends}
-use Rattle.std.specs.List.{cons_option}
+use Rattle.std.specs.List.{All, cons_option}
 use Rattle.std.proofs.lemmas.Bool.{false≢true}
 use Rattle.std.proofs.lemmas.List.{length-map}
 use Rattle.std.proofs.lemmas.List.Elements.{All-head, All-tail}
 use Rattle.std.proofs.lemmas.Option.{none-some, same_Some, slice_get-get_or}
 use Rattle.gate_core.specs.Runs.{run_of}
 use Rattle.gate_core.specs.World.{World}
-use Rattle.gate_journal.specs.Legal.{entry, events_of, replies_of, IsLegal}
+use Rattle.gate_journal.specs.Legal.{entry, entry_limit, events_of, replies_of, IsLegal}
 use Rattle.gate_journal.specs.declared.Entry.{Entry}
 use Rattle.gate_lane.specs.LaneEvents.{lane_events}
 use Rattle.gate_lines.specs.Lines.{lines_of, unlines}
@@ -18,14 +18,14 @@ use Rattle.gate_message.specs.Callers.{caller_of}
 use Rattle.gate_message.specs.declared.caller.Caller.{Caller}
 use Rattle.gate_message.specs.declared.event.Event.{Event}
 use Rattle.gate_message.specs.declared.reply.Reply.{Reply}
-use Rattle.gate_shared.specs.Calls.{PassView, Rises}
+use Rattle.gate_shared.specs.Calls.{IsFullIfMet, PassView, Rises}
 use Rattle.gate_shared.specs.Settling.{AreTheCalls, IsAt, claim_list, claims_from, owner_at}
 use Rattle.gate_shared.specs.declared.receipt.Made.{Made}
 use Rattle.gate_shared.specs.declared.settle.Owner.{Owner}
 use Rattle.gate_shared.specs.declared.settle.Settled.{Settled}
 use Rattle.gate_lanes.specs.Ends.{AreWhole, LaneRan, LanesRan, Left, lane_over}
-use Rattle.gate_lanes.specs.LaneCalls.{Answer, AreAnswered, AreAnsweredFor, AreRising, HasCalls, calls_made, lane_lines}
-use Rattle.gate_lanes.specs.LaneReplies.{AreOfTheRun, EachAnswered, EachOfTheRun, HasReceipt, LanesReplyAsTheRun, RepliesAsTheRun, SomeHasReceipt, lane_text, lane_texts, receipts_in, receipts_of}
+use Rattle.gate_lanes.specs.LaneCalls.{Answer, AreAnswered, AreAnsweredFor, AreRising, HasCalls, SomeFull, calls_made, lane_lines}
+use Rattle.gate_lanes.specs.LaneReplies.{AreOfTheRun, EachAnswered, EachOfTheRun, HasReceipt, LanesReplyAsTheRun, RepliesAsTheRun, SomeHasReceipt, SomeToldFull, lane_text, lane_texts, receipts_in, receipts_of}
 use Rattle.gate_lanes.specs.Rounds.{Concludes, SettlesTo}
 use Rattle.gate_lanes.specs.declared.round.Conclusion.{Conclusion}
 use Rattle.gate_lanes.specs.declared.round.Conclusion.TheVariants as conclusions
@@ -86,14 +86,19 @@ of_the_run w entries legal caller count n (event ∷ events) (Err fault ∷ answ
 pass_replies : (w : World) (entries : List Entry) → IsLegal w entries → (events : List Event) (answers : List Answer) (pass : Option PassView) → HasCalls events answers pass
     → ((p : PassView) → pass ≡ Some p → AllStand entries p.calls) → AreOfTheRun w (events_of entries) 0 events answers
 pass_replies w entries legal [] answers pass (none, is) stand = subst (AreOfTheRun w (events_of entries) 0 []) (sym none) tt
-pass_replies w entries legal (event ∷ events) answers pass (p, is, caller, calls, fit, rising) stand =
+pass_replies w entries legal (event ∷ events) answers pass (p, is, caller, calls, fit, rising, full) stand =
     let all : AllStand entries p.calls = stand p is in
     let rises : Rises 0 p.calls = rises_from p.calls rising (λ j c at. (all j c at).some) in
     of_the_run w entries legal (caller_of event) 0 0 (event ∷ events) answers fit (subst (Rises 0) calls rises) (subst (AllStand entries) calls all)
 
 pass_answered : (events : List Event) (answers : List Answer) (pass : Option PassView) → HasCalls events answers pass → AreAnswered events answers
 pass_answered [] answers pass (none, is) = none
-pass_answered (event ∷ events) answers pass (p, is, caller, calls, fit, rising) = fit
+pass_answered (event ∷ events) answers pass (p, is, caller, calls, fit, rising, full) = fit
+
+pass_full : (entries : List Entry) (events : List Event) (answers : List Answer) (pass : Option PassView) → HasCalls events answers pass → ((p : PassView) → pass ≡ Some p → IsFullIfMet entries p)
+    → SomeFull answers → entry_limit ≤ length entries
+pass_full entries [] answers pass (none, is) marks some = absurd (subst SomeFull none some)
+pass_full entries (event ∷ events) answers pass (p, is, caller, calls, fit, rising, full) marks some = marks p is (full some)
 
 -- ---- how many receipts
 
@@ -116,7 +121,7 @@ calls_of_all (p ∷ ps) = length p.calls + calls_of_all ps
 
 pass_count : (events : List Event) (answers : List Answer) (pass : Option PassView) → HasCalls events answers pass → receipts_of answers ≡ calls_of pass
 pass_count [] answers pass (none, is) = ap receipts_of none ∙ ap calls_of (sym is)
-pass_count (event ∷ events) answers pass (p, is, caller, calls, fit, rising) =
+pass_count (event ∷ events) answers pass (p, is, caller, calls, fit, rising, full) =
     made_count (caller_of event) 0 (event ∷ events) answers fit ∙ (ap length (sym calls) ∙ ap calls_of (sym is))
 
 first_and_rest : (pass : Option PassView) (rest : List PassView) → calls_of_all (cons_option pass rest) ≡ calls_of pass + calls_of_all rest
@@ -145,28 +150,30 @@ HasAll answers p = (j : ℕ) (c : Made) → slice_get p.calls j ≡ Some c → H
 
 pass_receipts : (events : List Event) (answers : List Answer) (pass : Option PassView) → HasCalls events answers pass → (p : PassView) → pass ≡ Some p → HasAll answers p
 pass_receipts [] answers pass (none, is) p some = absurd (none-some p (sym is ∙ some))
-pass_receipts (event ∷ events) answers pass (q, is, caller, calls, fit, rising) p some =
+pass_receipts (event ∷ events) answers pass (q, is, caller, calls, fit, rising, full) p some =
     let same : q ≡ p = same_Some _ _ (sym is ∙ some) in
     subst (HasAll answers) same
     (λ j c at. has_receipt (event ∷ events) answers j c (ap (λ (cs : List Made). slice_get cs j) (sym calls) ∙ at))
 
 -- ---- a lane
 
-record LaneReplied (w : World) (all : List Event) (lane : List ℕ) (after : Option (List ℕ)) (pass : Option PassView) : Type 0 where
+record LaneReplied (w : World) (entries : List Entry) (all : List Event) (lane : List ℕ) (after : Option (List ℕ)) (pass : Option PassView) : Type 0 where
   answers : List Answer
   written : after ≡ Some (lane_text lane answers)
   replies : AreOfTheRun w all 0 (lane_events 0 (lines_of lane)) answers
   receipts : (p : PassView) → pass ≡ Some p → HasAll answers p
   count : receipts_of answers ≡ calls_of pass
   faults : AreAnswered (lane_events 0 (lines_of lane)) answers
+  full : SomeFull answers → entry_limit ≤ length entries
 
 appended : (after : Option (List ℕ)) (text : List ℕ) → Appends (Some []) after text → after ≡ Some text
 appended None text wrote = absurd wrote
 appended (Some bytes) text wrote = ap Some wrote
 
 lane_replied : (w : World) (entries : List Entry) → IsLegal w entries → (lane : List ℕ) (after : Option (List ℕ)) (pass : Option PassView) (result : Result ℕ LaneFault) → IsOk result
-    → LaneRan (Some lane) (Some []) after pass result → ((p : PassView) → pass ≡ Some p → AllStand entries p.calls) → LaneReplied w (events_of entries) lane after pass
-lane_replied w entries legal lane after pass (Ok count) ok (replies, wrote, counted, run) stand =
+    → LaneRan (Some lane) (Some []) after pass result → ((p : PassView) → pass ≡ Some p → AllStand entries p.calls) → ((p : PassView) → pass ≡ Some p → IsFullIfMet entries p)
+    → LaneReplied w entries (events_of entries) lane after pass
+lane_replied w entries legal lane after pass (Ok count) ok (replies, wrote, counted, run) stand marks =
     let led = lanes_are_calls (lines_of lane) replies pass run in
     record {
       answers = led.0;
@@ -175,8 +182,9 @@ lane_replied w entries legal lane after pass (Ok count) ok (replies, wrote, coun
       receipts = pass_receipts (lane_events 0 (lines_of lane)) led.0 pass led.1;
       count = pass_count (lane_events 0 (lines_of lane)) led.0 pass led.1;
       faults = pass_answered (lane_events 0 (lines_of lane)) led.0 pass led.1;
+      full = pass_full entries (lane_events 0 (lines_of lane)) led.0 pass led.1 marks;
     }
-lane_replied w entries legal lane after pass (Err fault) ok ran stand = absurd (false≢true ok)
+lane_replied w entries legal lane after pass (Err fault) ok ran stand marks = absurd (false≢true ok)
 
 -- ---- the lanes of a round
 
@@ -208,35 +216,50 @@ have_all answers more pass rest here behind i p at j c call = found (first_or_be
     found (inl is) = inl (here p is j c call)
     found (inr (k, is)) = inr (behind k p is j c call)
 
-record LanesReplied (w : World) (all : List Event) (lanes : List (List ℕ)) (after : List (Option (List ℕ))) (passes : List PassView) : Type 0 where
+record LanesReplied (w : World) (entries : List Entry) (all : List Event) (lanes : List (List ℕ)) (after : List (Option (List ℕ))) (passes : List PassView) : Type 0 where
   answers : List (List Answer)
   written : after ≡ map Some (lane_texts lanes answers)
   replies : EachOfTheRun w all lanes answers
   receipts : HaveAll answers passes
   count : receipts_in answers ≡ calls_of_all passes
   faults : EachAnswered lanes answers
+  full : SomeToldFull answers → entry_limit ≤ length entries
 
 abbrev PassesStand : List Entry → List PassView → Type 0
 PassesStand entries passes = (i : ℕ) (p : PassView) → slice_get passes i ≡ Some p → AllStand entries p.calls
 
+abbrev AreMarked : List Entry → List PassView → Type 0
+AreMarked entries passes = (i : ℕ) (p : PassView) → slice_get passes i ≡ Some p → IsFullIfMet entries p
+
+are_marked : (entries : List Entry) (passes : List PassView) → All (IsFullIfMet entries) passes → AreMarked entries passes
+are_marked entries [] all i p at = absurd (none-some p at)
+are_marked entries (q ∷ qs) all zero p at = subst (IsFullIfMet entries) (same_Some _ _ at) (All-head (IsFullIfMet entries) q qs all)
+are_marked entries (q ∷ qs) all (suc i) p at = are_marked entries qs (All-tail (IsFullIfMet entries) q qs all) i p at
+
+either_full : (limit : Type 0) (answers : List Answer) (more : List (List Answer)) → (SomeFull answers → limit) → (SomeToldFull more → limit) → SomeToldFull (answers ∷ more) → limit
+either_full limit answers more here behind (inl some) = here some
+either_full limit answers more here behind (inr some) = behind some
+
 lanes_replied : (w : World) (entries : List Entry) → IsLegal w entries → (lanes : List (List ℕ)) (ends : List Left) (passes : List PassView) → LanesRan (map lane_over lanes) ends passes → AreWhole ends
-    → PassesStand entries passes → LanesReplied w (events_of entries) lanes (map (λ (end : Left). end.after) ends) passes
-lanes_replied w entries legal [] [] passes ran whole stand = record {
+    → PassesStand entries passes → AreMarked entries passes → LanesReplied w entries (events_of entries) lanes (map (λ (end : Left). end.after) ends) passes
+lanes_replied w entries legal [] [] passes ran whole stand marks = record {
   answers = [];
   written = refl;
   replies = tt;
   receipts = λ i p at. absurd (none-some p (ap (λ (ps : List PassView). slice_get ps i) (sym ran) ∙ at));
   count = ap calls_of_all (sym ran);
   faults = tt;
+  full = λ some. absurd some;
 }
-lanes_replied w entries legal [] (end ∷ ends) passes ran whole stand = absurd ran
-lanes_replied w entries legal (lane ∷ lanes) [] passes ran whole stand = absurd ran
-lanes_replied w entries legal (lane ∷ lanes) (end ∷ ends) passes (pass, rest, is, one, more) whole stand =
+lanes_replied w entries legal [] (end ∷ ends) passes ran whole stand marks = absurd ran
+lanes_replied w entries legal (lane ∷ lanes) [] passes ran whole stand marks = absurd ran
+lanes_replied w entries legal (lane ∷ lanes) (end ∷ ends) passes (pass, rest, is, one, more) whole stand marks =
     let stand' : PassesStand entries (cons_option pass rest) = subst (PassesStand entries) is stand in
+    let marks' : AreMarked entries (cons_option pass rest) = subst (AreMarked entries) is marks in
     let here = lane_replied w entries legal lane end.after pass end.result (All-head (λ (x : Left). IsOk x.result) end ends whole) one
-    (λ p some. stand' 0 p (at_first pass rest p some)) in
+    (λ p some. stand' 0 p (at_first pass rest p some)) (λ p some. marks' 0 p (at_first pass rest p some)) in
     let behind = lanes_replied w entries legal lanes ends rest more (All-tail (λ (x : Left). IsOk x.result) end ends whole)
-    (λ i p at. let found = behind_first pass rest i p at in stand' found.0 p found.1) in
+    (λ i p at. let found = behind_first pass rest i p at in stand' found.0 p found.1) (λ i p at. let found = behind_first pass rest i p at in marks' found.0 p found.1) in
     record {
       answers = here.answers ∷ behind.answers;
       written = ap₂ (λ (x : Option (List ℕ)) (xs : List (Option (List ℕ))). x ∷ xs) here.written behind.written;
@@ -244,6 +267,7 @@ lanes_replied w entries legal (lane ∷ lanes) (end ∷ ends) passes (pass, rest
       receipts = subst (HaveAll (here.answers ∷ behind.answers)) (sym is) (have_all here.answers behind.answers pass rest here.receipts behind.receipts);
       count = omega (arith, here.count, behind.count, ap calls_of_all is, first_and_rest pass rest);
       faults = (here.faults, behind.faults);
+      full = either_full _ here.answers behind.answers here.full behind.full;
     }
 
 -- ---- the round
@@ -274,7 +298,7 @@ lanes_reply_as_the_run w next lanes texts round settled (passes, led, ran, concl
     let to = settles_to w next passes round.conclusion settled is (subst (λ (o : Option World). Concludes w passes round.conclusion o) goes.1 concludes) in
     let entries = settled.journal.entries in
     let calls = to.settles.1.2 in
-    let all = lanes_replied w entries to.settles.0 lanes round.ends passes ran goes.0 (stands entries passes settled.owners calls) in
+    let all = lanes_replied w entries to.settles.0 lanes round.ends passes ran goes.0 (stands entries passes settled.owners calls) (are_marked entries passes to.full) in
     record {
       answers = all.answers;
       written = same_texts texts (lane_texts lanes all.answers) (sym written ∙ all.written);
@@ -282,4 +306,5 @@ lanes_reply_as_the_run w next lanes texts round settled (passes, led, ran, concl
       every = every entries passes settled.owners all.answers calls all.receipts;
       count = all.count ∙ (sym (claims_count 0 passes) ∙ (calls.count ∙ sym (length-map entries (λ (x : Entry). x.event))));
       faults = all.faults;
+      full = λ some. omega (arith, all.full some, length-map entries (λ (x : Entry). x.event));
     }

@@ -1,15 +1,15 @@
 -- The replies of a round that settles: those of one run, over the events of all its lanes.
-use Rattle.std.specs.Prelude.{◌≡◌, ◌⊎◌, ℕ, ◌+◌, ◌-◌, ◌<◌, List, [], ◌∷◌, length, map, Some, Ok, Err, slice_get}
+use Rattle.std.specs.Prelude.{◌≡◌, ◌⊎◌, ℕ, ◌+◌, ◌-◌, ◌<◌, ◌≤◌, List, [], ◌∷◌, length, map, Some, Ok, Err, slice_get}
 use Rattle.gate_core.specs.Runs.{run_of}
 use Rattle.gate_core.specs.World.{World}
-use Rattle.gate_journal.specs.Legal.{events_of}
+use Rattle.gate_journal.specs.Legal.{entry_limit, events_of}
 use Rattle.gate_lane.specs.LaneEvents.{lane_events}
 use Rattle.gate_lines.specs.Lines.{lines_of, unlines}
 use Rattle.gate_message.specs.declared.event.Event.{Event}
 use Rattle.gate_shared.specs.declared.receipt.Receipt.{Receipt}
 use Rattle.gate_shared.specs.declared.settle.Settled.{Settled}
 use Rattle.gate_lanes.specs.Ends.{Left, lane_over}
-use Rattle.gate_lanes.specs.LaneCalls.{Answer, AreAnswered, lane_lines}
+use Rattle.gate_lanes.specs.LaneCalls.{Answer, AreAnswered, SomeFull, lane_lines}
 use Rattle.gate_lanes.specs.Rounds.{RoundLeft, RoundRan}
 use Rattle.gate_lanes.specs.declared.round.Conclusion.TheVariants as conclusions
 
@@ -76,9 +76,15 @@ EachAnswered [] (answers ∷ more) = ⊥
 EachAnswered (lane ∷ lanes) [] = ⊥
 EachAnswered (lane ∷ lanes) (answers ∷ more) = AreAnswered (lane_events 0 (lines_of lane)) answers × EachAnswered lanes more
 
+-- one of the lanes is answered that the journal is full
+abbrev pub SomeToldFull : List (List Answer) → Type 0
+SomeToldFull [] = ⊥
+SomeToldFull (answers ∷ more) = SomeFull answers ⊎ SomeToldFull more
+
 -- These texts are what the lanes write for answers that are of the run over all events. Each of those events is one of a lane,
 -- whose answer is its receipt, and of one lane alone, since there are as many receipts as events. A fault is `wrong-caller` exactly
--- for an event of another caller's than that of the lane's first, and `pass-full` exactly for one of its own after 65,536 calls.
+-- for an event of another caller's than that of the lane's first, and `pass-full` exactly for one of its own after 65,536 calls. It is
+-- never `history-short`, and `audit-full` only if there are 100,000 events.
 pub record RepliesAsTheRun (w : World) (all : List Event) (lanes texts : List (List ℕ)) : Type 0 where
   pub answers : List (List Answer)
   pub written : texts ≡ lane_texts lanes answers
@@ -86,6 +92,7 @@ pub record RepliesAsTheRun (w : World) (all : List Event) (lanes texts : List (L
   pub every : (k : ℕ) → k < length all → SomeHasReceipt (k + 1) answers
   pub count : receipts_in answers ≡ length all
   pub faults : EachAnswered lanes answers
+  pub full : SomeToldFull answers → entry_limit ≤ length all
 
 -- In a round that settles and is whole, the lanes write the replies of one run, over the events of the journal: those that the run
 -- gives at the numbers of their receipts, which rise in each lane, with `refused` lines for lines that don't parse and `fault`

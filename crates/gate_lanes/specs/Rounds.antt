@@ -2,7 +2,8 @@
 use Rattle.std.specs.Prelude.{◌≡◌, ℕ, ◌≤◌, ◌⊎◌, List, length, Option, Some, None}
 use Rattle.gate_core.specs.World.{World}
 use Rattle.gate_journal.specs.Legal.{entry_limit, state_after}
-use Rattle.gate_shared.specs.Calls.{PassView}
+use Rattle.std.specs.List.{All}
+use Rattle.gate_shared.specs.Calls.{IsFullIfMet, PassView}
 use Rattle.gate_shared.specs.Ends.{EndsGood}
 use Rattle.gate_shared.specs.Settling.{SettlesAll}
 use Rattle.gate_shared.specs.declared.settle.Settled.{Settled}
@@ -14,12 +15,13 @@ use Rattle.gate_lanes.specs.declared.round.Conclusion.TheVariants as conclusions
 -- ---- one round
 
 -- These passes settle with a legal journal from this state, of at most 100,000 entries, which leads to the next state. The next
--- state is good if the first is and the run of the passes' events is apart.
+-- state is good if the first is and the run of the passes' events is apart. The journal is full if a call of them met a full one.
 pub record SettlesTo (w : World) (passes : List PassView) (settled : Settled) (next : World) : Type 0 where
   pub few : length settled.journal.entries ≤ entry_limit
   pub settles : SettlesAll w passes settled
   pub leads : next ≡ state_after w settled.journal.entries
   pub good : EndsGood w passes next
+  pub full : All (IsFullIfMet settled.journal.entries) passes
 
 -- The passes settle, and lead to the next state; or memory ran out before it was known how they settle, and there is no next
 -- state.

@@ -1,5 +1,6 @@
 pub mod Claims
 mod EndingGood
+pub mod Faults
 pub mod Growing
 pub mod Owners
 pub mod Passes

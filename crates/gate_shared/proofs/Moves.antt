@@ -5,11 +5,12 @@ use mathlib.Core.Option.{some, some-injective, some-ne-none}
 use lib.ListN.{get_elem?}
 use Rattle.atomic_table.specs.Table.{State, Me, Step, Splits, Joins, Allows, keeps, step}
 use Rattle.atomic_table.proofs.Lists.{at_set, at_snoc}
+use Rattle.gate_journal.specs.Legal.{entry_limit}
 use Rattle.gate_journal.specs.declared.entry.Entry.{Entry}
 use Rattle.gate_shared.specs.declared.receipt.Made.{Made}
 use Rattle.gate_shared.specs.declared.tokens.Known.{Known}
 use Rattle.gate_shared.specs.Calls.{Stands}
-use Rattle.gate_shared.specs.Tokens.{PassCall, EachStands, weigh, weigh_to, entry_of, holder, gathered, kept_call, entered, first_part, last_part, CanPart, IsIdleEmpty, IsTold, emptied, yielded, opener, total, Fits, AreKept, seat_limit}
+use Rattle.gate_shared.specs.Tokens.{PassCall, EachStands, weigh, weigh_to, entry_of, holder, gathered, kept_call, entered, first_part, last_part, CanPart, IsIdleEmpty, IsTold, emptied, yielded, marked, marker, unmarked, opener, total, Fits, AreKept, seat_limit}
 use Rattle.gate_shared.proofs.Totals.{weigh-append, total-set, total-snoc, le-total, total-one}
 
 abbrev Rule : State Unit Known → Type 0
@@ -57,6 +58,10 @@ length_more : (xs : List Entry) (x : Entry) → length (xs ++ x ∷ []) ≡ suc 
 length_more [] x = refl
 length_more (y ∷ xs) x = ap suc (length_more xs x)
 
+-- a full journal stays full
+still : (xs : List Entry) (x : Entry) → entry_limit ≤ length xs → entry_limit ≤ length (xs ++ x ∷ [])
+still xs x limit = omega (arith, limit, length_more xs x)
+
 weigh_to-more : (h : ℕ → ℕ) (n number : ℕ) → number ≡ n + 1 → weigh_to h (suc n) ≡ weigh_to h n + h number
 weigh_to-more h n number is = let same : suc n ≡ number = omega arith in ap (λ k. weigh_to h n + h k) same
 
@@ -102,8 +107,8 @@ gathers by v other u s h at apart there =
       journal = h.journal;
       each = fits_set h.keeper h.journal (set s.views by w) other (holder 0 [])
           (λ j y _ e. fits_set h.keeper h.journal s.views by w (λ i z _ e'. h.each i z e')
-          (mine.0, stand_join h.journal v.calls u.calls mine.1 theirs.1, λ none. ap (λ cs. cs ++ u.calls) (mine.2 (omega arith)) ∙ theirs.2 (omega arith)) j y e)
-          ((λ its. absurd (off its)), tt, λ _. refl);
+          (mine.0, stand_join h.journal v.calls u.calls mine.1 theirs.1, λ none. ap (λ cs. cs ++ u.calls) (mine.2 (omega arith)) ∙ theirs.2 (omega arith), mine.3) j y e)
+          ((λ its. absurd (off its)), tt, (λ _. refl), λ its. absurd (off its));
       seats = total-join (λ x. x.seats) s.views by v other u w (holder 0 []) at there (omega arith) ∙ h.seats;
       calls = λ weight. total-join (λ x. weigh weight x.calls) s.views by v other u w (holder 0 []) at there (omega (arith, weigh-append weight v.calls u.calls)) ∙ h.calls weight;
     }
@@ -114,7 +119,7 @@ leaves by v free s h at =
     record {
       keeper = h.keeper;
       journal = h.journal;
-      each = fits_split h.keeper h.journal s.views by (holder 0 []) v (λ i z _ e. h.each i z e) ((λ its. absurd (off its)), tt, λ _. refl) (λ j. ((λ its. absurd (off (sym free ∙ its))), mine.1, mine.2));
+      each = fits_split h.keeper h.journal s.views by (holder 0 []) v (λ i z _ e. h.each i z e) ((λ its. absurd (off its)), tt, (λ _. refl), λ its. absurd (off its)) (λ j. ((λ its. absurd (off (sym free ∙ its))), mine.1, mine.2, mine.3));
       seats = total-split (λ x. x.seats) s.views by v (holder 0 []) v at (omega arith) ∙ h.seats;
       calls = λ weight. total-split (λ x. weigh weight x.calls) s.views by v (holder 0 []) v at (omega arith) ∙ h.calls weight;
     }
@@ -125,7 +130,7 @@ yields by v s h at =
     record {
       keeper = h.keeper;
       journal = h.journal;
-      each = fits_split h.keeper h.journal s.views by (emptied v) (yielded v) (λ i z _ e. h.each i z e) (mine.0, tt, λ _. refl) (λ j. ((λ its. absurd (off its)), mine.1, mine.2));
+      each = fits_split h.keeper h.journal s.views by (emptied v) (yielded v) (λ i z _ e. h.each i z e) (mine.0, tt, (λ _. refl), mine.3) (λ j. ((λ its. absurd (off its)), mine.1, mine.2, λ its. absurd (off its)));
       seats = total-split (λ x. x.seats) s.views by v (emptied v) (yielded v) at (omega arith) ∙ h.seats;
       calls = λ weight. total-split (λ x. weigh weight x.calls) s.views by v (emptied v) (yielded v) at (omega arith) ∙ h.calls weight;
     }
@@ -141,8 +146,8 @@ parts by v seats calls can s h at =
       keeper = h.keeper;
       journal = h.journal;
       each = fits_split h.keeper h.journal s.views by (first_part seats calls v) (last_part seats calls v) (λ i z _ e. h.each i z e)
-          (mine.0, stand_front h.journal k v.calls mine.1, λ e. let whole : k ≡ 0 = omega (arith, all (omega arith)) in ap (λ n. take n v.calls) whole)
-          (λ j. ((λ its. absurd (off its)), stand_rest h.journal k v.calls mine.1, λ e. let whole : k ≡ length v.calls = omega (arith, none e) in ap (λ n. drop n v.calls) whole ∙ drop_all v.calls));
+          (mine.0, stand_front h.journal k v.calls mine.1, (λ e. let whole : k ≡ 0 = omega (arith, all (omega arith)) in ap (λ n. take n v.calls) whole), mine.3)
+          (λ j. ((λ its. absurd (off its)), stand_rest h.journal k v.calls mine.1, (λ e. let whole : k ≡ length v.calls = omega (arith, none e) in ap (λ n. drop n v.calls) whole ∙ drop_all v.calls), λ its. absurd (off its)));
       seats = total-split (λ x. x.seats) s.views by v (first_part seats calls v) (last_part seats calls v) at (omega arith) ∙ h.seats;
       calls = λ weight. total-split (λ x. weigh weight x.calls) s.views by v (first_part seats calls v) (last_part seats calls v) at (weigh_parts weight k v.calls) ∙ h.calls weight;
     }
@@ -159,9 +164,9 @@ enters by v c its_keeper seated next s h at =
       keeper = h.keeper;
       journal = now;
       each = fits_split h.keeper now s.views by (kept_call c v) (entered c v)
-          (λ j u apart e. let theirs = h.each j u e in ((λ its. absurd (apart ((theirs.0 its).0 ∙ sym known.0))), stand_more h.journal (entry_of c ∷ []) u.calls theirs.1, theirs.2))
-          ((λ _. (known.0, ap (λ (es : List Entry). es ++ entry_of c ∷ []) known.1)), tt, λ _. refl)
-          (λ j. ((λ its. absurd (off its)), stand_join now v.calls (c ∷ []) (stand_more h.journal (entry_of c ∷ []) v.calls mine.1) (new, tt), λ none. absurd (seated none)));
+          (λ j u apart e. let theirs = h.each j u e in ((λ its. absurd (apart ((theirs.0 its).0 ∙ sym known.0))), stand_more h.journal (entry_of c ∷ []) u.calls theirs.1, theirs.2, λ its. still h.journal (entry_of c) (theirs.3 its)))
+          ((λ _. (known.0, ap (λ (es : List Entry). es ++ entry_of c ∷ []) known.1)), tt, (λ _. refl), λ its. absurd (off its))
+          (λ j. ((λ its. absurd (off its)), stand_join now v.calls (c ∷ []) (stand_more h.journal (entry_of c ∷ []) v.calls mine.1) (new, tt), (λ none. absurd (seated none)), λ its. absurd (off its)));
       seats = total-split (λ x. x.seats) s.views by v (kept_call c v) (entered c v) at (omega arith) ∙ h.seats;
       calls = λ weight.
           let before : total (λ x. weigh weight x.calls) s.views ≡ weigh_to weight (length h.journal) = h.calls weight in
@@ -197,9 +202,63 @@ looks by slots m its_keeper s h wide at fits =
               let same = ap (λ (es : List Entry). weigh_to weight (length es)) known.1 in
               omega arith;
           all = every;
+          full = λ its. subst (λ (es : List Entry). entry_limit ≤ length es) (sym known.1) (mine.3 its);
         },
       ),
     )
+
+-- ---- marks
+
+pub blanks : (by : ℕ) (v : Known) → Splits Rule by v v (marker false)
+blanks by v s h at =
+    let mine = h.each by v at in
+    record {
+      keeper = h.keeper;
+      journal = h.journal;
+      each = fits_split h.keeper h.journal s.views by v (marker false) (λ i z _ e. h.each i z e) mine (λ j. ((λ its. absurd (off its)), tt, (λ _. refl), λ its. absurd (off its)));
+      seats = total-split (λ x. x.seats) s.views by v v (marker false) at (omega arith) ∙ h.seats;
+      calls = λ weight. total-split (λ x. weigh weight x.calls) s.views by v v (marker false) at (omega arith) ∙ h.calls weight;
+    }
+
+pub fills : (by : ℕ) (v : Known) → v.keeps ≡ true → entry_limit ≤ length v.all → Splits Rule by v v (marker true)
+fills by v its_keeper limit s h at =
+    let mine = h.each by v at in
+    let known : (by ≡ h.keeper) × (v.all ≡ h.journal) = mine.0 its_keeper in
+    let now : entry_limit ≤ length h.journal = subst (λ (es : List Entry). entry_limit ≤ length es) known.1 limit in
+    record {
+      keeper = h.keeper;
+      journal = h.journal;
+      each = fits_split h.keeper h.journal s.views by v (marker true) (λ i z _ e. h.each i z e) mine (λ j. ((λ its. absurd (off its)), tt, (λ _. refl), λ _. now));
+      seats = total-split (λ x. x.seats) s.views by v v (marker true) at (omega arith) ∙ h.seats;
+      calls = λ weight. total-split (λ x. weigh weight x.calls) s.views by v v (marker true) at (omega arith) ∙ h.calls weight;
+    }
+
+pub unmarks : (by : ℕ) (v : Known) → Splits Rule by v (unmarked v) (marker v.full)
+unmarks by v s h at =
+    let mine = h.each by v at in
+    record {
+      keeper = h.keeper;
+      journal = h.journal;
+      each = fits_split h.keeper h.journal s.views by (unmarked v) (marker v.full) (λ i z _ e. h.each i z e) (mine.0, mine.1, mine.2, λ its. absurd (off its))
+          (λ j. ((λ its. absurd (off its)), tt, (λ _. refl), mine.3));
+      seats = total-split (λ x. x.seats) s.views by v (unmarked v) (marker v.full) at (omega arith) ∙ h.seats;
+      calls = λ weight. total-split (λ x. weigh weight x.calls) s.views by v (unmarked v) (marker v.full) at (omega arith) ∙ h.calls weight;
+    }
+
+pub marks : (by : ℕ) (v : Known) (other : ℕ) (u : Known) → u.seats ≡ 0 → u.calls ≡ [] → Joins Rule by v other u (marked v u) (holder 0 [])
+marks by v other u seatless callless s h at apart there =
+    let w = marked v u in
+    let mine = h.each by v at in
+    let theirs = ⊎_elim (λ (t : (other ≡ by) × (w ≡ u)). absurd (apart t.0)) (λ (t : (other ≢ by) × (get_elem? s.views other ≡ some u)). h.each other u t.1) (at_set s.views by other w u there) in
+    record {
+      keeper = h.keeper;
+      journal = h.journal;
+      each = fits_set h.keeper h.journal (set s.views by w) other (holder 0 [])
+          (λ j y _ e. fits_set h.keeper h.journal s.views by w (λ i z _ e'. h.each i z e') (mine.0, mine.1, mine.2, theirs.3) j y e)
+          ((λ its. absurd (off its)), tt, (λ _. refl), λ its. absurd (off its));
+      seats = total-join (λ x. x.seats) s.views by v other u w (holder 0 []) at there (omega (arith, seatless)) ∙ h.seats;
+      calls = λ weight. total-join (λ x. weigh weight x.calls) s.views by v other u w (holder 0 []) at there (omega (arith, ap (weigh weight) callless)) ∙ h.calls weight;
+    }
 
 -- the rule at the start
 pub opens : AreKept (opener ∷ [])
@@ -212,5 +271,5 @@ opens = record {
 }
   where
     first : (by : ℕ) (v : Known) → get_elem? (opener ∷ []) by ≡ some v → Fits 0 [] by v
-    first zero v is = subst (Fits 0 [] 0) (some-injective opener v is) ((λ _. (refl, refl)), tt, λ none. refl)
+    first zero v is = subst (Fits 0 [] 0) (some-injective opener v is) ((λ _. (refl, refl)), tt, (λ none. refl), λ its. absurd (off its))
     first (suc by) v is = absurd (some-ne-none v (sym is))

@@ -18,9 +18,9 @@ use Rattle.gate_shared.proofs.Totals.{weigh-append}
 
 -- ---- a token that was lent the seat and the calls of a pass
 
-known_same : (keeps : Bool) (all : List Entry) (s t : ℕ) (cs ds : List PassCall) → s ≡ t → cs ≡ ds
-    → let known : ℕ → List PassCall → Known = λ seats calls. record { keeps = keeps; seats = seats; all = all; calls = calls } in known s cs ≡ known t ds
-known_same keeps all s t cs ds e f = λ i. record { keeps = keeps; seats = e i; all = all; calls = f i }
+known_same : (keeps : Bool) (all : List Entry) (s t : ℕ) (cs ds : List PassCall) (full : Bool) → s ≡ t → cs ≡ ds
+    → let known : ℕ → List PassCall → Known = λ seats calls. record { keeps = keeps; seats = seats; all = all; calls = calls; full = full } in known s cs ≡ known t ds
+known_same keeps all s t cs ds full e f = λ i. record { keeps = keeps; seats = e i; all = all; calls = f i; full = full }
 
 take_front : (cs ds : List PassCall) → take (length cs) (cs ++ ds) ≡ cs
 take_front [] ds = refl
@@ -35,7 +35,7 @@ front_of cs ds n is = omega (arith, length-append cs ds)
 
 pub left_of_it : (k : Known) (cs : List PassCall) (n : ℕ) → n ≡ length cs → first_part 1 n (gathered k (holder 1 cs)) ≡ k
 left_of_it k cs n is =
-    known_same k.keeps k.all ((k.seats + 1) - 1) k.seats (take (length (k.calls ++ cs) - n) (k.calls ++ cs)) k.calls (omega arith)
+    known_same k.keeps k.all ((k.seats + 1) - 1) k.seats (take (length (k.calls ++ cs) - n) (k.calls ++ cs)) k.calls k.full (omega arith)
     (ap (λ m. take m (k.calls ++ cs)) (front_of k.calls cs n is) ∙ take_front k.calls cs)
 
 pub given_back : (k : Known) (cs : List PassCall) (n : ℕ) → n ≡ length cs → last_part 1 n (gathered k (holder 1 cs)) ≡ holder 1 cs

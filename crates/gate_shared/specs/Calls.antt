@@ -1,18 +1,19 @@
 -- What a pass holds, and where its calls stand in a journal.
-use Rattle.std.specs.Prelude.{◌≡◌, ℕ, ◌-◌, ◌<◌, List, [], ◌∷◌, Option, Some, None, slice_get, IfSome}
+use Rattle.std.specs.Prelude.{◌≡◌, ℕ, ◌-◌, ◌<◌, ◌≤◌, Bool, true, List, length, [], ◌∷◌, Option, Some, None, slice_get, IfSome}
 use Rattle.gate_message.specs.declared.caller.Caller.{Caller}
 use Rattle.gate_message.specs.declared.event.Event.{Event}
 use Rattle.gate_message.specs.declared.reply.Reply.{Reply}
 use Rattle.gate_journal.specs.declared.entry.Entry.{Entry}
-use Rattle.gate_journal.specs.Legal.{entry}
+use Rattle.gate_journal.specs.Legal.{entry, entry_limit}
 use Rattle.gate_shared.specs.declared.receipt.Made.{Made}
 use Rattle.gate_shared.specs.declared.receipt.Receipt.{Receipt}
 
--- a pass by its number: its caller, and its calls, oldest first
+-- a pass by its number: its caller, its calls, oldest first, and whether a call of it met a full journal
 pub record PassView : Type 0 where
   pub number : ℕ
   pub caller : Caller
   pub calls : List Made
+  pub met_full : Bool
 
 -- the most calls of a pass
 abbrev pub call_limit : ℕ
@@ -50,3 +51,7 @@ Stands journal pass c = (0 < c.receipt.number) × (slice_get journal (c.receipt.
 -- the last call of a pass, if it has one, stands in the journal at the place that its receipt names
 abbrev pub LastStands : List Entry → PassView → Type 0
 LastStands journal p = IfSome (last_call p.calls) (Stands journal p.number)
+
+-- the journal is full if a call of the pass met a full one
+abbrev pub IsFullIfMet : List Entry → PassView → Type 0
+IsFullIfMet journal p = p.met_full ≡ true → entry_limit ≤ length journal

@@ -1,6 +1,8 @@
 //! The end of a gate.
 ghost use Rattle.std.specs.Prelude.{◌≡◌, ◌+◌, length, IfOk, IfErr};
+ghost use Rattle.std.specs.List.{All};
 ghost use Rattle.gate_journal.specs.Legal.{state_after};
+ghost use Rattle.gate_shared.specs.Calls.{IsFullIfMet};
 ghost use Rattle.gate_shared.specs.Ends.{EndsGood};
 ghost use Rattle.gate_shared.specs.Held.{IsHeld};
 ghost use Rattle.gate_shared.specs.Settling.{IsNotMissing, SettlesAll, IsSettled, WhyUnsettled};
@@ -41,6 +43,7 @@ impl<N: Base, S: BuildHasher + Copy + Drop> Shared<N, S> {
         ensures held { IsHeld N.base self }
         ensures ok { IfOk result (λ r. IsSettled self.journal passes.items r.0 × (r.1 ≡ self.state)) }
         ensures good { IfOk result (λ r. EndsGood N.base passes.items r.1) }
+        ensures full { IfOk result (λ r. All (IsFullIfMet r.0.journal.entries) passes.items) }
         ensures shared { IfErr result (λ e. e.shared ≡ self) }
         ensures rest { IfErr result (λ e. e.rest ≡ rest) }
         ensures fault { IfErr result (λ e. WhyUnsettled e.shared.journal passes.items e.fault.why × (e.fault.passes.items ≡ passes.items)) }
@@ -72,6 +75,7 @@ pub fn finish<N: Base, S: BuildHasher + Copy + Drop>(
 ) -> Result<(Settled, State<S>), FinishFault<N, S>>
     ensures ok { IfOk result (λ r. SettlesAll N.base passes.items r.0 × (r.1 ≡ state_after N.base r.0.journal.entries)) }
     ensures good { IfOk result (λ r. EndsGood N.base passes.items r.1) }
+    ensures full { IfOk result (λ r. All (IsFullIfMet r.0.journal.entries) passes.items) }
     ensures held { IfErr result (λ e. IsHeld N.base e.shared) }
     ensures rest { IfErr result (λ e. e.rest ≡ rest) }
     ensures err { IfErr result (λ e. WhyUnsettled e.shared.journal passes.items e.fault.why × (e.fault.passes.items ≡ passes.items)) }

@@ -1,12 +1,10 @@
 //! One state under one lock, for many callers.
-ghost use Rattle.std.specs.Prelude.{◌≡◌, ◌+◌, ◌<◌, ◌≤◌, [], length, Some, IfOk, OnErr, IsErrOf};
+ghost use Rattle.std.specs.Prelude.{◌≡◌, ◌+◌, ◌<◌, ◌≤◌, [], false, length, IfOk, IfErr, IsErrOf};
 ghost use Rattle.gate_message.specs.Callers.{caller_of};
-ghost use Rattle.gate_shared.specs.declared.receipt.Made.{Made as TheMade};
-ghost use Rattle.gate_shared.specs.declared.receipt.Receipt.{Receipt as TheReceipt};
-ghost use Rattle.gate_shared.specs.Calls.{call_limit, last_call};
+ghost use Rattle.gate_shared.specs.Calls.{call_limit};
 ghost use Rattle.std.specs.Option.{option_copied};
 ghost use Rattle.gate_core.specs.Submissions.{StandsFor, submission_of};
-ghost use Rattle.gate_shared.specs.Held.{Called, Enrolled, Grows, IsHeld, IsRecorded, Looked};
+ghost use Rattle.gate_shared.specs.Held.{Called, Enrolled, Grows, IsHeld, IsNotShort, IsRecorded, Looked, left_by};
 ghost use Rattle.gate_shared.specs.Tokens.{seat_limit};
 
 use crate::base::Base;
@@ -87,6 +85,7 @@ impl<N: Base, S: BuildHasher + Copy + Drop> Gate<N, S> {
         ensures enrolled { IfOk result (Enrolled N.base caller.now) }
         ensures caller { IfOk result (λ p. p.caller ≡ caller.now) }
         ensures calls { IfOk result (λ p. p.calls ≡ []) }
+        ensures met_full { IfOk result (λ p. p.met_full ≡ false) }
     {
         self.shared.lock(rt).enroll(alloc, seat, caller)
     }
@@ -108,7 +107,8 @@ impl<N: Base, S: BuildHasher + Copy + Drop> Gate<N, S> {
         shared.look(alloc, submission)
     }
 
-    /// Makes an event under a pass, as one step of the gate. After a fault the pass is what it was.
+    /// Makes an event under a pass, as one step of the gate. After a fault the pass has the calls that it had; contracts see
+    /// that it met a full journal.
     pub fn call<R: Wait>(
         &self,
         rt: &R,
@@ -119,10 +119,10 @@ impl<N: Base, S: BuildHasher + Copy + Drop> Gate<N, S> {
         ensures called { Called N.base pass.old pass.new event.now result }
         ensures grows { IfOk result (Grows pass.old pass.new event.now) }
         ensures recorded { IfOk result (IsRecorded N.base pass.old event.now) }
-        ensures kept { OnErr result (pass.new ≡ pass.old) }
+        ensures kept { IfErr result (λ fault. pass.new ≡ left_by fault pass.old) }
+        ensures stand { IfErr result IsNotShort }
         ensures wrong_caller { ¬ (caller_of event.now ≡ pass.old.caller) → IsErrOf result CallFault.WrongCaller }
         ensures pass_full { caller_of event.now ≡ pass.old.caller → call_limit ≤ length pass.old.calls → IsErrOf result CallFault.PassFull }
-        ensures history_short { (r : TheReceipt) → IsErrOf result (CallFault.HistoryShort r) → (c : TheMade) × (last_call pass.old.calls ≡ Some c) × (r ≡ c.receipt) }
     {
         self.shared.lock(rt).apply(alloc, pass, event)
     }
@@ -142,10 +142,10 @@ impl<N: Base, S: BuildHasher + Copy + Drop> Gate<N, S> {
         ensures called { Called N.base pass.old pass.new event.now result }
         ensures grows { IfOk result (Grows pass.old pass.new event.now) }
         ensures recorded { IfOk result (IsRecorded N.base pass.old event.now) }
-        ensures kept { OnErr result (pass.new ≡ pass.old) }
+        ensures kept { IfErr result (λ fault. pass.new ≡ left_by fault pass.old) }
+        ensures stand { IfErr result IsNotShort }
         ensures wrong_caller { ¬ (caller_of event.now ≡ pass.old.caller) → IsErrOf result CallFault.WrongCaller }
         ensures pass_full { caller_of event.now ≡ pass.old.caller → call_limit ≤ length pass.old.calls → IsErrOf result CallFault.PassFull }
-        ensures history_short { (r : TheReceipt) → IsErrOf result (CallFault.HistoryShort r) → (c : TheMade) × (last_call pass.old.calls ≡ Some c) × (r ≡ c.receipt) }
     {
         self.shared
             .lock(rt)

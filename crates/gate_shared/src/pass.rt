@@ -12,26 +12,28 @@ use std::marker::{Model, PhantomData};
 /// The most calls of a pass.
 pub const MAX_CALLS: usize = 65_536;
 
-/// The right of a caller to make events of its own, with all that it made, oldest first.
+/// The right of a caller to make events of its own, with all that it made, oldest first. Contracts see, too, whether a
+/// call of it met a full journal.
 #[derive(Drop)]
 pub struct Pass<N: Base> {
     pub(crate) number: u64,
     pub(crate) caller: Caller,
     pub(crate) calls: Vec<Made>,
     pub(crate) token: Token,
+    pub(crate) mark: Token,
     pub(crate) of: PhantomData<N>,
 }
 
 impl<N: Base> Model for Pass<N> {
     ghost use Rattle.std.specs.Prelude.{◌≡◌, []};
     ghost use Rattle.gate_shared.specs.Calls.{PassView, Rises};
-    ghost use Rattle.gate_shared.specs.Tokens.{calls_under, holder};
+    ghost use Rattle.gate_shared.specs.Tokens.{calls_under, holder, marker};
 
     ghost Value = { PassView };
 
-    ghost view = { λ p. record { number = p.number; caller = p.caller; calls = p.calls.items } };
+    ghost view = { λ p. record { number = p.number; caller = p.caller; calls = p.calls.items; met_full = p.mark.me.0.full } };
 
-    ghost invariant = { λ p. Rises 0 p.calls.items × (p.token.table_id ≡ N.registry) × (p.token.me ≡ (holder 1 (calls_under p.number p.calls.items), [])) };
+    ghost invariant = { λ p. Rises 0 p.calls.items × (p.token.table_id ≡ N.registry) × (p.token.me ≡ (holder 1 (calls_under p.number p.calls.items), [])) × (p.mark.table_id ≡ N.registry) × (p.mark.me ≡ (marker p.mark.me.0.full, [])) };
 }
 
 impl<N: Base> Pass<N> {

@@ -1,11 +1,12 @@
 //! The value under the lock, and its one change.
-ghost use Rattle.std.specs.Prelude.{◌≡◌, ◌+◌, ◌<◌, [], ◌∷◌, ◌++◌, true, length, IfOk, IfErr, OnOk, OnErr, MatchResult};
+ghost use Rattle.std.specs.Prelude.{◌≡◌, ◌+◌, ◌<◌, ◌≤◌, [], ◌∷◌, ◌++◌, false, true, length, IfOk, IfErr, OnOk, OnErr, MatchResult};
+ghost use Rattle.std.specs.List.{All};
 ghost use Rattle.std.specs.Vec.{vec_len, vec_capacity};
 ghost use Rattle.std.specs.Option.{option_copied};
 ghost use Rattle.gate_core.specs.Submissions.{StandsFor, submission_of, coins_of};
 ghost use Rattle.gate_journal.specs.Legal.{entry, entry_limit};
-ghost use Rattle.gate_shared.specs.Calls.{made, receipt};
-ghost use Rattle.gate_shared.specs.Tokens.{IsIdleEmpty, IsTold, calls_in, gathered, holder, of_journal, seat_limit};
+ghost use Rattle.gate_shared.specs.Calls.{IsFullIfMet, made, receipt};
+ghost use Rattle.gate_shared.specs.Tokens.{EachStands, IsIdleEmpty, IsTold, calls_in, calls_under, gathered, holder, of_journal, seat_limit};
 
 use crate::base::Base;
 use crate::pass::{Pass, stands};
@@ -13,7 +14,9 @@ use crate::receipt::{Made, Receipt};
 use crate::register::Register;
 use crate::seat::{Rest, Seat};
 use crate::settle::{Owner, SettleFault, Settled, owners, settle};
-use crate::tokens::{Registry, Token, enter, give_up, join, lend, look, split};
+use crate::tokens::{
+    Registry, Token, blank, compare_mark, enter, give_up, join, lend, look, mark_full, split,
+};
 use gate_bytes::{Copied, Kept, Memory};
 use gate_core::State;
 use gate_journal::{Entry, Journal};
@@ -36,7 +39,7 @@ pub enum CallFault {
     /// The pass has 65,536 calls.
     #[error("the pass is full")]
     PassFull,
-    /// The journal does not have the last call of the pass, whose receipt this is, at its place.
+    /// The journal does not have the last call of the pass, whose receipt this is, at its place. This fault never comes.
     #[error("the journal lacks the pass's last receipt")]
     HistoryShort(Receipt),
     /// The journal has 100,000 entries.
@@ -100,19 +103,36 @@ impl Events {
     }
 }
 
-/// Lends the tokens of passes to the keeper until it has all, and compares its calls with the journal. All tokens are then
-/// given back.
-fn audit_from<N: Base>(registry: &Registry, keeper: &mut Token, passes: &mut [Pass<N>])
+/// Lends the token of a pass to the keeper, and compares its calls with the journal. The token is then given back.
+fn audit_pass<N: Base>(registry: &Registry, keeper: &mut Token, pass: &mut Pass<N>)
     requires registry { (registry.now.shared.table_id ≡ N.registry) × (N.registry.words ≡ 1) }
     requires keeper { (keeper.old.table_id ≡ N.registry) × (keeper.old.me.0.keeps ≡ true) × IsIdleEmpty keeper.old.me.0 }
     ensures keeper { (keeper.new.table_id ≡ keeper.old.table_id) × (keeper.new.me ≡ keeper.old.me) }
+    ensures pass { pass.new ≡ pass.old }
+    ensures told { IsTold (gathered keeper.old.me.0 (holder 1 (calls_under pass.old.number pass.old.calls))) }
+{
+    let count = pass.calls.len();
+    lend(registry, &mut pass.token, keeper);
+    look(registry, keeper);
+    let part = split(registry, keeper, 1, count);
+    join(registry, &mut pass.token, part);
+}
+
+/// Lends the tokens of passes to the keeper until it has all, and compares its calls with the journal. All tokens are then
+/// given back. The mark of each pass is compared with the journal by itself.
+fn audit_from<N: Base>(registry: &Registry, keeper: &mut Token, passes: &mut [Pass<N>])
+    requires registry { (registry.now.shared.table_id ≡ N.registry) × (N.registry.words ≡ 1) }
+    requires keeper { (keeper.old.table_id ≡ N.registry) × (keeper.old.me.0.keeps ≡ true) × IsIdleEmpty keeper.old.me.0 × (keeper.old.me.0.full ≡ false) }
+    ensures keeper { (keeper.new.table_id ≡ keeper.old.table_id) × (keeper.new.me ≡ keeper.old.me) }
     ensures passes { passes.new ≡ passes.old }
     ensures told { IsTold (gathered keeper.old.me.0 (holder (length passes.old) (calls_in passes.old))) }
+    ensures marks { All (IsFullIfMet keeper.old.me.0.all) passes.old }
 {
     match passes.split_first_mut() {
         None => look(registry, keeper),
         Some((pass, rest)) => {
             let count = pass.calls.len();
+            compare_mark(registry, keeper, &mut pass.mark);
             lend(registry, &mut pass.token, keeper);
             audit_from(registry, keeper, rest);
             let part = split(registry, keeper, 1, count);
@@ -122,8 +142,8 @@ fn audit_from<N: Base>(registry: &Registry, keeper: &mut Token, passes: &mut [Pa
 }
 
 impl<N: Base, S: BuildHasher + Copy + Drop> Shared<N, S> {
-    ghost use Rattle.gate_shared.specs.Held.{held, IsHeld, Enters, Enrolls, FirstFault, NoFault, Applies};
-    ghost use Rattle.gate_shared.specs.Calls.{EachBelow};
+    ghost use Rattle.gate_shared.specs.Held.{held, left_by, IsHeld, IsNotShort, IsOwn, Enters, Enrolls, FirstFault, NoFault, Applies};
+    ghost use Rattle.gate_shared.specs.Calls.{EachBelow, LastStands};
     ghost use Rattle.gate_shared.specs.Ends.{EndsGood};
     ghost use Rattle.gate_shared.specs.Settling.{AreTheCalls, IsSettled, WhyUnsettled};
 
@@ -161,9 +181,28 @@ impl<N: Base, S: BuildHasher + Copy + Drop> Shared<N, S> {
         let _passes = &self.passes;
     }
 
-    /// The first fault of a call, if there is one.
-    fn fault(&self, alloc: Global, pass: &Pass<N>, event: &Event) -> Result<(), CallFault>
-        ensures { MatchResult result (λ _. NoFault self.now pass.now event.now) (FirstFault self.now pass.now event.now) }
+    /// Compares the calls of a pass with the journal. Nothing changes.
+    fn audit_one(&mut self, pass: &mut Pass<N>)
+        ensures same { self.new ≡ self.old }
+        ensures pass { pass.new ≡ pass.old }
+        ensures stand { EachStands self.old.journal (calls_under pass.old.number pass.old.calls) }
+    {
+        audit_pass(&self.registry, &mut self.keeper, pass);
+    }
+
+    /// Keeps in a pass that a call of it met a full journal.
+    fn mark(&mut self, pass: &mut Pass<N>)
+        requires { entry_limit ≤ length self.old.journal }
+        ensures same { self.new ≡ self.old }
+        ensures pass { pass.new ≡ record pass.old { met_full = true } }
+    {
+        mark_full(&self.registry, &mut self.keeper, &mut pass.mark);
+    }
+
+    /// The first fault of a call but that of a full journal, if there is one.
+    fn own_fault(&self, alloc: Global, pass: &Pass<N>, event: &Event) -> Result<(), CallFault>
+        ensures found { MatchResult result (λ _. IsOwn pass.now event.now × LastStands self.now.journal pass.now) (FirstFault self.now pass.now event.now) }
+        ensures left { IfErr result (λ fault. left_by fault pass.now ≡ pass.now) }
     {
         if !event.is_of(pass.caller()) {
             return Err(CallFault::WrongCaller);
@@ -179,7 +218,20 @@ impl<N: Base, S: BuildHasher + Copy + Drop> Shared<N, S> {
                 };
             }
         }
+        Ok(())
+    }
+
+    /// The first fault of a call, if there is one. The pass keeps that its call met a full journal.
+    fn fault(&mut self, alloc: Global, pass: &mut Pass<N>, event: &Event) -> Result<(), CallFault>
+        ensures found { MatchResult result (λ _. NoFault self.old pass.old event.now) (FirstFault self.old pass.old event.now) }
+        ensures stand { IfErr result IsNotShort }
+        ensures same { self.new ≡ self.old }
+        ensures pass { MatchResult result (λ _. pass.new ≡ pass.old) (λ fault. pass.new ≡ left_by fault pass.old) }
+    {
+        self.audit_one(pass);
+        self.own_fault(alloc, pass, event)?;
         if self.journal.is_full() {
+            self.mark(pass);
             return Err(CallFault::AuditFull);
         }
         Ok(())
@@ -253,6 +305,7 @@ impl<N: Base, S: BuildHasher + Copy + Drop> Shared<N, S> {
         event: &Event,
     ) -> Result<Receipt, CallFault>
         ensures applies { Applies self.old self.new pass.old pass.new event.now result }
+        ensures stand { IfErr result IsNotShort }
         ensures above { IfOk result (λ r. EachBelow r.number pass.old.calls) }
         ensures was { IsHeld N.base self.old }
         ensures is { IsHeld N.base self.new }
@@ -271,6 +324,7 @@ impl<N: Base, S: BuildHasher + Copy + Drop> Shared<N, S> {
     ) -> Result<Receipt, CallFault>
         requires { StandsFor (option_copied prepared) (submission_of event.now) }
         ensures applies { Applies self.old self.new pass.old pass.new event.now result }
+        ensures stand { IfErr result IsNotShort }
         ensures above { IfOk result (λ r. EachBelow r.number pass.old.calls) }
         ensures was { IsHeld N.base self.old }
         ensures is { IsHeld N.base self.new }
@@ -320,13 +374,15 @@ impl<N: Base, S: BuildHasher + Copy + Drop> Shared<N, S> {
         self.recall_held();
         match caller.copy(alloc) {
             Ok(caller) => {
-                let Seat { token, .. } = seat;
+                let Seat { mut token, .. } = seat;
+                let mark = blank(&self.registry, &mut token);
                 self.passes = self.passes.saturating_add(1);
                 Ok(Pass {
                     number: self.passes,
                     caller,
                     calls: Vec::new(alloc),
                     token,
+                    mark,
                     of: PhantomData,
                 })
             }
@@ -340,6 +396,7 @@ impl<N: Base, S: BuildHasher + Copy + Drop> Shared<N, S> {
         ensures rest { rest.new ≡ rest.old }
         ensures passes { passes.new.items ≡ passes.old.items }
         ensures told { IsTold (of_journal (rest.old + length passes.old.items) self.old.journal (calls_in passes.old.items)) }
+        ensures marks { All (IsFullIfMet self.old.journal) passes.old.items }
     {
         lend(&self.registry, &mut rest.token, &mut self.keeper);
         audit_from(&self.registry, &mut self.keeper, passes.as_mut_slice());

@@ -1,6 +1,7 @@
 //! Tokens, which tie passes to the journal under the lock. They have no bytes.
 ghost use Rattle.std.specs.Prelude.{◌≡◌, ℕ, ◌+◌, ◌-◌, ◌≤◌, [], ◌∷◌, ◌++◌, true, false, length, take, drop};
-ghost use Rattle.gate_shared.specs.Tokens.{CanPart, IsTold, emptied, entered, entry_of, first_part, gathered, holder, kept_call, knower, last_part, yielded};
+ghost use Rattle.gate_journal.specs.Legal.{entry_limit};
+ghost use Rattle.gate_shared.specs.Tokens.{CanPart, IsTold, emptied, entered, entry_of, first_part, gathered, holder, kept_call, knower, last_part, marked, marker, unmarked, yielded};
 
 use crate::receipt::Made;
 use atomic_table::{Join, Play, Seat, Split, Table, TableRule};
@@ -9,13 +10,14 @@ use std::alloc::Global;
 use std::collections::LinkedList;
 use std::marker::{Brand, PhantomData};
 
-/// What a token knows: that of the lock the journal, and that of a pass its calls, each with the number of the pass. No
-/// value of it is made.
+/// What a token knows: that of the lock the journal, and those of a pass its calls, each with the number of the pass, and
+/// whether the journal was full. No value of it is made.
 pub struct Known {
     pub keeps: bool,
     pub seats: u64,
     pub all: LinkedList<Entry>,
     pub calls: LinkedList<(u64, Made)>,
+    pub full: bool,
 }
 
 /// The rule of all tokens of a gate.
@@ -100,6 +102,49 @@ impl Split<Known> for Leaves {
     ghost left = { λ _. holder 0 [] };
 
     ghost right = { λ v. v };
+}
+
+struct KnowsNothing;
+
+impl Split<Known> for KnowsNothing {
+    ghost use Rattle.std.specs.Prelude.{false};
+    ghost use Rattle.gate_shared.specs.Tokens.{marker};
+
+    ghost left = { λ v. v };
+
+    ghost right = { λ _. marker false };
+}
+
+struct KnowsFull;
+
+impl Split<Known> for KnowsFull {
+    ghost use Rattle.std.specs.Prelude.{true};
+    ghost use Rattle.gate_shared.specs.Tokens.{marker};
+
+    ghost left = { λ v. v };
+
+    ghost right = { λ _. marker true };
+}
+
+struct Unmarks;
+
+impl Split<Known> for Unmarks {
+    ghost use Rattle.gate_shared.specs.Tokens.{marker, unmarked};
+
+    ghost left = { unmarked };
+
+    ghost right = { λ v. marker v.full };
+}
+
+struct Marks;
+
+impl Join<Known> for Marks {
+    ghost use Rattle.std.specs.Prelude.{[]};
+    ghost use Rattle.gate_shared.specs.Tokens.{holder, marked};
+
+    ghost both = { marked };
+
+    ghost spent = { holder 0 [] };
 }
 
 struct Gathers;
@@ -262,4 +307,82 @@ pub(crate) fn look(registry: &Registry, keeper: &mut Token)
     ensures told { IsTold keeper.old.me.0 }
 {
     registry.shared.load::<Looks>(keeper, 0);
+}
+
+/// A token that knows nothing.
+pub(crate) fn blank(registry: &Registry, token: &mut Token) -> Token
+    requires words { registry.now.shared.table_id.words ≡ 1 }
+    requires token { token.old.table_id ≡ registry.now.shared.table_id }
+    ensures table { (token.new.table_id ≡ token.old.table_id) × (result.table_id ≡ token.old.table_id) }
+    ensures token { token.new.me ≡ token.old.me }
+    ensures result { result.me ≡ (marker false, []) }
+{
+    registry.shared.split_seat::<KnowsNothing>(token)
+}
+
+/// A token that knows that the journal is full.
+fn know_full(registry: &Registry, keeper: &mut Token) -> Token
+    requires words { registry.now.shared.table_id.words ≡ 1 }
+    requires keeper { keeper.old.table_id ≡ registry.now.shared.table_id }
+    requires keeps { keeper.old.me.0.keeps ≡ true }
+    requires full { entry_limit ≤ length keeper.old.me.0.all }
+    ensures table { (keeper.new.table_id ≡ keeper.old.table_id) × (result.table_id ≡ keeper.old.table_id) }
+    ensures keeper { keeper.new.me ≡ keeper.old.me }
+    ensures result { result.me ≡ (marker true, []) }
+{
+    registry.shared.split_seat::<KnowsFull>(keeper)
+}
+
+/// Takes the mark of a token off, and gives a token that has it.
+fn unmark(registry: &Registry, token: &mut Token) -> Token
+    requires words { registry.now.shared.table_id.words ≡ 1 }
+    requires token { token.old.table_id ≡ registry.now.shared.table_id }
+    ensures table { (token.new.table_id ≡ token.old.table_id) × (result.table_id ≡ token.old.table_id) }
+    ensures token { token.new.me ≡ (unmarked token.old.me.0, token.old.me.1) }
+    ensures result { result.me ≡ (marker token.old.me.0.full, []) }
+{
+    registry.shared.split_seat::<Unmarks>(token)
+}
+
+/// Gives a token the mark of another, which knows nothing else.
+fn mark(registry: &Registry, token: &mut Token, other: Token)
+    requires words { registry.now.shared.table_id.words ≡ 1 }
+    requires token { token.old.table_id ≡ registry.now.shared.table_id }
+    requires other { (other.table_id ≡ registry.now.shared.table_id) × (other.me.1 ≡ []) × (other.me.0.seats ≡ 0) × (other.me.0.calls ≡ []) }
+    ensures table { token.new.table_id ≡ token.old.table_id }
+    ensures token { token.new.me ≡ (marked token.old.me.0 other.me.0, token.old.me.1) }
+{
+    registry.shared.join_seat::<Marks>(token, other);
+}
+
+/// Marks a token: the journal is full.
+pub(crate) fn mark_full(registry: &Registry, keeper: &mut Token, token: &mut Token)
+    requires words { registry.now.shared.table_id.words ≡ 1 }
+    requires tables { (keeper.old.table_id ≡ registry.now.shared.table_id) × (token.old.table_id ≡ registry.now.shared.table_id) }
+    requires keeps { keeper.old.me.0.keeps ≡ true }
+    requires full { entry_limit ≤ length keeper.old.me.0.all }
+    ensures tables { (keeper.new.table_id ≡ keeper.old.table_id) × (token.new.table_id ≡ token.old.table_id) }
+    ensures keeper { keeper.new.me ≡ keeper.old.me }
+    ensures token { token.new.me ≡ (marked token.old.me.0 (marker true), token.old.me.1) }
+{
+    let known = know_full(registry, keeper);
+    mark(registry, token, known);
+}
+
+/// Compares the mark of a token, which knows nothing else, with the journal that the keeper knows.
+pub(crate) fn compare_mark(registry: &Registry, keeper: &mut Token, token: &mut Token)
+    requires words { registry.now.shared.table_id.words ≡ 1 }
+    requires tables { (keeper.old.table_id ≡ registry.now.shared.table_id) × (token.old.table_id ≡ registry.now.shared.table_id) }
+    requires keeper { (keeper.old.me.0.keeps ≡ true) × (keeper.old.me.0.full ≡ false) }
+    requires token { token.old.me ≡ (marker token.old.me.0.full, []) }
+    ensures tables { (keeper.new.table_id ≡ keeper.old.table_id) × (token.new.table_id ≡ token.old.table_id) }
+    ensures keeper { keeper.new.me ≡ keeper.old.me }
+    ensures token { token.new.me ≡ token.old.me }
+    ensures told { token.old.me.0.full ≡ true → entry_limit ≤ length keeper.old.me.0.all }
+{
+    let part = unmark(registry, token);
+    mark(registry, keeper, part);
+    look(registry, keeper);
+    let back = unmark(registry, keeper);
+    mark(registry, token, back);
 }

@@ -2,6 +2,7 @@ use Rattle.std.proofs.Common.{◌≡◌, ◌+◌, ℕ, List, [], length, ap, ◌
 use Rattle.atomic_table.specs.Table.{Me}
 use Rattle.gate_shared.specs.declared.tokens.Known.{Known}
 use Rattle.gate_shared.specs.Tokens.{PassCall, CanPart, calls_under, first_part, gathered, holder, last_part}
+use Rattle.gate_shared.proofs.Faults.{marker_as}
 use Rattle.gate_shared.proofs.Told.{can_give_back, given_back, left_of_it, length-calls_under}
 use Rattle.gate_shared.proofs.shared.+audit_from.Goals as goal
 
@@ -11,7 +12,7 @@ split-part-requires-clause-cut g t c =
     let cs = calls_under c.pass.inside.number c.pass.inside.calls.items in
     let n : c.len-count.result ≡ length cs = omega (arith, length-calls_under c.pass.inside.number c.pass.inside.calls.items, c.len-count.ensures) in
     let same : c.audit_from.new.keeper.me.0 ≡ gathered k (holder 1 cs) =
-    ap (λ (m : Me (Unit {0}) Known). m.0) (c.audit_from.ensures.keeper.1 ∙ c.lend.ensures.to) ∙ ap (λ (m : Me (Unit {0}) Known). gathered k m.0) c.pass.invariant.2 in
+    ap (λ (m : Me (Unit {0}) Known). m.0) (c.audit_from.ensures.keeper.1 ∙ c.lend.ensures.to) ∙ (λ i. gathered (c.compare_mark.ensures.keeper i).0 (c.pass.invariant.2 i).0) in
     subst (CanPart 1 c.len-count.result) (sym same) (can_give_back k cs c.len-count.result c.requires.keeper.2 n)
 
 pub invariant_of-pass : goal.invariant_of-pass
@@ -20,7 +21,7 @@ invariant_of-pass g t c =
     let cs = calls_under c.pass.inside.number c.pass.inside.calls.items in
     let n : c.len-count.result ≡ length cs = omega (arith, length-calls_under c.pass.inside.number c.pass.inside.calls.items, c.len-count.ensures) in
     let same : c.audit_from.new.keeper.me.0 ≡ gathered k (holder 1 cs) =
-    ap (λ (m : Me (Unit {0}) Known). m.0) (c.audit_from.ensures.keeper.1 ∙ c.lend.ensures.to) ∙ ap (λ (m : Me (Unit {0}) Known). gathered k m.0) c.pass.invariant.2 in
+    ap (λ (m : Me (Unit {0}) Known). m.0) (c.audit_from.ensures.keeper.1 ∙ c.lend.ensures.to) ∙ (λ i. gathered (c.compare_mark.ensures.keeper i).0 (c.pass.invariant.2 i).0) in
     let part : c.split-part.result.me.0 ≡ holder 1 cs =
     ap (λ (m : Me (Unit {0}) Known). m.0) c.split-part.ensures.result ∙ (ap (last_part 1 c.len-count.result) same ∙ given_back k cs c.len-count.result n) in
     let from = c.lend.ensures.from in
@@ -28,6 +29,8 @@ invariant_of-pass g t c =
       c.pass.invariant.0,
       c.join.ensures.table ∙ (c.lend.ensures.tables.0 ∙ c.pass.invariant.1),
       c.join.ensures.token ∙ ((λ i. (gathered (from i).0 (part i), (from i).1)) ∙ (λ i. (gathered (holder 0 []) (holder 1 cs), (was i).1))),
+      c.compare_mark.ensures.tables.1 ∙ c.pass.invariant.3,
+      marker_as _ _ c.compare_mark.ensures.token c.pass.invariant.4,
     )
 
 pub returns-in-Some-clause-keeper : goal.returns-in-Some-clause-keeper
@@ -36,9 +39,9 @@ returns-in-Some-clause-keeper g t c =
     let cs = calls_under c.pass.inside.number c.pass.inside.calls.items in
     let n : c.len-count.result ≡ length cs = omega (arith, length-calls_under c.pass.inside.number c.pass.inside.calls.items, c.len-count.ensures) in
     let same : c.audit_from.new.keeper.me.0 ≡ gathered k (holder 1 cs) =
-    ap (λ (m : Me (Unit {0}) Known). m.0) (c.audit_from.ensures.keeper.1 ∙ c.lend.ensures.to) ∙ ap (λ (m : Me (Unit {0}) Known). gathered k m.0) c.pass.invariant.2 in
+    ap (λ (m : Me (Unit {0}) Known). m.0) (c.audit_from.ensures.keeper.1 ∙ c.lend.ensures.to) ∙ (λ i. gathered (c.compare_mark.ensures.keeper i).0 (c.pass.invariant.2 i).0) in
     let left : first_part 1 c.len-count.result c.audit_from.new.keeper.me.0 ≡ k = ap (first_part 1 c.len-count.result) same ∙ left_of_it k cs c.len-count.result n in
-    let slots = ap (λ (m : Me (Unit {0}) Known). m.1) (c.audit_from.ensures.keeper.1 ∙ c.lend.ensures.to) in (
-      c.split-part.ensures.table.0 ∙ (c.audit_from.ensures.keeper.0 ∙ c.lend.ensures.tables.1),
+    let slots = ap (λ (m : Me (Unit {0}) Known). m.1) (c.audit_from.ensures.keeper.1 ∙ (c.lend.ensures.to ∙ (λ i. (gathered (c.compare_mark.ensures.keeper i).0 c.pass.inside.token.me.0, (c.compare_mark.ensures.keeper i).1)))) in (
+      c.split-part.ensures.table.0 ∙ (c.audit_from.ensures.keeper.0 ∙ (c.lend.ensures.tables.1 ∙ c.compare_mark.ensures.tables.0)),
       c.split-part.ensures.token ∙ (λ i. (left i, slots i)),
     )

@@ -26,15 +26,17 @@ pub invariant_of-pass-in-Ok : goal.invariant_of-pass-in-Ok
 invariant_of-pass-in-Ok g c = (
   rw c.push_reserved.ensures.items
       (rw c.in_ok-reserve-2.ensures.items
-      (rises_next c.pass.inside.number c.self.inside.journal.entries c.pass.inside.calls.items _ c.pass.invariant.0 (last_stands_at _ _ _ _ _ _ _ _ c.self.view_is c.pass.view_is c.requires.free.1)
+      (rises_next c.pass.inside.number c.self.inside.journal.entries c.pass.inside.calls.items _ c.pass.invariant.0 (last_stands_at _ _ _ _ _ _ _ _ _ c.self.view_is c.pass.view_is c.requires.free.1)
       (omega (arith, c.len.ensures.len, ap length c.in_ok-reserve.ensures.entries)))),
   c.enter.ensures.tables.1 ∙ c.pass.invariant.1,
   token_next c.pass.inside.token.me c.enter.new.token.me c.pass.inside.number c.pass.inside.calls.items _ _ _ c.pass.invariant.2 c.enter.ensures.token c.push_reserved.ensures.items c.in_ok-reserve-2.ensures.items,
+  c.pass.invariant.3,
+  c.pass.invariant.4,
 )
 
 pub returns-in-Ok-clause-above : goal.returns-in-Ok-clause-above
 returns-in-Ok-clause-above g c =
     let below : EachBelow (c.len.result + 1) c.pass.inside.calls.items =
-    next_above c.pass.inside.number c.self.inside.journal.entries c.pass.inside.calls.items (c.len.result + 1) c.pass.invariant.0 (last_stands_at _ _ _ _ _ _ _ _ c.self.view_is c.pass.view_is c.requires.free.1)
+    next_above c.pass.inside.number c.self.inside.journal.entries c.pass.inside.calls.items (c.len.result + 1) c.pass.invariant.0 (last_stands_at _ _ _ _ _ _ _ _ _ c.self.view_is c.pass.view_is c.requires.free.1)
     (omega (arith, c.len.ensures.len, ap length c.in_ok-reserve.ensures.entries)) in
     subst (λ (p : PassView). EachBelow (c.len.result + 1) p.calls) c.pass.view_is below

@@ -1,5 +1,7 @@
-use Rattle.std.proofs.Common.{List, ◌+◌, length, subst, sym}
-use Rattle.gate_shared.specs.Calls.{PassView}
+use Rattle.std.proofs.Common.{List, ◌+◌, length, ap, subst, sym, ◌∙◌}
+use Rattle.std.specs.List.{All}
+use Rattle.gate_journal.specs.declared.entry.Entry.{Entry}
+use Rattle.gate_shared.specs.Calls.{IsFullIfMet, PassView}
 use Rattle.gate_shared.specs.Ends.{EndsGood}
 use Rattle.gate_shared.specs.Held.{Held}
 use Rattle.gate_shared.specs.Settling.{WhyUnsettled}
@@ -12,6 +14,10 @@ returns-in-Ok-clause-good g c =
     subst (λ (passes : List PassView). EndsGood g.N.Base.base passes c.into_settled.result.1) c.audit.ensures.passes
     (subst (EndsGood g.N.Base.base c.audit.new.passes.items) (sym c.into_settled.ensures.state)
     (ends_good g.N.Base.base c.audit.new.self c.audit.new.passes.items c.in-Ok.owners c.in-Ok.ensures.is c.in-Ok.ensures.ok))
+
+pub returns-in-Ok-clause-full : goal.returns-in-Ok-clause-full
+returns-in-Ok-clause-full g c =
+    subst (λ (journal : List Entry). All (IsFullIfMet journal) c.args.passes.items) (sym (c.into_settled.ensures.journal ∙ ap (λ (s : Held). s.journal) c.audit.ensures.same)) c.audit.ensures.marks
 
 pub returns-in-Err-clause-stand : goal.returns-in-Err-clause-stand
 returns-in-Err-clause-stand g c =

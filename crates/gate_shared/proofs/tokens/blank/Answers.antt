@@ -1,0 +1,6 @@
+use Rattle.std.proofs.Common.{arith}
+use Rattle.gate_shared.proofs.Moves.{blanks}
+use Rattle.gate_shared.proofs.tokens.blank.Goals as goal
+
+pub split_seat-requires : goal.split_seat-requires
+split_seat-requires c = (c.requires.token, omega arith, blanks _ _)
