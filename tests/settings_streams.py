@@ -10,7 +10,7 @@ from itertools import product
 
 from bitcoin import Input, Output, Transaction, number_hash
 from gate import ROOT, same
-from model import ANCHOR, HOUR, KILO, MULTISIG, RETURN, USUAL, Coin, Model, Opening, dust, fees_of, policy_lines, releases
+from model import ANCHOR, HOUR, KILO, MULTISIG, RETURN, USUAL, Coin, Model, Opening, dust, fees_of, policy_lines, rate_of, releases
 from random_streams import compared
 
 STREAMS = 150
@@ -218,7 +218,10 @@ def test_settings(gate):
         events = [entered(1, made.model), entered(2, made.model)] + [made.event() for _ in range(EVENTS)]
         for reply in compared(gate, seed, made, events):
             met[reply.split()[1] if reply.startswith("denied") else reply.split()[0]] += 1
+            # which also says whether the session is kept
+            met[reply[: len("denied A29 keep")]] += reply.startswith("denied A29")
         met.update(made.model.gone)
+    same("ways in which no stream met an invalid transaction", [it for it in ("denied A29 clos", "denied A29 keep") if met[it] < 10], [])
     same("rules of settings that no stream met", [rule for rule in ("A16", "A17", "A18", "A19", "A31", "A32", "A34", "A35", "A42", "A46", "A51", "admitted", "expired", "trimmed", "replaced") if met[rule] < 20], [])
 
 
@@ -256,6 +259,28 @@ def test_parents_of_what_is_replaced(gate):
             for reply in compared(gate, seed, made, events)[-3:]:
                 met[wide, reply.split()[1] if reply.startswith("denied") else reply.split()[0]] += 1
     same("replies that no stream met", [it for it in ((False, "A40"), (False, "admitted"), (True, "A40"), (True, "admitted")) if met[it] < 10], [])
+
+
+def test_fee_filters(gate):
+    """Listings under a fee filter of an entry's feerate rounded down, and of one satoshi more: it hides the entry if fees are
+    rounded up, and not if they are rounded down to what the entry pays."""
+    met, settings = Counter(), gate.settings()
+    for seed in range(30):
+        for up in (0, 1):
+            made = Stream(seed, settings)
+            made.opening = Opening(made.opening.times, bloom=True, coins=made.opening.coins, settings={"feesroundup": up})
+            made.opening.verdicts["*"] = "ok"
+            made.model = Model(made.opening)
+            events = [entered(1, made.model)] + [made.submitted(made.payment()) for _ in range(6)]
+            if not made.model.pool:
+                continue
+            entry = made.random.choice(made.model.pool)
+            rate = rate_of(entry.fee, entry.size) + 1
+            for asked in (rate - 1, rate):
+                events += [("peer 1 feefilter %d" % asked, made.model.fee_filter(1, asked)), ("peer 1 mempool", made.model.mempool(1))]
+            below, above = (entry.tx.txid() in reply for reply in compared(gate, seed, made, events)[-3::2])
+            met[up, below, above] += 1
+    same("listings that no stream met", [it for it in ((0, True, True), (1, True, False)) if met[it] < 10], [])
 
 
 def test_sizes_of_families(gate):

@@ -1,0 +1,294 @@
+"""What a node of today answered, case by case, beside the gate's replies under its policy (data/README.md).
+
+A case is an opening, and events with the node's answers. What no line of an opening asks of the gate yet is left out, for a
+reason that the event itself shows; so is what hangs together with a transaction that the node took and the gate wasn't given.
+"""
+
+import json
+import lzma
+import os
+import sys
+from collections import Counter
+from dataclasses import dataclass, field
+
+from gate import ROOT, lines, same, same_lines, true
+from model import USUAL, releases
+
+sys.path.insert(0, os.path.join(ROOT, "gated"))
+
+from gated import node
+from gated.node.transactions import Reader
+
+RECORDING = os.path.join(ROOT, "tests", "data", "knots-29-cases.jsonl.xz")
+# the release whose policy the node had, and what it had otherwise
+RELEASE = "core-29"
+OTHERWISE = {"permitbaremultisig": 0, "keepinvalid": 1}
+# what no case says, since it decides about none: the node's own number is the release's
+UNSAID = ("maxtxlegacysigops",)
+# how the node names a refusal, where the policy has another name
+NAMES = {
+    "bad-txns-input-sigops-toomany-overall": "bad-txns-nonstandard-inputs",
+    "bad-txns-input-witness-unknown": "bad-txns-nonstandard-inputs",
+    "bad-witness-anchor-not-empty": "bad-witness-nonstandard",
+    "mempool-script-verify-flag-failed": "non-mandatory-script-verify-flag",
+}
+PACKAGE, LIST, VERSION_3, DUST, BEHIND = "packages", "lists, which the node judges as packages", "version 3", "dust that a child may spend", "behind these"
+# how many answers were compared when this was written
+COMPARED = 471
+EXPIRY = 336 * 3600
+COINBASE = "00" * 32
+
+
+def dust_threshold(script):
+    """Of an output at a dust rate of 3,000 (GetDustThreshold): what it costs to make and to spend it."""
+    if script[:1] == b"\x6a":
+        return 0
+    is_program = 4 <= len(script) <= 42 and (script[0] == 0 or 0x51 <= script[0] <= 0x60) and script[1] == len(script) - 2
+    return 3 * (8 + 1 + len(script) + (67 if is_program else 148))
+
+
+def read(digits):
+    """The transaction, or None for a text that is none."""
+    try:
+        return node.read_transaction(digits)
+    except (ValueError, KeyError):
+        return None
+
+
+def in_block(digits):
+    """The transactions of a block."""
+    reader, found = Reader(bytes.fromhex(digits)), []
+    reader.take(80)
+    for _ in range(reader.count()):
+        began = reader.at
+        reader.take(4)
+        has_witness = reader.text[reader.at : reader.at + 2] == b"\0\1"
+        reader.take(2 if has_witness else 0)
+        inputs = reader.each(lambda: (reader.take(36), reader.counted(), reader.take(4)))
+        reader.each(lambda: (reader.take(8), reader.counted()))
+        for _ in inputs if has_witness else ():
+            reader.each(reader.counted)
+        reader.take(4)
+        found.append(node.read_transaction(reader.text[began : reader.at].hex()))
+    return found
+
+
+def has_dust(transaction):
+    return any(it.value < dust_threshold(it.script) for it in transaction.paid)
+
+
+class Event:
+    """An event, the node's answer to it (None if it wasn't asked), and what it carries."""
+
+    def __init__(self, about, line, answer):
+        self.about, self.line, self.answer = about, line, answer
+        words = line.split(" ", 4)
+        self.call = json.loads(words[4]) if words[0] == "user" else None
+        self.kind = self.call["method"] if self.call else words[0] if words[0] == "chain" else words[2]
+        self.now = int(words[3]) if words[0] == "peer" and words[2] == "tx" or self.call else int(words[2]) if self.kind == "chain" else 0
+        self.blocks = [in_block(it) for it in line.split(" ")[3:]] if self.kind == "chain" else []
+        texts = [words[4]] if self.kind == "tx" else self.texts_of_call() if self.call else []
+        self.transactions = [it for it in map(read, texts) if it]
+        self.is_list = self.kind == "testmempoolaccept" and len(texts) != 1
+
+    def texts_of_call(self):
+        first = (self.call["params"] or [None])[0]
+        return [it for it in first if isinstance(it, str)] if isinstance(first, list) else []
+
+    def told(self):
+        """The node's answer to a call, without what stands around it."""
+        found = self.answer.get("result", self.answer.get("reply", self.answer)) if isinstance(self.answer, dict) else self.answer
+        return found[0] if self.kind == "testmempoolaccept" and isinstance(found, list) else found
+
+    def refusal(self):
+        """How the node's refusal of a transaction begins; empty if it took it."""
+        told = self.told() or {}
+        return told.get("message", told.get("reject-reason", ""))
+
+    def reason(self):
+        """Why the gate can't be asked."""
+        if self.kind == "submitpackage":
+            return PACKAGE
+        if self.is_list:
+            return LIST
+        if any(it.version == 3 for it in self.transactions):
+            return VERSION_3
+        if any(map(has_dust, self.transactions)) and not self.refusal().startswith("dust"):
+            return DUST
+        return None
+
+    def is_taken(self):
+        """Whether the node's pool got a transaction by it."""
+        if self.kind == "submitpackage":
+            return any("error" not in it for it in self.told().get("tx-results", {}).values())
+        return self.kind == "tx" and not self.refusal()
+
+
+class Joined:
+    """Transactions that are joined by what they spend: by a parent, or by a coin that both spend."""
+
+    def __init__(self):
+        self.above, self.seen = {}, set()
+
+    def root(self, key):
+        while key in self.above:
+            key = self.above[key]
+        return key
+
+    def join(self, one, other):
+        one, other = self.root(one), self.root(other)
+        if one != other:
+            self.above[one] = other
+
+    def add(self, transaction):
+        self.seen.add(transaction.txid)
+        self.join(transaction.txid, (transaction.txid, "outputs"))
+        for it in transaction.spent:
+            if it.txid != COINBASE:
+                self.join(transaction.txid, (it.txid, "outputs") if it.txid in self.seen else (it.txid, it.index))
+
+
+@dataclass
+class Case:
+    """A case, and what of it the gate is given."""
+
+    name: str
+    opening: list
+    events: list
+    joined: Joined = field(default_factory=Joined)
+    # the transactions that the node took and the gate wasn't given
+    foreign: set = field(default_factory=set)
+    # whether whatever follows may depend on them
+    is_lost: bool = False
+    chain: list = field(default_factory=list)
+
+    def settings(self):
+        """What the opening says of admission."""
+        return {word: int(number) for word, number in (it.split() for it in self.opening if it.split()[0] in USUAL)}
+
+    def lines(self):
+        """The opening's lines with the release's name in place of what the release has."""
+        usual = {**USUAL, **releases()[RELEASE]}
+        return [it for it in self.opening if it.split()[0] not in USUAL] + ["policy " + RELEASE] + ["%s %d" % it for it in self.settings().items() if it[1] != usual[it[0]]]
+
+    def is_unsure(self, txids):
+        roots = {self.joined.root(it) for it in self.foreign}
+        return self.is_lost or any(self.joined.root(it) in roots for it in txids)
+
+    def parts(self):
+        """Each event with why it is left out, or None, and with the txids of which nothing is known there."""
+        began = next((it.now for it in self.events if it.now), 0)
+        for event in self.events:
+            found = event.transactions + [it for block in event.blocks for it in block]
+            for it in found:
+                self.joined.add(it)
+            reason = event.reason()
+            if event.kind == "chain":
+                self.follow(event)
+            named = [it.txid for it in event.transactions]
+            if event.kind == "getmempoolentry":
+                named = event.call["params"]
+            if not reason and (self.is_unsure(named) or event.kind in ("chain", "getmempoolinfo") and self.foreign):
+                reason = BEHIND
+            if reason and event.is_taken():
+                self.foreign.update(it.txid for it in event.transactions)
+                self.is_lost = self.is_lost or any(it.startswith("budget") for it in self.opening)
+            self.is_lost = self.is_lost or bool(reason) and event.now > began + EXPIRY
+            yield event, reason, {it for it in self.joined.seen if self.is_unsure([it])}
+
+    def follow(self, event):
+        """What blocks that go give back to the node's pool alone."""
+        count = int(event.line.split(" ")[1])
+        gone = [self.chain.pop() for _ in range(min(count, len(self.chain)))]
+        self.foreign.update(it.txid for block in gone for it in block[1:] if it.version == 3 or has_dust(it))
+        self.chain += event.blocks
+
+
+def recorded():
+    with lzma.open(RECORDING, "rt", encoding="utf-8") as file:
+        for it in map(json.loads, file):
+            yield Case(it["name"], it["opening"], [Event(*event) for event in it["events"]])
+
+
+def policy_name(said, met):
+    """The policy's name of what the node refused, without what the node says more."""
+    name = said.partition(", ")[0].partition(" (")[0]
+    met[name] += 1
+    return NAMES.get(name, name)
+
+
+def wanted_of(event, unsure, met):
+    """What the gate has to say, from the node's answer."""
+    told = event.told()
+    if event.kind == "tx":
+        return ("denied", policy_name(told["message"], met)) if event.refusal() else ("admitted", [event.transactions[0].txid], len(told["left"]))
+    if event.kind == "testmempoolaccept":
+        found = {name: told[name] for name in ("allowed", "txid", "wtxid")}
+        if told["allowed"]:
+            return {**found, "vsize": told["vsize"], "fee": round(told["fees"]["base"] * 1e8)}
+        return {**found, "reason": policy_name(told["reject-reason"], met)}
+    if event.kind == "getrawmempool":
+        return sorted(set(told) - unsure)
+    return told
+
+
+def found_of(event, reply, unsure):
+    """The same from the gate's reply."""
+    words = reply.split(" ")
+    if event.kind == "tx":
+        return ("denied", " ".join(words[3:])) if words[0] == "denied" else (words[0], [words[1]], int(words[7]))
+    if event.kind == "chain":
+        return dict(zip(("tip", "removed", "entered"), map(int, words[1::2])))
+    body = json.loads(reply.split(" ", 2)[2])
+    if body["error"]:
+        return body["error"]
+    result = body["result"]
+    if event.kind == "testmempoolaccept":
+        (it,) = result
+        told = {"vsize": it["vsize"], "fee": it["fees"]["base"]} if it["allowed"] else {"reason": it["reject-reason"]}
+        return {**{name: it[name] for name in ("allowed", "txid", "wtxid")}, **told}
+    if event.kind == "getrawmempool":
+        return sorted(set(result) - unsure)
+    return {name: result[name] for name in event.told() if name in result}
+
+
+def compared(gate, case, met):
+    """Each answer of the node that differs, how many were compared, and how many were left out for which reason."""
+    parts = list(case.parts())
+    # the gate's chain goes with the node's in any case
+    given = [it for it in parts if not it[1] or it[0].kind == "chain"]
+    done = gate.run("run", lines(case.lines()) + "---\n" + lines(it[0].line for it in given))
+    same("%s: status and standard error" % case.name, (done.status, done.stderr), (0, b""))
+    differ, count = [], 0
+    for (event, reason, unsure), reply in zip(given, done.stdout.decode().splitlines()):
+        if event.answer is not None and not reason:
+            found, wanted = found_of(event, reply, unsure), wanted_of(event, unsure, met)
+            count += 1
+            if found != wanted:
+                differ.append("%s, %r: %s: gate: %s; node: %s" % (case.name, event.about, event.kind, found, wanted))
+    return differ, count, Counter(reason for event, reason, _ in parts if reason and event.answer is not None)
+
+
+def test_a_node_of_today(gate):
+    """Each answer that a node with Bitcoin Core 29's policy gave, but for what needs version 3, packages, or dust that a child
+    spends, and for what hangs together with that."""
+    differ, met, left_out, whole, count, cases = [], Counter(), Counter(), 0, 0, 0
+    for case in recorded():
+        more, number, reasons = compared(gate, case, met)
+        differ += more
+        count, left_out, whole, cases = count + number, left_out + reasons, whole + (not reasons), cases + 1
+    told = ", ".join("%d %s" % (left_out[it], it) for it in (PACKAGE, LIST, VERSION_3, DUST, BEHIND))
+    print("recorded_cases: %d answers in %d cases compared, %d cases whole; left out: %s" % (count, cases, whole, told), flush=True)
+    same_lines(differ, [])
+    same("names that the node doesn't use", [it for it in NAMES if not met[it]], [])
+    true("at least %d answers compared, and not %d" % (COMPARED, count), count >= COMPARED)
+
+
+def test_the_policy_of_that_node(gate):
+    """What the cases say of admission is the release's, but for what the node had otherwise and for the options of a case."""
+    release, usual = releases()[RELEASE], {**USUAL, **releases()[RELEASE]}
+    for case in recorded():
+        said = case.settings()
+        same(case.name, [it for it in release if it not in said and it not in UNSAID], [])
+        options = {"maxtxlegacysigops", "limitdescendantcount", "limitancestorcount", "minrelaytxfee", "mempoolfullrbf"}
+        same(case.name, {word: number for word, number in said.items() if number != usual[word] and word not in options}, OTHERWISE)
