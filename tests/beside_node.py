@@ -9,6 +9,7 @@ import tempfile
 
 from bitcoin import Input, Output, Transaction, WITNESS_KEY_HASH, number_hash
 from gate import ROOT, same, same_lines
+from model import releases
 
 sys.path.insert(0, os.path.join(ROOT, "gated"))
 
@@ -90,24 +91,55 @@ def opened_from(recorded, *words):
 
 
 def test_full_replacement_is_told(gate):
-    """A node that replaces whatever pays more is followed in it, and no other is. One that doesn't say it does so by its
-    release: Bitcoin Core 28.0 was the first."""
+    """A node that replaces whatever pays more is followed in it, and no other is. One that doesn't say it does as its release,
+    which the opening names."""
     recorded = calls(NODES[0])
     for is_on, release, wanted in (
         (True, 240000, ["mempoolfullrbf 1"]),
-        (False, 280000, ["mempoolfullrbf 0"]),
-        (None, 280000, ["mempoolfullrbf 1"]),
-        (None, 310000, ["mempoolfullrbf 1"]),
-        (None, 220000, ["mempoolfullrbf 0"]),
-        (None, 270200, ["mempoolfullrbf 0"]),
+        (False, 280000, ["policy core-28", "mempoolfullrbf 0"]),
+        (None, 280000, ["policy core-28"]),
+        (None, 310000, ["policy core-30"]),
+        (None, 220000, []),
+        (None, 270200, ["policy core-27"]),
     ):
-        result_of(recorded, "getnetworkinfo")["version"] = release
+        result_of(recorded, "getnetworkinfo").update({"version": release, "subversion": ""})
         told = result_of(recorded, "getmempoolinfo")
         told.pop("fullrbf", None)
         if is_on is not None:
             told["fullrbf"] = is_on
         lines = opened_from(recorded)
-        same_lines([it for it in lines[: lines.index("---")] if it.startswith("mempoolfullrbf")], wanted)
+        same_lines([it for it in lines[: lines.index("---")] if it.startswith(("policy", "mempoolfullrbf"))], wanted)
+
+
+def test_names_of_releases(gate):
+    """A node of each version is of the release whose name an opening has for it (docs/FORMATS.md), and of no name before them."""
+    table = releases()
+    for name, version in ((it, int(it.partition("-")[2]) * 10000) for it in table if it.startswith("core-")):
+        wanted = name if table[name] else None
+        # the numbers of the table are those of 29.1
+        later = 100 if name == "core-29" else 0
+        same(name, [node.policy_of({"version": version + it}) for it in (later, 9900)], [wanted, wanted])
+    for version, subversion, wanted in (
+        (210200, "/LitecoinCore:0.21.2/", None),
+        (249900, "/Satoshi:24.99.0/", None),
+        (290000, "/Satoshi:29.0.0/", "core-28"),
+        (310000, "/Satoshi:31.0.0/", "core-30"),
+        (280100, "/Satoshi:28.1.0/Knots:20250305/", "core-28"),
+        (290403, "/Satoshi:29.4.3/Knots:20260508/", "knots-29"),
+    ):
+        same(subversion, node.policy_of({"version": version, "subversion": subversion}), wanted)
+    same("a name for each release", {node.policy_of({"version": it}) for it in range(200000, 320000, 100)} | {"knots-29"}, {it if table[it] else None for it in table})
+
+
+def test_data_outputs_are_told(gate):
+    """Bitcoin Core 30.0 tells what all data of a transaction may come to: each output may have so much, and all together. What
+    is above the greatest number of a line decides nothing."""
+    recorded = calls(NODES[0])
+    result_of(recorded, "getnetworkinfo").update({"version": 300000, "subversion": ""})
+    for most, wanted in ((83, 83), (0, 0), (100000, 100000), (4000000, 100000)):
+        result_of(recorded, "getmempoolinfo")["maxdatacarriersize"] = most
+        lines = opened_from(recorded)
+        same_lines([it for it in lines[: lines.index("---")] if it.startswith("data")], ["datacarriersize %d" % wanted, "datacarriertotal %d" % wanted])
 
 
 def test_settings_of_releases(gate):

@@ -7,7 +7,7 @@ from dataclasses import dataclass, field
 from typing import Collection, Iterator, Sequence
 
 from .patient import Blocking, PatientClient
-from .node import BLOCK_CAME, MEDIAN_OF, Entry, Unusable, View, coins_of, setting_lines
+from .node import BLOCK_CAME, MEDIAN_OF, Entry, Unusable, View, coins_of, policy_lines
 from .node.answers import PoolInfo, PoolListing
 from .node.releases import overridden
 
@@ -25,8 +25,6 @@ class Opening:
 
     chain: str
     release: int
-    # what the node asks for at the least, in satoshi per 1,000 virtual bytes
-    relay_minimum: int
     tip: int
     best: str
     # the lines of the opening
@@ -74,7 +72,7 @@ def _lines(view: View, entries: Sequence[Entry], settings: Sequence[str], times:
     coins, heights = coins_of(view, transactions)
     first = first_height(view.tip, heights, times)
     own = ["budget %d" % view.budget]
-    own += setting_lines(view.settings)
+    own += policy_lines(view)
     # what the operator sets goes before what the node says
     given = {line.partition(" ")[0] for line in settings}
     found = [line for line in own if line.partition(" ")[0] not in given]
@@ -101,7 +99,6 @@ def _taken(source: Blocking, settings: Sequence[str], times: int) -> Opening:
     return Opening(
         chain=view.chain,
         release=view.release,
-        relay_minimum=view.relay_minimum,
         tip=view.tip,
         best=view.best,
         lines=lines,

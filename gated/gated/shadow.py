@@ -71,9 +71,7 @@ class Shadow(Watcher):
         self.agreed = 0
         # where the journal is written now
         self.segment: Callable[[], Optional[Path]] = lambda: None
-        self._release = self._relay_minimum = 0
-        # the first words of the opening's lines, among them the settings that it says
-        self._said: list[str] = []
+        self._release = 0
         # by rule, the operator's lines that say another number than the node has
         self._overridden: dict[str, str] = {}
         self.opened_at, self.why = 0.0, ""
@@ -86,8 +84,7 @@ class Shadow(Watcher):
     # what is followed
 
     def opened(self, opening: Opening, why: str) -> None:
-        self._release, self._relay_minimum = opening.release, opening.relay_minimum
-        self._said = [line.partition(" ")[0] for line in opening.lines]
+        self._release = opening.release
         self._overridden = opening.overridden
         self.why, self.opened_at = why, time.time()
         self.tip = Tip(opening.best, opening.tip)
@@ -134,7 +131,7 @@ class Shadow(Watcher):
             found.segment, found.entry = self.segment(), it.entry
 
     def _why_known(self, ours: Answer, theirs: Answer) -> str:
-        found = differences.known(self._release, self._relay_minimum, ours, theirs, self._said)
+        found = differences.known(self._release, ours, theirs)
         if found is None and ours.rule in self._overridden:
             return "the opening says %s" % self._overridden[ours.rule]
         return found.text() if found else ""

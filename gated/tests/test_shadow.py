@@ -20,7 +20,7 @@ TAKEN = Answer(fee=400, vsize=96)
 
 def opening(release=290400, lines=(), own=()):
     return Opening(
-        chain="regtest", release=release, relay_minimum=1000, tip=1, best="00" * 32, lines=list(lines), entries=[], heights={}, floor=0,
+        chain="regtest", release=release, tip=1, best="00" * 32, lines=list(lines), entries=[], heights={}, floor=0,
         outpoints=set(), pool=set(), pool_info={}, sequence=1, overridden=overridden(own, {"minrelaytxfee": 100}),
     )  # fmt: skip
 
@@ -76,14 +76,14 @@ def test_known_differences(gate):
 
 
 def test_known_by_release_and_setting(gate):
-    """An earlier release explains nothing, and neither does one whose setting the opening says."""
+    """An earlier release explains nothing, and neither does one whose setting an opening takes by its name."""
     it = shadow(release=270000)
     it.tried("aa", Answer("A12", "version"), TAKEN)
     same("an earlier one", counts(it), {("A12", "no"): 1})
-    for lines, known in (((), "yes"), (("mintxsize 65",), "no")):
-        it = shadow(lines=lines)
-        it.tried("aa", Answer("A19", "tx-size-small"), TAKEN)
-        same("%s" % (lines,), counts(it), {("A19", known): 1})
+    for rule in ("A19", "A31", "A40"):
+        it = shadow()
+        it.tried("aa", Answer(rule, "its token"), TAKEN)
+        same("taken by a line", counts(it), {(rule, "no"): 1})
 
 
 def test_known_by_a_line_of_the_operator(gate):

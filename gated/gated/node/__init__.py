@@ -5,8 +5,8 @@ a JSON object with `method`, `params`, and `result` or `error`.
 """
 
 from .answers import Candidate, Coin, Entry, coin_before, coin_of, entry_of, floor_of, parents_first, satoshi
-from .lines import add_words, asked, digits_in, first_height, opening, run, said_in, setting_lines, times_of
-from .releases import RELAY_MINIMUM, SCRIPT_REASONS, settings_of
+from .lines import add_words, asked, digits_in, first_height, opening, policy_lines, run, said_in, setting_lines, times_of
+from .releases import SCRIPT_REASONS, policy_of, settings_of
 from .sources import OneByOne, RecordedNode, Recorder, Refused, RunningNode, Source, Unusable, read_json
 from .transactions import Paid, Spent, Transaction, read_transaction
 from .view import BLOCK_CAME, MEDIAN_OF, View, coins_of
@@ -19,7 +19,6 @@ __all__ = [
     "MEDIAN_OF",
     "OneByOne",
     "Paid",
-    "RELAY_MINIMUM",
     "RecordedNode",
     "Recorder",
     "Refused",
@@ -41,6 +40,8 @@ __all__ = [
     "floor_of",
     "opening",
     "parents_first",
+    "policy_lines",
+    "policy_of",
     "read_json",
     "read_transaction",
     "run",

@@ -22,10 +22,14 @@ class ChainInfo(TypedDict):
     bestblockhash: str
 
 
-class NetworkInfo(TypedDict):
+class _NetworkInfo(TypedDict):
+    version: int
+
+
+class NetworkInfo(_NetworkInfo, total=False):
     """`getnetworkinfo`."""
 
-    version: int
+    subversion: str
 
 
 class _PoolInfo(TypedDict):

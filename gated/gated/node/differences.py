@@ -3,7 +3,7 @@
 from __future__ import annotations
 
 from dataclasses import dataclass
-from typing import Collection, Optional
+from typing import Optional
 
 from .releases import Change, explained
 
@@ -23,14 +23,14 @@ class Answer:
         return "taken with fee %s and virtual size %s" % (self.fee, self.vsize)
 
 
-def known(release: int, relay_minimum: int, gate: Answer, told: Answer, said: Collection[str] = ()) -> Optional[Change]:
-    """The change of a release by which the two answers differ, where the opening says these settings; None if none is known."""
-    return explained(release, relay_minimum, gate.rule, told.reason, said)
+def known(release: int, gate: Answer, told: Answer) -> Optional[Change]:
+    """The change of a release by which the two answers differ; None if none is known."""
+    return explained(release, gate.rule, told.reason)
 
 
-def why_known(release: int, relay_minimum: int, gate: Answer, told: Answer, said: Collection[str] = ()) -> Optional[str]:
+def why_known(release: int, gate: Answer, told: Answer) -> Optional[str]:
     """The same in words."""
-    found = known(release, relay_minimum, gate, told, said)
+    found = known(release, gate, told)
     return found.why if found else None
 
 

@@ -35,6 +35,11 @@ def setting_lines(settings: Mapping[str, int]) -> list[str]:
     return ["%s %d" % setting for setting in settings.items()]
 
 
+def policy_lines(view: View) -> list[str]:
+    """The line of the node's release, and those of the settings that are known beside."""
+    return (["policy " + view.policy] if view.policy else []) + setting_lines(view.settings)
+
+
 def first_height(view: View, heights: Collection[int]) -> int:
     """The lowest height whose time decides: of the last eleven blocks, and of the eleven before each of these heights."""
     return max(0, min({view.tip + 1, *heights}) - MEDIAN_OF)
@@ -69,7 +74,7 @@ def opening(view: View, entries: Sequence[Entry], candidates: Sequence[Candidate
     yield "# from a node: chain %s, tip %d, %d transactions of its pool" % (view.chain, view.tip, len(entries))
     yield "# scripts are not run: what the node took is taken to be right"
     yield "budget %d" % view.budget
-    yield from setting_lines(view.settings)
+    yield from policy_lines(view)
     yield from times
     yield from dict.fromkeys(verdicts_of(candidates))
     yield "verdict * ok"

@@ -1,19 +1,22 @@
-"""What is known of releases of Bitcoin Core: the settings that each has where a node doesn't tell them, and what each is known
-to do otherwise than the gate (docs/DECISIONS.md, "Beside a node"). Nothing else here or in gated knows a release."""
+"""What is known of releases of Bitcoin Core: by which name an opening takes the settings that one has, and what each is known
+to do otherwise than the gate under that name (docs/DECISIONS.md, "Beside a node"). Nothing else here or in gated knows a release."""
 
 from __future__ import annotations
 
-from dataclasses import dataclass, field
-from typing import Any, Callable, Collection, Iterable, Mapping, Optional
+from dataclasses import dataclass
+from typing import Any, Iterable, Mapping, Optional
 
-from .answers import PoolInfo, satoshi
+from .answers import NetworkInfo, PoolInfo, satoshi
 
-# the relay minimum of Bitcoin Core before 29.1, in satoshi for 1,000 virtual bytes
-RELAY_MINIMUM = 1000
+# the name of a release in an opening (docs/FORMATS.md), from which version of a node on; one before them has the defaults
+POLICIES = ((300000, "core-30"), (290100, "core-29"), (280000, "core-28"), (270000, "core-27"), (260000, "core-26"), (250000, "core-25"))
+KNOTS = "knots-29"
+KNOTS_SINCE = 290000
 # the rule that a setting decides, where one alone does
 RULES = {
-    "datacarriersize": "A16", "permitbaremultisig": "A16", "dustrelayfee": "A17", "datacarrieroutputs": "A18", "mintxsize": "A19", "mempoolfullrbf": "A23", "replacedparents": "A40",
-    "minrelaytxfee": "A35", "limitancestorcount": "A36", "limitancestorsize": "A36", "limitdescendantcount": "A36", "limitdescendantsize": "A36", "incrementalrelayfee": "A42",
+    "datacarriersize": "A16", "permitbaremultisig": "A16", "dustrelayfee": "A17", "datacarrieroutputs": "A18", "mintxsize": "A19", "mempoolfullrbf": "A23", "anchors": "A31",
+    "maxtxlegacysigops": "A31", "minrelaytxfee": "A35", "limitancestorcount": "A36", "limitancestorsize": "A36", "limitdescendantcount": "A36", "limitdescendantsize": "A36", "replacedparents": "A40",
+    "incrementalrelayfee": "A42", "datacarriertotal": "A51",
 }  # fmt: skip
 # how a node's `getmempoolinfo` names a setting, where that is another name than the line's
 FIELDS = {"fullrbf": "mempoolfullrbf", "maxdatacarriersize": "datacarriersize"}
@@ -25,29 +28,15 @@ SCRIPT_REASONS = {
 }
 
 
-def _always(relay_minimum: int) -> bool:
-    return True
-
-
-def _pays_less(relay_minimum: int) -> bool:
-    return relay_minimum < RELAY_MINIMUM
-
-
 @dataclass(frozen=True)
 class Change:
-    """What a release changed: the settings that it has by default, where a node doesn't tell them, and the difference that
-    comes of it where the opening doesn't say these settings. The difference is the gate's rule ("" if the gate takes it), and
-    how the node's reason begins ("" if the node takes it)."""
+    """What a release changed that no line of an opening says. The difference is the gate's rule, and how the node's reason begins
+    ("" if the node takes it)."""
 
     since: int
     why: str
     rule: str
     reason: str = ""
-    settings: dict[str, int] = field(default_factory=dict)
-    # settings that explain the difference, though their number is the node's to tell
-    told: tuple[str, ...] = ()
-    # what has to hold of the node's relay minimum
-    holds: Callable[[int], bool] = _always
 
     @property
     def release(self) -> str:
@@ -57,51 +46,54 @@ class Change:
     def text(self) -> str:
         return "since Bitcoin Core %s: %s" % (self.release, self.why)
 
-    def explains(self, release: int, relay_minimum: int, rule: str, reason: str, said: Collection[str]) -> bool:
-        """Whether it is why the gate's rule and the node's reason differ, by an opening that says these settings."""
-        if any(it in said for it in (*self.settings, *self.told)):
-            return False
+    def explains(self, release: int, rule: str, reason: str) -> bool:
+        """Whether it is why the gate's rule and the node's reason differ."""
         is_reason = reason.startswith(self.reason) if self.reason else not reason
-        return rule == self.rule and is_reason and release >= self.since and self.holds(relay_minimum)
+        return rule == self.rule and is_reason and release >= self.since
 
 
 SAME_REFUSAL = "the same refusal under another name"
 CHANGES = (
-    Change(250000, "65 bytes without witnesses are enough", "A19", settings={"mintxsize": 65}),
     Change(280000, "version 3 is standard (BIP 431)", "A12"),
-    Change(280000, "anchors may be spent (pay to anchor)", "A31"),
-    Change(280000, "a replacement may have the parents of all that it replaces", "A40", settings={"replacedparents": 1}),
     Change(290000, "dust may stand in a transaction without a fee whose child spends it", "A17"),
     Change(290000, SAME_REFUSAL, "A17", "dust-nonanchor"),
+    Change(290000, SAME_REFUSAL, "A31", "bad-txns-input-sigops-toomany-overall"),
+    Change(290000, SAME_REFUSAL, "A31", "bad-txns-input-witness-unknown"),
+    Change(290000, SAME_REFUSAL, "A32", "bad-witness-anchor-not-empty"),
     Change(290000, SAME_REFUSAL, "A44", "mempool-script-verify-flag-failed"),
-    Change(290100, "the relay minimum is lower", "A35", told=("minrelaytxfee",), holds=_pays_less),
-    Change(290100, "a replacement pays less for its own relay", "A42", told=("incrementalrelayfee",), holds=_pays_less),
-    Change(300000, "data outputs may have 100,000 bytes", "A16", settings={"datacarriersize": 100000}),
-    Change(300000, "several data outputs are standard", "A18", settings={"datacarrieroutputs": 10}),
-    Change(300000, "at most 2,500 signature operations outside witnesses", "", "bad-txns-nonstandard-inputs"),
 )
-# the first release that replaces whatever pays less unless it is set otherwise; a later one has no field for it
-FULL_REPLACEMENT_SINCE = 280000
+# what data a transaction has at the most: an option above it decides nothing, since no heavier one is standard (A13)
+MOST_DATA = 100000
 # how a node since Bitcoin Core 25.0 says that a transaction burns more than its caller allows
 SAID_OF_BURN = "maxburnamount"
 
 
-def settings_of(pool: PoolInfo, release: int) -> dict[str, int]:
-    """What a node asks of transactions, by line: what its `getmempoolinfo` tells, and what its release has."""
-    found = {name: number for it in CHANGES if release >= it.since for name, number in it.settings.items()}
-    found["minrelaytxfee"] = satoshi(pool["minrelaytxfee"])
+def policy_of(network: NetworkInfo) -> Optional[str]:
+    """The name by which an opening takes the settings of a node's release; None if it has the defaults."""
+    release = network["version"]
+    if release >= KNOTS_SINCE and "Knots" in network.get("subversion", ""):
+        return KNOTS
+    return next((name for since, name in POLICIES if release >= since), None)
+
+
+def settings_of(pool: PoolInfo) -> dict[str, int]:
+    """What a node's `getmempoolinfo` tells of its settings, by line. They come before those of its release."""
+    found = {"minrelaytxfee": satoshi(pool["minrelaytxfee"])}
     if "incrementalrelayfee" in pool:
         found["incrementalrelayfee"] = satoshi(pool["incrementalrelayfee"])
     if "permitbaremultisig" in pool:
         found["permitbaremultisig"] = int(pool["permitbaremultisig"])
     if "maxdatacarriersize" in pool:
-        found["datacarriersize"] = pool["maxdatacarriersize"]
-    found["mempoolfullrbf"] = int(pool.get("fullrbf", release >= FULL_REPLACEMENT_SINCE))
+        # the releases that tell it bound all data of a transaction by it
+        found["datacarriersize"] = found["datacarriertotal"] = min(pool["maxdatacarriersize"], MOST_DATA)
+    if "fullrbf" in pool:
+        found["mempoolfullrbf"] = int(pool["fullrbf"])
     return found
 
 
 def overridden(lines: Iterable[str], settings: Mapping[str, int]) -> dict[str, str]:
-    """By rule, the line by which an operator says another number than the node, or a number of what the node doesn't tell."""
+    """By rule, the line by which an operator says another number than the node, or a number of what the node doesn't tell
+    itself."""
     found = {}
     for line in lines:
         name, _, number = line.partition(" ")
@@ -116,6 +108,6 @@ def also_of_the_gate(pool: PoolInfo, lines: Iterable[str]) -> dict[str, Any]:
     return {name: value for name, value in pool.items() if FIELDS.get(name, name) not in said}
 
 
-def explained(release: int, relay_minimum: int, rule: str, reason: str, said: Collection[str] = ()) -> Optional[Change]:
+def explained(release: int, rule: str, reason: str) -> Optional[Change]:
     """The change of a release that is why the gate's rule and the node's reason differ; None if none is known."""
-    return next((it for it in CHANGES if it.explains(release, relay_minimum, rule, reason, said)), None)
+    return next((it for it in CHANGES if it.explains(release, rule, reason)), None)

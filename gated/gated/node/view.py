@@ -6,7 +6,7 @@ from typing import Any, Collection, Iterable, Optional, Sequence
 
 from .answers import Candidate, ChainInfo, Coin, Entry, EntryInfo, NetworkInfo, OutputInfo, PoolInfo, TrialInfo
 from .answers import coin_of, entry_of, floor_of, none_refused, parents_first, satoshi
-from .releases import settings_of
+from .releases import policy_of, settings_of
 from .sources import Refused, Source, Unusable
 from .transactions import Transaction, read_transaction
 
@@ -29,8 +29,9 @@ class View:
         pool: PoolInfo = node.ask("getmempoolinfo")
         self.pool_info = pool
         self.budget = min(pool["maxmempool"], MOST_BUDGET)
-        self.floor, self.relay_minimum = floor_of(pool), satoshi(pool["minrelaytxfee"])
-        self.settings = settings_of(pool, self.release)
+        self.floor = floor_of(pool)
+        # the settings of its release by their name, and those that are told beside
+        self.policy, self.settings = policy_of(network), settings_of(pool)
         # what the node says of each transaction of its pool, once its entries are asked for
         self.listed: dict[str, EntryInfo] = {}
 
