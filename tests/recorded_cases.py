@@ -10,8 +10,10 @@ import os
 import sys
 from collections import Counter
 from dataclasses import dataclass, field
+from itertools import chain
 
 from gate import ROOT, lines, same, same_lines, true
+from kinds import heavy
 from model import USUAL, releases
 
 sys.path.insert(0, os.path.join(ROOT, "gated"))
@@ -19,7 +21,8 @@ sys.path.insert(0, os.path.join(ROOT, "gated"))
 from gated import node
 from gated.node.transactions import Reader
 
-RECORDING = os.path.join(ROOT, "tests", "data", "knots-29-cases.jsonl.xz")
+# cases over a pool with room, and over a full one
+CASES, FULL = "knots-29-cases", "knots-29-full"
 # the release whose policy the node had, and what it had otherwise
 RELEASE = "core-29"
 OTHERWISE = {"permitbaremultisig": 0, "keepinvalid": 1}
@@ -34,7 +37,7 @@ NAMES = {
 }
 PACKAGE, LIST, VERSION_3, DUST, BEHIND = "packages", "lists, which the node judges as packages", "version 3", "dust that a child may spend", "behind these"
 # how many answers were compared when this was written
-COMPARED = 471
+COMPARED = {CASES: 471, FULL: 8}
 EXPIRY = 336 * 3600
 COINBASE = "00" * 32
 
@@ -192,8 +195,9 @@ class Case:
                 reason = BEHIND
             if reason and event.is_taken():
                 self.foreign.update(it.txid for it in event.transactions)
-                self.is_lost = self.is_lost or any(it.startswith("budget") for it in self.opening)
-            self.is_lost = self.is_lost or bool(reason) and event.now > began + EXPIRY
+            # what leaves a full pool, and what has expired, is all entries' matter
+            is_full = any(it.startswith("budget") for it in self.opening) and (event.kind == "submitpackage" or event.is_taken())
+            self.is_lost = self.is_lost or bool(reason) and (is_full or event.now > began + EXPIRY)
             yield event, reason, {it for it in self.joined.seen if self.is_unsure([it])}
 
     def follow(self, event):
@@ -204,10 +208,15 @@ class Case:
         self.chain += event.blocks
 
 
-def recorded():
-    with lzma.open(RECORDING, "rt", encoding="utf-8") as file:
-        for it in map(json.loads, file):
-            yield Case(it["name"], it["opening"], [Event(*event) for event in it["events"]])
+def written(name):
+    """The cases of a file, as it has them."""
+    with lzma.open(os.path.join(ROOT, "tests", "data", name + ".jsonl.xz"), "rt", encoding="utf-8") as file:
+        yield from map(json.loads, file)
+
+
+def recorded(name):
+    for it in written(name):
+        yield Case(it["name"], it["opening"], [Event(*event) for event in it["events"]])
 
 
 def policy_name(said, met):
@@ -269,25 +278,39 @@ def compared(gate, case, met):
     return differ, count, Counter(reason for event, reason, _ in parts if reason and event.answer is not None)
 
 
-def test_a_node_of_today(gate):
-    """Each answer that a node with Bitcoin Core 29's policy gave, but for what needs version 3, packages, or dust that a child
-    spends, and for what hangs together with that."""
+def all_compared(gate, name):
+    """Compares each answer of a file, and says how many there were. It gives how the node named its refusals."""
     differ, met, left_out, whole, count, cases = [], Counter(), Counter(), 0, 0, 0
-    for case in recorded():
+    for case in recorded(name):
         more, number, reasons = compared(gate, case, met)
         differ += more
         count, left_out, whole, cases = count + number, left_out + reasons, whole + (not reasons), cases + 1
     told = ", ".join("%d %s" % (left_out[it], it) for it in (PACKAGE, LIST, VERSION_3, DUST, BEHIND))
-    print("recorded_cases: %d answers in %d cases compared, %d cases whole; left out: %s" % (count, cases, whole, told), flush=True)
+    print("%s: %d answers in %d cases compared, %d cases whole; left out: %s" % (name, count, cases, whole, told), flush=True)
     same_lines(differ, [])
+    true("at least %d answers compared, and not %d" % (COMPARED[name], count), count >= COMPARED[name])
+    return met
+
+
+def test_a_node_of_today(gate):
+    """Each answer that a node with Bitcoin Core 29's policy gave, but for what needs version 3, packages, or dust that a child
+    spends, and for what hangs together with that."""
+    met = all_compared(gate, CASES)
     same("names that the node doesn't use", [it for it in NAMES if not met[it]], [])
-    true("at least %d answers compared, and not %d" % (COMPARED, count), count >= COMPARED)
+
+
+@heavy
+def test_full_pools(gate):
+    """The same of a node whose pool is full: what it takes and refuses by its floor. The budget, in virtual bytes, stands for
+    the node's bytes of memory."""
+    all_compared(gate, FULL)
 
 
 def test_the_policy_of_that_node(gate):
     """What the cases say of admission is the release's, but for what the node had otherwise and for the options of a case."""
     release, usual = releases()[RELEASE], {**USUAL, **releases()[RELEASE]}
-    for case in recorded():
+    for it in chain(written(CASES), written(FULL)):
+        case = Case(it["name"], it["opening"], [])
         said = case.settings()
         same(case.name, [it for it in release if it not in said and it not in UNSAID], [])
         options = {"maxtxlegacysigops", "limitdescendantcount", "limitancestorcount", "minrelaytxfee", "mempoolfullrbf"}
