@@ -5,10 +5,12 @@ _gate() {
     ((COMP_CWORD > 1)) || command=
     case "$command ${COMP_WORDS[COMP_CWORD - 1]}" in
         "try --coin") words="" ;;
+        "try --policy") words="core-22 core-25 core-26 core-27 core-28 core-29 core-30 knots-29" ;;
+        "try --set") words="" ;;
         "try --tip") words="" ;;
         "try --time") words="" ;;
         "try --verdict") words="ok soft hard" ;;
-        "try "*) words="- --coin --tip --time --verdict --json --help" ;;
+        "try "*) words="- --coin --policy --set --tip --time --verdict --json --help" ;;
         "check "*) words="- --help" ;;
         "run "*)
             words="--explain --explain-json --strict --help"

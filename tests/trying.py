@@ -13,11 +13,12 @@ def coin_word(number, value=100000, height=1, more=""):
     return "%s:0,%d,%d,%s%s" % (printed(number_hash(number)), value, height, SCRIPT, more)
 
 
-def text_of(transactions, coins, tip, time, verdict="ok", is_json=False):
+def text_of(transactions, coins, tip, time, verdict="ok", is_json=False, said=()):
     """The text of a trial, as the page has it."""
     first = max(tip - 10, 0)
     opening = ["from %d" % first, "times %d %d 600" % (tip - first + 1, max(time - 6000, 0))]
     opening += ["coin %s 0 %d %d %s %s" % (printed(number_hash(number)), value, height, kind, SCRIPT) for number, value, height, kind in coins]
+    opening += said
     if is_json:
         call = 'user try rpc %d {"id":1,"method":"%s","params":[%s]}'
         if len(transactions) == 1:
@@ -92,6 +93,27 @@ def test_verdicts(gate):
     tries(gate, words, text_of([tx], [(1, 100000, 1, "plain")], 100, 60000, "soft"), 1, "gate: scripts are not run; the verdict on each is soft")
 
 
+def test_policies(gate):
+    """`--policy` and `--set` are lines of the opening behind the coins; what a release lacks is told."""
+    tx, coins = payment(1, 99950), [(1, 100000, 1, "plain")]
+    words = [tx.hex(), "--coin", coin_word(1), "--tip", "100", "--time", "60000"]
+    for more, said, status in (
+        (["--policy", "core-22"], ["policy core-22"], 1),
+        (["--policy", "core-28"], ["policy core-28"], 1),
+        (["--policy", "core-30"], ["policy core-30"], 0),
+        (["--set", "minrelaytxfee=600"], ["minrelaytxfee 600"], 0),
+        (["--set", "minrelaytxfee=610", "--set", "feesroundup=1"], ["minrelaytxfee 610", "feesroundup 1"], 1),
+        (["--set", "minrelaytxfee=1000", "--policy", "core-29"], ["policy core-29", "minrelaytxfee 1000"], 1),
+        (["--policy", "core-28", "--policy", "core-29"], ["policy core-29"], 0),
+    ):
+        tries(gate, words + more, text_of([tx], coins, 100, 60000, said=said), status)
+        said_in_json = '{"scripts":"not run","verdict":"ok"}'
+        asked = text_of([tx], coins, 100, 60000, is_json=True, said=said)
+        tries(gate, words + more + ["--json"], asked, status, said_in_json, "run --explain=json")
+    done = gate.run_words(["try"] + words + ["--set", "minrelaytxfee=1", "--set", "minrelaytxfee=1"])
+    same("a setting twice", (done.status, done.stdout), (2, b"opening 5 bad-line\n"))
+
+
 def test_standard_input(gate):
     """`-` stands for the words of standard input; without `--time` it is now."""
     tx = payment(1, 99000)
@@ -114,6 +136,14 @@ def test_faults_of_usage(gate):
         ([tx, "--tip", "1", "--coin", coin_word(1, more=",plain")], '"plain" behind a coin is unknown'),
         ([tx, "--tip", "1", "--coin", coin_word(1, more=",cb,cb")], "is no coin"),
         ([tx, "--tip", "1", "--verdict", "good"], "expected ok, soft or hard"),
+        ([tx, "--tip", "1", "--policy", "core-23"], "expected one of core-22, core-25, core-26, core-27, core-28, core-29, core-30, knots-29"),
+        ([tx, "--tip", "1", "--policy"], "a value is required for --policy"),
+        ([tx, "--tip", "1", "--set", "minrelaytxfee"], "expected WORD=NUMBER"),
+        ([tx, "--tip", "1", "--set", "minrelaytx=1"], 'no setting is named "minrelaytx"; gate settings lists them'),
+        ([tx, "--tip", "1", "--set", "mintxsize=83"], '"83" is not what mintxsize may be: a number from 60 to 82'),
+        ([tx, "--tip", "1", "--set", "mintxsize=59"], "a number from 60 to 82"),
+        ([tx, "--tip", "1", "--set", "mintxsize="], "a number from 60 to 82"),
+        ([tx, "--tip", "1", "--set", "mintxsize=070"], "a number from 60 to 82"),
         ([tx, "--tip", "1", "--frobnicate"], "unexpected option --frobnicate"),
         ([tx + " 00", "--tip", "1"], "is more than one word"),
         ([tx + "\npeer 1 leave", "--tip", "1"], "is more than one word"),

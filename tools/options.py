@@ -3,7 +3,8 @@
 The table of settings stands in crates/gate_register: words, bounds and defaults. Compared with it are the tables of
 docs/FORMATS.md ("Settings"), the defaults in brackets of docs/POLICY.md and README.md, settings/core-22, and the list of
 CHANGELOG.md. What gated says that a setting decides is compared with that table of docs/FORMATS.md. What releases have by
-default stands in crates/gate_release; compared with it are the table of docs/FORMATS.md ("Releases"), and the files of settings/.
+default stands in crates/gate_release; compared with it are the table of docs/FORMATS.md ("Releases"), the
+help on --policy, and the files of settings/.
 """
 
 import os
@@ -18,6 +19,7 @@ TABLE = "crates/gate_register/src/setting.rt"
 POLICY = "crates/gate_admit/src/policy.rt"
 DRAFT = "crates/gate_opening/src/draft.rt"
 RELEASES = "crates/gate_release/src/release.rt"
+HELP = "crates/gate_command/src/help.rt"
 
 
 @dataclass(frozen=True)
@@ -184,6 +186,9 @@ def release_faults(known: dict[str, Option]) -> Iterator[str]:
     for name in wanted.keys() | told.keys():
         if wanted.get(name) != told.get(name):
             yield "docs/FORMATS.md: the release %s has %s, and not %s" % (name, wanted.get(name), told.get(name))
+    helped = re.search(r"TRY_POLICY: &str = \"[^:]*: ([^;]*);", text_of(HELP))
+    if not helped or re.findall(r"[a-z]+-\d+", helped[1]) != list(wanted):
+        yield "%s: the help on --policy doesn't name the releases in their order" % HELP
     for file in sorted(os.listdir(os.path.join(crates.ROOT, "settings"))):
         lines = re.findall(r"^(\w+) (\d+)$", text_of("settings/" + file), re.MULTILINE)
         said = {word: int(value) for word, value in lines if word in known and int(value) != known[word].default}

@@ -1,10 +1,14 @@
 -- The text of an opening and of events that tries transactions one after another.
-use Rattle.std.specs.Prelude.{ℕ, ◌+◌, ◌-◌, ◌==◌, Bool, true, false, if◌then◌else◌, List, ◌++◌, codes, length}
+use Rattle.std.specs.Prelude.{ℕ, ◌+◌, ◌-◌, ◌==◌, Bool, true, false, if◌then◌else◌, List, [], ◌++◌, codes, length, Option, Some, None}
 use Rattle.std.specs.Borrow.{Bor}
 use Rattle.std.specs.Fmt.{decimal}
 use Rattle.std.specs.List.{flat_map}
+use Rattle.gate_register.specs.Settings.{word_of as setting_word}
+use Rattle.gate_release.specs.Releases.{word_of as release_word}
+use Rattle.gate_release.specs.declared.release.Release.{Release}
 use Rattle.gate_try.specs.declared.trial.Trial.{Trial}
 use Rattle.gate_try.specs.declared.trial.TrialCoin.{TrialCoin}
+use Rattle.gate_try.specs.declared.trial.TrialSetting.{TrialSetting}
 
 -- the times of the tip's block, at this second, and of ten blocks before it, as far as there are so many
 abbrev pub opening_head : ℕ → ℕ → List ℕ
@@ -21,6 +25,17 @@ coin_line coin =
 
 abbrev pub coin_lines : List TrialCoin → List ℕ
 coin_lines coins = flat_map coin_line coins
+
+-- the release, if one is named
+abbrev pub policy_lines : Option Release → List ℕ
+policy_lines None = []
+policy_lines (Some release) = codes "policy " ++ (release_word release ++ codes "\n")
+
+abbrev pub setting_line : TrialSetting → List ℕ
+setting_line said = setting_word said.setting ++ (codes " " ++ (decimal said.number ++ codes "\n"))
+
+abbrev pub setting_lines : List TrialSetting → List ℕ
+setting_lines said = flat_map setting_line said
 
 -- a peer sends a transaction at this second
 abbrev pub peer_line : ℕ → List ℕ → List ℕ
@@ -49,7 +64,8 @@ abbrev pub verdict_line : List ℕ → List ℕ
 verdict_line verdict = codes "verdict * " ++ (verdict ++ codes "\n---\n")
 
 abbrev pub opening_lines : Trial → List ℕ
-opening_lines trial = opening_head trial.tip trial.time ++ (coin_lines trial.coins.items ++ verdict_line trial.verdict.now)
+opening_lines trial =
+    opening_head trial.tip trial.time ++ (coin_lines trial.coins.items ++ (policy_lines trial.policy ++ (setting_lines trial.settings.items ++ verdict_line trial.verdict.now)))
 
 abbrev pub event_lines : Trial → List ℕ
 event_lines trial = if trial.json then call_lines trial.time trial.transactions.items else peer_lines trial.time trial.transactions.items

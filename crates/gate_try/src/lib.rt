@@ -11,4 +11,4 @@ mod trial;
 
 pub use fault::TrialFault;
 pub use reading::read_trial;
-pub use trial::{Trial, TrialCoin};
+pub use trial::{Trial, TrialCoin, TrialSetting};

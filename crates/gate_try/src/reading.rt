@@ -1,7 +1,9 @@
 //! The words of a trial.
 use crate::fault::TrialFault;
-use crate::trial::{Trial, TrialCoin};
-use gate_lines::read_small_number;
+use crate::trial::{Trial, TrialCoin, TrialSetting};
+use gate_lines::{read_number, read_small_number};
+use gate_register::Setting;
+use gate_release::Release;
 use std::alloc::{AllocError, Global};
 
 /// The words of `--coin`.
@@ -53,6 +55,55 @@ fn coin_in<'a>(alloc: Global, word: &'a str) -> Result<TrialCoin<'a>, TrialFault
     }
 }
 
+/// The words of all releases, in their order.
+fn release_words(alloc: Global) -> Result<String, AllocError> {
+    let mut words = String::new(alloc);
+    for release in Release::all() {
+        if !words.is_empty() {
+            words.push_str(", ")?;
+        }
+        words.push_str(release.word())?;
+    }
+    Ok(words)
+}
+
+/// The release that a word names.
+fn release_in(alloc: Global, word: &str) -> Result<Release, TrialFault> {
+    match Release::from_word(word) {
+        Some(release) => Ok(release),
+        None => {
+            let words = release_words(alloc)?;
+            Err(usage(format!(in alloc;
+                "\"{word}\" behind --policy is no release; expected one of {words}"
+            )))
+        }
+    }
+}
+
+/// `WORD=NUMBER`: a setting, with a number that it may have.
+fn setting_in(alloc: Global, said: &str) -> Result<TrialSetting, TrialFault> {
+    let Some((word, number)) = said.split_once('=') else {
+        return Err(usage(format!(in alloc;
+            "\"{said}\" behind --set is no setting; expected WORD=NUMBER"
+        )));
+    };
+    let Some(setting) = Setting::from_word(word) else {
+        return Err(usage(format!(in alloc;
+            "no setting is named \"{word}\"; gate settings lists them"
+        )));
+    };
+    match read_number(number) {
+        Some(number) if setting.allows(number) => Ok(TrialSetting { setting, number }),
+        _ => {
+            let row = setting.row();
+            Err(usage(format!(in alloc;
+                "\"{number}\" is not what {word} may be: a number from {} to {}",
+                row.least, row.most
+            )))
+        }
+    }
+}
+
 /// Whether a word is a verdict on scripts.
 fn is_verdict(word: &str) -> bool {
     word == "ok" || word == "soft" || word == "hard"
@@ -67,6 +118,8 @@ fn take_option<'a>(
 ) -> Result<(), TrialFault> {
     match option {
         "--coin" => trial.coins.push(coin_in(alloc, value)?)?,
+        "--policy" => trial.policy = Some(release_in(alloc, value)?),
+        "--set" => trial.settings.push(setting_in(alloc, value)?)?,
         "--tip" => trial.tip = number_in(alloc, option, value, "a height")?,
         "--time" => trial.time = number_in(alloc, option, value, "a second since 1970")?,
         _ => {
@@ -87,7 +140,12 @@ fn has_space(word: &str) -> bool {
 }
 
 fn takes_value(option: &str) -> bool {
-    option == "--coin" || option == "--tip" || option == "--time" || option == "--verdict"
+    option == "--coin"
+        || option == "--policy"
+        || option == "--set"
+        || option == "--tip"
+        || option == "--time"
+        || option == "--verdict"
 }
 
 /// Reads the words behind `try` as a trial, at this second if they name none. `--tip` and a transaction have to be there.

@@ -1,9 +1,10 @@
 //! The text of a trial.
 ghost use Rattle.std.specs.Prelude.{◌≡◌, ◌<◌, ◌++◌, IfOk, OnOk, length, string_bytes};
-ghost use Rattle.gate_try.specs.Trials.{call_line, call_lines, coin_line, coin_lines, event_lines, opening_head, opening_lines, peer_lines, sent_lines, trial_text, verdict_line};
+ghost use Rattle.gate_try.specs.Trials.{call_line, call_lines, coin_line, coin_lines, event_lines, opening_head, opening_lines, peer_lines, policy_lines, sent_lines, setting_line, setting_lines, trial_text, verdict_line};
 
-use crate::trial::{Trial, TrialCoin};
+use crate::trial::{Trial, TrialCoin, TrialSetting};
 use gate_bytes::Memory;
+use gate_release::Release;
 use std::alloc::Global;
 
 /// How many blocks before the tip have a time in the opening: eleven make a median.
@@ -48,6 +49,36 @@ fn push_coins(text: &mut String, coins: &[TrialCoin<'_>]) -> Result<(), Memory>
 {
     for coin in coins {
         push_coin(text, coin)?;
+    }
+    Ok(())
+}
+
+/// Appends the line of a release, if there is one.
+fn push_policy(text: &mut String, policy: Option<Release>) -> Result<(), Memory>
+    ensures { OnOk result (string_bytes text.new ≡ string_bytes text.old ++ policy_lines policy) }
+{
+    if let Some(release) = policy {
+        let word = release.word();
+        write!(text, "policy {word}\n")?;
+    }
+    Ok(())
+}
+
+/// Appends the line of a setting.
+fn push_setting(text: &mut String, said: &TrialSetting) -> Result<(), Memory>
+    ensures { OnOk result (string_bytes text.new ≡ string_bytes text.old ++ setting_line said.now) }
+{
+    let TrialSetting { setting, number } = *said;
+    let word = setting.row().word;
+    write!(text, "{word} {number}\n")?;
+    Ok(())
+}
+
+fn push_settings(text: &mut String, settings: &[TrialSetting]) -> Result<(), Memory>
+    ensures { OnOk result (string_bytes text.new ≡ string_bytes text.old ++ setting_lines settings.now) }
+{
+    for said in settings {
+        push_setting(text, said)?;
     }
     Ok(())
 }
@@ -116,6 +147,8 @@ impl Trial<'_> {
     {
         push_times(text, self.tip, self.time)?;
         push_coins(text, self.coins.as_slice())?;
+        push_policy(text, self.policy)?;
+        push_settings(text, self.settings.as_slice())?;
         push_verdict(text, self.verdict)
     }
 

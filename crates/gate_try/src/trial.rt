@@ -1,4 +1,6 @@
 //! What is tried.
+use gate_register::Setting;
+use gate_release::Release;
 use std::alloc::Global;
 
 /// A coin that transactions may spend, by its words.
@@ -14,12 +16,23 @@ pub struct TrialCoin<'a> {
     pub is_coinbase: bool,
 }
 
+/// A setting of the opening, with its number.
+#[derive(Clone, Copy)]
+pub struct TrialSetting {
+    pub setting: Setting,
+    pub number: u64,
+}
+
 /// Transactions that are tried one after another, and what they are tried on.
 #[derive(Drop)]
 pub struct Trial<'a> {
     /// Each in hexadecimal digits, parents first.
     pub transactions: Vec<&'a str>,
     pub coins: Vec<TrialCoin<'a>>,
+    /// The release whose numbers the settings have that are not said.
+    pub policy: Option<Release>,
+    /// The settings that are said.
+    pub settings: Vec<TrialSetting>,
     /// The height of the tip.
     pub tip: u32,
     /// The second at which they are tried, since 1970. It is the tip's block time too, and the ten blocks before it are 600
@@ -32,11 +45,13 @@ pub struct Trial<'a> {
 }
 
 impl<'a> Trial<'a> {
-    /// A trial of nothing yet, with good scripts, at height 0 and this second.
+    /// A trial of nothing yet, with the usual settings and good scripts, at height 0 and this second.
     pub(crate) fn new(alloc: Global, time: u32) -> Trial<'a> {
         Trial {
             transactions: Vec::new(alloc),
             coins: Vec::new(alloc),
+            policy: None,
+            settings: Vec::new(alloc),
             tip: 0,
             time,
             verdict: "ok",

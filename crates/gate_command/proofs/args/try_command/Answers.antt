@@ -19,4 +19,6 @@ returns c =
     let three = one_more _ _ _ _ _ two c.try_option-2.ensures c.in_ok-arg-3.ensures in
     let four = one_more _ _ _ _ _ three c.try_option-3.ensures c.in_ok-arg-4.ensures in
     let five = one_more _ _ _ _ _ four c.try_option-4.ensures c.in_ok-arg-5.ensures in
-    IfOk-weaker c.arg-6.result _ _ (λ r added. one_more _ r _ _ _ five c.json_switch.ensures added) c.arg-6.ensures
+    let six = one_more _ _ _ _ _ five c.try_option-5.ensures c.in_ok-arg-6.ensures in
+    let seven = one_more _ _ _ _ _ six c.try_option-6.ensures c.in_ok-arg-7.ensures in
+    IfOk-weaker c.arg-8.result _ _ (λ r added. one_more _ r _ _ _ seven c.json_switch.ensures added) c.arg-8.ensures
