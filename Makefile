@@ -110,7 +110,6 @@ install:
 	install -D -m 644 -t "$(DOCUMENTS)/docs" docs/*
 	install -D -m 644 -t "$(DOCUMENTS)/gated" gated/README.md
 	install -D -m 644 -t "$(SHARED)/examples" examples/*
-	install -D -m 644 -t "$(SHARED)/settings" settings/*
 	install -D -m 755 -t "$(SHARED)/tools" tools/opening tools/compare
 	install -D -m 755 gated/bin/gated "$(TOP)/bin/gated"
 	install -D -m 644 -t "$(SHARED)/gated/gated" gated/gated/*.py gated/gated/py.typed

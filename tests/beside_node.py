@@ -142,16 +142,20 @@ def test_data_outputs_are_told(gate):
         same_lines([it for it in lines[: lines.index("---")] if it.startswith("data")], ["datacarriersize %d" % wanted, "datacarriertotal %d" % wanted])
 
 
-def test_settings_of_releases(gate):
-    """Every line of a file of settings stands in the opening, in the place of what the node's release has."""
+def test_settings_that_are_said(gate):
+    """Lines of a file and of `--set` stand in the opening in the place of what the node has, and a release beside both."""
     recorded = calls(NODES[0])
-    for name in sorted(os.listdir(os.path.join(ROOT, "settings"))):
-        path = os.path.join(ROOT, "settings", name)
-        with open(path, encoding="utf-8") as file:
-            said = dict(line.split() for line in file if not line.startswith("#"))
-        lines = opened_from(recorded, "--settings", path)
-        found = dict(line.split(" ", 1) for line in lines[: lines.index("---")] if line.split(" ")[0] in said)
-        same(name, found, said)
+    with tempfile.TemporaryDirectory() as folder:
+        path = os.path.join(folder, "settings")
+        with open(path, "w", encoding="utf-8") as file:
+            file.write("# of this node\nmintxsize 70\nmempoolexpiry 24\n")
+        lines = opened_from(recorded, "--settings", path, "--set", "mempoolexpiry 48", "--policy", "core-30")
+    said = [it for it in lines[: lines.index("---")] if it.split(" ")[0] in ("mintxsize", "mempoolexpiry", "policy", "mempoolfullrbf")]
+    same_lines(sorted(said), ["mempoolexpiry 48", "mempoolfullrbf 0", "mintxsize 70", "policy core-30"])
+    done = gate.run("run", "".join(it + "\n" for it in lines[: lines.index("---") + 1]))
+    same("the opening", (done.status, done.stdout), (0, b""))
+    lines = opened_from(recorded)
+    same_lines([it for it in lines if it.startswith("policy")], [])
 
 
 def test_the_floor(gate):

@@ -43,7 +43,6 @@ def installed():
         + ["share/doc/gate/docs/" + it for it in os.listdir(os.path.join(ROOT, "docs"))]
         + ["share/doc/gate/gated/README.md"]
         + ["share/gate/examples/" + it for it in os.listdir(os.path.join(ROOT, "examples"))]
-        + ["share/gate/settings/" + it for it in os.listdir(os.path.join(ROOT, "settings"))]
         + ["share/gate/tools/" + it for it in ("opening", "compare")]
         + ["share/gate/gated/" + it for it in ("gated.service", "gated.toml", "gated/py.typed")]
         + ["share/gate/gated/gated/" + it for it in os.listdir(os.path.join(ROOT, "gated", "gated")) if it.endswith(".py")]

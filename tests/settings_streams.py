@@ -3,13 +3,12 @@
 Each kind of event is made to fall on one side of a setting or on the other, by one satoshi, one byte, one second or one output.
 """
 
-import os
 import random
 from collections import Counter
 from itertools import product
 
 from bitcoin import Input, Output, Transaction, number_hash
-from gate import ROOT, same
+from gate import same
 from model import ANCHOR, HOUR, KILO, MULTISIG, RETURN, USUAL, Coin, Model, Opening, dust, fees_of, policy_lines, rate_of, releases
 from random_streams import compared
 
@@ -299,11 +298,3 @@ def test_sizes_of_families(gate):
             events = [entered(1, made.model), made.submitted(parent), made.submitted(child)]
             met[compared(gate, seed, made, events)[-1].split()[1 if more else 0]] += 1
     same("what came of the children", dict(met), {"admitted": 9, "A36": 9})
-
-
-def test_files_of_settings(gate):
-    """Each file of settings/ is part of an opening."""
-    for name in sorted(os.listdir(os.path.join(ROOT, "settings"))):
-        with open(os.path.join(ROOT, "settings", name)) as file:
-            done = gate.run("run", "times 101 1000 600\n" + file.read() + "---\n")
-        same(name, (done.status, done.stdout), (0, b""))

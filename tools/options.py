@@ -1,10 +1,9 @@
 """Whether the pages have the settings of an opening as the sources have them.
 
 The table of settings stands in crates/gate_register: words, bounds and defaults. Compared with it are the tables of
-docs/FORMATS.md ("Settings"), the defaults in brackets of docs/POLICY.md and README.md, settings/core-22, and the list of
-CHANGELOG.md. What gated says that a setting decides is compared with that table of docs/FORMATS.md. What releases have by
-default stands in crates/gate_release; compared with it are the table of docs/FORMATS.md ("Releases"), the
-help on --policy, and the files of settings/.
+docs/FORMATS.md ("Settings"), the defaults in brackets of docs/POLICY.md and README.md, and the list of CHANGELOG.md. What gated says that a setting decides is compared with that table of docs/FORMATS.md. What releases have by
+default stands in crates/gate_release; compared with it are the table of docs/FORMATS.md ("Releases"), and
+the help on --policy.
 """
 
 import os
@@ -137,20 +136,6 @@ def bracket_faults(known: dict[str, Option]) -> Iterator[str]:
                 yield "%s: the default of %s is %s, and not %s" % (page, word, known[word].default, told)
 
 
-def file_faults(known: dict[str, Option]) -> Iterator[str]:
-    """settings/core-22 says every setting of the policy, with its default, if it has one; the others say none that there isn't."""
-    for file in sorted(os.listdir(os.path.join(crates.ROOT, "settings"))):
-        said = dict(it.split(" ", 1) for it in text_of("settings/" + file).splitlines() if it and not it.startswith("#"))
-        for word in said:
-            if word not in known:
-                yield "settings/%s: there is no setting %s" % (file, word)
-        if file == "core-22":
-            for option in known.values():
-                default = None if option.has_no_limit else str(option.default)
-                if option.of_policy and said.get(option.word) != default:
-                    yield "settings/core-22: the default of %s is %s, and not %s" % (option.word, default, said.get(option.word))
-
-
 def lists_in(text: str, name: str) -> str:
     """The list of a source that has this name."""
     return text[text.index("static %s:" % name) :].partition("\n];\n")[0]
@@ -181,7 +166,7 @@ def told_of_releases() -> dict[str, dict[str, int]]:
 
 
 def release_faults(known: dict[str, Option]) -> Iterator[str]:
-    """Where docs/FORMATS.md and settings/ are not the releases of the sources."""
+    """Where docs/FORMATS.md and the help have not the releases of the sources."""
     wanted, told = releases(known), told_of_releases()
     for name in wanted.keys() | told.keys():
         if wanted.get(name) != told.get(name):
@@ -189,11 +174,6 @@ def release_faults(known: dict[str, Option]) -> Iterator[str]:
     helped = re.search(r"TRY_POLICY: &str = \"[^:]*: ([^;]*);", text_of(HELP))
     if not helped or re.findall(r"[a-z]+-\d+", helped[1]) != list(wanted):
         yield "%s: the help on --policy doesn't name the releases in their order" % HELP
-    for file in sorted(os.listdir(os.path.join(crates.ROOT, "settings"))):
-        lines = re.findall(r"^(\w+) (\d+)$", text_of("settings/" + file), re.MULTILINE)
-        said = {word: int(value) for word, value in lines if word in known and int(value) != known[word].default}
-        if said != wanted.get(file):
-            yield "settings/%s: the release has %s, and not %s" % (file, wanted.get(file), said)
 
 
 def rule_faults() -> Iterator[str]:
@@ -220,7 +200,6 @@ def faults() -> Iterator[str]:
     yield from table_faults(known)
     yield from range_faults()
     yield from bracket_faults(known)
-    yield from file_faults(known)
     yield from release_faults(known)
     yield from rule_faults()
     yield from change_faults(known)

@@ -5,7 +5,6 @@
 - docs/ARCHITECTURE.md has a row for each crate of the product, and for no other.
 - Each example that a page, a help text or a tool names is there, and docs/USE.md names each that is there.
 - share/gate.1 has the sentences of the help, and no others.
-- settings/ has the releases that pages name.
 - The lines of openings and of events in docs/FORMATS.md are those of which a message knows the form (crates/gate_causes).
 - What docs/TESTING.md and the README.md of a crate say that tests in a crate call stands in the sources of that crate.
 - The targets of `make` that pages name are the Makefile's.
@@ -27,7 +26,7 @@ SPELLED = (
 )  # fmt: skip
 # texts that a reader may take for a page
 PAGES = (
-    "*.md", "docs/*.md", "docs/*.svg", "gated/README.md", "crates/*/README.md", "lib/*.h", "lib/*.hpp", "lib/*/README.md", "share/*", "settings/*",
+    "*.md", "docs/*.md", "docs/*.svg", "gated/README.md", "crates/*/README.md", "lib/*.h", "lib/*.hpp", "lib/*/README.md", "share/*",
 )  # fmt: skip
 HELP_LEAST = 30
 # what stands in every help of clap's
@@ -172,16 +171,6 @@ def manual_faults() -> Iterator[str]:
             yield "%s has what the help lacks: %s" % (page, line)
 
 
-# ---- settings of releases
-
-
-def release_faults() -> Iterator[str]:
-    there = os.listdir(os.path.join(crates.ROOT, "settings"))
-    for page in documents.pages_of_all():
-        for it in sorted(set(re.findall(r"\bsettings/((?:core|knots)-\d+)", text_of(page))) - set(there)):
-            yield "%s: there is no settings/%s" % (page, it)
-
-
 # ---- lines that are read
 
 
@@ -237,5 +226,5 @@ def target_faults() -> Iterator[str]:
 
 def faults() -> Iterator[str]:
     """All that is amiss."""
-    for part in (number_faults, map_faults, example_faults, manual_faults, release_faults, form_faults, test_faults, target_faults):
+    for part in (number_faults, map_faults, example_faults, manual_faults, form_faults, test_faults, target_faults):
         yield from part()

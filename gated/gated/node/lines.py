@@ -98,8 +98,9 @@ def add_words(words: argparse.ArgumentParser) -> None:
     which.add_argument("--cli", "--rpc", dest="cli", metavar="COMMAND", help='the command that asks the node: bitcoin-cli, or "bitcoin-cli -regtest"')
     which.add_argument("--from", metavar="PATH", dest="path", help="a recording of a node's answers, or a folder of them")
     words.add_argument("--record", metavar="FILE", help="writes the answers down as a recording")
-    words.add_argument("--settings", metavar="FILE", help="lines of settings that the node has, as the files of settings/; they come before what it tells")
+    words.add_argument("--settings", metavar="FILE", help="lines of settings that the node has, as an opening has them; they come before what it tells")
     words.add_argument("--set", metavar="LINE", action="append", default=[], help='one such line, as "mempoolexpiry 24"; it comes before those of a file')
+    words.add_argument("--policy", metavar="NAME", help="a release, as core-30, in the place of the node's own: its numbers for what neither lines nor the node say")
     words.add_argument("--try", metavar="FILE", dest="tried", help="transactions to be tried, a line of hexadecimal each; - is standard input")
 
 
@@ -111,6 +112,7 @@ def asked(words: argparse.Namespace) -> tuple[View, list[Entry], list[Candidate]
         with open(words.settings, encoding="utf-8") as file:
             view.settings.update(said_in(file))
     view.settings.update(said_in(words.set))
+    view.policy = words.policy or view.policy
     return view, view.entries(), candidates_of(view, digits_in(words.tried))
 
 
