@@ -18,7 +18,7 @@ _gate() {
             ;;
         "lanes --workers") words="1 2 4 8 16 32 64" ;;
         "lanes "*) words="--workers --journal --explain --help" ;;
-        "audit "*) words="--explain --help" ;;
+        "audit "*) words="--explain --explain-json --help" ;;
         "rules "*) words="--help" ;;
         "settings "*) words="--help" ;;
         "explain "*) words="--help" ;;

@@ -28,4 +28,5 @@ complete -c gate -n '__fish_seen_subcommand_from lanes' -l workers -x -a '1 2 4 
 complete -c gate -n '__fish_seen_subcommand_from lanes' -l journal -d 'Prints the journal too'
 complete -c gate -n '__fish_seen_subcommand_from lanes' -l explain -d 'Says on standard error what is wrong with each line that does not parse or can\'t stand where it does'
 complete -c gate -n '__fish_seen_subcommand_from audit' -l explain -d 'Says on standard error what is wrong with each line that does not parse or can\'t stand where it does'
+complete -c gate -n '__fish_seen_subcommand_from audit' -l explain-json -d 'The same as one JSON object a line'
 complete -c gate -n '__fish_seen_subcommand_from help' -a 'try check run lanes audit rules settings explain'

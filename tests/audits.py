@@ -1,5 +1,7 @@
 """What `gate audit` takes for a journal, and what it prints."""
 
+import json
+
 from bitcoin import coin, payment
 from gate import lines, same
 from streams import TOO_LONG, TOO_MANY, past
@@ -39,6 +41,31 @@ def test_legal_journals(gate):
     says(gate, LISTED + ENTERED + submitted + "> peer 1 mempool\n< listing 1 %s\n" % tx.txid(), "legal 4")
     says(gate, "\n# one\n" + ENTERED.replace("\n", "\n\n# between\n") + "\n" + LISTED, "legal 2")
     says(gate, b"# \xff\n" + ENTERED.encode(), "legal 1")
+
+
+def test_what_was_due(gate):
+    """`--explain` says the reply that is due where there is another one or none, and changes nothing else."""
+    entered, asked, due = ENTERED, "> peer 1 mempool\n", "listing 0"
+    for journal, answer, line, entry, event, reply in (
+        (entered, "legal 1", 0, 0, "", ""),
+        (entered + asked + "< listing 1\n", "illegal 2", 4, 2, "peer 1 mempool", due),
+        (entered + asked + "# none\n\n< \n" + entered, "illegal 2", 6, 2, "peer 1 mempool", due),
+        (entered + asked, "illegal 2", 3, 2, "peer 1 mempool", due),
+        (entered + asked + "\n", "illegal 2", 4, 2, "peer 1 mempool", due),
+        (entered + asked + "< listing 0\n" + "base 2\n> peer 1 enter ::1\n< entered\n", "illegal 3", 7, 3, "peer 1 enter ::1", "denied P3 keep peer-known"),
+        ("> peer 1 mempool\n< listing 0\n", "illegal 1", 2, 1, "peer 1 mempool", "denied P1 keep peer-unknown"),
+    ):
+        at = OPENING.count("\n") + line
+        words = 'gate: line %d: entry %d: the reply to "%s" is "%s"\n' % (at, entry, event, reply) if line else ""
+        why = {"line": at, "entry": entry, "event": event, "due": reply}
+        for word in ("--explain", "--explain=json"):
+            done = gate.run("audit " + word, OPENING + journal)
+            same("standard output for %r" % journal, done.stdout.decode(), answer + "\n")
+            same("status for %r" % journal, done.status, 0 if answer.startswith("legal") else 1)
+            if word == "--explain":
+                same("standard error for %r" % journal, done.stderr.decode(), words)
+            else:
+                same("objects for %r" % journal, [json.loads(it) for it in done.stderr.splitlines()], [why] if line else [])
 
 
 def test_other_spellings(gate):

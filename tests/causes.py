@@ -273,7 +273,8 @@ def test_a_last_line_of_the_most_bytes(gate):
 
 
 def test_entries_of_a_journal(gate):
-    """A line that can't stand where it does: a base of another number, or a reply or an event that is missing."""
+    """A line that can't stand where it does: a base of another number, or a reply or an event that is missing. A reply that is
+    missing is told."""
     entered, listed = "> peer 1 enter 192.0.2.1\n< entered none\n", "> peer 1 mempool\n< denied P6 close mempool-no-bloom\n"
     for text, line, cause, wrong in (
         ("base 1\n", 3, '"1" is not the number of entries before the line, which is 0', 1),
@@ -285,7 +286,10 @@ def test_entries_of_a_journal(gate):
         (entered + "< entered none\n", 5, "a reply with no event before it", 2),
         ("base\n", 3, 'begins with none of "> ", "< " and "base "', 1),
     ):
-        tells(gate, "audit --explain", OPENED + text, ["line %d: %s" % (line, cause)], "illegal %d\n" % wrong, 1)
+        said = ["line %d: %s" % (line, cause)]
+        if text.startswith("> peer 1 enter 192.0.2.1\n") and not text.startswith(entered):
+            said.append('line %d: entry 1: the reply to "peer 1 enter 192.0.2.1" is "entered none"' % line)
+        tells(gate, "audit --explain", OPENED + text, said, "illegal %d\n" % wrong, 1)
     tells(gate, "audit --explain", OPENED + "base 0\n" + entered + "base 1\nbase 1\n" + listed, [], "legal 2\n")
 
 

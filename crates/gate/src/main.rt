@@ -7,10 +7,10 @@ use gate_causes::{
     FirstWriteRecorder, InputKind, InputPosition, Limit, LineReporter, ReportForm, refusal_cause,
     rule_near, transaction_cause,
 };
-use gate_explain::{Explaining, Telling};
+use gate_explain::{AuditExplaining, Explaining, Telling};
 use gate_prog::{
     ArgsFault, Explain, Job, LaneFault, OutcomeRecorder, Source, Trial, TrialFault, read_args,
-    read_trial, run_gate, run_job, trial_job,
+    read_trial, run_audit, run_gate, run_job, trial_job,
 };
 use std::alloc::{AllocError, AllocFailed, Global};
 use std::fs::Files;
@@ -146,7 +146,7 @@ impl JobInput {
     }
 }
 
-/// The form of a run's explanation, if there is one.
+/// The form of an explanation, if there is one.
 fn form_of(explain: Explain) -> Option<ReportForm> {
     match explain {
         Explain::No => None,
@@ -171,7 +171,11 @@ fn input_of(job: &Job) -> JobInput {
         // Its input is its text.
         Job::Try(_) => JobInput::unread(),
         Job::Lanes { explain, .. } => JobInput::of(InputKind::Lanes, *explain),
-        Job::Audit { explain } => JobInput::of(InputKind::Journal, *explain),
+        Job::Audit { explain } => JobInput {
+            is_read: true,
+            kind: InputKind::Journal,
+            explains: form_of(*explain),
+        },
         Job::Rules => JobInput::unread(),
         Job::Settings => JobInput::unread(),
         Job::Explain(_) => JobInput::unread(),
@@ -247,6 +251,10 @@ fn run_over<
             };
             let onlooker = Explaining::new(rt, alloc, telling);
             run_gate(alloc, hasher, &onlooker, &mut reporter, &mut recorder)
+        }
+        (Job::Audit { .. }, Some(form)) => {
+            let onlooker = AuditExplaining::new(rt, alloc, &position, form);
+            run_audit(alloc, hasher, &onlooker, &mut reporter, &mut recorder)
         }
         _ => run_job(rt, alloc, hasher, job, &mut reporter, &mut recorder),
     };

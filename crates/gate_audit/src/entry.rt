@@ -10,6 +10,7 @@ ghost use Rattle.gate_audit.specs.Reading.{AskingIsPast, EntryIsPast, EntryTaken
 
 use crate::counts::EntryCounts;
 use crate::lines::JournalLines;
+use crate::onlooker::AuditOnlooker;
 use gate_bytes::Memory;
 use gate_core::State;
 use gate_events::event_on;
@@ -120,8 +121,9 @@ fn reply_follows<R: Source>(
 }
 
 /// Reads the lines of the next entry, and makes its step; or reads the line of a base.
-pub(crate) fn take_entry<S: BuildHasher + Copy + Drop, R: Source>(
+pub(crate) fn take_entry<S: BuildHasher + Copy + Drop, O: AuditOnlooker, R: Source>(
     alloc: Global,
+    onlooker: &O,
     state: &mut State<S>,
     reader: &mut R,
     lines: &mut JournalLines,
@@ -143,9 +145,11 @@ pub(crate) fn take_entry<S: BuildHasher + Copy + Drop, R: Source>(
     let Some(reply) = reply_to(alloc, state, lines.as_slice())? else {
         return Ok(Taken::Wrong);
     };
+    onlooker.due(lines.as_slice(), reply.as_str());
     if reply_follows(reader, lines, reply.as_str())? {
         Ok(Taken::Legal)
     } else {
+        onlooker.missed();
         Ok(Taken::Wrong)
     }
 }

@@ -10,9 +10,11 @@ mod counts;
 mod entry;
 mod laws;
 mod lines;
+mod onlooker;
 
 pub use answer::Audit;
 pub use auditing::audit;
 pub use laws::{
     audits_are_exact, legal_journals_are_runs, rounds_have_legal_journals, runs_have_legal_journals,
 };
+pub use onlooker::AuditOnlooker;

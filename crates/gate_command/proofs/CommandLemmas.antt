@@ -39,9 +39,11 @@ pub former_job : (workers : Text) (explain : Bool)
 former_job workers true = refl
 former_job workers false = refl
 
-pub audit_job : (explain : Bool) → named_job (Some (codes "audit", words None None None None (Some (switch_text explain)) None None)) ≡ Some (Some (jobs.Audit explain))
-audit_job true = refl
-audit_job false = refl
+pub audit_job : (explain : Explain)
+    → named_job (Some (codes "audit", words None None None None (Some (switch_text (in_words explain))) (Some (switch_text (in_json explain))) None)) ≡ Some (Some (jobs.Audit explain))
+audit_job explains.No = refl
+audit_job explains.Words = refl
+audit_job explains.Json = refl
 
 pub lanes_job_of : (workers : Option Text) (journal explain : Bool)
     → named_job (Some (codes "lanes", words None workers None (Some (switch_text journal)) (Some (switch_text explain)) None None)) ≡ Some (lanes_job workers journal explain)

@@ -17,16 +17,6 @@ is_other x h = grind (arith, nat_tests)
 
 -- ---- commands without a word
 
-pub audit_named : (explain : Bool) → named_of (subcommand_of gate_app (audit_words explain)) ≡ Some (codes "audit", words None None None None (Some (switch_text explain)) None None)
-unfolding clap_on_literals
-audit_named true = refl
-audit_named false = refl
-
-pub audit_taken : (explain : Bool) → takes gate_app (audit_words explain) ≡ true
-unfolding clap_on_literals
-audit_taken true = refl
-audit_taken false = refl
-
 pub rules_named : named_of (subcommand_of gate_app (codes "rules" ∷ [])) ≡ Some (codes "rules", words None None None None None None None)
 unfolding clap_on_literals
 rules_named = refl
@@ -157,7 +147,7 @@ lanes_taken None journal explain h = two_taken journal explain
 lanes_taken (Some []) journal explain h = no_number_taken journal explain
 lanes_taken (Some (x ∷ xs)) journal explain h = number_taken x xs journal explain (is_other x h)
 
--- ---- runs
+-- ---- audits and runs
 
 -- the two switches of an explanation
 abbrev pub in_words : Explain → Bool
@@ -167,6 +157,19 @@ in_words other = false
 abbrev pub in_json : Explain → Bool
 in_json explains.Json = true
 in_json other = false
+
+pub audit_named : (explain : Explain)
+    → named_of (subcommand_of gate_app (audit_words explain)) ≡ Some (codes "audit", words None None None None (Some (switch_text (in_words explain))) (Some (switch_text (in_json explain))) None)
+unfolding clap_on_literals
+audit_named explains.No = refl
+audit_named explains.Words = refl
+audit_named explains.Json = refl
+
+pub audit_taken : (explain : Explain) → takes gate_app (audit_words explain) ≡ true
+unfolding clap_on_literals
+audit_taken explains.No = refl
+audit_taken explains.Words = refl
+audit_taken explains.Json = refl
 
 free_run_named : (explain : Explain) (strict : Bool)
     → named_of (subcommand_of gate_app (run_words None explain strict)) ≡ Some (codes "run", words None None None None (Some (switch_text (in_words explain))) (Some (switch_text (in_json explain))) (Some (switch_text strict)))

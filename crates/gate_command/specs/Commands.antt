@@ -66,9 +66,9 @@ try_app =
 abbrev pub lanes_app : App
 lanes_app = with_rule (with_rule (with_rule (new_app (codes "lanes")) workers_rule) (switch_rule (codes "journal"))) (switch_rule (codes "explain"))
 
--- `audit`, with or without `--explain`
+-- `audit`, with or without `--explain` and `--explain-json`
 abbrev pub audit_app : App
-audit_app = with_rule (new_app (codes "audit")) (switch_rule (codes "explain"))
+audit_app = with_rule (with_rule (new_app (codes "audit")) (switch_rule (codes "explain"))) (switch_rule (codes "explain-json"))
 
 -- `rules`
 abbrev pub rules_app : App
@@ -160,8 +160,8 @@ run_words file explain strict = codes "run" ∷ explain_words explain ++ (switch
 abbrev pub former_run_words : Text → Bool → List Text
 former_run_words workers explain = codes "run" ∷ workers_words (Some workers) ++ switch_words (codes "--explain") explain
 
-abbrev pub audit_words : Bool → List Text
-audit_words explain = codes "audit" ∷ switch_words (codes "--explain") explain
+abbrev pub audit_words : Explain → List Text
+audit_words explain = codes "audit" ∷ explain_words explain
 
 abbrev pub lanes_words : Option Text → Bool → Bool → List Text
 lanes_words workers journal explain =
@@ -218,7 +218,7 @@ workers_by (Some text) = workers_in text
 abbrev pub lanes_job : Option Text → Bool → Bool → Option Job
 lanes_job workers journal explain = option_map (λ n. jobs.Lanes n journal explain) (workers_by workers)
 
--- how a run is explained by two switches
+-- how a run or an audit is explained by two switches
 abbrev pub explain_of : Bool → Bool → Explain
 explain_of explain json = if json then explains.Json else if explain then explains.Words else explains.No
 
@@ -230,7 +230,7 @@ job_of_run (Some text) file explain json strict = None
 abbrev pub job_of_name : Text → Option Text → Option Text → Option Text → Bool → Bool → Bool → Bool → Option Job
 job_of_name name word workers file journal explain json strict = if bytes_eq name (codes "run") then job_of_run workers file explain json strict
     else if bytes_eq name (codes "lanes") then lanes_job workers journal explain
-    else if bytes_eq name (codes "audit") then Some (jobs.Audit explain)
+    else if bytes_eq name (codes "audit") then Some (jobs.Audit (explain_of explain json))
     else if bytes_eq name (codes "rules") then Some jobs.Rules
     else if bytes_eq name (codes "settings") then Some jobs.Settings
     else option_map (word_job name) word

@@ -67,14 +67,14 @@ fn journal_switch<'a>(alloc: Global) -> Arg<'a>
         .help(help::LANES_JOURNAL)
 }
 
-/// The switch `--explain-json` of `gate run`.
-fn explain_json_switch<'a>(alloc: Global) -> Arg<'a>
+/// The switch `--explain-json` of `gate run` and `gate audit`, with this text in their help.
+fn explain_json_switch<'a>(alloc: Global, help: &'a str) -> Arg<'a>
     ensures { IsOption (switch_rule (codes "explain-json")) result }
 {
     Arg::new(alloc, "explain-json")
         .long("explain-json")
         .action(ArgAction::SetTrue)
-        .help(help::RUN_EXPLAIN_JSON)
+        .help(help)
 }
 
 /// The switch `--strict` of `gate run`.
@@ -136,7 +136,7 @@ fn run_command<'a>(alloc: Global) -> Result<Command<'a>, AllocError>
         .arg(file_word(alloc))?
         .arg(former_workers_option(alloc))?
         .arg(explain_switch(alloc, help::RUN_EXPLAIN))?
-        .arg(explain_json_switch(alloc))?
+        .arg(explain_json_switch(alloc, help::RUN_EXPLAIN_JSON))?
         .arg(strict_switch(alloc))
 }
 
@@ -201,7 +201,8 @@ fn audit_command<'a>(alloc: Global) -> Result<Command<'a>, AllocError>
     Command::new(alloc, "audit")
         .about(help::AUDIT)
         .after_help(help::AUDIT_END)
-        .arg(explain_switch(alloc, help::EXPLAIN_LINES))
+        .arg(explain_switch(alloc, help::AUDIT_EXPLAIN))?
+        .arg(explain_json_switch(alloc, help::AUDIT_EXPLAIN_JSON))
 }
 
 fn rules_command<'a>(alloc: Global) -> Command<'a>
@@ -273,7 +274,7 @@ pub fn read_args<'a>(alloc: Global, words: &'a [&'a str]) -> Result<Job, ArgsFau
     ensures input { words_now words.entry.now ≡ codes "check" ∷ codes "-" ∷ [] → AsksFor Job.CheckInput result }
     ensures lanes { (workers : Option (List ℕ)) (journal explain : Bool) → IsPlainIfGiven workers
         → words_now words.entry.now ≡ lanes_words workers journal explain → AnswersTo (lanes_job workers journal explain) result }
-    ensures audit { (explain : Bool) → words_now words.entry.now ≡ audit_words explain → AsksFor (Job.Audit explain) result }
+    ensures audit { (explain : Explain) → words_now words.entry.now ≡ audit_words explain → AsksFor (Job.Audit explain) result }
     ensures rules { words_now words.entry.now ≡ codes "rules" ∷ [] → AsksFor Job.Rules result }
     ensures settings { words_now words.entry.now ≡ codes "settings" ∷ [] → AsksFor Job.Settings result }
     ensures explain { (word : List ℕ) → IsPlainWord word → words_now words.entry.now ≡ codes "explain" ∷ word ∷ [] → AsksFor (Job.Explain word) result }
@@ -323,7 +324,6 @@ fn named_job(
 ) -> Result<Job, ArgsFault>
     ensures { AnswersTo (job_of_name name.now (word_now word.entry) (word_now workers.entry) (word_now file.entry) switches.journal switches.explain switches.json switches.strict) result }
 {
-    let explain = switches.explain;
     if name == "run" {
         return job_of_run(alloc, workers, file, switches);
     }
@@ -331,7 +331,9 @@ fn named_job(
         return lanes_job(alloc, workers, switches);
     }
     if name == "audit" {
-        return Ok(Job::Audit { explain });
+        return Ok(Job::Audit {
+            explain: explain_of(switches.explain, switches.json),
+        });
     }
     if name == "rules" {
         return Ok(Job::Rules);
@@ -397,7 +399,7 @@ fn job_of_run(
     }
 }
 
-/// How a run is explained by these two switches.
+/// How a run or an audit is explained by these two switches.
 fn explain_of(explain: bool, json: bool) -> Explain
     ensures { result ≡ explain_of explain json }
 {

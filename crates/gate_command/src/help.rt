@@ -161,7 +161,7 @@ from 1 to 64; 2 by default";
 pub(crate) const LANES_JOURNAL: &str = "Prints the journal too: each event with its reply, in the
 order of the calls";
 
-/// The text of `--explain` for the commands that explain lines and no replies.
+/// The text of `--explain` for the command that explains lines and no replies.
 pub(crate) const EXPLAIN_LINES: &str = "Says on standard error what is wrong with each line that
 does not parse or can't stand where it does";
 
@@ -190,6 +190,13 @@ rule; `gate explain` says what a rule or a token means.";
 pub(crate) const AUDIT: &str = "Reads a starting state and a journal from standard input, and says
 whether each reply of the journal is the one that the policy gives
 to its event, after the events before it";
+
+pub(crate) const AUDIT_EXPLAIN: &str = "Says on standard error what is wrong with each line that
+does not parse or can't stand where it does, and which
+reply is due where there is another one, with its event";
+
+pub(crate) const AUDIT_EXPLAIN_JSON: &str = "The same as one JSON object a line; --explain=json is
+another name of it";
 
 pub(crate) const AUDIT_END: &str = "Exit status:
   0  the journal is legal

@@ -2,7 +2,7 @@
 use gate_bytes::Text;
 use gate_verify::Workers;
 
-/// How standard error explains a run.
+/// How standard error explains a run or an audit.
 #[derive(Clone, Copy, PartialEq, Eq)]
 pub enum Explain {
     /// Not at all.
@@ -38,7 +38,7 @@ pub enum Job {
     },
     /// Opens a gate from the input, and says whether the journal behind the opening is legal.
     Audit {
-        explain: bool,
+        explain: Explain,
     },
     /// Prints every rule and word.
     Rules,

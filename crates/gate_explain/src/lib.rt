@@ -1,8 +1,10 @@
-//! `gate run --explain`: what it says of replies on standard error, and of the run at its end, in words or as JSON.
+//! `gate run --explain`: what it says of replies on standard error, and of the run at its end, in words or as JSON; and
+//! `gate audit --explain`: which reply was due where a journal has another one.
 //!
-//! It is an onlooker of `gate run`, so what is written is what `gate run` writes.
+//! They are onlookers of `gate run` and of `gate audit`, so what is written is what these write.
 #![tactic(auto)]
 
+mod auditing;
 mod counted_noun;
 mod denied;
 mod event_totals;
@@ -16,5 +18,6 @@ mod sight;
 mod telling;
 mod told;
 
+pub use auditing::AuditExplaining;
 pub use explaining::Explaining;
 pub use telling::Telling;

@@ -2,7 +2,7 @@
 ghost use Rattle.std.specs.Prelude.{◌≡◌, ◌≢◌, ◌++◌, ◌∷◌, [], true, IfErr, IfOk, OnOk};
 ghost use Rattle.gate_report.specs.AuditJobs.{AuditPrinted, AuditStopped, AuditPastLimits, answer_line, answer_status, AnswerPrinted, AnswerStopped};
 
-use gate_audit::{Audit, audit};
+use gate_audit::{Audit, AuditOnlooker, audit};
 use gate_bytes::Memory;
 use gate_lines::{LaneFault, Sink, Source, end_line};
 use gate_opening::{OpeningFault, read_opening};
@@ -42,12 +42,13 @@ fn print_answer<W: Sink>(alloc: Global, writer: &mut W, answer: Audit) -> Result
     Ok(answer_status(answer))
 }
 
-/// Opens a gate from the front of the input, and says whether the journal behind it is legal from there: status 0 if it
-/// is, and 1 if not. An opening with a fault is refused by a line: status 2. If reading fails, or memory runs out,
+/// Opens a gate from the front of the input, and says whether the journal behind it is legal from there, with somebody who
+/// looks on: status 0 if it is, and 1 if not. An opening with a fault is refused by a line: status 2. If reading fails, or memory runs out,
 /// nothing is printed.
-pub fn run_audit<S: BuildHasher + Copy + Drop, R: Source, W: Sink>(
+pub fn run_audit<S: BuildHasher + Copy + Drop, O: AuditOnlooker, R: Source, W: Sink>(
     alloc: Global,
     hasher: S,
+    onlooker: &O,
     reader: &mut R,
     writer: &mut W,
 ) -> Result<u8, LaneFault>
@@ -59,7 +60,7 @@ pub fn run_audit<S: BuildHasher + Copy + Drop, R: Source, W: Sink>(
 {
     match read_opening(alloc, hasher, reader) {
         Ok(state) => {
-            let answer = audit(alloc, state, reader)?;
+            let answer = audit(alloc, onlooker, state, reader)?;
             print_answer(alloc, writer, answer)
         }
         Err(OpeningFault::Line(line, token)) => refuse_opening(alloc, writer, line, token),

@@ -43,7 +43,7 @@ pub returns-then-branch-clause-taken : goal.returns-then-branch-clause-taken
 returns-then-branch-clause-taken g c =
     let read = rw c.if-not-branch.false at c.in_ok-next_significant_line.ensures.read in
     let some = rw (c.in-Some.is, c.as_slice-2.ensures) at c.in_ok-reply.ensures in
-    let follows = rw (c.if-branch.true, c.as_str.ensures.value) at c.in_ok-reply_follows.ensures.read in
+    let follows = rw (c.if-branch.true, c.as_str-2.ensures.value) at c.in_ok-reply_follows.ensures.read in
     entry_legal _ (g.R.Read.remaining c.next_significant_line.new.reader) _ _ c.next_significant_line.new.self.lines.count _ c.next_significant_line.new.self.has_ended _ c.args.state.now c.reply_to.new.state c.args.counts.in_round c.next_significant_line.new.self.lines.line
     (string_bytes c.in-Some.reply) read (round_goes_on _ _ c.args.counts.bounded c.is_full.ensures c.if-is_full.false) some follows
 
@@ -52,6 +52,6 @@ returns-clause-taken g c =
     let read = rw c.if-not-branch.false at c.in_ok-next_significant_line.ensures.read in
     let is = rw c.as_slice.ensures at c.is_base.ensures in
     let some = rw (c.in-Some.is, c.as_slice-2.ensures) at c.in_ok-reply.ensures in
-    let follows = rw (c.if-branch.false, c.as_str.ensures.value) at c.in_ok-reply_follows.ensures.read in
+    let follows = rw (c.if-branch.false, c.as_str-2.ensures.value) at c.in_ok-reply_follows.ensures.read in
     entry_unreplied _ (g.R.Read.remaining c.next_significant_line.new.reader) _ c.next_significant_line.new.self.lines.count _ c.next_significant_line.new.self.has_ended c.args.state.now c.reply_to.new.state c.args.counts c.next_significant_line.new.self.lines.line
     (string_bytes c.in-Some.reply) read (λ e. true≢false (sym (is.1 e) ∙ c.if-is_base.false)) some follows
