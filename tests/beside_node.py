@@ -143,7 +143,7 @@ def test_data_outputs_are_told(gate):
 
 
 def test_settings_that_are_said(gate):
-    """Lines of a file and of `--set` stand in the opening in the place of what the node has, and a release beside both."""
+    """Lines of a file and of `--set` stand in the opening in the place of what the node has, and a release in the place of its own."""
     recorded = calls(NODES[0])
     with tempfile.TemporaryDirectory() as folder:
         path = os.path.join(folder, "settings")
@@ -155,7 +155,7 @@ def test_settings_that_are_said(gate):
     done = gate.run("run", "".join(it + "\n" for it in lines[: lines.index("---") + 1]))
     same("the opening", (done.status, done.stdout), (0, b""))
     lines = opened_from(recorded)
-    same_lines([it for it in lines if it.startswith("policy")], [])
+    same_lines([it for it in lines if it.startswith("policy")], ["policy knots-29"])
 
 
 def test_the_floor(gate):
