@@ -1,10 +1,11 @@
--- Laws of the figures.
-use Rattle.std.specs.Prelude.{◌≡◌, ◌<◌, ◌≤◌, ◌-◌, Some, None, true, false, IfSome, Err}
+-- Laws of the figures, and of least fees.
+use Rattle.std.specs.Prelude.{◌≡◌, ◌<◌, ◌≤◌, ◌-◌, ℕ, Option, Some, None, true, false, IfSome, Ok, Err}
 use Rattle.gate_tx.specs.Tx.{Tx}
 use Rattle.gate_standard.specs.Outputs.{is_below}
 use Rattle.gate_standard.specs.declared.Denial.{Denial}
 use Rattle.gate_locks.specs.Finality.{threshold_of}
 use Rattle.gate_admit.specs.declared.attempt.Attempt.TheVariants.{First}
+use Rattle.gate_admit.specs.declared.grant.Grant.{Grant}
 use Rattle.gate_admit.specs.Coins.{view_coin}
 use Rattle.gate_admit.specs.Rules.{decision_of}
 use Rattle.gate_admit.specs.Standing.{Standing}
@@ -12,6 +13,7 @@ use Rattle.gate_admit.specs.Verdicts.{verdict_of}
 use Rattle.gate_figures.specs.declared.figures.Figures.{Figures}
 use Rattle.gate_figures.specs.declared.figures.Figures.TheVariants.{Large, Small, Weighs, Script, BareMultisig, DataScript, DataOutputs, DataLeft, Dust, Final, Spent, NoCoin, Young, HeightLocked, TimeLocked, UntimedLocked, NonstandardSpend, LegacySigops, NonstandardWitness, Balance, Costs, Pays, Ancestors, AncestorsSized, Outpaid, Descendants, Above, Input}
 use Rattle.gate_figures.specs.Figures.{figures_of, is_good}
+use Rattle.gate_figures.specs.Least.{IsLeastFor}
 
 -- figures are past what is allowed, and the policy allows no less than that, or below what is needed; an outpoint has no coin, or
 -- an input no good verdict; and an entry that doesn't signal is named only if the policy asks for signals
@@ -48,3 +50,12 @@ Decide over (Input input wtxid) = is_good (verdict_of over.verdicts wtxid input)
 -- if a transaction is denied, the figures of the rule that denies it decide
 abbrev pub FiguresDecide : Type 0
 FiguresDecide = (over : Standing) (tx : Tx) (denial : Denial) → decision_of First over (Some tx) ≡ Err denial → IfSome (figures_of over tx denial) (Decide over)
+
+-- a fee is at least the least
+abbrev pub Reaches : Option ℕ → ℕ → Type 0
+Reaches None fee = ⊥
+Reaches (Some least) fee = least ≤ fee
+
+-- what is granted at its first attempt has a least fee, and pays at least that
+abbrev pub GrantsReachTheLeastFee : Type 0
+GrantsReachTheLeastFee = (over : Standing) (tx : Tx) (grant : Grant) (found : Option ℕ) → decision_of First over (Some tx) ≡ Ok grant → IsLeastFor over (Some tx) found → Reaches found grant.fee

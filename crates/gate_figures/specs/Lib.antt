@@ -1,4 +1,6 @@
 pub mod Figures
 pub mod Explaining
 pub mod Laws
+pub mod Least
+pub mod Rooms
 pub mod Relatives

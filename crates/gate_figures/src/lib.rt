@@ -22,6 +22,6 @@ mod verdicts;
 pub use explanation::{Explained, Explanation};
 pub use figures::Figures;
 pub use judging::explain;
-pub use laws::figures_decide;
+pub use laws::{figures_decide, grants_reach_the_least_fee};
 pub use least::least_fee;
 pub use relating::{Relatives, relatives_in};
