@@ -122,8 +122,8 @@ with its value in satoshi, and `,cb` behind it if it
 is a coinbase's; may be repeated";
 
 pub(crate) const TRY_POLICY: &str = "The release whose policy decides: core-22, core-25,
-core-26, core-27, core-28, core-29, core-30 or knots-29;
-core-22 if it is left out";
+core-26, core-27, core-28, core-29, core-30 or
+knots-29; core-22 if it is left out";
 
 pub(crate) const TRY_SET: &str = "A setting of the policy, WORD=NUMBER, as `gate settings`
 lists them; may be repeated";

@@ -99,7 +99,7 @@ made_spelled (event ∷ events) (Err fault ∷ answers) h = made_spelled events 
 
 pass_spelled : (events : List Event) (answers : List Answer) (pass : Option PassView) → AreSpelled events → HasCalls events answers pass → PassSpelled pass
 pass_spelled [] answers pass h (none, is) = subst PassSpelled (sym is) tt
-pass_spelled (event ∷ events) answers pass h (p, is, caller, calls, answered, rising) =
+pass_spelled (event ∷ events) answers pass h (p, is, caller, calls, answered, rising, full) =
     subst PassSpelled (sym is) (subst CallsSpelled (sym calls) (made_spelled (event ∷ events) answers h))
 
 lane_spelled : (bytes : List ℕ) (before after : Option (List ℕ)) (pass : Option PassView) (result : Result ℕ LaneFault) → IsOk result

@@ -35,10 +35,10 @@ returns g c = λ test ids fee.
     let all : take c.loop-id.id-index c.args.ids.now ≡ c.args.ids.now = take_all c.loop-id.id-index c.args.ids.now (omega (arith, c.loop-id-test.false)) in
     below_number c.loop-id.least fee _
     (λ less.
-        let w = c.loop-id.invariant.some fee less in
-        let e = ids.only w.0 w.1 in
-        list_any_of beats (filter test entries) e.0 e.1 (w.2 e.0 (Contains-from_filter test entries e.0 e.1) e.2))
+    let w = c.loop-id.invariant.some fee less in
+    let e = ids.only w.0 w.1 in
+    list_any_of beats (filter test entries) e.0 e.1 (w.2 e.0 (Contains-from_filter test entries e.0 e.1) e.2))
     (λ reached. false_from_ne_true _ (λ t.
-        let w = any_is beats (filter test entries) t in
-        let at = subst (λ (l : List (List ℕ)). Contains l (txid_of w.0.tx)) (sym all) (ids.all w.0 w.1) in
-        true≢false (sym w.2 ∙ c.loop-id.invariant.all w.0 (Contains-from_filter test entries w.0 w.1) at fee reached)))
+    let w = any_is beats (filter test entries) t in
+    let at = subst (λ (l : List (List ℕ)). Contains l (txid_of w.0.tx)) (sym all) (ids.all w.0 w.1) in
+    true≢false (sym w.2 ∙ c.loop-id.invariant.all w.0 (Contains-from_filter test entries w.0 w.1) at fee reached)))
