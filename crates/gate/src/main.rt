@@ -423,7 +423,8 @@ fn whole_input<R: AllocGlobal + Input>(rt: &R) -> Result<Vec<u8>, Fault> {
         return Err(Fault::Lane(LaneFault::Memory));
     };
     let mut input = Vec::new(alloc);
-    loop {
+    // each round takes a byte at least, so the last one finds the end, or one byte too many
+    for _ in 0..MAX_INPUT + 1 {
         let Ok(bytes) = reader.fill_buf() else {
             return Err(Fault::Lane(LaneFault::Read));
         };
@@ -437,6 +438,7 @@ fn whole_input<R: AllocGlobal + Input>(rt: &R) -> Result<Vec<u8>, Fault> {
         input.extend_from_slice(bytes)?;
         reader.consume(count);
     }
+    Err(Fault::Lane(LaneFault::Memory))
 }
 
 /// The second that it is now, since 1970; 0 without a clock.
