@@ -125,8 +125,8 @@ pub(crate) const TRY_POLICY: &str = "The release whose policy decides: core-22, 
 core-26, core-27, core-28, core-29, core-30 or
 knots-29; core-22 if it is left out";
 
-pub(crate) const TRY_SET: &str = "A setting of the policy, WORD=NUMBER, as `gate settings`
-lists them; may be repeated";
+pub(crate) const TRY_SET: &str = "A setting of the policy, WORD=NUMBER, as
+`gate settings` lists them; may be repeated";
 
 pub(crate) const TRY_TIP: &str = "The height of the chain's last block";
 
