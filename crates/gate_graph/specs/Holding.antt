@@ -97,10 +97,11 @@ pub record Stored (T : Type 0) : Type 0 where
   pub spots : List (Option (List ℕ))
   pub room : ℕ
 
--- if there is room, one more node has a place in the index and among the slots
-pub record HasSpot (room spare len capacity : ℕ) : Type 0 where
+-- if there is room, one more node has a place in the index, among the slots and among the places that are kept beside them
+pub record HasSpot (room spare len capacity near_len near_capacity : ℕ) : Type 0 where
   pub place : 0 < room → 0 < spare
   pub slot : 0 < room → len < capacity
+  pub near : 0 < room → near_len < near_capacity
 
 -- a graph: its nodes in the order of adding, each with what it carries, which id stands at each place, and the room that was
 -- taken beforehand: a node that names fewer than `room` parents is put without memory

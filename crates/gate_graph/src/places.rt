@@ -3,7 +3,7 @@ ghost use Rattle.std.specs.Vec.{vec_capacity};
 ghost use Rattle.std.specs.Option.{option_map};
 ghost use Rattle.std.specs.Str.{bytes_eq};
 ghost use Rattle.indexmap.specs.IndexMap.{get, index_map_len};
-ghost use Rattle.gate_graph.specs.Slots.{at, Covers, Indexes};
+ghost use Rattle.gate_graph.specs.Slots.{at, passes, Covers, Indexes};
 ghost use Rattle.gate_graph.specs.Holding.{has_id, with_totals};
 
 use crate::held::{Held, Totals};
@@ -17,6 +17,16 @@ pub(crate) fn standing<T: Drop>(slots: &[Option<Held<T>>], place: usize) -> &Hel
     ensures { at slots.now place ≡ Some result.now }
 {
     slots[place].as_ref().unwrap()
+}
+
+/// Whether the node with an id stands at a place.
+pub(crate) fn stands_at<T: Drop>(slots: &[Option<Held<T>>], place: usize, id: &NodeId) -> bool
+    ensures { result ≡ passes (λ h. has_id h id.now) (at slots.now place) }
+{
+    match slots.get(place) {
+        Some(Some(held)) => held.id == *id,
+        _ => false,
+    }
 }
 
 /// Takes out the node that stands at a place, and leaves a hole.

@@ -30,6 +30,16 @@ pub(crate) fn link<S: BuildHasher + Drop>(links: &mut Links<S>, parents: &[NodeI
     }
 }
 
+/// Has a parent of a node be looked for first where a walk up from the node found one.
+fn keep_near<T: Drop, S: BuildHasher + Drop>(slots: &mut Slots<T, S>, place: usize, above: &[usize])
+    ensures { slots.new ≡ slots.old }
+{
+    // The walk found the node itself first.
+    if let Some(near) = above.get(1) {
+        slots.set_near(place, *near);
+    }
+}
+
 /// Gives the last node, which nothing names, its totals, and adds it to the descendant totals of each node above it.
 pub(crate) fn settle<T: Drop, S: BuildHasher + Drop>(
     slots: &mut Slots<T, S>,
@@ -76,6 +86,7 @@ pub(crate) fn settle<T: Drop, S: BuildHasher + Drop>(
         },
     };
     slots.set_totals(place, totals);
+    keep_near(slots, place, scratch.above.as_slice());
 }
 
 /// Gives the last node, which names no node, its totals, and adds it to the ancestor totals of each node below it.

@@ -12,7 +12,7 @@ ghost use Rattle.gate_ranking.specs.Lesser.{least_by};
 
 use crate::held::{Held, Totals};
 use crate::id::NodeId;
-use crate::places::{close, empty, renumber, standing, write};
+use crate::places::{close, empty, renumber, standing, stands_at, write};
 use gate_bytes::Memory;
 use gate_ranking::{Ranking, Rate};
 use indexmap::IndexMap;
@@ -24,6 +24,7 @@ use std::marker::Model;
 fn reserve_one<T: Drop, S: BuildHasher>(
     slots: &mut Vec<Option<Held<T>>>,
     places: &mut IndexMap<NodeId, usize, S>,
+    near: &mut Vec<Option<u32>>,
     ranking: &mut Ranking<Rate>,
 ) -> Result<(), Memory>
     ensures items { slots.new.items ≡ slots.old.items }
@@ -33,12 +34,39 @@ fn reserve_one<T: Drop, S: BuildHasher>(
     ensures keys { ranking.new.keys ≡ ranking.old.keys }
     ensures slots_room { OnOk result (vec_len slots.new < vec_capacity slots.new) }
     ensures places_room { OnOk result (0 < spare places.new) }
+    ensures near_room { OnOk result (vec_len near.new < vec_capacity near.new) }
     ensures ranks_room { OnOk result (0 < ranking.new.room) }
 {
     places.reserve(1)?;
+    near.reserve(1)?;
     ranking.reserve(1)?;
     slots.reserve(1)?;
     Ok(())
+}
+
+/// The place of one of these ids, by an index of ids.
+fn first_place<S: BuildHasher>(places: &IndexMap<NodeId, usize, S>, ids: &[NodeId]) -> Option<u32> {
+    for id in ids {
+        if let Some(place) = places.get(id) {
+            return u32::try_from(*place).ok();
+        }
+    }
+    None
+}
+
+/// Finds for the node in each slot where one of its parents stands, by an index of ids.
+fn find_near<T: Drop, S: BuildHasher>(
+    slots: &[Option<Held<T>>],
+    places: &IndexMap<NodeId, usize, S>,
+    near: &mut Vec<Option<u32>>,
+) {
+    near.truncate(slots.len());
+    for place in 0..near.len() {
+        near[place] = match slots.get(place) {
+            Some(Some(held)) => first_place(places, held.parents.as_slice()),
+            _ => None,
+        };
+    }
 }
 
 /// Nodes in the order of adding, in slots with holes where some were taken out, and the place of each id.
@@ -46,6 +74,9 @@ fn reserve_one<T: Drop, S: BuildHasher>(
 pub(crate) struct Slots<T: Drop, S: BuildHasher + Drop> {
     slots: Vec<Option<Held<T>>>,
     places: IndexMap<NodeId, usize, S>,
+    /// Where a parent of each node stood, at its place, if one was found. Only the way to a parent rests on it: what
+    /// stands there is asked for its id first.
+    near: Vec<Option<u32>>,
     /// What each node is ranked by, at its place.
     ranking: Ranking<Rate>,
     /// The sizes of all nodes, added up.
@@ -69,7 +100,7 @@ impl<T: Drop, S: BuildHasher + Drop> Model for Slots<T, S> {
 
     ghost invariant = { λ s.
         IsPlaced s.slots.items (index_map_len s.places) (get bytes_eq s.places)
-        × HasSpot s.room (spare s.places) (vec_len s.slots) (vec_capacity s.slots)
+        × HasSpot s.room (spare s.places) (vec_len s.slots) (vec_capacity s.slots) (vec_len s.near) (vec_capacity s.near)
         × IsRanked s.slots.items s.room s.ranking s.size };
 }
 
@@ -82,6 +113,7 @@ impl<T: Drop, S: BuildHasher + Drop> Slots<T, S> {
         Slots {
             slots: Vec::new(alloc),
             places: IndexMap::with_hasher(alloc, hasher),
+            near: Vec::new(alloc),
             ranking: Ranking::new(alloc),
             size: 0,
             room: 0,
@@ -139,6 +171,37 @@ impl<T: Drop, S: BuildHasher + Drop> Slots<T, S> {
         }
     }
 
+    /// The place of the node that has an id, as `place` finds it. If it stands at the place `near`, this is no look-up.
+    pub(crate) fn place_near(&self, id: &NodeId, near: Option<usize>) -> Option<usize>
+        ensures sound { IfSome result (λ place. at self.now.spots place ≡ Some id.now) }
+        ensures whole { (place : ℕ) → at self.now.spots place ≡ Some id.now → result ≡ Some place }
+        ensures has { is_some result ≡ has (nodes_of self.now.held) id.now }
+    {
+        if let Some(place) = near {
+            if stands_at(&self.slots, place, id) {
+                return Some(place);
+            }
+        }
+        self.place(id)
+    }
+
+    /// Where a parent of the node at a place is looked for first.
+    pub(crate) fn near(&self, place: usize) -> Option<usize> {
+        match self.near.get(place) {
+            Some(Some(near)) => Some(*near as usize),
+            _ => None,
+        }
+    }
+
+    /// Has a parent of the node at a place be looked for at the place `near` first.
+    pub(crate) fn set_near(&mut self, place: usize, near: usize)
+        ensures { self.new ≡ self.old }
+    {
+        if place < self.near.len() {
+            self.near[place] = u32::try_from(near).ok();
+        }
+    }
+
     pub(crate) fn contains(&self, id: &NodeId) -> bool
         ensures { result ≡ has (nodes_of self.now.held) id.now }
     {
@@ -187,7 +250,12 @@ impl<T: Drop, S: BuildHasher + Drop> Slots<T, S> {
         ensures room { OnOk result (0 < self.new.room) }
     {
         self.room = 0;
-        reserve_one(&mut self.slots, &mut self.places, &mut self.ranking)?;
+        reserve_one(
+            &mut self.slots,
+            &mut self.places,
+            &mut self.near,
+            &mut self.ranking,
+        )?;
         self.room = 1;
         Ok(())
     }
@@ -207,6 +275,7 @@ impl<T: Drop, S: BuildHasher + Drop> Slots<T, S> {
         let _ = put.unwrap();
         self.size += u128::from(held.size);
         self.ranking.push(held.rate());
+        self.near.push_reserved(None);
         self.slots.push_reserved(Some(held));
         place
     }
@@ -219,6 +288,7 @@ impl<T: Drop, S: BuildHasher + Drop> Slots<T, S> {
         self.room = 0;
         close(&mut self.slots);
         renumber(&self.slots, &mut self.places);
+        find_near(&self.slots, &self.places, &mut self.near);
         self.ranking.close_up();
     }
 }

@@ -57,12 +57,13 @@ impl Scratch {
     }
 }
 
-/// Adds the place of an id, unless it is no node's or was found before.
+/// Adds the place of an id, unless it is no node's or was found before. It is looked for at the place `near` first.
 fn add<T: Drop, S: BuildHasher + Drop>(
     slots: &Slots<T, S>,
     marks: &mut Vec<bool>,
     found: &mut Vec<usize>,
     id: &NodeId,
+    near: Option<usize>,
 )
     requires room { length slots.now.held ≤ vec_capacity found.old }
     requires search { IsSearch (nodes_of slots.now.held) slots.now.spots marks.old.items found.old.items }
@@ -71,7 +72,7 @@ fn add<T: Drop, S: BuildHasher + Drop>(
     ensures capacity { vec_capacity found.new ≡ vec_capacity found.old }
     ensures marks { vec_capacity marks.new ≡ vec_capacity marks.old }
 {
-    match slots.place(id) {
+    match slots.place_near(id, near) {
         Some(place) => {
             if !marks[place] {
                 marks[place] = true;
@@ -82,12 +83,14 @@ fn add<T: Drop, S: BuildHasher + Drop>(
     }
 }
 
-/// Adds the place of each of these ids, unless it is no node's or was found before.
+/// Adds the place of each of these ids, unless it is no node's or was found before. Each is looked for at the place `near`
+/// first.
 fn add_each<T: Drop, S: BuildHasher + Drop>(
     slots: &Slots<T, S>,
     marks: &mut Vec<bool>,
     found: &mut Vec<usize>,
     ids: &[NodeId],
+    near: Option<usize>,
 )
     requires room { length slots.now.held ≤ vec_capacity found.old }
     requires search { IsSearch (nodes_of slots.now.held) slots.now.spots marks.old.items found.old.items }
@@ -97,7 +100,7 @@ fn add_each<T: Drop, S: BuildHasher + Drop>(
     ensures marks { vec_capacity marks.new ≡ vec_capacity marks.old }
 {
     for id in ids {
-        add(slots, marks, found, id);
+        add(slots, marks, found, id, near);
     }
 }
 
@@ -118,7 +121,7 @@ fn add_listed<T: Drop, S: BuildHasher + Drop>(
 {
     for number in 0..links.count(id) {
         let child = links.at(id, number);
-        add(slots, marks, found, child);
+        add(slots, marks, found, child, None);
     }
 }
 
@@ -143,7 +146,13 @@ fn open<T: Drop, S: BuildHasher + Drop>(
 {
     let held = slots.at(heading.place);
     match heading.way {
-        Way::Up => add_each(slots, marks, found, held.parents.as_slice()),
+        Way::Up => add_each(
+            slots,
+            marks,
+            found,
+            held.parents.as_slice(),
+            slots.near(heading.place),
+        ),
         Way::Down => add_listed(slots, links, marks, found, &held.id),
     }
 }

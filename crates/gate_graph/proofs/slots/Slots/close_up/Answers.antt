@@ -22,6 +22,7 @@ invariant_of-self g c =
       record {
         place = λ l. absurd (omega (arith, l));
         slot = λ l. absurd (omega (arith, l));
+        near = λ l. absurd (omega (arith, l));
       },
       record {
         keys = closed_keys slots c.close.new.slots.items c.self.inside.ranking.keys c.close_up.new.self.keys c.self.invariant.2.keys c.close.ensures c.close_up.ensures.keys;

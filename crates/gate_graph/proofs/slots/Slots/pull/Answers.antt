@@ -34,6 +34,7 @@ invariant_of-self g c =
       record {
         place = λ l. omega (arith, c.self.invariant.1.place l, c.swap_remove.ensures.room.0);
         slot = λ l. omega (arith, c.self.invariant.1.slot l, c.empty-held.ensures.len, c.empty-held.ensures.capacity);
+        near = c.self.invariant.1.near;
       },
       record {
         keys = taken_keys c.self.inside.slots.items c.empty-held.new.slots.items p c.self.inside.ranking.keys c.remove.new.self.keys c.self.invariant.2.keys c.empty-held.ensures.emptied c.remove.ensures.keys;

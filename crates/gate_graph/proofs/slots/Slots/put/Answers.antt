@@ -28,32 +28,33 @@ invariant_of-self g c =
     let updates = rw c.unwrap.ensures at c.insert-put.ensures.updates in
     let len = rw c.unwrap.ensures at c.insert-put.ensures.len in
     let before = rw c.unwrap.ensures at c.insert-put.ensures.old in (
-      IsPlaced-put h (length c.as_slice-place.result.now) c.push_reserved.new.self.items (index_map_len c.insert-put.new.self) (get bytes_eq c.insert-put.new.self) c.self.invariant.0
+      IsPlaced-put h (length c.as_slice-place.result.now) c.push_reserved-2.new.self.items (index_map_len c.insert-put.new.self) (get bytes_eq c.insert-put.new.self) c.self.invariant.0
           (ap (λ (s : Stored g.row.T.Denot). has (nodes_of s.held) h.id) c.self.view_is ∙ c.requires.new)
           (ap length c.as_slice-place.ensures.value)
-          c.push_reserved.ensures.items
+          c.push_reserved-2.ensures.items
           (λ k. updates.0 k)
           (λ absent. len ∙ ap (λ o. index_map_len old + (if is_some o then 0 else 1)) (before ∙ absent)),
       record {
         place = λ l. absurd (omega (arith, l));
         slot = λ l. absurd (omega (arith, l));
+        near = λ l. absurd (omega (arith, l));
       },
       record {
-        keys = pushed_keys c.self.inside.slots.items c.push_reserved.new.self.items h c.rate.result c.self.inside.ranking.keys c.push.new.self.keys c.self.invariant.2.keys c.push_reserved.ensures.items c.rate.ensures c.push.ensures.keys;
+        keys = pushed_keys c.self.inside.slots.items c.push_reserved-2.new.self.items h c.rate.result c.self.inside.ranking.keys c.push.new.self.keys c.self.invariant.2.keys c.push_reserved-2.ensures.items c.rate.ensures c.push.ensures.keys;
         ranks_room = omega arith;
-        sum = omega (arith, total-push c.self.inside.slots.items h, c.self.invariant.2.sum, ap total c.push_reserved.ensures.items, c.from.ensures);
+        sum = omega (arith, total-push c.self.inside.slots.items h, c.self.invariant.2.sum, ap total c.push_reserved-2.ensures.items, c.from.ensures);
       },
     )
 
 pub returns-clause-held : goal.returns-clause-held
 returns-clause-held g c =
     let h = c.args.held in
-    ap entries_of c.push_reserved.ensures.items ∙ entries_of-push c.self.inside.slots.items h ∙ ap (λ (s : Stored g.row.T.Denot). s.held ++ h ∷ []) c.self.view_is
+    ap entries_of c.push_reserved-2.ensures.items ∙ entries_of-push c.self.inside.slots.items h ∙ ap (λ (s : Stored g.row.T.Denot). s.held ++ h ∷ []) c.self.view_is
 
 pub returns-clause-spots : goal.returns-clause-spots
 returns-clause-spots g c =
     let h = c.args.held in
-    ap spots_of c.push_reserved.ensures.items ∙ spots_of-push c.self.inside.slots.items (Some h) ∙ ap (λ (s : Stored g.row.T.Denot). s.spots ++ Some h.id ∷ []) c.self.view_is
+    ap spots_of c.push_reserved-2.ensures.items ∙ spots_of-push c.self.inside.slots.items (Some h) ∙ ap (λ (s : Stored g.row.T.Denot). s.spots ++ Some h.id ∷ []) c.self.view_is
 
 pub returns-clause-place : goal.returns-clause-place
 returns-clause-place g c =

@@ -26,6 +26,7 @@ invariant_of-self g c =
       record {
         place = c.self.invariant.1.place;
         slot = λ l. omega (arith, c.self.invariant.1.slot l, c.write.ensures.len, c.write.ensures.capacity);
+        near = c.self.invariant.1.near;
       },
       record {
         keys = written_keys (with_totals c.args.totals) slots c.write.new.slots.items p c.standing.result.now c.rate-rate.result c.self.inside.ranking.keys c.update.new.self.keys c.self.invariant.2.keys c.write.ensures.written
