@@ -61,6 +61,8 @@ pub enum Setting {
     LegacySigops,
     /// The most bytes of all scripts of a transaction that carry data (`-datacarriersize` of Bitcoin Core 30.0).
     DataTotal,
+    /// Version 3 is standard, and its transactions keep to small families (TRUC, BIP 431; Bitcoin Core 28.0 and later).
+    Truc,
 }
 
 /// What is said of a setting.
@@ -77,7 +79,7 @@ pub struct Row {
 }
 
 /// How many settings there are.
-pub const COUNT: usize = 26;
+pub const COUNT: usize = 27;
 
 /// The row of each setting, in their order.
 static ROWS: [Row; COUNT] = [
@@ -263,6 +265,13 @@ static ROWS: [Row; COUNT] = [
         most: 100_000,
         usual: 100_001,
     },
+    Row {
+        word: "truc",
+        unit: "0 or 1",
+        least: 0,
+        most: 1,
+        usual: 0,
+    },
 ];
 
 /// All settings, in their order.
@@ -293,6 +302,7 @@ static SETTINGS: [Setting; COUNT] = [
     Setting::Anchors,
     Setting::LegacySigops,
     Setting::DataTotal,
+    Setting::Truc,
 ];
 
 impl Setting {

@@ -52,7 +52,7 @@ pub struct Choice {
 }
 
 /// What releases have otherwise than Bitcoin Core 22.0. Beside each stands where that can be read.
-static CHOICES: [Choice; 14] = [
+static CHOICES: [Choice; 15] = [
     // release notes of 25.0 (MIN_STANDARD_TX_NONWITNESS_SIZE)
     Choice {
         setting: Setting::LeastSize,
@@ -87,6 +87,13 @@ static CHOICES: [Choice; 14] = [
         number: 1,
         first: Release::Core28,
         last: Release::Knots29,
+    },
+    // release notes of 28.0 (TRUC, BIP 431); Bitcoin Knots takes version 3 without rules
+    Choice {
+        setting: Setting::Truc,
+        number: 1,
+        first: Release::Core28,
+        last: Release::Core30,
     },
     // since 28.0 a replacement may spend from what any replaced entry spends from
     Choice {
@@ -178,10 +185,10 @@ impl Release {
     pub fn lacks(self) -> Option<&'static str> {
         match self {
             Release::Core22 | Release::Core25 | Release::Core26 | Release::Core27 => None,
-            Release::Core28 => Some("version 3 (A12), and packages of a parent and its child"),
-            Release::Core29 | Release::Core30 => Some(
-                "version 3 (A12), packages of a parent and its child, and dust that a child spends (A17)",
-            ),
+            Release::Core28 => Some("packages of a parent and its child"),
+            Release::Core29 | Release::Core30 => {
+                Some("packages of a parent and its child, and dust that a child spends (A17)")
+            }
             Release::Knots29 => Some(
                 "version 3 (A12), packages of a parent and its child, dust that a child spends (A17), and options of its own",
             ),

@@ -77,13 +77,14 @@ replacement_rules =
     ∷ key (codes "A42") (codes "insufficient fee") Keep
     ∷ []
 
--- A43 to A46: the transaction's scripts, and the pool's budget
+-- A43 to A47: the transaction's scripts, the pool's budget, and version 3
 abbrev pub verdict_rules : List Key
 verdict_rules =
     key (codes "A43") (codes "verdict-missing") Keep
     ∷ key (codes "A44") (codes "non-mandatory-script-verify-flag") Keep
     ∷ key (codes "A45") (codes "mandatory-script-verify-flag-failed") Close
     ∷ key (codes "A46") (codes "mempool full") Keep
+    ∷ key (codes "A47") (codes "TRUC-violation") Keep
     ∷ []
 
 -- A51: what later releases ask

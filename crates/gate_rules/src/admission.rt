@@ -100,7 +100,7 @@ pub(crate) fn standard_rules() -> [Rule; 8]
             token: "version",
             then: Then::Keep,
             core: Some("IsStandardTx"),
-            says: "The version is neither 1 nor 2",
+            says: "The version is neither 1 nor 2, nor 3 if truc is 1 (0)",
         },
         Rule {
             name: "A13",
@@ -185,7 +185,7 @@ pub(crate) fn chain_rules() -> [Rule; 14]
             token: "txn-mempool-conflict",
             then: Then::Keep,
             core: Some("AcceptToMemoryPool (BIP 125)"),
-            says: "An entry of the pool spends the same outpoint, and none of its inputs has a sequence of at most 0xfffffffd, so that it may not be replaced; with mempoolfullrbf it may be",
+            says: "An entry of the pool spends the same outpoint, and none of its inputs has a sequence of at most 0xfffffffd, so that it may not be replaced; with mempoolfullrbf it may be, and if it has version 3 and truc is 1",
         },
         Rule {
             name: "A24",
@@ -270,7 +270,7 @@ pub(crate) fn fee_rules() -> [Rule; 4]
             token: "mempool min fee not met",
             then: Then::Keep,
             core: Some("AcceptToMemoryPool, GetMinFee"),
-            says: "The fee is below the fee at the pool's floor for the virtual size",
+            says: "The fee is below the fee at the pool's floor for the virtual size; tested behind A35 if relayfeefirst is 1 (0), as since 26.0, but for version 3 if truc is 1",
         },
         Rule {
             name: "A35",
@@ -339,8 +339,8 @@ pub(crate) fn replacement_rules() -> [Rule; 5]
     ]
 }
 
-/// A43 to A46: the transaction's scripts, and the pool's budget.
-pub(crate) fn verdict_rules() -> [Rule; 4]
+/// A43 to A47: the transaction's scripts, the pool's budget, and version 3.
+pub(crate) fn verdict_rules() -> [Rule; 5]
     ensures { map key_of result ≡ verdict_rules }
 {
     [
@@ -371,6 +371,13 @@ pub(crate) fn verdict_rules() -> [Rule; 4]
             then: Then::Keep,
             core: Some("LimitMempoolSize"),
             says: "The pool is above its budget, and the transaction itself leaves it again",
+        },
+        Rule {
+            name: "A47",
+            token: "TRUC-violation",
+            then: Then::Keep,
+            core: Some("SingleTRUCChecks"),
+            says: "truc is 1, and the transaction or an ancestor of it in the pool has version 3 and the other hasn't; or it has version 3 and more than 10,000 virtual bytes, more than one ancestor, more than 1,000 virtual bytes beside an ancestor, or an ancestor with another descendant that neither conflicts with it nor makes room; tested behind A36 and before A37",
         },
     ]
 }

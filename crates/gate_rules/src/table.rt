@@ -20,7 +20,7 @@ fn append(rules: &mut Vec<Rule>, more: &[Rule]) -> Result<(), Memory>
     Ok(rules.extend_from_slice(more)?)
 }
 
-/// Appends A1 to A46, and A51.
+/// Appends A1 to A47, and A51.
 fn append_admission(rules: &mut Vec<Rule>) -> Result<(), Memory>
     ensures { OnOk result (map key_of rules.new.items ≡ with_admission (map key_of rules.old.items)) }
 {

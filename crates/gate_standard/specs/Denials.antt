@@ -1,7 +1,7 @@
 -- What is said of each rule, in the order of their numbers: its number, and its token as it is printed.
 use Rattle.std.specs.Prelude.{ℕ, List, codes}
 use Rattle.gate_standard.specs.declared.denial.Denial.{Denial}
-use Rattle.gate_standard.specs.declared.denial.Denial.TheVariants.{Decode, VinEmpty, VoutEmpty, Oversize, VoutNegative, VoutTooLarge, TotalTooLarge, InputsDuplicate, CoinbaseLength, PrevoutNull, Coinbase, Version, TxSize, ScriptSigSize, ScriptSigNotPushOnly, ScriptPubKey, Dust, MultiOpReturn, TxSizeSmall, NonFinal, AlreadyInMempool, SameNonWitnessData, MempoolConflict, AlreadyKnown, MissingOrSpent, NonBip68Final, PrematureSpend, InputValues, InBelowOut, FeeOutOfRange, NonstandardInputs, WitnessNonstandard, TooManySigops, MempoolMinFee, MinRelayFee, TooLongChain, SpendsConflicting, LowerFeeRate, TooManyReplacements, AddsUnconfirmed, LowerFee, LowerDifference, VerdictMissing, SoftVerdict, HardVerdict, MempoolFull, DataCarrier}
+use Rattle.gate_standard.specs.declared.denial.Denial.TheVariants.{Decode, VinEmpty, VoutEmpty, Oversize, VoutNegative, VoutTooLarge, TotalTooLarge, InputsDuplicate, CoinbaseLength, PrevoutNull, Coinbase, Version, TxSize, ScriptSigSize, ScriptSigNotPushOnly, ScriptPubKey, Dust, MultiOpReturn, TxSizeSmall, NonFinal, AlreadyInMempool, SameNonWitnessData, MempoolConflict, AlreadyKnown, MissingOrSpent, NonBip68Final, PrematureSpend, InputValues, InBelowOut, FeeOutOfRange, NonstandardInputs, WitnessNonstandard, TooManySigops, MempoolMinFee, MinRelayFee, TooLongChain, SpendsConflicting, LowerFeeRate, TooManyReplacements, AddsUnconfirmed, LowerFee, LowerDifference, VerdictMissing, SoftVerdict, HardVerdict, MempoolFull, TrucViolation, DataCarrier}
 
 -- a rule's number, and its token
 pub record Row : Type 0 where
@@ -58,6 +58,7 @@ row_of VerdictMissing = row 43 (codes "verdict-missing")
 row_of SoftVerdict = row 44 (codes "non-mandatory-script-verify-flag")
 row_of HardVerdict = row 45 (codes "mandatory-script-verify-flag-failed")
 row_of MempoolFull = row 46 (codes "mempool full")
+row_of TrucViolation = row 47 (codes "TRUC-violation")
 row_of DataCarrier = row 51 (codes "datacarrier")
 
 abbrev pub rule_of : Denial → ℕ

@@ -91,8 +91,17 @@ abbrev pub rules_of_outputs : Standards → Option ℕ → List TxOut → List (
 rules_of_outputs standards left [] = []
 rules_of_outputs standards left (output ∷ outputs) = rules_of_output standards left output ++ rules_of_outputs standards (left_behind left (carries_data output) (length output.script)) outputs
 
-abbrev pub is_version : ℤ → Bool
-is_version version = int_eq version (pos 1) || int_eq version (pos 2)
+-- a transaction of version 3, which keeps to a small family until it is confirmed (BIP 431)
+abbrev pub is_truc : Tx → Bool
+is_truc tx = int_eq tx.version (pos 3)
+
+-- versions 1 and 2 are standard, and 3 where an operator says so
+abbrev pub is_version : Bool → Tx → Bool
+is_version truc tx = int_eq tx.version (pos 1) || (int_eq tx.version (pos 2) || (truc && is_truc tx))
+
+-- A12
+unfoldable pub version_rules : Bool → Tx → List (Rule Denial)
+version_rules truc tx = (Version, not (is_version truc tx)) ∷ []
 
 -- the rules on the outputs together, and on the size
 abbrev pub rules_of_whole : Standards → Tx → List (Rule Denial)
@@ -101,12 +110,9 @@ rules_of_whole standards tx =
     ∷ (TxSizeSmall, nat_lt (stripped_size_of tx) standards.least_size)
     ∷ []
 
--- the rules of policy on a transaction that no operator sets (A12 to A15): 400,000 is MAX_STANDARD_TX_WEIGHT
+-- the rules of policy on a transaction that no operator sets (A13 to A15): 400,000 is MAX_STANDARD_TX_WEIGHT
 unfoldable pub form_rules : Tx → List (Rule Denial)
-form_rules tx =
-    (Version, not (is_version tx.version))
-    ∷ (TxSize, nat_lt 400_000 (weight_of tx))
-    ∷ flat_map rules_of_input tx.inputs
+form_rules tx = (TxSize, nat_lt 400_000 (weight_of tx)) ∷ flat_map rules_of_input tx.inputs
 
 -- the rules of policy on a transaction by what an operator takes for standard (A16 to A19, and A51)
 unfoldable pub output_rules : Standards → Tx → List (Rule Denial)
@@ -114,4 +120,4 @@ output_rules standards tx = rules_of_outputs standards standards.data_total tx.o
 
 -- the rules of policy on a transaction, which one in a block may break (A12 to A19, and A51)
 unfoldable pub standard_rules : Standards → Tx → List (Rule Denial)
-standard_rules standards tx = form_rules tx ++ output_rules standards tx
+standard_rules standards tx = version_rules standards.truc tx ++ (form_rules tx ++ output_rules standards tx)

@@ -30,7 +30,7 @@ pub enum Denial {
     PrevoutNull,
     /// A11: a coinbase.
     Coinbase,
-    /// A12: the version is neither 1 nor 2.
+    /// A12: the version is neither 1 nor 2, nor 3 where that is standard.
     Version,
     /// A13: the weight is above 400,000 (BIP 141).
     TxSize,
@@ -101,6 +101,9 @@ pub enum Denial {
     HardVerdict,
     /// A46: granted, but no longer in the pool once expiry and trim have run.
     MempoolFull,
+    /// A47: of version 3 (BIP 431) and too large, or with a family that is too large or of another version; or of another
+    /// version, below an entry of version 3.
+    TrucViolation,
     /// A51: the scripts of its outputs that carry data are too many bytes together.
     DataCarrier,
 }
@@ -114,7 +117,7 @@ struct Row {
 }
 
 /// The row of each rule, in the order of their numbers.
-static ROWS: [Row; 47] = [
+static ROWS: [Row; 48] = [
     Row {
         rule: 1,
         token: "tx-decode",
@@ -298,6 +301,10 @@ static ROWS: [Row; 47] = [
     Row {
         rule: 46,
         token: "mempool full",
+    },
+    Row {
+        rule: 47,
+        token: "TRUC-violation",
     },
     Row {
         rule: 51,

@@ -3,7 +3,7 @@ ghost use Rattle.std.specs.Prelude.{◌≡◌, None, Some, IfOk, IfErr, OnOk, tr
 ghost use Rattle.std.specs.List.{flat_map, count_by};
 ghost use Rattle.gate_bytes.specs.Order.{first_failing};
 ghost use Rattle.gate_standard.specs.Outputs.{carries_data};
-ghost use Rattle.gate_standard.specs.Rules.{rules_of_input, rules_of_output, rules_of_outputs, left_behind, form_rules, output_rules};
+ghost use Rattle.gate_standard.specs.Rules.{is_truc, is_version, rules_of_input, rules_of_output, rules_of_outputs, left_behind, form_rules, output_rules, version_rules};
 ghost use Rattle.gate_standard.specs.Standards.{is_past};
 
 use crate::Denial;
@@ -91,15 +91,38 @@ fn count_carriers(standards: &Standards, outputs: &[TxOut]) -> Result<usize, Den
     Ok(carriers)
 }
 
-/// The first rule that fails, of the rules of policy on a transaction alone that no operator sets: A12 to A15 (Bitcoin
-/// Core 22.0's `IsStandardTx`, up to the inputs).
+/// Whether a transaction has version 3, and so keeps to a small family until it is confirmed (BIP 431).
+pub fn is_truc(tx: &Transaction) -> bool
+    ensures { result ≡ is_truc tx.now }
+{
+    tx.version() == 3
+}
+
+/// Whether a transaction's version is standard: 1 or 2, or 3 where an operator says so.
+fn is_version(truc: bool, tx: &Transaction) -> bool
+    ensures { result ≡ is_version truc tx.now }
+{
+    tx.version() == 1 || tx.version() == 2 || truc && is_truc(tx)
+}
+
+/// A12, if it fails, where version 3 is standard or isn't.
+#[tactic(auto, unfolding(crate::specs::Rules::version_rules))]
+pub fn check_version(truc: bool, tx: &Transaction) -> Option<Denial>
+    ensures { result ≡ first_failing (version_rules truc tx.now) }
+{
+    if is_version(truc, tx) {
+        None
+    } else {
+        Some(Denial::Version)
+    }
+}
+
+/// The first rule that fails, of the rules of policy on a transaction alone that no operator sets: A13 to A15 (Bitcoin
+/// Core 22.0's `IsStandardTx`, from the version up to the outputs).
 #[tactic(auto, unfolding(crate::specs::Rules::form_rules))]
 pub fn check_form(tx: &Transaction) -> Option<Denial>
     ensures { result ≡ first_failing (form_rules tx.now) }
 {
-    if tx.version() != 1 && tx.version() != 2 {
-        return Some(Denial::Version);
-    }
     if tx.weight() > MAX_WEIGHT {
         return Some(Denial::TxSize);
     }

@@ -1,7 +1,7 @@
 //! What an operator takes for standard.
 use crate::amounts::{Feerate, Rounding};
 
-/// What an operator asks of a transaction's outputs and of its size: A16 to A19, and A51.
+/// What an operator asks of a transaction's version, of its outputs and of its size: A12, A16 to A19, and A51.
 #[derive(Clone, Copy, PartialEq, Eq)]
 pub struct Standards {
     /// The feerate at which an output's own size and that of its spending are paid for, of which one byte counts as a
@@ -17,9 +17,12 @@ pub struct Standards {
     pub least_size: u64,
     /// The most bytes of all scripts that carry data (`-datacarriersize` of Bitcoin Core 30.0).
     pub data_total: Option<u64>,
+    /// Whether version 3 is standard (BIP 431).
+    pub truc: bool,
 }
 
-/// Bitcoin Core 22.0's: a dust rate of 3,000, one output of at most 83 bytes of data, multisig scripts, and 82 bytes.
+/// Bitcoin Core 22.0's: a dust rate of 3,000, one output of at most 83 bytes of data, multisig scripts, 82 bytes,
+/// and versions 1 and 2.
 impl Default for Standards {
     ghost use Rattle.std.specs.Prelude.{◌≡◌};
     ghost use Rattle.gate_standard.specs.Standards.{usual_standards};
@@ -37,6 +40,7 @@ impl Default for Standards {
             bare_multisig: true,
             least_size: 82,
             data_total: None,
+            truc: false,
         }
     }
 }

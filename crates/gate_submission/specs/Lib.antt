@@ -1,3 +1,4 @@
 pub mod Alone
 pub mod Blocks
 pub mod Equality
+pub mod Findings

@@ -1,8 +1,8 @@
 //! What is submitted, before it meets a chain and a pool, a verdict on a script, and the outcome of a chain event: what
 //! callers and replies say of admission and reorganisation without depending on them.
 //!
-//! The main clause is that of `Prepared::of`: the transaction, with the first of A2 to A15 that fails. A16 to A19 depend on
-//! what an operator takes for standard, and are tested where that is known.
+//! The main clause is that of `Prepared::of`: the transaction, with the first of A2 to A11 that fails, and the first of
+//! A13 to A15. A12 and A16 to A19 depend on what an operator takes for standard, and are tested where that is known.
 #![tactic(auto)]
 
 mod moved;

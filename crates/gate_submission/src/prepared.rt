@@ -6,10 +6,13 @@ ghost use Rattle.gate_tx.specs.Ids.{txid_of, wtxid_of};
 ghost use Rattle.gate_tx.specs.Text.{IsTx};
 ghost use Rattle.gate_bytes.specs.Order.{first_failing};
 ghost use Rattle.gate_submission.specs.Alone.{own_rules, alone_rules, first_denial, denial_by};
+ghost use Rattle.gate_submission.specs.Findings.{AreFindings};
 
 use gate_bytes::{Copied, Counted, Exact, Kept, Memory};
 use gate_inputs::InputReport;
-use gate_standard::{Denial, Standards, check_form, check_outputs, check_transaction};
+use gate_standard::{
+    Denial, Standards, check_form, check_outputs, check_transaction, check_version,
+};
 use gate_tx::{Identified, Transaction, TxFault, Txid, Wtxid};
 use std::alloc::Global;
 use std::marker::Model;
@@ -18,7 +21,7 @@ use std::marker::Model;
 #[derive(Drop)]
 pub struct Prepared {
     identified: Option<Counted<Identified>>,
-    denial: Option<Denial>,
+    findings: Findings,
     reports: Option<Kept<InputReport>>,
 }
 
@@ -28,33 +31,32 @@ impl Model for Prepared {
 
     ghost Value = { Option Tx };
 
-    ghost use Rattle.gate_submission.specs.Alone.{first_denial};
+    ghost use Rattle.gate_submission.specs.Findings.{AreFindingsOf};
 
     ghost view = { λ p. p.identified };
 
-    ghost invariant = { λ p. p.denial ≡ first_denial p.identified };
+    ghost invariant = { λ p. AreFindingsOf p.findings p.identified };
 }
 
-/// A transaction that is judged, with the first rule on it alone that fails, and the reports that were made on its
-/// inputs: contracts see the transaction.
+/// A transaction that is judged, with what was found of it alone, and the reports that were made on its inputs:
+/// contracts see the transaction.
 #[derive(Drop)]
 pub struct Candidate<'a> {
     identified: &'a Counted<Identified>,
-    denial: Option<Denial>,
+    findings: Findings,
     reports: &'a [InputReport],
 }
 
 impl<'a> Model for Candidate<'a> {
     ghost use Rattle.std.specs.Prelude.{◌≡◌};
-    ghost use Rattle.gate_bytes.specs.Order.{first_failing};
     ghost use Rattle.gate_tx.specs.Tx.{Tx};
-    ghost use Rattle.gate_submission.specs.Alone.{own_rules};
+    ghost use Rattle.gate_submission.specs.Findings.{AreFindings};
 
     ghost Value = { Tx };
 
     ghost view = { λ c. c.identified.now };
 
-    ghost invariant = { λ c. c.denial ≡ first_failing (own_rules c.identified.now) };
+    ghost invariant = { λ c. AreFindings c.findings c.identified.now };
 }
 
 impl<'a> Candidate<'a> {
@@ -64,11 +66,15 @@ impl<'a> Candidate<'a> {
         self.identified
     }
 
-    /// The first of A2 to A15 that fails.
+    /// The first of A2 to A11 and A13 to A15 that fails: whatever an operator sets, a rule fails then.
+    #[tactic(auto, using(gate_bytes::proofs::OrderLemmas::first_failing_append), unfolding(crate::specs::Alone::own_rules))]
     pub fn denial(&self) -> Option<Denial>
         ensures { result ≡ first_failing (own_rules self.now) }
     {
-        self.denial
+        match self.findings.transaction {
+            Some(denial) => Some(denial),
+            None => self.findings.form,
+        }
     }
 
     /// The first of A2 to A19 that fails, by what an operator takes for standard.
@@ -76,9 +82,16 @@ impl<'a> Candidate<'a> {
     pub fn denial_by(&self, standards: &Standards) -> Option<Denial>
         ensures { result ≡ first_failing (alone_rules standards.now self.now) }
     {
-        match self.denial() {
+        let tx = self.identified().get().transaction();
+        if let Some(denial) = self.findings.transaction {
+            return Some(denial);
+        }
+        if let Some(denial) = check_version(standards.truc, tx) {
+            return Some(denial);
+        }
+        match self.findings.form {
             Some(denial) => Some(denial),
-            None => check_outputs(standards, self.identified().get().transaction()),
+            None => check_outputs(standards, tx),
         }
     }
 
@@ -87,14 +100,30 @@ impl<'a> Candidate<'a> {
     }
 }
 
-/// The first of A2 to A15 that fails.
-#[tactic(auto, using(gate_bytes::proofs::OrderLemmas::first_failing_append), unfolding(crate::specs::Alone::own_rules))]
-fn check_own(alloc: Global, tx: &Transaction) -> Result<Option<Denial>, Memory>
-    ensures { IfOk result (λ found. found ≡ first_failing (own_rules tx.now)) }
-{
-    match check_transaction(alloc, tx)? {
-        Some(denial) => Ok(Some(denial)),
-        None => Ok(check_form(tx)),
+/// What is found of a transaction alone that no operator sets.
+#[derive(Clone, Copy)]
+struct Findings {
+    /// The first of A2 to A11 that fails.
+    transaction: Option<Denial>,
+    /// The first of A13 to A15 that fails.
+    form: Option<Denial>,
+}
+
+impl Findings {
+    /// What is found of this transaction; of one that fails A2 to A11 no more is asked.
+    fn of(alloc: Global, tx: &Transaction) -> Result<Findings, Memory>
+        ensures { IfOk result (λ findings. AreFindings findings tx.now) }
+    {
+        match check_transaction(alloc, tx)? {
+            Some(denial) => Ok(Findings {
+                transaction: Some(denial),
+                form: None,
+            }),
+            None => Ok(Findings {
+                transaction: None,
+                form: check_form(tx),
+            }),
+        }
     }
 }
 
@@ -114,10 +143,10 @@ impl Prepared {
     pub fn of(alloc: Global, identified: Counted<Identified>) -> Result<Prepared, Memory>
         ensures { IfOk result (λ prepared. prepared ≡ Some identified) }
     {
-        let denial = check_own(alloc, identified.get().transaction())?;
+        let findings = Findings::of(alloc, identified.get().transaction())?;
         Ok(Prepared {
             identified: Some(identified),
-            denial,
+            findings,
             reports: None,
         })
     }
@@ -128,7 +157,10 @@ impl Prepared {
     {
         Prepared {
             identified: None,
-            denial: Some(Denial::Decode),
+            findings: Findings {
+                transaction: None,
+                form: None,
+            },
             reports: None,
         }
     }
@@ -140,12 +172,12 @@ impl Prepared {
     {
         let Prepared {
             identified,
-            denial,
+            findings,
             reports: _replaced,
         } = self;
         Prepared {
             identified,
-            denial,
+            findings,
             reports: Some(reports),
         }
     }
@@ -161,12 +193,12 @@ impl Prepared {
     pub fn candidate(&self) -> Option<Candidate<'_>>
         ensures { result ≡ self.now }
     {
-        let denial = self.denial;
+        let findings = self.findings;
         let reports = self.reports();
         match &self.identified {
             Some(identified) => Some(Candidate {
                 identified,
-                denial,
+                findings,
                 reports,
             }),
             None => None,
@@ -209,11 +241,14 @@ impl Prepared {
         }
     }
 
-    /// The denial by A1, or the first of A2 to A15 that fails.
+    /// The denial by A1, or the first of A2 to A11 and A13 to A15 that fails.
     pub fn denial(&self) -> Option<Denial>
         ensures { result ≡ first_denial self.now }
     {
-        self.denial
+        match self.candidate() {
+            Some(candidate) => candidate.denial(),
+            None => Some(Denial::Decode),
+        }
     }
 
     /// The denial by A1, or the first of A2 to A19 that fails, by what an operator takes for standard.
@@ -232,7 +267,7 @@ impl Copied for Prepared {
     fn copy(&self, alloc: Global) -> Result<Prepared, Memory> {
         Ok(Prepared {
             identified: self.identified.copy(alloc)?,
-            denial: self.denial,
+            findings: self.findings,
             reports: None,
         })
     }
