@@ -15,7 +15,7 @@ use Rattle.gate_graph.proofs.Filters.{Contains-map, Contains-from_map, Contains-
 use Rattle.gate_bytes.proofs.Members.{Contains-cons_cases, Contains-head, not_in_none}
 use Rattle.gate_graph.proofs.Reaching.{reaches-same}
 use Rattle.gate_pool.specs.Pool.{Admitted, entry_by_txid, has_txid, has_point, spender_of}
-use Rattle.gate_pool.specs.Family.{node_of, steps, without_family}
+use Rattle.gate_pool.specs.Family.{node_of, steps, without_family, without_below}
 use Rattle.gate_pool.specs.Distinct.{AreDistinct}
 use Rattle.gate_pool.specs.Keeping.{entries_in, IsCarried}
 use Rattle.gate_pool.proofs.Carrying.{steps_are}
@@ -23,6 +23,7 @@ use Rattle.gate_pool.proofs.Conflicts.{find_absent}
 use Rattle.gate_pool.proofs.Entries.{Id, find_some, find_none}
 use Rattle.gate_pool.proofs.Found.{AreLeaving}
 use Rattle.gate_pool.proofs.Ids.{same_entry, same_spender}
+use Rattle.gate_pool.proofs.Removals.{without_below-family, without_below-none}
 use Rattle.gate_pool.proofs.Seats.{Spots, Log, AreTaken}
 
 was_true : (b : Bool) → not b ≡ false → b ≡ true
@@ -99,3 +100,12 @@ spender_gone es p e distinct found =
     let s = Contains-from_filter (λ (a : Admitted). not (reaches (steps es) (txid_of e.tx) (txid_of a.tx))) es d c in
     let same : d ≡ e = same_spender es distinct p d e s.0 w.0 t w.1 in
     true≢false (sym (reaches-same (steps es) (txid_of e.tx)) ∙ ap (λ (a : Admitted). reaches (steps es) (txid_of e.tx) (txid_of a.tx)) (sym same) ∙ not-true _ s.1)))
+
+-- the entry of an id goes with its family
+pub id_gone : (es : List Admitted) (x : Id) (e : Admitted) → Contains es e → has_txid e x ≡ true → without_family es (txid_of e.tx) ≡ without_below (λ d. has_txid d x) es
+id_gone es x e m t =
+    sym (without_below-none (λ d. has_txid d x) (without_family es (txid_of e.tx)) (find_absent (λ (d : Admitted). has_txid d x) (without_family es (txid_of e.tx)) (λ d c. false_from_ne_true _ (λ named.
+    let s = Contains-from_filter (λ (a : Admitted). not (reaches (steps es) (txid_of e.tx) (txid_of a.tx))) es d c in
+    let same : txid_of d.tx ≡ txid_of e.tx = (bytes_decides (txid_of d.tx) x).0 named ∙ sym ((bytes_decides (txid_of e.tx) x).0 t) in
+    true≢false (sym (reaches-same (steps es) (txid_of e.tx)) ∙ ap (reaches (steps es) (txid_of e.tx)) (sym same) ∙ not-true _ s.1)))))
+    ∙ without_below-family (λ d. has_txid d x) es e m t

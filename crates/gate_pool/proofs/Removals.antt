@@ -1,7 +1,8 @@
 -- A set that takes with it all that is below its members goes out.
-use Rattle.std.proofs.Common.{◌≡◌, ◌<◌, Bool, true, false, cond, not, ◌&&◌, List, [], ◌∷◌, length, refl, sym, ap, ◌∙◌, subst, None}
+use Rattle.std.proofs.Common.{◌≡◌, ◌<◌, Bool, true, false, cond, not, ◌&&◌, ◌||◌, List, [], ◌∷◌, length, refl, sym, ap, ◌∙◌, subst, None, inl, inr}
 use Rattle.std.specs.Prelude.{Contains, find, filter}
-use Rattle.std.proofs.lemmas.Bool.{true≢false, and_parts, and_from, false_from_ne_true, not-true, cond-true, cond-false}
+use Rattle.std.specs.List.{list_any}
+use Rattle.std.proofs.lemmas.Bool.{true≢false, and_parts, and_from, or_cases, or_left, or_right, false_from_ne_true, not-false, not-true, cond-true, cond-false}
 use Rattle.gate_tx.specs.Ids.{txid_of}
 use Rattle.gate_graph.specs.Family.{reaches}
 use Rattle.gate_bytes.proofs.Members.{Contains-head, Contains-rest, any_is, list_any_of}
@@ -77,6 +78,53 @@ without_below-family test g a c t =
         list_any_of (λ b. test b && reaches (steps (without_family g (txid_of a.tx))) (txid_of b.tx) (txid_of e.tx)) (without_family g (txid_of a.tx)) w.0
         (Contains-filter (λ e. not (reaches (steps g) (txid_of a.tx) (txid_of e.tx))) g w.0 w.1 (ap not out))
         (and_from _ _ p.0 (sym (reaches_kept g (λ b. reaches (steps g) (txid_of a.tx) b) (below_closed g (txid_of a.tx)) (txid_of w.0.tx) (txid_of e.tx) n) ∙ p.1))
+
+-- what is below those that pass is closed
+below_some_reached : (test : Admitted → Bool) (g : List Admitted) (a b : Id) → reaches (steps g) a b ≡ true
+    → list_any (λ (c : Admitted). test c && reaches (steps g) (txid_of c.tx) a) g ≡ true → list_any (λ (c : Admitted). test c && reaches (steps g) (txid_of c.tx) b) g ≡ true
+below_some_reached test g a b r h =
+    let w = any_is (λ (c : Admitted). test c && reaches (steps g) (txid_of c.tx) a) g h in
+    let p = and_parts _ _ w.2 in
+    list_any_of (λ (c : Admitted). test c && reaches (steps g) (txid_of c.tx) b) g w.0 w.1 (and_from _ _ p.0 (reaches_trans (steps g) (txid_of w.0.tx) a b p.1 r))
+
+below_some_step : (test : Admitted → Bool) (g : List Admitted) (a b : Id) → Contains (steps g) (a, b)
+    → list_any (λ (c : Admitted). test c && reaches (steps g) (txid_of c.tx) a) g ≡ true → list_any (λ (c : Admitted). test c && reaches (steps g) (txid_of c.tx) b) g ≡ true
+below_some_step test g a b s h = below_some_reached test g a b (reaches_step (steps g) a b s) h
+
+-- those that pass one test may go before those that pass another
+module _ (p q : Admitted → Bool) (g : List Admitted) where
+  less : (e : Admitted) → is_below_some p g e ≡ false → is_below_some q (without_below p g) e ≡ true → is_below_some (λ a. p a || q a) g e ≡ true
+  less e n h =
+      let w = any_is (λ (b : Admitted). q b && reaches (steps (without_below p g)) (txid_of b.tx) (txid_of e.tx)) (without_below p g) h in
+      let parts = and_parts _ _ w.2 in
+      list_any_of (λ (b : Admitted). (p b || q b) && reaches (steps g) (txid_of b.tx) (txid_of e.tx)) g w.0 (Contains-from_filter (λ (d : Admitted). not (is_below_some p g d)) g w.0 w.1)
+      (and_from _ _ (or_right (p w.0) (q w.0) parts.0)
+      (reaches_kept g (λ (y : Id). list_any (λ (c : Admitted). p c && reaches (steps g) (txid_of c.tx) y) g) (below_some_step p g) (txid_of w.0.tx) (txid_of e.tx) n ∙ parts.1))
+
+  more : (e : Admitted) → is_below_some p g e ≡ false → is_below_some (λ a. p a || q a) g e ≡ true → is_below_some q (without_below p g) e ≡ true
+  more e n h =
+      let D : Id → Bool = λ y. list_any (λ (c : Admitted). p c && reaches (steps g) (txid_of c.tx) y) g in
+      let w = any_is (λ (b : Admitted). (p b || q b) && reaches (steps g) (txid_of b.tx) (txid_of e.tx)) g h in
+      let parts = and_parts _ _ w.2 in
+      let out : is_below_some p g w.0 ≡ false = false_from_ne_true _ (λ r. true≢false (sym (below_some_reached p g (txid_of w.0.tx) (txid_of e.tx) parts.1 r) ∙ n)) in
+      elim (or_cases (p w.0) (q w.0) parts.0) [
+        | inl first ↦ absurd (true≢false (sym (list_any_of (λ (c : Admitted). p c && reaches (steps g) (txid_of c.tx) (txid_of e.tx)) g w.0 w.1 (and_from _ _ first parts.1)) ∙ n))
+        | inr second ↦ list_any_of (λ (b : Admitted). q b && reaches (steps (without_below p g)) (txid_of b.tx) (txid_of e.tx)) (without_below p g) w.0
+            (Contains-filter (λ (d : Admitted). not (is_below_some p g d)) g w.0 w.1 (ap not out))
+            (and_from _ _ second (sym (reaches_kept g D (below_some_step p g) (txid_of w.0.tx) (txid_of e.tx) n) ∙ parts.1))
+      ]
+
+  wider : (e : Admitted) → is_below_some p g e ≡ true → is_below_some (λ a. p a || q a) g e ≡ true
+  wider e h =
+      let w = any_is (λ (c : Admitted). p c && reaches (steps g) (txid_of c.tx) (txid_of e.tx)) g h in
+      let parts = and_parts _ _ w.2 in
+      list_any_of (λ (b : Admitted). (p b || q b) && reaches (steps g) (txid_of b.tx) (txid_of e.tx)) g w.0 w.1 (and_from _ _ (or_left (p w.0) (q w.0) parts.0) parts.1)
+
+  pub without_below-either : without_below q (without_below p g) ≡ without_below (λ a. p a || q a) g
+  without_below-either =
+      filter_twice (λ e. not (is_below_some q (without_below p g) e)) (λ e. not (is_below_some p g e)) (λ e. not (is_below_some (λ a. p a || q a) g e)) g
+      (λ e m k. ap not (same_bool _ _ (less e (not-true _ k)) (more e (not-true _ k))))
+      (λ e m k. ap not (wider e (not-false _ k)))
 
 -- where none passes nothing goes
 pub without_below-none : (test : Admitted → Bool) (g : List Admitted) → find test g ≡ None → without_below test g ≡ g

@@ -1,6 +1,7 @@
 pub mod Pool
 pub mod Moves
 pub mod Family
+pub mod Counting
 pub mod Removal
 pub mod Scores
 pub mod Distinct

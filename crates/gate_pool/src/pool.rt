@@ -5,6 +5,7 @@ ghost use Rattle.std.specs.Option.{option_copied};
 ghost use Rattle.gate_tx.specs.Ids.{txid_of, wtxid_of};
 ghost use Rattle.gate_pool.specs.Pool.{Admitted, entry_by_txid, entry_by_wtxid, spender_of, has_txid, listing_of, size_of, is_before};
 ghost use Rattle.gate_pool.specs.Family.{names, spends_one_of, totals_of, without_family, without_below, entered, OfThese};
+ghost use Rattle.gate_pool.specs.Counting.{entered_beside};
 ghost use Rattle.gate_pool.specs.Scores.{AreBounded, least_of};
 ghost use Rattle.gate_pool.specs.Distinct.{AreDistinct};
 ghost use Rattle.gate_pool.specs.Moves.{departed, arrived};
@@ -156,7 +157,20 @@ impl<S: BuildHasher + Copy + Drop> Pool<S> {
         ensures entries { self.new.entries ≡ entered self.old.entries entry }
         ensures before { self.new.before ≡ self.old.before }
     {
+        self.replace_beside(None, entry);
+    }
+
+    /// Puts an entry at the end, in place of all entries that conflict with it, of the entry of this id, and of all that
+    /// are below these. It takes no memory, and uses up the room that was taken.
+    pub fn replace_beside(&mut self, sibling: Option<Txid>, entry: Entry)
+        requires room { length entry.tx.inputs < self.old.room }
+        requires txid { entry_by_txid self.old.entries (txid_of entry.tx) ≡ None }
+        requires wtxid { entry_by_wtxid self.old.entries (wtxid_of entry.tx) ≡ None }
+        ensures entries { self.new.entries ≡ entered_beside self.old.entries sibling entry }
+        ensures before { self.new.before ≡ self.old.before }
+    {
         self.arrivals.push(&entry);
+        self.store.take_sibling(sibling);
         self.store.take_conflicts(entry.transaction().inputs());
         self.store.put(entry);
         self.least = self.store.settle();

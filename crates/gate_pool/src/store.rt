@@ -11,6 +11,7 @@ ghost use Rattle.gate_pool.specs.Pool.{Admitted, entry_by_txid, entry_by_wtxid, 
 ghost use Rattle.gate_pool.specs.Arrivals.{HaveArrived};
 ghost use Rattle.gate_pool.specs.Keeping.{IsNew};
 ghost use Rattle.gate_pool.specs.Family.{names, children_of, spends_one_of, totals_of, without_family, without_below, AreIdsOf, OfThese};
+ghost use Rattle.gate_pool.specs.Counting.{is_sibling};
 ghost use Rattle.gate_pool.specs.Scores.{AreBounded, least_of};
 ghost use Rattle.gate_pool.specs.Distinct.{AreDistinct};
 ghost use Rattle.gate_pool.specs.Moves.{departed, arrived};
@@ -334,6 +335,35 @@ impl<S: BuildHasher + Copy + Drop> Store<S> {
     {
         for input in inputs {
             self.take_spender(&input.prevout);
+        }
+    }
+
+    /// Takes out the entry of an id, if there is one, and all below it.
+    fn take_entry(&mut self, txid: &Txid)
+        ensures rest { self.new.entries ≡ without_below (λ e. has_txid e txid.now) self.old.entries }
+        ensures before { self.new.before ≡ self.old.before }
+        ensures room { self.new.room ≡ self.old.room }
+    {
+        match self.entry(txid) {
+            Some(entry) => {
+                let id = node_id(&entry.txid());
+                self.take_out(&id);
+            }
+            None => {}
+        }
+    }
+
+    /// Takes out the entry that makes room, if there is one of its id, and all below it.
+    pub(crate) fn take_sibling(&mut self, sibling: Option<Txid>)
+        ensures rest { self.new.entries ≡ without_below (is_sibling sibling) self.old.entries }
+        ensures before { self.new.before ≡ self.old.before }
+        ensures room { self.new.room ≡ self.old.room }
+    {
+        match sibling {
+            Some(txid) => {
+                self.take_entry(&txid);
+            }
+            None => {}
         }
     }
 

@@ -45,7 +45,17 @@ const REPLACEMENTS: [(u64, u64, Result<u64, Denial>); 5] = [
 fn are_judged(alloc: Global, pool: &Pool<Hashing>, tx: &Transaction) -> Result<bool, Fail> {
     for (fee, vsize, wanted) in REPLACEMENTS {
         let vsize = vsize.max(1);
-        if judge_replacement(alloc, pool, tx, RATE, ParentsOf::Conflicts, fee, vsize)? != wanted {
+        if judge_replacement(
+            alloc,
+            pool,
+            None,
+            tx,
+            RATE,
+            ParentsOf::Conflicts,
+            fee,
+            vsize,
+        )? != wanted
+        {
             return Ok(false);
         }
     }
@@ -59,7 +69,7 @@ fn conflicts_with(
     tx: &Transaction,
     entry: Txid,
 ) -> Result<bool, Fail> {
-    let direct = conflicts(alloc, pool, tx)?;
+    let direct = conflicts(alloc, pool, None, tx)?;
     let below = replaced(alloc, pool, direct.as_slice())?;
     Ok(direct.as_slice() == [entry].as_slice() && below.as_slice() == [entry].as_slice())
 }

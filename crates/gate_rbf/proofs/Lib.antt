@@ -6,4 +6,5 @@ pub mod Counted
 pub mod Rivals
 pub mod Putting
 pub mod Rules
+pub mod Siblings
 pub mod Spenders

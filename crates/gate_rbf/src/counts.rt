@@ -1,11 +1,12 @@
 //! A39: the entries that a replacement conflicts with have at most 100 descendants.
 ghost use Rattle.std.specs.Prelude.{◌≡◌, ◌<◌, ◌≤◌, Bool, None, IfOk, IfSome, filter, length, not, nat_lt};
 ghost use Rattle.gate_pool.specs.Pool.{Admitted};
-ghost use Rattle.gate_pool.specs.Family.{conflicts_of, descendants_of, AreIdsOf, OfThese};
+ghost use Rattle.gate_pool.specs.Family.{descendants_of, AreIdsOf, OfThese};
 ghost use Rattle.gate_pool.specs.Search.{IsEntry};
+ghost use Rattle.gate_pool.specs.Counting.{counted_of};
 ghost use Rattle.gate_rbf.specs.Replacing.{descendant_count};
 
-use crate::direct::DirectConflicts;
+use crate::counting::CountedConflicts;
 use gate_bytes::Memory;
 use gate_pool::Pool;
 use gate_tx::Txid;
@@ -41,20 +42,20 @@ fn has_few_descendants<S: BuildHasher + Copy + Drop>(pool: &Pool<S>, ids: &[Txid
     true
 }
 
-impl<'a, S: BuildHasher + Copy + Drop> DirectConflicts<'a, S> {
+impl<'a, S: BuildHasher + Copy + Drop> CountedConflicts<'a, S> {
     /// Whether the conflicts, which have these ids, have few enough descendants.
     fn has_few_descendants(&self, ids: &[Txid]) -> bool
-        requires { AreIdsOf ids.now (conflicts_of self.now.entries self.now.tx) }
-        ensures { result ≡ not (nat_lt 100 (descendant_count self.now.entries (conflicts_of self.now.entries self.now.tx))) }
+        requires { AreIdsOf ids.now (counted_of self.now.entries self.now.sibling self.now.tx) }
+        ensures { result ≡ not (nat_lt 100 (descendant_count self.now.entries (counted_of self.now.entries self.now.sibling self.now.tx))) }
     {
         has_few_descendants(self.pool(), ids)
     }
 
     /// The ids of the conflicts, each once. None if they have too many descendants.
     pub(crate) fn few_ids(&self, alloc: Global) -> Result<Option<Vec<Txid>>, Memory>
-        ensures ids { IfOk result (λ few. IfSome few (λ ids. AreIdsOf ids.items (conflicts_of self.now.entries self.now.tx))) }
-        ensures few { IfOk result (λ few. IfSome few (λ ids. descendant_count self.now.entries (conflicts_of self.now.entries self.now.tx) ≤ 100)) }
-        ensures many { IfOk result (λ few. few ≡ None → 100 < descendant_count self.now.entries (conflicts_of self.now.entries self.now.tx)) }
+        ensures ids { IfOk result (λ few. IfSome few (λ ids. AreIdsOf ids.items (counted_of self.now.entries self.now.sibling self.now.tx))) }
+        ensures few { IfOk result (λ few. IfSome few (λ ids. descendant_count self.now.entries (counted_of self.now.entries self.now.sibling self.now.tx) ≤ 100)) }
+        ensures many { IfOk result (λ few. few ≡ None → 100 < descendant_count self.now.entries (counted_of self.now.entries self.now.sibling self.now.tx)) }
     {
         let Some(ids) = self.ids_within(alloc, MAX_DESCENDANTS as usize)? else {
             return Ok(None);

@@ -1,28 +1,21 @@
 //! The entries that spend what a transaction spends, found once.
-ghost use Rattle.std.specs.Prelude.{◌≡◌, ◌≢◌, ◌<◌, ◌∷◌, [], List, None, IfOk, IfSome, length, not, nat_le};
+ghost use Rattle.std.specs.Prelude.{◌≡◌, ◌≢◌, ◌∷◌, [], List, None, IfOk, IfSome, not};
 ghost use Rattle.std.specs.List.{list_any};
 ghost use Rattle.gate_tx.specs.Ids.{txid_of};
-ghost use Rattle.gate_standard.specs.Amounts.{feerate};
-ghost use Rattle.gate_pool.specs.Pool.{Admitted, has_txid};
-ghost use Rattle.gate_pool.specs.Family.{is_conflict, is_among, conflicts_of, AreIdsOf, OfThese};
+ghost use Rattle.gate_pool.specs.Pool.{Admitted};
+ghost use Rattle.gate_pool.specs.Family.{names, is_conflict, is_among, conflicts_of, AreIdsOf, OfThese};
+ghost use Rattle.gate_pool.specs.Counting.{counted_of};
 ghost use Rattle.gate_rbf.specs.Direct.{AreThese};
-ghost use Rattle.gate_rbf.specs.Replacing.{signals, is_non_signalling_conflict};
+ghost use Rattle.gate_rbf.specs.Replacing.{is_replaceable, is_non_signalling_conflict};
 
-use crate::gathered::put;
-use crate::signalling::signals;
+use crate::counting::{CountedConflicts, only_of};
+use crate::signalling::is_replaceable;
 use gate_bytes::Memory;
 use gate_pool::{Lent, Pool};
-use gate_standard::rate_of;
 use gate_tx::{Transaction, Txid};
 use std::alloc::Global;
 use std::hash::BuildHasher;
 use std::marker::Model;
-
-fn has_other_id(rival: &Lent<'_>, txid: &Txid) -> bool
-    ensures { result ≡ not (has_txid rival.now txid.now) }
-{
-    rival.txid() != *txid
-}
 
 fn is_among(rival: &Lent<'_>, ids: &[Txid]) -> bool
     ensures { result ≡ is_among ids.now rival.now }
@@ -30,18 +23,23 @@ fn is_among(rival: &Lent<'_>, ids: &[Txid]) -> bool
     ids.contains(&rival.txid())
 }
 
-/// Whether the entry's own transaction doesn't signal that it may be replaced.
-fn is_non_signalling(rival: &Lent<'_>) -> bool
-    ensures { result ≡ not (signals rival.now.tx) }
+/// Whether the entry's own transaction doesn't say that it may be replaced, where version 3 is standard or isn't.
+fn is_non_signalling(rival: &Lent<'_>, truc: bool) -> bool
+    ensures { result ≡ not (is_replaceable truc rival.now.tx) }
 {
-    !signals(rival.entry().transaction())
+    !is_replaceable(truc, rival.entry().transaction())
 }
 
-fn pays_at_least(rival: &Lent<'_>, rate: u128) -> bool
-    ensures { result ≡ nat_le rate (feerate rival.now.fee rival.now.vsize) }
+/// Whether the entry spends an output of the transaction with this id.
+fn names(rival: &Lent<'_>, txid: &Txid) -> bool
+    ensures { result ≡ names rival.now txid.now }
 {
-    let entry = rival.entry();
-    rate <= rate_of(entry.fee(), entry.vsize())
+    rival
+        .entry()
+        .transaction()
+        .inputs()
+        .iter()
+        .any(|input| input.prevout.txid == *txid)
 }
 
 /// The entries of which each spends an outpoint that the transaction spends, once for each such outpoint.
@@ -61,21 +59,6 @@ fn find_rivals<'a, S: BuildHasher + Copy + Drop>(
         }
     }
     Ok(found)
-}
-
-/// The ids of the entries that were found, each once. None if there are more than `most`.
-fn ids_of(alloc: Global, found: &[Lent<'_>], most: usize) -> Result<Option<Vec<Txid>>, Memory>
-    ensures found { IfOk result (λ ids. IfSome ids (λ ids. AreIdsOf ids.items found.now)) }
-    ensures many { IfOk result (λ ids. ids ≡ None → (some : List Admitted) → AreThese found.now some → most < length some) }
-{
-    let mut ids = Vec::new(alloc);
-    for rival in found {
-        put(&mut ids, rival.txid())?;
-        if ids.len() > most {
-            return Ok(None);
-        }
-    }
-    Ok(Some(ids))
 }
 
 /// A transaction beside the entries of a pool, with those of them that it conflicts with: each spends an outpoint that
@@ -123,17 +106,14 @@ impl<'a, S: BuildHasher + Copy + Drop> DirectConflicts<'a, S> {
         self.tx
     }
 
-    pub(crate) fn has_any(&self) -> bool
-        ensures { result ≡ list_any (is_conflict self.now.tx) self.now.entries }
+    /// Whether the own transaction of one of the conflicts doesn't say that it may be replaced, where version 3 is
+    /// standard, and says so by itself, or isn't: A23.
+    pub fn has_non_signalling(&self, truc: bool) -> bool
+        ensures { result ≡ list_any (is_non_signalling_conflict truc self.now.tx) self.now.entries }
     {
-        !self.found.is_empty()
-    }
-
-    /// Whether the own transaction of one of the conflicts doesn't signal that it may be replaced: A23.
-    pub fn has_non_signalling(&self) -> bool
-        ensures { result ≡ list_any (is_non_signalling_conflict self.now.tx) self.now.entries }
-    {
-        self.found.iter().any(|rival| is_non_signalling(rival))
+        self.found
+            .iter()
+            .any(|rival| is_non_signalling(rival, truc))
     }
 
     /// The id of the only conflict, if there is exactly one.
@@ -142,16 +122,7 @@ impl<'a, S: BuildHasher + Copy + Drop> DirectConflicts<'a, S> {
         ensures other { result ≡ None → (c : Admitted) → conflicts_of self.now.entries self.now.tx ≢ c ∷ [] }
     {
         self.pool.recall_distinct();
-        match self.found.first() {
-            Some(rival) => {
-                let txid = rival.txid();
-                if self.found.iter().any(|other| has_other_id(other, &txid)) {
-                    return None;
-                }
-                Some(txid)
-            }
-            None => None,
-        }
+        only_of(self.found.as_slice())
     }
 
     /// Whether one of the entries with these ids is a conflict.
@@ -162,37 +133,36 @@ impl<'a, S: BuildHasher + Copy + Drop> DirectConflicts<'a, S> {
         self.found.iter().any(|rival| is_among(rival, ids))
     }
 
-    /// Whether one of the conflicts pays at least the feerate of this fee, in satoshi, for this size, in virtual bytes:
-    /// A38.
-    pub(crate) fn one_pays_at_least(&self, fee: u64, vsize: u64) -> bool
-        requires { 0 < vsize }
-        ensures { result ≡ list_any (λ (c : Admitted). nat_le (feerate fee vsize) (feerate c.fee c.vsize)) (conflicts_of self.now.entries self.now.tx) }
+    /// Whether one of the conflicts spends an output of the transaction with this id.
+    pub fn has_child_of(&self, txid: &Txid) -> bool
+        ensures { result ≡ list_any (λ (c : Admitted). names c txid.now) (conflicts_of self.now.entries self.now.tx) }
     {
-        let rate = rate_of(fee, vsize);
-        self.found.iter().any(|rival| pays_at_least(rival, rate))
+        self.found.iter().any(|rival| names(rival, txid))
     }
 
-    /// The ids of the conflicts, each once. None if there are more than `most`.
-    pub(crate) fn ids_within(&self, alloc: Global, most: usize) -> Result<Option<Vec<Txid>>, Memory>
-        ensures found { IfOk result (λ found. IfSome found (λ ids. AreIdsOf ids.items (conflicts_of self.now.entries self.now.tx))) }
-        ensures many { IfOk result (λ found. found ≡ None → most < length (conflicts_of self.now.entries self.now.tx)) }
+    /// The conflicts as they count for A38 to A42: beside them the entry with this id, which the transaction evicts.
+    pub fn counting(self, sibling: Option<Txid>) -> Result<CountedConflicts<'a, S>, Memory>
+        ensures entries { IfOk result (λ counted. counted.entries ≡ self.entry.entries) }
+        ensures transaction { IfOk result (λ counted. counted.tx ≡ self.entry.tx) }
+        ensures sibling { IfOk result (λ counted. counted.sibling ≡ sibling) }
     {
-        let Some(ids) = ids_of(alloc, self.found.as_slice(), most)? else {
-            return Ok(None);
-        };
-        Ok(Some(ids))
+        let DirectConflicts { pool, tx, found } = self;
+        CountedConflicts::new(pool, tx, sibling, found)
     }
 }
 
-/// The ids of the entries that the transaction conflicts with, each once.
+/// The ids of the entries that count as direct conflicts of a transaction, each once: of those that spend what it spends,
+/// and of the sibling that it evicts.
 pub fn conflicts<S: BuildHasher + Copy + Drop>(
     alloc: Global,
     pool: &Pool<S>,
+    sibling: Option<Txid>,
     tx: &Transaction,
 ) -> Result<Vec<Txid>, Memory>
-    ensures { IfOk result (λ ids. AreIdsOf ids.items (conflicts_of pool.now.entries tx.now)) }
+    ensures { IfOk result (λ ids. AreIdsOf ids.items (counted_of pool.now.entries sibling tx.now)) }
 {
     let direct = DirectConflicts::find(alloc, pool, tx)?;
-    let found = direct.ids_within(alloc, pool.count())?;
+    let counted = direct.counting(sibling)?;
+    let found = counted.ids_within(alloc, pool.count())?;
     Ok(found.unwrap())
 }

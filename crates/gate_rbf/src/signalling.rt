@@ -1,7 +1,8 @@
 //! Whether a transaction signals that it may be replaced.
 ghost use Rattle.std.specs.Prelude.{◌≡◌};
-ghost use Rattle.gate_rbf.specs.Replacing.{signals};
+ghost use Rattle.gate_rbf.specs.Replacing.{is_replaceable, signals};
 
+use gate_standard::is_truc;
 use gate_tx::Transaction;
 
 /// The greatest sequence by which an input signals that its transaction may be replaced (BIP 125).
@@ -14,4 +15,11 @@ pub fn signals(tx: &Transaction) -> bool
     tx.inputs()
         .iter()
         .any(|input| input.sequence <= LAST_SIGNALLING)
+}
+
+/// Whether a transaction says that it may be replaced: it signals (BIP 125), or has version 3 where that is standard.
+pub fn is_replaceable(truc: bool, tx: &Transaction) -> bool
+    ensures { result ≡ is_replaceable truc tx.now }
+{
+    signals(tx) || truc && is_truc(tx)
 }

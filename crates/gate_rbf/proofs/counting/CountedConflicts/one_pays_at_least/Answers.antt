@@ -5,16 +5,16 @@ use Rattle.std.proofs.lemmas.Iterator.{YieldsList-from_slice}
 use Rattle.std.proofs.lemmas.Iterator.Search.{any_from_yields_List}
 use Rattle.gate_standard.specs.Amounts.{feerate}
 use Rattle.gate_pool.specs.Pool.{Admitted}
-use Rattle.gate_pool.specs.Family.{conflicts_of}
-use Rattle.gate_rbf.specs.Direct.{Beside}
+use Rattle.gate_pool.specs.Counting.{counted_of}
+use Rattle.gate_rbf.specs.Direct.{BesideSibling}
 use Rattle.gate_rbf.proofs.Rivals.{any_of_these}
-use Rattle.gate_rbf.proofs.direct.DirectConflicts.one_pays_at_least.Goals as goal
+use Rattle.gate_rbf.proofs.counting.CountedConflicts.one_pays_at_least.Goals as goal
 
 pub returns : goal.returns
 returns g c =
     let direct = c.self.inside in
     let rate = c.rate_of-rate.result in
     any_from_yields_List (λ (e : Admitted). nat_le rate (feerate e.fee e.vsize)) _ _ c.any.result c.any.ensures.ran (YieldsList-from_slice direct.found.items cc) (λ x b q k. search (rules, tests))
-    ∙ any_of_these (λ (e : Admitted). nat_le rate (feerate e.fee e.vsize)) direct.found.items (conflicts_of direct.pool.now.entries direct.tx.now) c.self.invariant
-    ∙ ap (λ r. list_any (λ (e : Admitted). nat_le r (feerate e.fee e.vsize)) (conflicts_of direct.pool.now.entries direct.tx.now)) c.rate_of-rate.ensures
-    ∙ ap (λ (b : Beside). list_any (λ (e : Admitted). nat_le (feerate c.args.fee c.args.vsize) (feerate e.fee e.vsize)) (conflicts_of b.entries b.tx)) c.self.view_is
+    ∙ any_of_these (λ (e : Admitted). nat_le rate (feerate e.fee e.vsize)) direct.found.items (counted_of direct.pool.now.entries direct.sibling direct.tx.now) c.self.invariant
+    ∙ ap (λ r. list_any (λ (e : Admitted). nat_le r (feerate e.fee e.vsize)) (counted_of direct.pool.now.entries direct.sibling direct.tx.now)) c.rate_of-rate.ensures
+    ∙ ap (λ (b : BesideSibling). list_any (λ (e : Admitted). nat_le (feerate c.args.fee c.args.vsize) (feerate e.fee e.vsize)) (counted_of b.entries b.sibling b.tx)) c.self.view_is

@@ -4,7 +4,7 @@ use Rattle.gate_bytes.proofs.Members.{not_in_none}
 use Rattle.gate_pool.specs.Family.{AreIdsOf}
 use Rattle.gate_rbf.specs.Gathering.{IsPut}
 use Rattle.gate_rbf.proofs.Rivals.{AreIdsOf-next, ids_no_more}
-use Rattle.gate_rbf.proofs.direct.ids_of.Goals as goal
+use Rattle.gate_rbf.proofs.counting.ids_of.Goals as goal
 
 -- no ids are those of no entries
 none : AreIdsOf [] []
