@@ -49,11 +49,11 @@ size_by_cost : vsize_of 20 81 (paying 99890) ≡ 405
 unfolding weight_of
 size_by_cost = refl
 
-paid : first_failing (fee_rules usual_policy 0 110 110) ≡ None
+paid : first_failing (fee_rules usual_policy (paying 99890) 0 110 110) ≡ None
 unfolding fee_rules required_fee rounded_down
 paid = refl
 
-underpaid : first_failing (fee_rules usual_policy 0 109 110) ≡ Some MinRelayFee
+underpaid : first_failing (fee_rules usual_policy (paying 99890) 0 109 110) ≡ Some MinRelayFee
 unfolding fee_rules required_fee rounded_down
 underpaid = refl
 

@@ -1,5 +1,5 @@
 -- Limits of families, over ids and over parts of a pool.
-use Rattle.std.proofs.Common.{not, None, Some, ◌≡◌, ◌≢◌, ℕ, ◌+◌, ◌<◌, ◌≤◌, Bool, true, false, cond, ◌&&◌, ◌||◌, List, [], ◌∷◌, length, refl, sym, ap, ◌∙◌, ◌⊎◌, inl, inr, arith}
+use Rattle.std.proofs.Common.{not, None, Some, ◌≡◌, ◌≢◌, ℕ, ◌+◌, ◌<◌, ◌≤◌, Bool, true, false, cond, ◌&&◌, ◌||◌, List, [], ◌∷◌, length, refl, sym, ap, ◌∙◌, subst, ◌⊎◌, inl, inr, arith}
 use Rattle.std.specs.Prelude.{Contains, filter, sum_by, nat_le, nat_lt, ◌==◌}
 use Rattle.std.specs.List.{list_all, list_any}
 use Rattle.std.proofs.lemmas.Bool.{and_from, true≢false}
@@ -9,7 +9,7 @@ use Rattle.gate_bytes.specs.Order.{first_failing}
 use Rattle.gate_tx.specs.Ids.{txid_of}
 use Rattle.gate_tx.specs.Tx.{Tx}
 use Rattle.gate_bytes.proofs.Members.{Contains-cons_cases, Contains-head, Contains-rest, not_in_none}
-use Rattle.gate_standard.specs.declared.Denial.TheVariants.{TooLongChain, SpendsConflicting}
+use Rattle.gate_standard.specs.declared.Denial.TheVariants.{TooLongChain, SpendsConflicting, TrucViolation}
 use Rattle.gate_pool.specs.Pool.{Admitted, has_txid, size_of}
 use Rattle.gate_pool.specs.Family.{all_below, descendants_of, ancestors_above, conflicts_of, is_conflict, AreIdsOf}
 use Rattle.gate_pool.proofs.Adding.{length-ones}
@@ -17,7 +17,8 @@ use Rattle.gate_pool.proofs.Ids.{descendants_of_one}
 use Rattle.gate_admit.specs.declared.attempt.Attempt.TheVariants.{First}
 use Rattle.gate_admit.specs.declared.limits.FamilyLimits.{FamilyLimits}
 use Rattle.gate_admit.specs.Policies.{Policy, most_ancestors}
-use Rattle.gate_admit.specs.Limits.{grown, usual_limits, carved_out, has_room, has_room_below, is_within, fits_families, limit_rules}
+use Rattle.gate_admit.specs.Limits.{grown, usual_limits, carved_out, has_room, has_room_below, has_second_try, is_within, fits_families, limit_rules}
+use Rattle.gate_admit.specs.Truc.{breaks_truc}
 
 -- what passes a test weighs no more than what passes a wider one
 pub lighter : {X : Type 0} (w : X → ℕ) (p q : X → Bool) (xs : List X) → ((x : X) → Contains xs x → p x ≡ true → q x ≡ true) → sum_by w (filter p xs) ≤ sum_by w (filter q xs)
@@ -87,7 +88,7 @@ no_try policy entries tx vsize many =
     let limits = grown entries (conflicts_of entries tx) (usual_limits policy) in
     let first : is_within limits entries above vsize ≡ false = too_many_above limits entries above vsize (omega (arith, many, grown_ancestors entries (conflicts_of entries tx) (usual_limits policy))) in
     let second : is_within (carved_out limits) entries above vsize ≡ false = too_many_above (carved_out limits) entries above vsize (omega (arith, many)) in
-    ap (λ b. b || (nat_le vsize 10000 && is_within (carved_out limits) entries above vsize)) first ∙ ap (λ b. nat_le vsize 10000 && b) second ∙ and-false (nat_le vsize 10000)
+    ap (λ b. b || (has_second_try tx vsize && is_within (carved_out limits) entries above vsize)) first ∙ ap (λ b. has_second_try tx vsize && b) second ∙ and-false (has_second_try tx vsize)
   where
     and-false : (b : Bool) → (b && false) ≡ false
     and-false true = refl
@@ -101,8 +102,12 @@ pub alone_fits : (policy : Policy) (entries : List Admitted) (tx : Tx) (vsize : 
 alone_fits policy entries tx vsize least none =
     let limits = grown entries (conflicts_of entries tx) (usual_limits policy) in
     let within : is_within limits entries [] vsize ≡ true = ap (λ n. nat_le 1 n && true) (grown_ancestors entries (conflicts_of entries tx) (usual_limits policy)) ∙ ap (λ b. b && true) (one_is policy.ancestors least) in
-    ap (λ l. is_within limits entries l vsize || (nat_le vsize 10000 && is_within (carved_out limits) entries l vsize)) none
-    ∙ ap (λ b. b || (nat_le vsize 10000 && is_within (carved_out limits) entries [] vsize)) within
+    ap (λ l. is_within limits entries l vsize || (has_second_try tx vsize && is_within (carved_out limits) entries l vsize)) none
+    ∙ ap (λ b. b || (has_second_try tx vsize && is_within (carved_out limits) entries [] vsize)) within
+
+-- no ids are those of no entries
+pub ids_of_none : (entries : List Admitted) → entries ≡ [] → AreIdsOf [] entries
+ids_of_none entries none = subst (λ (l : List Admitted). AreIdsOf [] l) (sym none) (record { once = λ i j d l m. absurd (omega (arith, l, m)); all = λ e m. not_in_none e m; only = λ id m. not_in_none id m })
 
 pub none_are : (entries : List Admitted) → AreIdsOf [] entries → entries ≡ []
 none_are [] h = refl
@@ -112,15 +117,26 @@ none_are (e ∷ entries) h = not_in_none (txid_of e.tx) (h.all e (Contains-head 
 pub long_fails : (policy : Policy) (entries : List Admitted) (tx : Tx) (vsize : ℕ) → most_ancestors policy ≤ length (ancestors_above entries tx.inputs) → first_failing (limit_rules First policy entries tx vsize) ≡ Some TooLongChain
 unfolding limit_rules
 long_fails policy entries tx vsize many =
-    ap (λ b. first_failing ((TooLongChain, not b) ∷ (SpendsConflicting, list_any (is_conflict tx) (ancestors_above entries tx.inputs)) ∷ [])) (no_try policy entries tx vsize many)
+    ap (λ b. first_failing ((TooLongChain, not b) ∷ (TrucViolation, breaks_truc First policy entries tx vsize) ∷ (SpendsConflicting, list_any (is_conflict tx) (ancestors_above entries tx.inputs)) ∷ []))
+    (no_try policy entries tx vsize many)
 
 -- what the second try says where the first failed
 pub second_try : (first small second : Bool) → first ≡ false → small ≡ true → second ≡ (first || (small && second))
 second_try first small second h k = sym (ap (λ b. b || (small && second)) h ∙ ap (λ b. b && second) k)
 
--- no rule on families fails of a transaction without ancestors in the pool
-pub alone_passes : (policy : Policy) (entries : List Admitted) (tx : Tx) (vsize : ℕ) → 1 ≤ policy.ancestors → ancestors_above entries tx.inputs ≡ [] → first_failing (limit_rules First policy entries tx vsize) ≡ None
-unfolding limit_rules
-alone_passes policy entries tx vsize least none =
-    ap (λ b. first_failing ((TooLongChain, not b) ∷ (SpendsConflicting, list_any (is_conflict tx) (ancestors_above entries tx.inputs)) ∷ [])) (alone_fits policy entries tx vsize least none)
-    ∙ ap (λ l. first_failing ((SpendsConflicting, list_any (is_conflict tx) l) ∷ [])) none
+-- of the rules on families, that on version 3 alone may fail of a transaction without ancestors in the pool
+module _ (policy : Policy) (entries : List Admitted) (tx : Tx) (vsize : ℕ) (least : 1 ≤ policy.ancestors) (none : ancestors_above entries tx.inputs ≡ []) where
+  alone_asked : first_failing (limit_rules First policy entries tx vsize)
+      ≡ first_failing ((TrucViolation, breaks_truc First policy entries tx vsize) ∷ (SpendsConflicting, list_any (is_conflict tx) (ancestors_above entries tx.inputs)) ∷ [])
+  unfolding limit_rules
+  alone_asked =
+      ap (λ b. first_failing ((TooLongChain, not b) ∷ (TrucViolation, breaks_truc First policy entries tx vsize) ∷ (SpendsConflicting, list_any (is_conflict tx) (ancestors_above entries tx.inputs)) ∷ []))
+      (alone_fits policy entries tx vsize least none)
+
+  pub alone_breaks : breaks_truc First policy entries tx vsize ≡ true → first_failing (limit_rules First policy entries tx vsize) ≡ Some TrucViolation
+  alone_breaks breaks = alone_asked ∙ ap (λ b. first_failing ((TrucViolation, b) ∷ (SpendsConflicting, list_any (is_conflict tx) (ancestors_above entries tx.inputs)) ∷ [])) breaks
+
+  pub alone_passes : breaks_truc First policy entries tx vsize ≡ false → first_failing (limit_rules First policy entries tx vsize) ≡ None
+  alone_passes keeps =
+      alone_asked ∙ ap (λ b. first_failing ((TrucViolation, b) ∷ (SpendsConflicting, list_any (is_conflict tx) (ancestors_above entries tx.inputs)) ∷ [])) keeps
+      ∙ ap (λ l. first_failing ((SpendsConflicting, list_any (is_conflict tx) l) ∷ [])) none

@@ -18,4 +18,4 @@ pub decisions_follow : (attempt : Attempt) (over : Standing) (tx : Tx) → Follo
 unfolding decision_of
 decisions_follow attempt over tx =
     let rules = admission_rules attempt over tx in
-    follows rules (first_failing rules) (grant_of over tx) (first_failing_is_first rules)
+    follows rules (first_failing rules) (grant_of attempt over tx) (first_failing_is_first rules)

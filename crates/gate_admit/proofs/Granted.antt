@@ -23,11 +23,12 @@ use Rattle.gate_tx.specs.Tx.{Tx}
 use Rattle.gate_standard.specs.declared.Denial.{Denial}
 use Rattle.gate_standard.specs.declared.Denial.TheVariants.{Decode}
 use Rattle.gate_standard.specs.Amounts.{required_fee}
-use Rattle.gate_standard.specs.Rules.{transaction_rules, form_rules, output_rules, output_value_rules, spends_twice, rules_of_input, rules_of_output}
+use Rattle.gate_standard.specs.Rules.{transaction_rules, version_rules, form_rules, output_rules, output_value_rules, spends_twice, rules_of_input, rules_of_output}
 use Rattle.gate_chain.specs.Times.{tip_of}
 use Rattle.gate_pool.specs.Pool.{Admitted, spends_of, spent_by, entry_by_txid, entry_by_wtxid}
+use Rattle.gate_pool.specs.Counting.{is_counted}
 use Rattle.gate_pool.specs.Family.{is_conflict, conflicts_of, without_below, ancestors_above}
-use Rattle.gate_rbf.specs.Replacing.{signals, is_non_signalling_conflict}
+use Rattle.gate_rbf.specs.Replacing.{is_replaceable, is_non_signalling_conflict}
 use Rattle.gate_admit.specs.declared.attempt.Attempt.{Attempt}
 use Rattle.gate_admit.specs.declared.attempt.Attempt.TheVariants.{First}
 use Rattle.gate_admit.specs.declared.grant.Grant.{Grant}
@@ -37,11 +38,11 @@ use Rattle.gate_admit.specs.Granting.{IsGrantable, Conserves, PaysItsSize}
 use Rattle.gate_admit.specs.Policies.{Policy, feerate_by, relay_feerate}
 use Rattle.gate_admit.specs.Limits.{limit_rules}
 use Rattle.gate_admit.specs.Reports.{reported, report_rules, sigop_cost, vsize_of}
-use Rattle.gate_admit.specs.Rules.{final_rules, pool_rules, coin_rules, lock_rules, is_immature, rules_of_coin, coin_value_rules, balance_rules, fee_rules, floor_rule, payment_rules, relay_rule, admission_rules, grant_of, denied_or, decision_of, coins_value, outputs_value}
+use Rattle.gate_admit.specs.Rules.{final_rules, pool_rules, coin_rules, lock_rules, is_immature, rules_of_coin, coin_value_rules, balance_rules, fee_rules, floor_rule, is_relay_fee_first, payment_rules, relay_rule, admission_rules, grant_of, denied_or, decision_of, coins_value, outputs_value}
 use Rattle.gate_standard.specs.declared.Standards.{Standards}
 use Rattle.gate_admit.specs.Policies.{IsPolicy}
 use Rattle.gate_admit.proofs.Weighing.{positive, counted}
-use Rattle.gate_submission.specs.Alone.{alone_rules, own_rules}
+use Rattle.gate_submission.specs.Alone.{alone_rules}
 use Rattle.gate_admit.specs.Standing.{Standing}
 use Rattle.gate_rbf.proofs.Conflicting.{is_some-find}
 use Rattle.gate_admit.proofs.Lists.{none_pass, AllPairs-nil}
@@ -90,17 +91,22 @@ no_conflicts tx (e ∷ entries) h =
     (no_conflict tx e (h 0 e (omega arith)))
     (no_conflicts tx entries (All-tail (λ (e : Admitted). is_conflict tx e ≡ false) e entries h))
 
+-- no entry that stays beside what counts as a conflict does
+pub unspent_beside : (sibling : Option (List ℕ)) (tx : Tx) (entries : List Admitted) → All (λ (p : OutPoint). All (λ (q : OutPoint). p ≢ q) (spends_of tx)) (spent_by (without_below (is_counted sibling tx) entries))
+unspent_beside sibling tx entries = no_conflicts tx (without_below (is_counted sibling tx) entries)
+    (λ k d l. (or_parts _ _ (stays_apart (is_counted sibling tx) entries _ (Contains-get_or (without_below (is_counted sibling tx) entries) k d l))).1)
+
 -- a conflict that is not one of those without a signal says that it may be replaced
 is_signalling : (conflicts says : Bool) → conflicts ≡ true → (conflicts && not says) ≡ false → says ≡ true
 is_signalling true true c h = refl
 is_signalling true false c h = sym h
 is_signalling false says c h = absurd (true≢false (sym c))
 
-all_signal : (tx : Tx) (entries : List Admitted) → list_any (is_non_signalling_conflict tx) entries ≡ false → All (λ (e : Admitted). signals e.tx ≡ true) (conflicts_of entries tx)
-all_signal tx entries h = λ k d l.
-    is_signalling (is_conflict tx (get_or (conflicts_of entries tx) k d)) (signals (get_or (conflicts_of entries tx) k d).tx)
+all_signal : (truc : Bool) (tx : Tx) (entries : List Admitted) → list_any (is_non_signalling_conflict truc tx) entries ≡ false → All (λ (e : Admitted). is_replaceable truc e.tx ≡ true) (conflicts_of entries tx)
+all_signal truc tx entries h = λ k d l.
+    is_signalling (is_conflict tx (get_or (conflicts_of entries tx) k d)) (is_replaceable truc (get_or (conflicts_of entries tx) k d).tx)
     (filter_passes (is_conflict tx) entries k d l)
-    (All-filter (is_conflict tx) (λ (e : Admitted). is_non_signalling_conflict tx e ≡ false) entries (none_pass (is_non_signalling_conflict tx) entries h) k d l)
+    (All-filter (is_conflict tx) (λ (e : Admitted). is_non_signalling_conflict truc tx e ≡ false) entries (none_pass (is_non_signalling_conflict truc tx) entries h) k d l)
 
 -- ---- live inputs
 
@@ -113,9 +119,9 @@ true_from_not true h = refl
 true_from_not false h = sym h
 
 each_once : (standards : Standards) (tx : Tx) → NoneFails (alone_rules standards tx) → spends_twice tx.inputs ≡ false
-unfolding alone_rules own_rules transaction_rules
+unfolding alone_rules transaction_rules
 each_once standards tx h =
-    let every = (none_fails-append (transaction_rules tx) (form_rules tx) (none_fails-append (own_rules tx) (output_rules standards tx) h).0).0 in
+    let every = (none_fails-append (transaction_rules tx) _ h).0 in
     (none_fails-append (output_value_rules 0 tx.outputs) _ every.1.1.1).1.0
 
 each_mature : (next_height sum : ℕ) (coins : List Coin) → NoneFails (coin_value_rules next_height sum coins) → All (λ (c : Coin). is_immature next_height c ≡ false) coins
@@ -127,7 +133,7 @@ each_mature next_height sum (coin ∷ coins) h =
 
 -- no entry passes the tests of the pool's rules
 unpooled : (policy : Policy) (entries : List Admitted) (tx : Tx) → NoneFails (pool_rules policy entries tx)
-    → (list_any (λ (e : Admitted). bytes_eq (txid_of e.tx) (txid_of tx)) entries ≡ false) × (list_any (λ (e : Admitted). bytes_eq (wtxid_of e.tx) (wtxid_of tx)) entries ≡ false) × ((not policy.full_rbf && list_any (is_non_signalling_conflict tx) entries) ≡ false)
+    → (list_any (λ (e : Admitted). bytes_eq (txid_of e.tx) (txid_of tx)) entries ≡ false) × (list_any (λ (e : Admitted). bytes_eq (wtxid_of e.tx) (wtxid_of tx)) entries ≡ false) × ((not policy.full_rbf && list_any (is_non_signalling_conflict policy.standards.truc tx) entries) ≡ false)
 unfolding pool_rules
 unpooled policy entries tx h = (
   sym (is_some-find (λ (e : Admitted). bytes_eq (txid_of e.tx) (txid_of tx)) entries) ∙ h.1.0,
@@ -149,8 +155,8 @@ live attempt over tx p =
           (none_pass (λ (e : Admitted). bytes_eq (txid_of e.tx) (txid_of tx)) over.entries fresh.0);
       wtxid = All-weaker (λ (e : Admitted). bytes_eq (wtxid_of e.tx) (wtxid_of tx) ≡ false) (λ (e : Admitted). wtxid_of e.tx ≢ wtxid_of tx) (λ e. ids_differ (wtxid_of e.tx) (wtxid_of tx)) over.entries
           (none_pass (λ (e : Admitted). bytes_eq (wtxid_of e.tx) (wtxid_of tx)) over.entries fresh.1);
-      replaceable = λ asked. all_signal tx over.entries (none_is_non_signalling over.policy.full_rbf (list_any (is_non_signalling_conflict tx) over.entries) asked fresh.2);
-      beside = none_pass (is_conflict tx) (ancestors_above over.entries tx.inputs) p.limits.1.0;
+      replaceable = λ asked. all_signal over.policy.standards.truc tx over.entries (none_is_non_signalling over.policy.full_rbf (list_any (is_non_signalling_conflict over.policy.standards.truc tx) over.entries) asked fresh.2);
+      beside = none_pass (is_conflict tx) (ancestors_above over.entries tx.inputs) p.limits.1.1.0;
       unspent = no_conflicts tx (without_below (is_conflict tx) over.entries)
           (λ k d l. stays_apart (is_conflict tx) over.entries _ (Contains-get_or (without_below (is_conflict tx) over.entries) k d l));
       single = spends_once tx.inputs (each_once over.policy.standards tx p.alone);
@@ -175,7 +181,7 @@ balanced : (paid_in paid_out : ℕ) → NoneFails (balance_rules paid_in paid_ou
 unfolding balance_rules
 balanced paid_in paid_out h = (sym (add-sub_of_le (ltb-false _ _ h.0)), ltb-false _ _ h.1.0)
 
-conserved : (attempt : Attempt) (over : Standing) (tx : Tx) → Passes attempt over tx → Conserves over tx (grant_of over tx)
+conserved : (attempt : Attempt) (over : Standing) (tx : Tx) → Passes attempt over tx → Conserves over tx (grant_of attempt over tx)
 unfolding grant_of
 conserved attempt over tx p =
     let both = balanced (coins_value (coins_of over.chain over.entries tx.inputs)) (outputs_value tx) p.balance in
@@ -186,15 +192,15 @@ either_order : (b : Bool) (first second : Rule Denial) → NoneFails (if b then 
 either_order true first second h = (h.0, h.1.0)
 either_order false first second h = (h.1.0, h.0)
 
-paid : (policy : Policy) (floor fee vsize : ℕ) → NoneFails (payment_rules First policy floor fee vsize) → (required_fee (feerate_by policy floor) vsize ≤ fee) × (required_fee (relay_feerate policy) vsize ≤ fee)
+paid : (policy : Policy) (tx : Tx) (floor fee vsize : ℕ) → NoneFails (payment_rules First policy tx floor fee vsize) → (required_fee (feerate_by policy floor) vsize ≤ fee) × (required_fee (relay_feerate policy) vsize ≤ fee)
 unfolding fee_rules
-paid policy floor fee vsize h =
-    let both = either_order policy.relay_fee_first (relay_rule policy fee vsize) (floor_rule policy floor fee vsize) h in
+paid policy tx floor fee vsize h =
+    let both = either_order (is_relay_fee_first policy tx) (relay_rule policy fee vsize) (floor_rule policy floor fee vsize) h in
     (ltb-false _ _ both.1, ltb-false _ _ both.0)
 
-pays : (over : Standing) (tx : Tx) → Passes First over tx → PaysItsSize over (grant_of over tx)
+pays : (over : Standing) (tx : Tx) → Passes First over tx → PaysItsSize over (grant_of First over tx)
 unfolding grant_of
-pays over tx p = let both = paid over.policy over.floor _ _ p.payment in record { relay = both.1; pool = both.0 }
+pays over tx p = let both = paid over.policy tx over.floor _ _ p.payment in record { relay = both.1; pool = both.0 }
 
 -- ---- sizes
 
@@ -205,10 +211,11 @@ hundred : (weight counts : ℕ) → weight ≤ 400000 → counts ≤ 400000 → 
 hundred weight counts few low = omega arith
 
 pub sized : (standards : Standards) (tx : Tx) → NoneFails (alone_rules standards tx) → (1 ≤ weight_of tx) × (weight_of tx ≤ 400000)
-unfolding alone_rules own_rules form_rules
+unfolding alone_rules form_rules
 sized standards tx h =
-    let form = (none_fails-append (transaction_rules tx) (form_rules tx) (none_fails-append (own_rules tx) (output_rules standards tx) h).0).1 in
-    (positive tx, ltb-false _ _ form.1.0)
+    let rest = (none_fails-append (version_rules standards.truc tx) _ (none_fails-append (transaction_rules tx) _ h).1).1 in
+    let form = (none_fails-append (form_rules tx) (output_rules standards tx) rest).0 in
+    (positive tx, ltb-false _ _ form.0)
 
 cheap : (attempt : Attempt) (over : Standing) (tx : Tx) → Passes attempt over tx → sigop_cost (reported tx.inputs (coins_of over.chain over.entries tx.inputs)) tx.outputs ≤ 16000
 unfolding report_rules
@@ -218,7 +225,7 @@ cheap attempt over tx p = ltb-false _ _ p.report.1.1.0
 counts : (attempt : Attempt) (over : Standing) (tx : Tx) → IsPolicy over.policy → Passes attempt over tx → over.policy.sigop_size * sigop_cost (reported tx.inputs (coins_of over.chain over.entries tx.inputs)) tx.outputs ≤ 400000
 counts attempt over tx bounds p = counted over.policy.sigop_size (sigop_cost (reported tx.inputs (coins_of over.chain over.entries tx.inputs)) tx.outputs) bounds.sigop_size_most (cheap attempt over tx p)
 
-held : (attempt : Attempt) (over : Standing) (tx : Tx) → IsPolicy over.policy → Passes attempt over tx → FitsEntry (grant_of over tx).fee (grant_of over tx).vsize
+held : (attempt : Attempt) (over : Standing) (tx : Tx) → IsPolicy over.policy → Passes attempt over tx → FitsEntry (grant_of attempt over tx).fee (grant_of attempt over tx).vsize
 unfolding grant_of
 held attempt over tx bounds p =
     let size = sized over.policy.standards tx p.alone in
@@ -226,7 +233,7 @@ held attempt over tx bounds p =
     record { fee_in_range = (balanced (coins_value (coins_of over.chain over.entries tx.inputs)) (outputs_value tx) p.balance).1; some = both.0; few = both.1 }
 
 -- a quarter of the weight, or of what the cost weighs
-pub small : (attempt : Attempt) (over : Standing) (tx : Tx) → IsPolicy over.policy → Passes attempt over tx → (grant_of over tx).vsize ≤ 100000
+pub small : (attempt : Attempt) (over : Standing) (tx : Tx) → IsPolicy over.policy → Passes attempt over tx → (grant_of attempt over tx).vsize ≤ 100000
 unfolding grant_of
 small attempt over tx bounds p =
     hundred (weight_of tx) (over.policy.sigop_size * sigop_cost (reported tx.inputs (coins_of over.chain over.entries tx.inputs)) tx.outputs) (sized over.policy.standards tx p.alone).1 (counts attempt over tx bounds p)
@@ -239,24 +246,30 @@ fits_by (Some denial) grant h = tt
 
 pub decided_live : (attempt : Attempt) (over : Standing) (tx : Tx) (grant : Grant) → decision_of attempt over (Some tx) ≡ Ok grant → IsGrantable over tx
 unfolding decision_of
-decided_live attempt over tx grant h = rules_grant attempt over tx (granted (first_failing (admission_rules attempt over tx)) (grant_of over tx) grant h).0
+decided_live attempt over tx grant h = rules_grant attempt over tx (granted (first_failing (admission_rules attempt over tx)) (grant_of attempt over tx) grant h).0
 
 pub decided_conserve : (attempt : Attempt) (over : Standing) (tx : Tx) (grant : Grant) → decision_of attempt over (Some tx) ≡ Ok grant → Conserves over tx grant
 unfolding decision_of
 decided_conserve attempt over tx grant h =
-    let both = granted (first_failing (admission_rules attempt over tx)) (grant_of over tx) grant h in
+    let both = granted (first_failing (admission_rules attempt over tx)) (grant_of attempt over tx) grant h in
     subst (Conserves over tx) both.1 (conserved attempt over tx (passes attempt over tx both.0))
+
+pub decided_small : (attempt : Attempt) (over : Standing) (tx : Tx) (grant : Grant) → IsPolicy over.policy → decision_of attempt over (Some tx) ≡ Ok grant → grant.vsize ≤ 100000
+unfolding decision_of
+decided_small attempt over tx grant bounds h =
+    let both = granted (first_failing (admission_rules attempt over tx)) (grant_of attempt over tx) grant h in
+    subst (λ (g : Grant). g.vsize ≤ 100000) both.1 (small attempt over tx bounds (passes attempt over tx both.0))
 
 pub decided_pay : (over : Standing) (tx : Tx) (grant : Grant) → decision_of First over (Some tx) ≡ Ok grant → PaysItsSize over grant
 unfolding decision_of
 decided_pay over tx grant h =
-    let both = granted (first_failing (admission_rules First over tx)) (grant_of over tx) grant h in
+    let both = granted (first_failing (admission_rules First over tx)) (grant_of First over tx) grant h in
     subst (PaysItsSize over) both.1 (pays over tx (passes First over tx both.0))
 
 pub decided_fit : (attempt : Attempt) (over : Standing) (tx : Option Tx) → IsPolicy over.policy → FitsAnEntry (decision_of attempt over tx)
 unfolding decision_of
 decided_fit attempt over None bounds = tt
-decided_fit attempt over (Some tx) bounds = fits_by (first_failing (admission_rules attempt over tx)) (grant_of over tx) (λ h. held attempt over tx bounds (passes attempt over tx h))
+decided_fit attempt over (Some tx) bounds = fits_by (first_failing (admission_rules attempt over tx)) (grant_of attempt over tx) (λ h. held attempt over tx bounds (passes attempt over tx h))
 
 -- ---- of what a call answers
 
@@ -276,7 +289,7 @@ none_found (Some x) h = cc
 pub granted_absent : (attempt : Attempt) (over : Standing) (tx : Tx) (grant : Grant) → Ok grant ≡ decision_of attempt over (Some tx) → (entry_by_txid over.entries (txid_of tx) ≡ None) × (entry_by_wtxid over.entries (wtxid_of tx) ≡ None)
 unfolding decision_of pool_rules
 granted_absent attempt over tx grant h =
-    let pool = (passes attempt over tx (granted (first_failing (admission_rules attempt over tx)) (grant_of over tx) grant (sym h)).0).pool in
+    let pool = (passes attempt over tx (granted (first_failing (admission_rules attempt over tx)) (grant_of attempt over tx) grant (sym h)).0).pool in
     (none_found (entry_by_txid over.entries (txid_of tx)) pool.1.0, none_found (entry_by_wtxid over.entries (wtxid_of tx)) pool.0)
 
 -- where the rules beside the entries pass, none has its txid

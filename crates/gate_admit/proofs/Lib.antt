@@ -18,6 +18,10 @@ pub mod Removing
 pub mod Childless
 pub mod Limited
 pub mod Rooms
+pub mod Evicting
+pub mod Kin
+pub mod Kinship
+pub mod SmallFamilies
 pub mod Replacing
 pub mod Following
 pub mod Unconnected

@@ -15,6 +15,7 @@ use Rattle.gate_admit.specs.Rules.{final_rules, pool_rules, coin_rules, lock_rul
 use Rattle.gate_submission.specs.Alone.{alone_rules}
 use Rattle.gate_admit.specs.Standing.{Standing}
 use Rattle.gate_admit.specs.Policies.{incremental_feerate}
+use Rattle.gate_admit.specs.Truc.{sibling_of}
 
 -- no rule fails, group by group
 pub record Passes (attempt : Attempt) (over : Standing) (tx : Tx) : Type 0 where
@@ -26,9 +27,9 @@ pub record Passes (attempt : Attempt) (over : Standing) (tx : Tx) : Type 0 where
   pub value : NoneFails (coin_value_rules (tip_of over.chain + 1) 0 (coins_of over.chain over.entries tx.inputs))
   pub balance : NoneFails (balance_rules (coins_value (coins_of over.chain over.entries tx.inputs)) (outputs_value tx))
   pub report : NoneFails (report_rules over.policy (reported tx.inputs (coins_of over.chain over.entries tx.inputs)) tx)
-  pub payment : NoneFails (payment_rules attempt over.policy over.floor (coins_value (coins_of over.chain over.entries tx.inputs) - outputs_value tx) (vsize_of over.policy.sigop_size (sigop_cost (reported tx.inputs (coins_of over.chain over.entries tx.inputs)) tx.outputs) tx))
+  pub payment : NoneFails (payment_rules attempt over.policy tx over.floor (coins_value (coins_of over.chain over.entries tx.inputs) - outputs_value tx) (vsize_of over.policy.sigop_size (sigop_cost (reported tx.inputs (coins_of over.chain over.entries tx.inputs)) tx.outputs) tx))
   pub limits : NoneFails (limit_rules attempt over.policy over.entries tx (vsize_of over.policy.sigop_size (sigop_cost (reported tx.inputs (coins_of over.chain over.entries tx.inputs)) tx.outputs) tx))
-  pub replacement : NoneFails (replacement_rules (incremental_feerate over.policy) over.policy.parents over.entries tx (coins_value (coins_of over.chain over.entries tx.inputs) - outputs_value tx) (vsize_of over.policy.sigop_size (sigop_cost (reported tx.inputs (coins_of over.chain over.entries tx.inputs)) tx.outputs) tx))
+  pub replacement : NoneFails (replacement_rules (incremental_feerate over.policy) over.policy.parents over.entries (sibling_of attempt over.policy over.entries tx) tx (coins_value (coins_of over.chain over.entries tx.inputs) - outputs_value tx) (vsize_of over.policy.sigop_size (sigop_cost (reported tx.inputs (coins_of over.chain over.entries tx.inputs)) tx.outputs) tx))
 
 pub passes : (attempt : Attempt) (over : Standing) (tx : Tx) → first_failing (admission_rules attempt over tx) ≡ None → Passes attempt over tx
 unfolding admission_rules
@@ -45,9 +46,9 @@ passes attempt over tx h =
     let value = none_fails-append (coin_value_rules (tip_of over.chain + 1) 0 coins) _ lock.1 in
     let balance = none_fails-append (balance_rules (coins_value coins) (outputs_value tx)) _ value.1 in
     let report = none_fails-append (report_rules over.policy answers tx) _ balance.1 in
-    let payment = none_fails-append (payment_rules attempt over.policy over.floor fee vsize) _ report.1 in
+    let payment = none_fails-append (payment_rules attempt over.policy tx over.floor fee vsize) _ report.1 in
     let limits = none_fails-append (limit_rules attempt over.policy over.entries tx vsize) _ payment.1 in
-    let replacement = none_fails-append (replacement_rules (incremental_feerate over.policy) over.policy.parents over.entries tx fee vsize) (verdict_rules over.verdicts (wtxid_of tx) 0 tx.inputs) limits.1 in
+    let replacement = none_fails-append (replacement_rules (incremental_feerate over.policy) over.policy.parents over.entries (sibling_of attempt over.policy over.entries tx) tx fee vsize) (verdict_rules over.verdicts (wtxid_of tx) 0 tx.inputs) limits.1 in
     record {
       alone = alone.0;
       final = final.0;

@@ -219,7 +219,7 @@ entered_limited policy entries e n alike limited k d l =
     (λ (same : e ≡ a). subst (λ (t : Tx). IsLimited policy (entries ++ n ∷ []) (txid_of t)) (sym alike.tx ∙ ap (λ (x : Admitted). x.tx) same) (limited n (Contains-push entries n)))
     (Contains-push_cases (without_below (is_conflict e.tx) entries) e a (Contains-get_or (entered entries e) k d l)))
 
-room_again : (over : Standing) (tx : Tx) → Passes Again over tx → fits_again over.policy over.entries tx (grant_of over tx).vsize ≡ true
+room_again : (over : Standing) (tx : Tx) → Passes Again over tx → fits_again over.policy over.entries tx (grant_of Again over tx).vsize ≡ true
 unfolding grant_of limit_rules
 room_again over tx p = true_from_not _ p.limits.0
 
@@ -228,7 +228,7 @@ pub again_limited : (over : Standing) (tx : Tx) (grant : Grant) (now : ℕ) → 
     → All (λ (e : Admitted). IsLimited over.policy (entered over.entries (admitted tx grant now)) (txid_of e.tx)) (entered over.entries (admitted tx grant now))
 unfolding decision_of
 again_limited over tx grant now limited d =
-    let both = granted (first_failing (admission_rules Again over tx)) (grant_of over tx) grant d in
+    let both = granted (first_failing (admission_rules Again over tx)) (grant_of Again over tx) grant d in
     let room : fits_again over.policy over.entries tx grant.vsize ≡ true = subst (λ (g : Grant). fits_again over.policy over.entries tx g.vsize ≡ true) both.1 (room_again over tx (passes Again over tx both.0)) in
     let n : Admitted = record { tx = tx; fee = 0; vsize = grant.vsize; time = 0 } in
     let parts = (and_parts _ _ (and_parts _ _ room).1) in

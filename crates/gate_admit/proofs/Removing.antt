@@ -48,12 +48,12 @@ reaches_within part whole within a b r = reaches_from_Leads (Leads_more (steps_w
 -- ---- limits of a part
 
 module _ (k : Admitted → Bool) (entries : List Admitted) (txid : Id) (f : Admitted → ℕ) where
-  fewer_above : sum_by f (ancestors_of (filter k entries) txid) ≤ sum_by f (ancestors_of entries txid)
+  pub fewer_above : sum_by f (ancestors_of (filter k entries) txid) ≤ sum_by f (ancestors_of entries txid)
   fewer_above =
       sum_by-fewer f (λ (a : Admitted). reaches (steps (filter k entries)) (txid_of a.tx) txid) k (λ (a : Admitted). reaches (steps entries) (txid_of a.tx) txid) entries
       (λ a m r. reaches_within (filter k entries) entries (Contains-from_filter k entries) (txid_of a.tx) txid r)
 
-  fewer_below : sum_by f (descendants_of (filter k entries) txid) ≤ sum_by f (descendants_of entries txid)
+  pub fewer_below : sum_by f (descendants_of (filter k entries) txid) ≤ sum_by f (descendants_of entries txid)
   fewer_below =
       sum_by-fewer f (λ (a : Admitted). reaches (steps (filter k entries)) txid (txid_of a.tx)) k (λ (a : Admitted). reaches (steps entries) txid (txid_of a.tx)) entries
       (λ a m r. reaches_within (filter k entries) entries (Contains-from_filter k entries) txid (txid_of a.tx) r)
@@ -110,6 +110,7 @@ module _ (chain : History) (D : Id → Bool) (entries : List Admitted) (closed :
         spends = AllPairs-flat_map_filter (λ (e : Admitted). spends_of e.tx) Differ k entries h.spends;
         coins = coins_stay h.coins;
         fresh = All-filter k (λ (e : Admitted). is_known_txid chain (txid_of e.tx) ≡ false) entries h.fresh;
+        light = All-filter k (λ (e : Admitted). e.vsize ≤ 100000) entries h.light;
         limited = All-weaker (λ (e : Admitted). IsLimited policy entries (txid_of e.tx)) (λ (e : Admitted). IsLimited policy (kept D entries) (txid_of e.tx))
             (λ e. limited_part policy k entries (txid_of e.tx)) (kept D entries) (All-filter k (λ (e : Admitted). IsLimited policy entries (txid_of e.tx)) entries h.limited);
       }

@@ -1,9 +1,9 @@
 -- What A36 and A40 leave room for: few and small ancestors, and each of them with few and small descendants.
-use Rattle.std.proofs.Common.{◌≡◌, ◌≤◌, ◌+◌, ℕ, Bool, true, false, not, ◌&&◌, ◌||◌, List, [], ◌∷◌, length, refl, sym, ◌∙◌, subst, arith, ◌⊎◌, inl, inr, ⊎_elim}
+use Rattle.std.proofs.Common.{◌≡◌, ◌≤◌, ◌+◌, ℕ, Bool, true, false, not, ◌&&◌, ◌||◌, List, [], ◌∷◌, length, Option, refl, sym, ◌∙◌, subst, arith, ◌⊎◌, inl, inr, ⊎_elim}
 use Rattle.std.specs.Prelude.{Contains, filter, is_some, nat_le, ◌==◌}
 use Rattle.std.specs.List.{list_any, list_all}
 use Rattle.std.specs.Cmp.Lexicographic.{bytes_decides}
-use Rattle.std.proofs.lemmas.Bool.{true≢false, and_parts, and_from, or_cases, leb-true, eqb-true, not-false}
+use Rattle.std.proofs.lemmas.Bool.{true≢false, and_parts, and_from, or_cases, or_right, leb-true, eqb-true, not-false}
 use Rattle.std.proofs.lemmas.List.Elements.{All-contains, filter_passes}
 use Rattle.gate_bytes.specs.Order.{NoneFails}
 use Rattle.gate_tx.specs.declared.TxIn.{TxIn}
@@ -13,7 +13,8 @@ use Rattle.gate_graph.specs.Family.{reaches, Leads, here, down}
 use Rattle.gate_bytes.proofs.Members.{Contains-cons_cases, Contains-head, not_in_none, any_is, list_any_of}
 use Rattle.gate_graph.proofs.Reaching.{reaches-same, reaches_trans, reaches_step, Leads_from_reaches}
 use Rattle.gate_pool.specs.Pool.{Admitted, has_txid, entry_by_txid, size_of}
-use Rattle.gate_pool.specs.Family.{names, steps, is_below_some, is_conflict, conflicts_of, replaced_of, ancestors_above, descendants_of}
+use Rattle.gate_pool.specs.Counting.{is_sibling, is_counted, counted_of, replaced_beside}
+use Rattle.gate_pool.specs.Family.{names, steps, is_below_some, is_conflict, conflicts_of, ancestors_above, descendants_of}
 use Rattle.gate_pool.proofs.Entries.{Id, step_entry}
 use Rattle.gate_pool.proofs.Walking.{Contains-filter, Contains-from_filter}
 use Rattle.gate_rbf.specs.declared.ParentsOf.{ParentsOf}
@@ -142,20 +143,12 @@ above_sharer entries tx sharing a stand none m =
     let step = named_step entries w.0 i.0.prevout.txid (stand w.0 w.1) w.2 in
     (w.0, w.1, reaches_trans (steps entries) (txid_of a.tx) i.0.prevout.txid (txid_of w.0.tx) i.2 (reaches_step (steps entries) i.0.prevout.txid (txid_of w.0.tx) step))
 
--- an ancestor of a transaction that conflicts with one entry alone, and may have the parents of this alone, is an ancestor of it
-above_conflict : (entries : List Admitted) (tx : Tx) (c a : Admitted) → conflicts_of entries tx ≡ c ∷ [] → list_any (adds_parent entries (conflicts_of entries tx)) tx.inputs ≡ false
-    → Contains (ancestors_above entries tx.inputs) a → reaches (steps entries) (txid_of a.tx) (txid_of c.tx) ≡ true
-above_conflict entries tx c a is none m =
-    let w = above_sharer entries tx (conflicts_of entries tx) a (Contains-from_filter (is_conflict tx) entries) none m in
-    let same : c ≡ w.0 = ⊎_elim (λ (e : c ≡ w.0). e) (λ k. not_in_none w.0 k) (Contains-cons_cases c [] w.0 (subst (λ (l : List Admitted). Contains l w.0) is w.1)) in
-    subst (λ (x : Admitted). reaches (steps entries) (txid_of a.tx) (txid_of x.tx) ≡ true) (sym same) w.2
-
 some_member : {X : Type 0} (xs : List X) (x : X) → Contains xs x → 1 ≤ length xs
 some_member xs x m = let l = m.1 in omega arith
 
 -- beside no conflict, or several, the usual limits hold
-room_usual : (policy : Policy) (entries : List Admitted) (e : Admitted) (b : Id) → length (descendants_of entries b) ≤ policy.descendants → size_of (descendants_of entries b) + e.vsize ≤ policy.descendants_size + 10000 → HasRoom policy entries e b
-room_usual policy entries e b count size = record {
+room_usual : (policy : Policy) (entries : List Admitted) (sibling : Option (List ℕ)) (e : Admitted) (b : Id) → length (descendants_of entries b) ≤ policy.descendants → size_of (descendants_of entries b) + e.vsize ≤ policy.descendants_size + 10000 → HasRoom policy entries sibling e b
+room_usual policy entries sibling e b count size = record {
   gone = λ a. false;
   under = λ a m t. absurd (true≢false (sym t));
   goes = λ a m t. absurd (true≢false (sym t));
@@ -163,59 +156,83 @@ room_usual policy entries e b count size = record {
   size = λ narrow. omega (arith, size);
 }
 
--- beside one conflict they grow, and it goes with its descendants
-room_grown : (policy : Policy) (entries : List Admitted) (e c : Admitted) (b : Id) → Contains entries c → is_conflict e.tx c ≡ true → reaches (steps entries) b (txid_of c.tx) ≡ true
-    → length (descendants_of entries b) ≤ policy.descendants + 1 → size_of (descendants_of entries b) + e.vsize ≤ (policy.descendants_size + size_of (descendants_of entries (txid_of c.tx))) + 10000 → HasRoom policy entries e b
-room_grown policy entries e c b m conflicts above count size =
+-- beside one conflict they grow, and it goes with its descendants; so does a sibling, beside whose family there is room
+room_grown : (policy : Policy) (entries : List Admitted) (sibling : Option (List ℕ)) (e c : Admitted) (b : Id) → Contains entries c → is_counted sibling e.tx c ≡ true → reaches (steps entries) b (txid_of c.tx) ≡ true
+    → length (descendants_of entries b) ≤ policy.descendants + 1
+    → (policy.parents ≡ Conflicts → size_of (descendants_of entries b) + e.vsize ≤ (policy.descendants_size + size_of (descendants_of entries (txid_of c.tx))) + 10000) → HasRoom policy entries sibling e b
+room_grown policy entries sibling e c b m conflicts above count size =
     let itself = some_member (descendants_of entries (txid_of c.tx)) c (Contains-filter (λ (a : Admitted). reaches (steps entries) (txid_of c.tx) (txid_of a.tx)) entries c m (reaches-same (steps entries) (txid_of c.tx))) in
     record {
       gone = λ a. reaches (steps entries) (txid_of c.tx) (txid_of a.tx);
       under = λ a k r. reaches_trans (steps entries) b (txid_of c.tx) (txid_of a.tx) above r;
-      goes = λ a k r. list_any_of (λ (x : Admitted). is_conflict e.tx x && reaches (steps entries) (txid_of x.tx) (txid_of a.tx)) entries c m (and_from _ _ conflicts r);
+      goes = λ a k r. list_any_of (λ (x : Admitted). is_counted sibling e.tx x && reaches (steps entries) (txid_of x.tx) (txid_of a.tx)) entries c m (and_from _ _ conflicts r);
       count = omega (arith, count, itself);
-      size = λ narrow. omega (arith, size);
+      size = λ narrow. omega (arith, size narrow);
     }
 
 never_both : {X : Type 0} → Conflicts ≡ Replaced → X
 never_both e = cc
 
 -- where it may have the parents of all that is replaced, one of these at least goes from below each of its ancestors
-room_replaced : (policy : Policy) (entries : List Admitted) (e w : Admitted) (b : Id) → policy.parents ≡ Replaced → Contains (replaced_of entries e.tx) w → reaches (steps entries) b (txid_of w.tx) ≡ true
-    → length (descendants_of entries b) ≤ policy.descendants + 1 → HasRoom policy entries e b
-room_replaced policy entries e w b wide replaced above count =
-    let test : Admitted → Bool = is_below_some (is_conflict e.tx) entries in
+room_replaced : (policy : Policy) (entries : List Admitted) (sibling : Option (List ℕ)) (e w : Admitted) (b : Id) → policy.parents ≡ Replaced → Contains (replaced_beside entries sibling e.tx) w → reaches (steps entries) b (txid_of w.tx) ≡ true
+    → length (descendants_of entries b) ≤ policy.descendants + 1 → HasRoom policy entries sibling e b
+room_replaced policy entries sibling e w b wide replaced above count =
+    let test : Admitted → Bool = is_below_some (is_counted sibling e.tx) entries in
     let member : Contains entries w = Contains-from_filter test entries w replaced in
     let itself = some_member (descendants_of entries (txid_of w.tx)) w (Contains-filter (λ (a : Admitted). reaches (steps entries) (txid_of w.tx) (txid_of a.tx)) entries w member (reaches-same (steps entries) (txid_of w.tx))) in
-    let c = any_is (λ (x : Admitted). is_conflict e.tx x && reaches (steps entries) (txid_of x.tx) (txid_of w.tx)) entries (All-contains (λ (x : Admitted). test x ≡ true) (replaced_of entries e.tx) w (filter_passes test entries) replaced) in
-    let parts = and_parts (is_conflict e.tx c.0) _ c.2 in
+    let c = any_is (λ (x : Admitted). is_counted sibling e.tx x && reaches (steps entries) (txid_of x.tx) (txid_of w.tx)) entries (All-contains (λ (x : Admitted). test x ≡ true) (replaced_beside entries sibling e.tx) w (filter_passes test entries) replaced) in
+    let parts = and_parts (is_counted sibling e.tx c.0) _ c.2 in
     record {
       gone = λ a. reaches (steps entries) (txid_of w.tx) (txid_of a.tx);
       under = λ a k r. reaches_trans (steps entries) b (txid_of w.tx) (txid_of a.tx) above r;
-      goes = λ a k r. list_any_of (λ (x : Admitted). is_conflict e.tx x && reaches (steps entries) (txid_of x.tx) (txid_of a.tx)) entries c.0 c.1 (and_from _ _ parts.0 (reaches_trans (steps entries) (txid_of c.0.tx) (txid_of w.tx) (txid_of a.tx) parts.1 r));
+      goes = λ a k r. list_any_of (λ (x : Admitted). is_counted sibling e.tx x && reaches (steps entries) (txid_of x.tx) (txid_of a.tx)) entries c.0 c.1 (and_from _ _ parts.0 (reaches_trans (steps entries) (txid_of c.0.tx) (txid_of w.tx) (txid_of a.tx) parts.1 r));
       count = omega (arith, count, itself);
       size = λ narrow. never_both (sym narrow ∙ wide);
     }
 
--- each ancestor has room for a transaction
-pub room_at : (policy : Policy) (entries : List Admitted) (e : Admitted) → NoneFails (limit_rules First policy entries e.tx e.vsize)
-    → (list_any (is_conflict e.tx) entries ≡ true → adds_unconfirmed policy.parents entries e.tx ≡ false)
-    → (a : Admitted) → Contains (ancestors_above entries e.tx.inputs) a → HasRoom policy entries e (txid_of a.tx)
-room_at policy entries e limits parents a m = go (conflicts_of entries e.tx) refl
-  where
-    beside : (sharing : ParentsOf) → policy.parents ≡ sharing → (c : Admitted) → conflicts_of entries e.tx ≡ c ∷ [] → Contains entries c → is_conflict e.tx c ≡ true → adds_unconfirmed sharing entries e.tx ≡ false
-        → length (descendants_of entries (txid_of a.tx)) ≤ policy.descendants + 1
-        → size_of (descendants_of entries (txid_of a.tx)) + e.vsize ≤ (policy.descendants_size + size_of (descendants_of entries (txid_of c.tx))) + 10000 → HasRoom policy entries e (txid_of a.tx)
-    beside Conflicts narrow c is member conflicts none count size = room_grown policy entries e c (txid_of a.tx) member conflicts (above_conflict entries e.tx c a is none m) count size
-    beside Replaced wide c is member conflicts none count size =
-        let w = above_sharer entries e.tx (replaced_of entries e.tx) a (Contains-from_filter (is_below_some (is_conflict e.tx) entries) entries) none m in
-        room_replaced policy entries e w.0 (txid_of a.tx) wide w.1 w.2 count
+-- below an ancestor there is room for a transaction once its sibling goes
+abbrev pub HasRoomBeside : Policy → List Admitted → Option (List ℕ) → Admitted → Admitted → Type 0
+HasRoomBeside policy entries sibling e a = (s : Admitted) → Contains entries s → is_sibling sibling s ≡ true
+    → size_of (descendants_of entries (txid_of a.tx)) + e.vsize ≤ (policy.descendants_size + size_of (descendants_of entries (txid_of s.tx))) + 10000
 
-    go : (conflicts : List Admitted) → conflicts_of entries e.tx ≡ conflicts → HasRoom policy entries e (txid_of a.tx)
-    go [] is = let r = room_below policy entries e.tx e.vsize limits [] is a m in room_usual policy entries e (txid_of a.tx) r.0 r.1
+-- each ancestor has room for a transaction
+pub room_at : (policy : Policy) (entries : List Admitted) (sibling : Option (List ℕ)) (e : Admitted) → NoneFails (limit_rules First policy entries e.tx e.vsize)
+    → (list_any (is_counted sibling e.tx) entries ≡ true → adds_unconfirmed policy.parents entries sibling e.tx ≡ false)
+    → (a : Admitted) → Contains (ancestors_above entries e.tx.inputs) a → (policy.parents ≡ Conflicts → HasRoomBeside policy entries sibling e a) → HasRoom policy entries sibling e (txid_of a.tx)
+room_at policy entries sibling e limits parents a m evicted = go (conflicts_of entries e.tx) refl
+  where
+    -- one that counts has an ancestor's family below it: it is the conflict, or the sibling
+    above_one : (c w : Admitted) → policy.parents ≡ Conflicts → conflicts_of entries e.tx ≡ c ∷ [] → Contains (counted_of entries sibling e.tx) w → reaches (steps entries) (txid_of a.tx) (txid_of w.tx) ≡ true
+        → length (descendants_of entries (txid_of a.tx)) ≤ policy.descendants + 1
+        → size_of (descendants_of entries (txid_of a.tx)) + e.vsize ≤ (policy.descendants_size + size_of (descendants_of entries (txid_of c.tx))) + 10000 → HasRoom policy entries sibling e (txid_of a.tx)
+    above_one c w narrow is counts above count size =
+        let member : Contains entries w = Contains-from_filter (is_counted sibling e.tx) entries w counts in
+        let passes : is_counted sibling e.tx w ≡ true = All-contains (λ (x : Admitted). is_counted sibling e.tx x ≡ true) (counted_of entries sibling e.tx) w (filter_passes (is_counted sibling e.tx) entries) counts in
+        ⊎_elim
+        (λ (s : is_sibling sibling w ≡ true). room_grown policy entries sibling e w (txid_of a.tx) member passes above count (λ n. evicted n w member s))
+        (λ (rival : is_conflict e.tx w ≡ true).
+        let among : Contains (c ∷ []) w = subst (λ (l : List Admitted). Contains l w) is (Contains-filter (is_conflict e.tx) entries w member rival) in
+        let same : c ≡ w = ⊎_elim (λ (k : c ≡ w). k) (λ k. not_in_none w k) (Contains-cons_cases c [] w among) in
+        room_grown policy entries sibling e w (txid_of a.tx) member passes above count
+        (λ n. subst (λ (x : Admitted). size_of (descendants_of entries (txid_of a.tx)) + e.vsize ≤ (policy.descendants_size + size_of (descendants_of entries (txid_of x.tx))) + 10000) same size))
+        (or_cases (is_sibling sibling w) (is_conflict e.tx w) passes)
+
+    beside : (sharing : ParentsOf) → policy.parents ≡ sharing → (c : Admitted) → conflicts_of entries e.tx ≡ c ∷ [] → adds_unconfirmed sharing entries sibling e.tx ≡ false
+        → length (descendants_of entries (txid_of a.tx)) ≤ policy.descendants + 1
+        → size_of (descendants_of entries (txid_of a.tx)) + e.vsize ≤ (policy.descendants_size + size_of (descendants_of entries (txid_of c.tx))) + 10000 → HasRoom policy entries sibling e (txid_of a.tx)
+    beside Conflicts narrow c is none count size =
+        let w = above_sharer entries e.tx (counted_of entries sibling e.tx) a (Contains-from_filter (is_counted sibling e.tx) entries) none m in
+        above_one c w.0 narrow is w.1 w.2 count size
+    beside Replaced wide c is none count size =
+        let w = above_sharer entries e.tx (replaced_beside entries sibling e.tx) a (Contains-from_filter (is_below_some (is_counted sibling e.tx) entries) entries) none m in
+        room_replaced policy entries sibling e w.0 (txid_of a.tx) wide w.1 w.2 count
+
+    go : (conflicts : List Admitted) → conflicts_of entries e.tx ≡ conflicts → HasRoom policy entries sibling e (txid_of a.tx)
+    go [] is = let r = room_below policy entries e.tx e.vsize limits [] is a m in room_usual policy entries sibling e (txid_of a.tx) r.0 r.1
     go (c ∷ []) is =
         let r = room_below policy entries e.tx e.vsize limits (c ∷ []) is a m in
         let among : Contains (conflicts_of entries e.tx) c = subst (λ (l : List Admitted). Contains l c) (sym is) (Contains-head c []) in
         let member : Contains entries c = Contains-from_filter (is_conflict e.tx) entries c among in
         let conflicts : is_conflict e.tx c ≡ true = All-contains (λ (x : Admitted). is_conflict e.tx x ≡ true) (conflicts_of entries e.tx) c (filter_passes (is_conflict e.tx) entries) among in
-        beside policy.parents refl c is member conflicts (parents (list_any_of (is_conflict e.tx) entries c member conflicts)) r.0 r.1
-    go (c ∷ d ∷ rest) is = let r = room_below policy entries e.tx e.vsize limits (c ∷ d ∷ rest) is a m in room_usual policy entries e (txid_of a.tx) r.0 r.1
+        beside policy.parents refl c is (parents (list_any_of (is_counted sibling e.tx) entries c member (or_right (is_sibling sibling c) (is_conflict e.tx c) conflicts))) r.0 r.1
+    go (c ∷ d ∷ rest) is = let r = room_below policy entries e.tx e.vsize limits (c ∷ d ∷ rest) is a m in room_usual policy entries sibling e (txid_of a.tx) r.0 r.1

@@ -13,7 +13,8 @@ use Rattle.gate_standard.specs.declared.Denial.TheVariants.{MempoolFull}
 use Rattle.gate_chain.specs.History.{History}
 use Rattle.gate_graph.specs.Family.{reaches}
 use Rattle.gate_pool.specs.Pool.{Admitted}
-use Rattle.gate_pool.specs.Family.{steps, entered}
+use Rattle.gate_pool.specs.Counting.{entered_beside}
+use Rattle.gate_pool.specs.Family.{steps}
 use Rattle.gate_pool.proofs.Walking.{Contains-from_filter}
 use Rattle.gate_trim.specs.Expiry.{expired, is_stale}
 use Rattle.gate_trim.specs.Laws.{IsYoung}
@@ -26,19 +27,21 @@ use Rattle.gate_admit.specs.Rules.{admission_rules, decision_of, denied_or, gran
 use Rattle.gate_admit.specs.Policies.{Policy, IsPolicy}
 use Rattle.gate_admit.specs.Standing.{Standing}
 use Rattle.gate_admit.specs.Submission.{Submitted, admitted, entry_of, holds, submitted_by, submit_of}
-use Rattle.gate_admit.proofs.Entering.{StaysUnconnected, empty_sound, grant_sound, stays_if_apart, stays_if_unconnected}
+use Rattle.gate_admit.specs.Truc.{TrucHolds, sibling_of}
+use Rattle.gate_admit.proofs.Entering.{StaysUnconnected, empty_sound, grant_sound, grant_truc, stays_if_apart, stays_if_unconnected}
+use Rattle.gate_admit.proofs.Kin.{entry_truc}
 use Rattle.gate_admit.proofs.Removing.{below_sound, family_sound}
 use Rattle.gate_admit.proofs.Staying.{stays_within}
 
 -- ---- entries
 
 -- what enters a sound list leaves a good pool
-entry_good : (limits : Limits) (chain : History) (entries : List Admitted) (floor : ℕ) (e : Admitted) → IsSound limits.policy chain (entered entries e) → IsGood limits chain (entry_of limits.policy limits.budget entries floor e).entries
+entry_good : (limits : Limits) (chain : History) (entries : List Admitted) (sibling : Option (List ℕ)) (floor : ℕ) (e : Admitted) → IsSound limits.policy chain (entered_beside entries sibling e) → IsGood limits chain (entry_of limits.policy limits.budget entries sibling floor e).entries
 unfolding entry_of
-entry_good limits chain entries floor e h =
+entry_good limits chain entries sibling floor e h =
     record {
-      sound = trim_keeps (IsSound limits.policy chain) (family_sound limits.policy chain) limits.policy.incremental_rate limits.budget (expired limits.policy.stay e.time (entered entries e)) floor (below_sound limits.policy chain (is_stale limits.policy.stay e.time) (entered entries e) h);
-      size = trim_within limits.policy.incremental_rate limits.budget (expired limits.policy.stay e.time (entered entries e)) floor;
+      sound = trim_keeps (IsSound limits.policy chain) (family_sound limits.policy chain) limits.policy.incremental_rate limits.budget (expired limits.policy.stay e.time (entered_beside entries sibling e)) floor (below_sound limits.policy chain (is_stale limits.policy.stay e.time) (entered_beside entries sibling e) h);
+      size = trim_within limits.policy.incremental_rate limits.budget (expired limits.policy.stay e.time (entered_beside entries sibling e)) floor;
     }
 
 -- no entry is left that came too long ago
@@ -48,30 +51,30 @@ AreYoung stay now entries = All (IsYoung stay now) entries
 expired_young : (stay now : ℕ) (entries : List Admitted) → AreYoung stay now (expired stay now entries)
 expired_young stay now entries k d l = one_young stay now entries _ (Contains-get_or (expired stay now entries) k d l)
 
-entry_young : (policy : Policy) (budget : ℕ) (entries : List Admitted) (floor : ℕ) (e : Admitted) → AreYoung policy.stay e.time (entry_of policy budget entries floor e).entries
+entry_young : (policy : Policy) (budget : ℕ) (entries : List Admitted) (sibling : Option (List ℕ)) (floor : ℕ) (e : Admitted) → AreYoung policy.stay e.time (entry_of policy budget entries sibling floor e).entries
 unfolding entry_of
-entry_young policy budget entries floor e =
+entry_young policy budget entries sibling floor e =
     trim_keeps (AreYoung policy.stay e.time) (λ l txid. All-filter (λ (a : Admitted). not (reaches (steps l) txid (txid_of a.tx))) (IsYoung policy.stay e.time) l)
-    policy.incremental_rate budget (expired policy.stay e.time (entered entries e)) floor (expired_young policy.stay e.time (entered entries e))
+    policy.incremental_rate budget (expired policy.stay e.time (entered_beside entries sibling e)) floor (expired_young policy.stay e.time (entered_beside entries sibling e))
 
-entry_floor : (policy : Policy) (budget : ℕ) (entries : List Admitted) (floor : ℕ) (e : Admitted) → floor ≤ (entry_of policy budget entries floor e).floor
+entry_floor : (policy : Policy) (budget : ℕ) (entries : List Admitted) (sibling : Option (List ℕ)) (floor : ℕ) (e : Admitted) → floor ≤ (entry_of policy budget entries sibling floor e).floor
 unfolding entry_of
-entry_floor policy budget entries floor e = trim_rises policy.incremental_rate budget (expired policy.stay e.time (entered entries e)) floor
+entry_floor policy budget entries sibling floor e = trim_rises policy.incremental_rate budget (expired policy.stay e.time (entered_beside entries sibling e)) floor
 
 -- what is left was there, or came
-pub entry_within : (policy : Policy) (budget : ℕ) (entries : List Admitted) (floor : ℕ) (e a : Admitted) → Contains (entry_of policy budget entries floor e).entries a → Contains (entered entries e) a
+pub entry_within : (policy : Policy) (budget : ℕ) (entries : List Admitted) (sibling : Option (List ℕ)) (floor : ℕ) (e a : Admitted) → Contains (entry_of policy budget entries sibling floor e).entries a → Contains (entered_beside entries sibling e) a
 unfolding entry_of
-entry_within policy budget entries floor e =
-    trim_keeps (λ l. (a : Admitted) → Contains l a → Contains (entered entries e) a) (λ l txid h a m. h a (Contains-from_filter (λ (x : Admitted). not (reaches (steps l) txid (txid_of x.tx))) l a m))
-    policy.incremental_rate budget (expired policy.stay e.time (entered entries e)) floor (λ a m. stays_within (is_stale policy.stay e.time) (entered entries e) a m)
+entry_within policy budget entries sibling floor e =
+    trim_keeps (λ l. (a : Admitted) → Contains l a → Contains (entered_beside entries sibling e) a) (λ l txid h a m. h a (Contains-from_filter (λ (x : Admitted). not (reaches (steps l) txid (txid_of x.tx))) l a m))
+    policy.incremental_rate budget (expired policy.stay e.time (entered_beside entries sibling e)) floor (λ a m. stays_within (is_stale policy.stay e.time) (entered_beside entries sibling e) a m)
 
 -- ---- submissions
 
 -- over a good pool what was decided leaves a good pool
-found_good : (over : Standing) (tx : Tx) (now budget : ℕ) (found : Option Denial) → (found ≡ None → IsSound over.policy over.chain (entered over.entries (admitted tx (grant_of over tx) now)))
-    → IsGood (limits_for over.policy budget) over.chain over.entries → IsGood (limits_for over.policy budget) over.chain (submitted_by over (Some tx) now budget (denied_or found (grant_of over tx))).entries
+found_good : (over : Standing) (tx : Tx) (now budget : ℕ) (found : Option Denial) → (found ≡ None → IsSound over.policy over.chain (entered_beside over.entries (sibling_of First over.policy over.entries tx) (admitted tx (grant_of First over tx) now)))
+    → IsGood (limits_for over.policy budget) over.chain over.entries → IsGood (limits_for over.policy budget) over.chain (submitted_by over (Some tx) now budget (denied_or found (grant_of First over tx))).entries
 found_good over tx now budget (Some denial) h good = good
-found_good over tx now budget None h good = entry_good (limits_for over.policy budget) over.chain over.entries over.floor (admitted tx (grant_of over tx) now) (h refl)
+found_good over tx now budget None h good = entry_good (limits_for over.policy budget) over.chain over.entries (sibling_of First over.policy over.entries tx) over.floor (admitted tx (grant_of First over tx) now) (h refl)
 
 -- a submission keeps a pool good
 pub submission_good : (over : Standing) (tx : Option Tx) (now budget : ℕ) → StaysUnconnected over tx → IsGood (limits_for over.policy budget) over.chain over.entries
@@ -91,6 +94,19 @@ pub kept_good : (over : Standing) (tx : Option Tx) (now budget : ℕ) (after : S
     → IsGood (limits_for over.policy budget) over.chain over.entries → IsGood (limits_for over.policy budget) over.chain after.entries
 kept_good over tx now budget after is settled is_tx apart good =
     subst (λ (s : Submitted). IsGood (limits_for over.policy budget) over.chain s.entries) is (submission_good over tx now budget (stays_if_apart over tx settled is_tx apart) good)
+
+-- over a good pool whose families of version 3 are small it leaves such families, where version 3 is standard
+found_truc : (over : Standing) (tx : Tx) (now budget : ℕ) (found : Option Denial) → (found ≡ None → TrucHolds (entered_beside over.entries (sibling_of First over.policy over.entries tx) (admitted tx (grant_of First over tx) now)))
+    → TrucHolds over.entries → TrucHolds (submitted_by over (Some tx) now budget (denied_or found (grant_of First over tx))).entries
+found_truc over tx now budget (Some denial) h kin = kin
+found_truc over tx now budget None h kin = entry_truc over.policy budget over.entries (sibling_of First over.policy over.entries tx) over.floor (admitted tx (grant_of First over tx) now) (h refl)
+
+pub submission_truc : (over : Standing) (tx : Option Tx) (now budget : ℕ) → over.policy.standards.truc ≡ true → IsUnconnected over.chain tx → IsGood (limits_for over.policy budget) over.chain over.entries
+    → TrucHolds over.entries → TrucHolds (submit_of over tx now budget).entries
+unfolding submit_of decision_of
+submission_truc over None now budget on new good kin = kin
+submission_truc over (Some tx) now budget on new good kin =
+    found_truc over tx now budget (first_failing (admission_rules First over tx)) (λ granted. grant_truc over tx now (stays_if_unconnected over (Some tx) new) good.sound granted on kin) kin
 
 -- a pool without entries is good
 pub empty_good : (limits : Limits) (chain : History) → IsPolicy limits.policy → IsGood limits chain []
@@ -112,7 +128,7 @@ granted_held over tx now budget grant h = go (decision_of First over (Some tx)) 
   where
     go : (decision : Result Grant Denial) → (submitted_by over (Some tx) now budget decision).decision ≡ Ok grant → holds (submitted_by over (Some tx) now budget decision).entries (txid_of tx) ≡ true
     go (Err denial) k = cc
-    go (Ok made) k = granted_here (holds (entry_of over.policy budget over.entries over.floor (admitted tx made now)).entries (txid_of tx)) made grant k
+    go (Ok made) k = granted_here (holds (entry_of over.policy budget over.entries (sibling_of First over.policy over.entries tx) over.floor (admitted tx made now)).entries (txid_of tx)) made grant k
 
 pub granted_young : (over : Standing) (tx : Tx) (now budget : ℕ) (grant : Grant) → (submit_of over (Some tx) now budget).decision ≡ Ok grant → AreYoung over.policy.stay now (submit_of over (Some tx) now budget).entries
 unfolding submit_of
@@ -120,14 +136,14 @@ granted_young over tx now budget grant h = go (decision_of First over (Some tx))
   where
     go : (decision : Result Grant Denial) → (submitted_by over (Some tx) now budget decision).decision ≡ Ok grant → AreYoung over.policy.stay now (submitted_by over (Some tx) now budget decision).entries
     go (Err denial) k = cc
-    go (Ok made) k = entry_young over.policy budget over.entries over.floor (admitted tx made now)
+    go (Ok made) k = entry_young over.policy budget over.entries (sibling_of First over.policy over.entries tx) over.floor (admitted tx made now)
 
 pub full_gone : (over : Standing) (tx : Tx) (now budget : ℕ) (grant : Grant) → decision_of First over (Some tx) ≡ Ok grant → (submit_of over (Some tx) now budget).decision ≡ Err MempoolFull
     → holds (submit_of over (Some tx) now budget).entries (txid_of tx) ≡ false
 unfolding submit_of
 full_gone over tx now budget grant d h =
     ap (λ x. holds (submitted_by over (Some tx) now budget x).entries (txid_of tx)) d
-    ∙ denied_here (holds (entry_of over.policy budget over.entries over.floor (admitted tx grant now)).entries (txid_of tx)) grant (sym (ap (λ x. (submitted_by over (Some tx) now budget x).decision) d) ∙ h)
+    ∙ denied_here (holds (entry_of over.policy budget over.entries (sibling_of First over.policy over.entries tx) over.floor (admitted tx grant now)).entries (txid_of tx)) grant (sym (ap (λ x. (submitted_by over (Some tx) now budget x).decision) d) ∙ h)
 
 -- ---- the floor
 
@@ -138,4 +154,4 @@ submission_floor over tx now budget = go tx (decision_of First over tx)
     go : (tx : Option Tx) (decision : Result Grant Denial) → over.floor ≤ (submitted_by over tx now budget decision).floor
     go tx (Err denial) = omega arith
     go None (Ok grant) = omega arith
-    go (Some tx) (Ok grant) = entry_floor over.policy budget over.entries over.floor (admitted tx grant now)
+    go (Some tx) (Ok grant) = entry_floor over.policy budget over.entries (sibling_of First over.policy over.entries tx) over.floor (admitted tx grant now)

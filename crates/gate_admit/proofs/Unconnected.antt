@@ -19,7 +19,7 @@ use Rattle.gate_tx.specs.Laws.{prevouts}
 use Rattle.gate_tx.specs.Text.{IsTx, stripped}
 use Rattle.gate_tx.specs.Tx.{Tx}
 use Rattle.gate_tx.proofs.Stripped.{stripped_forms_spend_the_same}
-use Rattle.gate_standard.specs.Rules.{transaction_rules, form_rules, output_rules, output_value_rules, is_coinbase}
+use Rattle.gate_standard.specs.Rules.{transaction_rules, output_value_rules, is_coinbase}
 use Rattle.gate_chain.specs.Blocks.{Block}
 use Rattle.gate_chain.specs.Coins.{has_txid as opened_by, coin_made, coin_of, has_transaction, is_known_txid, is_spent_in}
 use Rattle.gate_chain.specs.History.{History}
@@ -29,7 +29,7 @@ use Rattle.gate_chain.specs.Times.{tip_of}
 use Rattle.gate_pool.specs.Pool.{Admitted, has_txid, entry_by_txid, spends_of}
 use Rattle.gate_admit.specs.Coins.{view_coin}
 use Rattle.gate_admit.specs.Rules.{admission_rules}
-use Rattle.gate_submission.specs.Alone.{alone_rules, own_rules}
+use Rattle.gate_submission.specs.Alone.{alone_rules}
 use Rattle.gate_standard.specs.declared.Standards.{Standards}
 use Rattle.gate_admit.specs.Standing.{Standing}
 use Rattle.gate_rbf.proofs.Conflicting.{is_some-find}
@@ -101,14 +101,14 @@ alike chain tx t b (t0 ∷ txs) settled at parts member same no_coinbase =
     (Contains-cons_cases t0 txs t member)
 
 not_coinbase : (standards : Standards) (tx : Tx) → NoneFails (alone_rules standards tx) → is_coinbase tx.inputs ≡ false
-unfolding alone_rules own_rules transaction_rules
+unfolding alone_rules transaction_rules
 not_coinbase standards tx h =
-    let every = (none_fails-append (transaction_rules tx) (form_rules tx) (none_fails-append (own_rules tx) (output_rules standards tx) h).0).0 in
+    let every = (none_fails-append (transaction_rules tx) _ h).0 in
     (none_fails-append (output_value_rules 0 tx.outputs) _ every.1.1.1).1.1.1.1.0
 
 some_inputs : (standards : Standards) (tx : Tx) → NoneFails (alone_rules standards tx) → (length tx.inputs == 0) ≡ false
-unfolding alone_rules own_rules transaction_rules
-some_inputs standards tx h = (none_fails-append (transaction_rules tx) (form_rules tx) (none_fails-append (own_rules tx) (output_rules standards tx) h).0).0.0
+unfolding alone_rules transaction_rules
+some_inputs standards tx h = (none_fails-append (transaction_rules tx) _ h).0.0
 
 -- the outpoint of the first input has a coin
 first_coin : (chain : History) (entries : List Admitted) (tx : Tx) (i : TxIn) (rest : List TxIn) → tx.inputs ≡ i ∷ rest → All (λ (p : OutPoint). IsSome (view_coin chain entries p)) (spends_of tx)

@@ -1,5 +1,6 @@
 -- What the definitions are where an operator sets nothing: the numbers of Bitcoin Core 22.0, written out.
-use Rattle.std.specs.Prelude.{◌≡◌, ◌+◌, ◌*◌, ◌/◌, ◌-◌, ℕ, nat_le, nat_lt, max, Bool, true, false, ◌&&◌, not, if◌then◌else◌, List, [], ◌∷◌, length, None}
+use Rattle.std.specs.Prelude.{◌≡◌, ◌+◌, ◌*◌, ◌/◌, ◌-◌, ℕ, nat_le, nat_lt, max, Bool, true, false, ◌&&◌, ◌||◌, not, if◌then◌else◌, List, [], ◌∷◌, length, None, pos}
+use Rattle.std.specs.Ordering.{int_eq}
 use Rattle.std.specs.List.{list_all, list_any, count_by}
 use Rattle.gate_bytes.specs.Order.{Rule}
 use Rattle.gate_tx.specs.declared.TxOut.{TxOut}
@@ -11,21 +12,23 @@ use Rattle.gate_script.specs.declared.Template.TheVariants.{NullData, Multisig, 
 use Rattle.gate_standard.specs.Amounts.{down, required_fee, feerate}
 use Rattle.gate_inputs.specs.declared.Answers.{Answers}
 use Rattle.gate_standard.specs.Outputs.{is_standard_output, is_standard_template, carries_data, dust_threshold_of, is_dust, size_with_spend}
-use Rattle.gate_standard.specs.Rules.{left_behind, rules_of_output, rules_of_whole}
+use Rattle.gate_standard.specs.Rules.{left_behind, rules_of_output, rules_of_whole, version_rules}
 use Rattle.gate_standard.specs.declared.Denial.{Denial}
-use Rattle.gate_standard.specs.declared.Denial.TheVariants.{ScriptPubKey, Dust, DataCarrier, MultiOpReturn, TxSizeSmall, NonstandardInputs, WitnessNonstandard, TooManySigops, MempoolMinFee, MinRelayFee, LowerFee, LowerDifference}
+use Rattle.gate_standard.specs.declared.Denial.TheVariants.{Version, ScriptPubKey, Dust, DataCarrier, MultiOpReturn, TxSizeSmall, NonstandardInputs, WitnessNonstandard, TooManySigops, MempoolMinFee, MinRelayFee, LowerFee, LowerDifference}
 use Rattle.gate_pool.specs.Pool.{Admitted, size_of}
 use Rattle.gate_pool.specs.Family.{ancestors_of, descendants_of, conflicts_of}
 use Rattle.gate_graph.specs.declared.held.Sums.{Sums}
 use Rattle.gate_rbf.specs.Paying.{amount_rules}
-use Rattle.gate_rbf.specs.Replacing.{adds_parent, adds_unconfirmed}
+use Rattle.gate_rbf.specs.Replacing.{adds_parent, adds_unconfirmed, is_replaceable, signals}
 use Rattle.gate_trim.specs.Expiry.{is_stale}
 use Rattle.gate_trim.specs.Trimming.{raised}
+use Rattle.gate_admit.specs.declared.attempt.Attempt.TheVariants.{First}
 use Rattle.gate_admit.specs.declared.limits.FamilyLimits.{FamilyLimits}
 use Rattle.gate_admit.specs.Limits.{usual_limits, carved_out, is_limited}
 use Rattle.gate_admit.specs.Policies.{incremental_feerate, usual_policy}
 use Rattle.gate_admit.specs.Reports.{report_rules, sigop_cost, vsize_of}
 use Rattle.gate_admit.specs.Rules.{fee_rules}
+use Rattle.gate_admit.specs.Truc.{breaks_truc, sibling_of}
 
 -- the standard templates: at most 3 keys, and at most 83 bytes of data
 abbrev pub standard_by_default : Template → ℕ → Bool
@@ -48,14 +51,19 @@ pub record DefaultsChangeNothing : Type 0 where
   pub whole : (tx : Tx) → rules_of_whole usual_policy.standards tx ≡ (MultiOpReturn, nat_lt 1 (count_by carries_data tx.outputs)) ∷ (TxSizeSmall, nat_lt (stripped_size_of tx) 82) ∷ []
   pub carriers : (o : TxOut) → rules_of_output usual_policy.standards usual_policy.standards.data_total o ≡ (ScriptPubKey, not (is_standard_output usual_policy.standards o)) ∷ (DataCarrier, carries_data o && false) ∷ (Dust, is_dust (down 3000) o) ∷ []
   pub unbounded : (carries : Bool) (size : ℕ) → left_behind usual_policy.standards.data_total carries size ≡ None
+  -- A12, A23 and A47: version 3 isn't standard, so it says nothing of a replacement, and no family is asked for it
+  pub version : (tx : Tx) → version_rules usual_policy.standards.truc tx ≡ (Version, not (int_eq tx.version (pos 1) || int_eq tx.version (pos 2))) ∷ []
+  pub signal : (tx : Tx) → is_replaceable usual_policy.standards.truc tx ≡ signals tx
+  pub kin : (entries : List Admitted) (tx : Tx) (vsize : ℕ) → breaks_truc First usual_policy entries tx vsize ≡ false
+  pub sibling : (entries : List Admitted) (tx : Tx) → sibling_of First usual_policy entries tx ≡ None
   -- A31 to A33
   pub reports : (answers : List Answers) (tx : Tx)
       → report_rules usual_policy answers tx
       ≡ (NonstandardInputs, not (list_all (λ (a : Answers). a.standard) answers)) ∷ (WitnessNonstandard, not (list_all (λ (a : Answers). a.witness_standard) answers)) ∷ (TooManySigops, nat_lt 16000 (sigop_cost answers tx.outputs)) ∷ []
   -- the virtual size, A35, A40 and A42
   pub size : (cost : ℕ) (tx : Tx) → vsize_of usual_policy.sigop_size cost tx ≡ (max (weight_of tx) (20 * cost) + 3) / 4
-  pub relay : (floor fee vsize : ℕ) → fee_rules usual_policy floor fee vsize ≡ (MempoolMinFee, nat_lt fee (required_fee (down floor) vsize)) ∷ (MinRelayFee, nat_lt fee (required_fee (down 1000) vsize)) ∷ []
-  pub parents : (entries : List Admitted) (tx : Tx) → adds_unconfirmed usual_policy.parents entries tx ≡ list_any (adds_parent entries (conflicts_of entries tx)) tx.inputs
+  pub relay : (tx : Tx) (floor fee vsize : ℕ) → fee_rules usual_policy tx floor fee vsize ≡ (MempoolMinFee, nat_lt fee (required_fee (down floor) vsize)) ∷ (MinRelayFee, nat_lt fee (required_fee (down 1000) vsize)) ∷ []
+  pub parents : (entries : List Admitted) (tx : Tx) → adds_unconfirmed usual_policy.parents entries None tx ≡ list_any (adds_parent entries (conflicts_of entries tx)) tx.inputs
   pub replacement : (paid fee vsize : ℕ) → amount_rules (incremental_feerate usual_policy) paid fee vsize ≡ (LowerFee, nat_lt fee paid) ∷ (LowerDifference, nat_lt (fee - paid) (required_fee (down 1000) vsize)) ∷ []
   -- A36 and what is tried again
   pub first : usual_limits usual_policy ≡ limits_by_default

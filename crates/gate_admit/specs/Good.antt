@@ -47,6 +47,8 @@ pub record IsSound (policy : Policy) (chain : History) (entries : List Admitted)
   pub coins : All (λ (p : OutPoint). IsSome (view_coin chain entries p)) (spent_by entries)
   -- no entry has the txid of a coin that the chain was opened with, or of a connected block's transaction
   pub fresh : All (λ (e : Admitted). is_known_txid chain (txid_of e.tx) ≡ false) entries
+  -- no entry has more virtual bytes than a standard transaction
+  pub light : All (λ (e : Admitted). e.vsize ≤ 100000) entries
   -- the family of each entry is within the limits
   pub limited : All (λ (e : Admitted). IsLimited policy entries (txid_of e.tx)) entries
 

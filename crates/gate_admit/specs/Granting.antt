@@ -12,8 +12,11 @@ use Rattle.gate_chain.specs.Times.{tip_of}
 use Rattle.gate_locks.specs.Finality.{is_final_at}
 use Rattle.gate_locks.specs.Locks.{median_at, sequence_locks_met_by}
 use Rattle.gate_pool.specs.Pool.{Admitted, spends_of, spent_by}
-use Rattle.gate_pool.specs.Family.{names, is_conflict, conflicts_of, replaced_of, without_below, ancestors_above, fees_of}
-use Rattle.gate_rbf.specs.Replacing.{signals}
+use Rattle.gate_pool.specs.Family.{names, is_conflict, conflicts_of, without_below, ancestors_above, fees_of}
+use Rattle.gate_pool.specs.Counting.{is_counted, counted_of, replaced_beside}
+use Rattle.gate_rbf.specs.Replacing.{is_replaceable}
+use Rattle.gate_admit.specs.declared.attempt.Attempt.{Attempt}
+use Rattle.gate_admit.specs.Truc.{sibling_of}
 use Rattle.gate_admit.specs.declared.grant.Grant.{Grant}
 use Rattle.gate_admit.specs.Coins.{view_coin, coins_of}
 use Rattle.gate_admit.specs.Rules.{coins_value, heights_of, is_immature, outputs_value}
@@ -26,7 +29,7 @@ pub record IsGrantable (over : Standing) (tx : Tx) : Type 0 where
   pub wtxid : All (λ (e : Admitted). wtxid_of e.tx ≢ wtxid_of tx) over.entries
   -- each entry that spends an outpoint that it spends says that it may be replaced, unless all may be, and none of them is
   -- among its ancestors
-  pub replaceable : over.policy.full_rbf ≡ false → All (λ (e : Admitted). signals e.tx ≡ true) (conflicts_of over.entries tx)
+  pub replaceable : over.policy.full_rbf ≡ false → All (λ (e : Admitted). is_replaceable over.policy.standards.truc e.tx ≡ true) (conflicts_of over.entries tx)
   pub beside : All (λ (e : Admitted). is_conflict tx e ≡ false) (ancestors_above over.entries tx.inputs)
   -- no entry that stays spends an outpoint that it spends, and it spends none twice
   pub unspent : All (λ (p : OutPoint). All (λ (q : OutPoint). p ≢ q) (spends_of tx)) (spent_by (without_below (is_conflict tx) over.entries))
@@ -50,8 +53,9 @@ pub record PaysItsSize (over : Standing) (grant : Grant) : Type 0 where
   pub pool : required_fee (feerate_by over.policy over.floor) grant.vsize ≤ grant.fee
 
 -- a replacement pays at least the fees of all that it replaces, and its own relay above that; its feerate, rounded down, is
--- above that of each entry that it conflicts with; and no entry that stays spends an output of one that leaves
-pub record Replaces (over : Standing) (tx : Tx) (grant : Grant) : Type 0 where
-  pub paid : fees_of (replaced_of over.entries tx) + required_fee (incremental_feerate over.policy) grant.vsize ≤ grant.fee
-  pub rate : All (λ (c : Admitted). feerate c.fee c.vsize < feerate grant.fee grant.vsize) (conflicts_of over.entries tx)
-  pub whole : All (λ (e : Admitted). All (λ (gone : Admitted). names e (txid_of gone.tx) ≡ false) (replaced_of over.entries tx)) (without_below (is_conflict tx) over.entries)
+-- above that of each entry that counts as a direct conflict; and no entry that stays spends an output of one that leaves
+pub record Replaces (attempt : Attempt) (over : Standing) (tx : Tx) (grant : Grant) : Type 0 where
+  pub paid : fees_of (replaced_beside over.entries (sibling_of attempt over.policy over.entries tx) tx) + required_fee (incremental_feerate over.policy) grant.vsize ≤ grant.fee
+  pub rate : All (λ (c : Admitted). feerate c.fee c.vsize < feerate grant.fee grant.vsize) (counted_of over.entries (sibling_of attempt over.policy over.entries tx) tx)
+  pub whole : All (λ (e : Admitted). All (λ (gone : Admitted). names e (txid_of gone.tx) ≡ false) (replaced_beside over.entries (sibling_of attempt over.policy over.entries tx) tx))
+      (without_below (is_counted (sibling_of attempt over.policy over.entries tx) tx) over.entries)

@@ -1,5 +1,5 @@
--- Limits of families (A36, with the growth that a replacement is given, and those of a transaction that is tried again), and what a
--- transaction may not be above (A37).
+-- Limits of families (A36, with the growth that a replacement is given, and those of a transaction that is tried again; and A47), and
+-- what a transaction may not be above (A37).
 use Rattle.std.specs.Prelude.{◌≡◌, ℕ, ◌+◌, ◌==◌, nat_le, Bool, ◌&&◌, ◌||◌, not, List, [], ◌∷◌, ◌++◌, length, is_some}
 use Rattle.std.specs.List.{list_any, list_all}
 use Rattle.gate_bytes.specs.Order.{Rule}
@@ -7,13 +7,15 @@ use Rattle.gate_tx.specs.declared.TxIn.{TxIn}
 use Rattle.gate_tx.specs.Ids.{txid_of}
 use Rattle.gate_tx.specs.Tx.{Tx}
 use Rattle.gate_graph.specs.Family.{reaches}
+use Rattle.gate_standard.specs.Rules.{is_truc}
 use Rattle.gate_standard.specs.declared.Denial.{Denial}
-use Rattle.gate_standard.specs.declared.Denial.TheVariants.{TooLongChain, SpendsConflicting}
+use Rattle.gate_standard.specs.declared.Denial.TheVariants.{TooLongChain, SpendsConflicting, TrucViolation}
 use Rattle.gate_pool.specs.Pool.{Admitted, entry_by_txid, size_of}
 use Rattle.gate_admit.specs.declared.attempt.Attempt.{Attempt}
 use Rattle.gate_admit.specs.declared.attempt.Attempt.TheVariants.{First, Again}
 use Rattle.gate_admit.specs.declared.limits.FamilyLimits.{FamilyLimits}
 use Rattle.gate_admit.specs.Policies.{Policy, carve_out_size, most_ancestors, most_descendants, most_descendants_size}
+use Rattle.gate_admit.specs.Truc.{breaks_truc}
 use Rattle.gate_pool.specs.Family.{steps, ancestors_of, descendants_of, ancestors_above, is_conflict, conflicts_of}
 
 -- beside exactly one direct conflict there may be one descendant more, and as many bytes as that has with its descendants
@@ -47,12 +49,16 @@ is_within limits entries above vsize =
     && ((length above == 0 || nat_le (size_of above + vsize) limits.ancestors_size)
     && list_all (has_room_below limits entries vsize) above)
 
--- one of the two tries of A36 succeeds; only a small transaction has a second one
+-- a transaction of this size has a second try: a small one, unless it is of version 3
+abbrev pub has_second_try : Tx → ℕ → Bool
+has_second_try tx vsize = nat_le vsize carve_out_size && not (is_truc tx)
+
+-- one of the two tries of A36 succeeds; not every transaction has a second one
 abbrev pub fits_families : Policy → List Admitted → Tx → ℕ → Bool
 fits_families policy entries tx vsize =
     let above = ancestors_above entries tx.inputs in
     let limits = grown entries (conflicts_of entries tx) (usual_limits policy) in
-    is_within limits entries above vsize || (nat_le vsize carve_out_size && is_within (carved_out limits) entries above vsize)
+    is_within limits entries above vsize || (has_second_try tx vsize && is_within (carved_out limits) entries above vsize)
 
 -- ---- a transaction that is tried again
 
@@ -130,5 +136,6 @@ fits Again policy entries tx vsize = fits_again policy entries tx vsize
 unfoldable pub limit_rules : Attempt → Policy → List Admitted → Tx → ℕ → List (Rule Denial)
 limit_rules attempt policy entries tx vsize =
     (TooLongChain, not (fits attempt policy entries tx vsize))
+    ∷ (TrucViolation, breaks_truc attempt policy entries tx vsize)
     ∷ (SpendsConflicting, list_any (is_conflict tx) (ancestors_above entries tx.inputs))
     ∷ []

@@ -10,6 +10,7 @@ use Rattle.gate_tx.specs.Ids.{txid_of, wtxid_of}
 use Rattle.gate_standard.specs.declared.Denial.{Denial}
 use Rattle.gate_standard.specs.declared.Denial.TheVariants.{Decode, NonFinal, AlreadyInMempool, SameNonWitnessData, MempoolConflict, AlreadyKnown, MissingOrSpent, NonBip68Final, PrematureSpend, InputValues, InBelowOut, FeeOutOfRange, MempoolMinFee, MinRelayFee}
 use Rattle.gate_standard.specs.Amounts.{required_fee}
+use Rattle.gate_standard.specs.Rules.{is_truc}
 use Rattle.gate_submission.specs.Alone.{alone_rules}
 use Rattle.gate_chain.specs.History.{History}
 use Rattle.gate_chain.specs.Coins.{coin_of, opened_with_of}
@@ -18,7 +19,7 @@ use Rattle.gate_locks.specs.Finality.{is_final_at}
 use Rattle.gate_locks.specs.Locks.{median_at, sequence_locks_met_by}
 use Rattle.gate_admit.specs.declared.grant.Grant.{Grant}
 use Rattle.gate_pool.specs.Pool.{Admitted, entry_by_txid, entry_by_wtxid}
-use Rattle.gate_pool.specs.Family.{replaced_of}
+use Rattle.gate_pool.specs.Counting.{replaced_beside}
 use Rattle.gate_rbf.specs.Replacing.{is_non_signalling_conflict, replacement_rules}
 use Rattle.gate_admit.specs.declared.attempt.Attempt.{Attempt}
 use Rattle.gate_admit.specs.declared.attempt.Attempt.TheVariants.{First, Again}
@@ -26,6 +27,7 @@ use Rattle.gate_admit.specs.Policies.{Policy, incremental_feerate, feerate_by, r
 use Rattle.gate_admit.specs.Standing.{Standing}
 use Rattle.gate_admit.specs.Coins.{misses_coin, coins_of}
 use Rattle.gate_admit.specs.Limits.{limit_rules}
+use Rattle.gate_admit.specs.Truc.{sibling_of}
 use Rattle.gate_admit.specs.Reports.{reported, sigop_cost, vsize_of, report_rules, verdict_rules}
 
 -- ---- A20: the locktime
@@ -35,12 +37,12 @@ final_rules chain tx = (NonFinal, not (is_final_at tx (tip_of chain + 1) (median
 
 -- ---- A21 to A23: the transaction beside the entries of the pool
 
--- under full replacement no entry is asked for a signal
+-- under full replacement no entry is asked for a signal, and where version 3 is standard it says so by itself
 unfoldable pub pool_rules : Policy → List Admitted → Tx → List (Rule Denial)
 pool_rules policy entries tx =
     (AlreadyInMempool, is_some (entry_by_wtxid entries (wtxid_of tx)))
     ∷ (SameNonWitnessData, is_some (entry_by_txid entries (txid_of tx)))
-    ∷ (MempoolConflict, not policy.full_rbf && list_any (is_non_signalling_conflict tx) entries)
+    ∷ (MempoolConflict, not policy.full_rbf && list_any (is_non_signalling_conflict policy.standards.truc tx) entries)
     ∷ []
 
 -- ---- A24 and A25: whether each input has a coin
@@ -110,16 +112,20 @@ floor_rule policy floor fee vsize = (MempoolMinFee, nat_lt fee (required_fee (fe
 abbrev pub relay_rule : Policy → ℕ → ℕ → Rule Denial
 relay_rule policy fee vsize = (MinRelayFee, nat_lt fee (required_fee (relay_feerate policy) vsize))
 
+-- what every relay asks comes first if the policy says so, but not for version 3 where that is standard
+abbrev pub is_relay_fee_first : Policy → Tx → Bool
+is_relay_fee_first policy tx = policy.relay_fee_first && not (policy.standards.truc && is_truc tx)
+
 -- both, in the order that the policy says; a rate of 0 asks for nothing
-unfoldable pub fee_rules : Policy → ℕ → ℕ → ℕ → List (Rule Denial)
-fee_rules policy floor fee vsize =
-    if policy.relay_fee_first then relay_rule policy fee vsize ∷ floor_rule policy floor fee vsize ∷ []
+unfoldable pub fee_rules : Policy → Tx → ℕ → ℕ → ℕ → List (Rule Denial)
+fee_rules policy tx floor fee vsize =
+    if is_relay_fee_first policy tx then relay_rule policy fee vsize ∷ floor_rule policy floor fee vsize ∷ []
     else floor_rule policy floor fee vsize ∷ relay_rule policy fee vsize ∷ []
 
 -- a transaction that is tried again paid its way into a block before
-abbrev pub payment_rules : Attempt → Policy → ℕ → ℕ → ℕ → List (Rule Denial)
-payment_rules First policy floor fee vsize = fee_rules policy floor fee vsize
-payment_rules Again policy floor fee vsize = []
+abbrev pub payment_rules : Attempt → Policy → Tx → ℕ → ℕ → ℕ → List (Rule Denial)
+payment_rules First policy tx floor fee vsize = fee_rules policy tx floor fee vsize
+payment_rules Again policy tx floor fee vsize = []
 
 -- ---- the whole
 
@@ -138,19 +144,19 @@ admission_rules attempt over tx =
     ++ (coin_value_rules (tip_of over.chain + 1) 0 coins
     ++ (balance_rules (coins_value coins) (outputs_value tx)
     ++ (report_rules over.policy answers tx
-    ++ (payment_rules attempt over.policy over.floor fee vsize
+    ++ (payment_rules attempt over.policy tx over.floor fee vsize
     ++ (limit_rules attempt over.policy over.entries tx vsize
-    ++ (replacement_rules (incremental_feerate over.policy) over.policy.parents over.entries tx fee vsize
+    ++ (replacement_rules (incremental_feerate over.policy) over.policy.parents over.entries (sibling_of attempt over.policy over.entries tx) tx fee vsize
     ++ verdict_rules over.verdicts (wtxid_of tx) 0 tx.inputs))))))))))
 
--- what a grant says of a transaction
-unfoldable pub grant_of : Standing → Tx → Grant
-grant_of over tx =
+-- what a grant says of a transaction at an attempt
+unfoldable pub grant_of : Attempt → Standing → Tx → Grant
+grant_of attempt over tx =
     let coins = coins_of over.chain over.entries tx.inputs in
     record {
       fee = coins_value coins - outputs_value tx;
       vsize = vsize_of over.policy.sigop_size (sigop_cost (reported tx.inputs coins) tx.outputs) tx;
-      replaced = length (replaced_of over.entries tx);
+      replaced = length (replaced_beside over.entries (sibling_of attempt over.policy over.entries tx) tx);
     }
 
 abbrev pub denied_or : Option Denial → Grant → Result Grant Denial
@@ -160,4 +166,4 @@ denied_or None grant = Ok grant
 -- the decision on a submission: the first rule that fails, or the grant
 unfoldable pub decision_of : Attempt → Standing → Option Tx → Result Grant Denial
 decision_of attempt over None = Err Decode
-decision_of attempt over (Some tx) = denied_or (first_failing (admission_rules attempt over tx)) (grant_of over tx)
+decision_of attempt over (Some tx) = denied_or (first_failing (admission_rules attempt over tx)) (grant_of attempt over tx)

@@ -7,7 +7,7 @@ use Rattle.gate_standard.specs.declared.Denial.{Denial}
 use Rattle.gate_standard.specs.declared.Denial.TheVariants.{MempoolFull}
 use Rattle.gate_chain.specs.History.{History}
 use Rattle.gate_pool.specs.Pool.{Admitted, entry_by_txid}
-use Rattle.gate_pool.specs.Family.{entered}
+use Rattle.gate_pool.specs.Counting.{entered_beside}
 use Rattle.gate_trim.specs.Expiry.{expired}
 use Rattle.gate_trim.specs.Trimming.{Trimmed, trim_of}
 use Rattle.gate_admit.specs.declared.attempt.Attempt.TheVariants.{First}
@@ -16,6 +16,7 @@ use Rattle.gate_admit.specs.Policies.{Policy}
 use Rattle.gate_admit.specs.Good.{Limits, IsGood, IsSettled, AreApart, connected_transactions}
 use Rattle.gate_admit.specs.Rules.{decision_of}
 use Rattle.gate_admit.specs.Standing.{Standing}
+use Rattle.gate_admit.specs.Truc.{sibling_of}
 
 pub record Submitted : Type 0 where
   pub decision : Result Grant Denial
@@ -26,10 +27,10 @@ pub record Submitted : Type 0 where
 abbrev pub admitted : Tx → Grant → ℕ → Admitted
 admitted tx grant now = record { tx = tx; fee = grant.fee; vsize = grant.vsize; time = now }
 
--- An entry enters under this policy with this budget of virtual bytes, over these entries and this floor. What it conflicts with leaves with
--- all descendants, and it stands at the end. Then entries expire at its second, and then the pool is trimmed.
-unfoldable pub entry_of : Policy → ℕ → List Admitted → ℕ → Admitted → Trimmed
-entry_of policy budget entries floor e = trim_of policy.incremental_rate budget (expired policy.stay e.time (entered entries e)) floor
+-- An entry enters under this policy with this budget of virtual bytes, over these entries and this floor, in place of its sibling.
+-- Then entries expire at its second, and then the pool is trimmed.
+unfoldable pub entry_of : Policy → ℕ → List Admitted → Option (List ℕ) → ℕ → Admitted → Trimmed
+entry_of policy budget entries sibling floor e = trim_of policy.incremental_rate budget (expired policy.stay e.time (entered_beside entries sibling e)) floor
 
 abbrev pub holds : List Admitted → List ℕ → Bool
 holds entries txid = is_some (entry_by_txid entries txid)
@@ -47,7 +48,7 @@ entered_by grant txid after = record {
 abbrev pub submitted_by : Standing → Option Tx → ℕ → ℕ → Result Grant Denial → Submitted
 submitted_by over tx now budget (Err denial) = record { decision = Err denial; entries = over.entries; floor = over.floor }
 submitted_by over None now budget (Ok grant) = record { decision = Ok grant; entries = over.entries; floor = over.floor }
-submitted_by over (Some tx) now budget (Ok grant) = entered_by grant (txid_of tx) (entry_of over.policy budget over.entries over.floor (admitted tx grant now))
+submitted_by over (Some tx) now budget (Ok grant) = entered_by grant (txid_of tx) (entry_of over.policy budget over.entries (sibling_of First over.policy over.entries tx) over.floor (admitted tx grant now))
 
 -- the submission at this second, with this budget of virtual bytes
 unfoldable pub submit_of : Standing → Option Tx → ℕ → ℕ → Submitted

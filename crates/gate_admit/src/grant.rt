@@ -5,6 +5,6 @@ pub struct Grant {
     pub fee: u64,
     /// In virtual bytes.
     pub vsize: u64,
-    /// How many entries it replaces: those that it conflicts with, and their descendants.
+    /// How many entries it replaces: those that it conflicts with, and their descendants, and a sibling.
     pub replaced: u64,
 }

@@ -22,6 +22,7 @@ mod readmission;
 mod reporting;
 mod standing;
 mod submission;
+mod truc;
 mod verdicts;
 mod verifying;
 
@@ -38,6 +39,7 @@ pub use judging::judge;
 pub use law::{
     decisions_follow_the_order, default_settings_change_nothing, floors_never_fall,
     grants_are_sound, grants_stand, pools_stay_good, readmissions_ask_of_all, replacements_pay,
+    siblings_pay, truc_is_kept,
 };
 pub use locking::tip_median;
 pub use paying::{is_immature, outputs_value, vsize_of};
@@ -46,4 +48,5 @@ pub use readmission::readmit;
 pub use reporting::{has_relayed_witness, is_relayed, legacy_sigops, sigop_cost};
 pub use standing::Conditions;
 pub use submission::{PlannedEntry, commit_submission, plan_submission, submit};
+pub use truc::{TRUC_CHILD_VSIZE, TRUC_VSIZE, is_truc_violation, sibling};
 pub use verdicts::Verdicts;

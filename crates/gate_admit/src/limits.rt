@@ -1,21 +1,22 @@
-//! Limits of families, and conflicts among ancestors: A36 and A37.
+//! Limits of families, and conflicts among ancestors: A36, A47 and A37.
 ghost use Rattle.std.specs.Prelude.{◌≡◌, ◌<◌, ◌≤◌, ◌^◌, Bool, true, None, [], IfOk, IfSome, filter, length, Contains};
 ghost use Rattle.std.specs.List.{list_all};
 ghost use Rattle.gate_bytes.specs.Order.{first_failing};
 ghost use Rattle.gate_tx.specs.Ids.{txid_of};
 ghost use Rattle.gate_pool.specs.Pool.{Admitted, entry_by_txid, largest_vsize};
 ghost use Rattle.gate_pool.specs.Family.{ancestors_of, ancestors_above, conflicts_of, sums_of, AreIdsOf, OfThese};
-ghost use Rattle.gate_admit.specs.Limits.{usual_limits, grown, is_within, fits_families, has_room, has_room_below, limit_rules};
+ghost use Rattle.gate_admit.specs.Limits.{usual_limits, grown, is_within, fits_families, has_room, has_room_below, has_second_try, limit_rules};
 ghost use Rattle.gate_admit.specs.declared.attempt.Attempt.TheVariants.{First, Again};
 
 use crate::again::fits_again;
 use crate::attempt::Attempt;
 use crate::policy::{CARVE_OUT_VSIZE, Policy};
+use crate::truc::breaks_truc;
 use gate_bytes::{Counted, Memory};
 use gate_pool::{Above, Pool, family_above};
 use gate_rbf::DirectConflicts;
-use gate_standard::Denial;
-use gate_tx::{Identified, TxIn, Txid};
+use gate_standard::{Denial, is_truc};
+use gate_tx::{Identified, Transaction, TxIn, Txid};
 use std::alloc::Global;
 use std::hash::BuildHasher;
 
@@ -120,7 +121,14 @@ fn is_within<S: BuildHasher + Copy + Drop>(
     each_has_room(pool, &above.ids, vsize, limits)
 }
 
-/// Whether one of the two tries of A36 succeeds; only a small transaction has a second one.
+/// Whether a transaction of this size has a second try: a small one, unless it is of version 3.
+fn has_second_try(tx: &Transaction, vsize: u64) -> bool
+    ensures { result ≡ has_second_try tx.now vsize }
+{
+    vsize <= CARVE_OUT_VSIZE && !is_truc(tx)
+}
+
+/// Whether one of the two tries of A36 succeeds; not every transaction has a second one.
 fn fits_families<S: BuildHasher + Copy + Drop>(
     policy: &Policy,
     direct: &DirectConflicts<'_, S>,
@@ -137,7 +145,7 @@ fn fits_families<S: BuildHasher + Copy + Drop>(
     if is_within(pool, above, vsize, limits) {
         return true;
     }
-    if vsize > CARVE_OUT_VSIZE {
+    if !has_second_try(direct.transaction(), vsize) {
         return false;
     }
     let carved_out = FamilyLimits {
@@ -188,8 +196,26 @@ fn fewest_ancestors<S: BuildHasher + Copy + Drop>(pool: &Pool<S>, inputs: &[TxIn
     fewest
 }
 
-/// The first of A36 and A37 that fails at a first attempt. A transaction with a parent that has as many ancestors as an
-/// entry may have is denied without a walk.
+/// The first of A36, A47 and A37 that fails for a transaction without an ancestor, which A47 alone may be.
+#[tactic(auto, unfolding(crate::specs::Limits::limit_rules))]
+fn check_alone<S: BuildHasher + Copy + Drop>(
+    alloc: Global,
+    policy: &Policy,
+    direct: &DirectConflicts<'_, S>,
+    vsize: u64,
+) -> Result<Option<Denial>, Memory>
+    requires { ancestors_above direct.now.entries direct.now.tx.inputs ≡ [] }
+    ensures { IfOk result (λ found. found ≡ first_failing (limit_rules First policy.now direct.now.entries direct.now.tx vsize)) }
+{
+    policy.recall_bounds();
+    if breaks_truc(alloc, policy, direct, &[], vsize)? {
+        return Ok(Some(Denial::TrucViolation));
+    }
+    Ok(None)
+}
+
+/// The first of A36, A47 and A37 that fails at a first attempt. A transaction with a parent that has as many ancestors as
+/// an entry may have is denied without a walk.
 #[tactic(auto, unfolding(crate::specs::Limits::limit_rules))]
 fn check_first<S: BuildHasher + Copy + Drop>(
     alloc: Global,
@@ -203,7 +229,7 @@ fn check_first<S: BuildHasher + Copy + Drop>(
     let most = policy.most_ancestors();
     let fewest = fewest_ancestors(direct.pool(), direct.transaction().inputs());
     if fewest == 0 {
-        return Ok(None);
+        return check_alone(alloc, policy, direct, vsize);
     }
     if fewest >= most as u64 {
         return Ok(Some(Denial::TooLongChain));
@@ -214,13 +240,16 @@ fn check_first<S: BuildHasher + Copy + Drop>(
     if !fits_families(policy, direct, &above, vsize) {
         return Ok(Some(Denial::TooLongChain));
     }
+    if breaks_truc(alloc, policy, direct, &above.ids, vsize)? {
+        return Ok(Some(Denial::TrucViolation));
+    }
     if direct.has_one_of(&above.ids) {
         return Ok(Some(Denial::SpendsConflicting));
     }
     Ok(None)
 }
 
-/// The first of A36 and A37 that fails for a transaction that is tried again.
+/// The first of A36 and A37 that fails for a transaction that is tried again, which A47 asks nothing.
 #[tactic(auto, unfolding(crate::specs::Limits::limit_rules))]
 fn check_again<S: BuildHasher + Copy + Drop>(
     alloc: Global,
@@ -244,7 +273,7 @@ fn check_again<S: BuildHasher + Copy + Drop>(
     Ok(None)
 }
 
-/// The first of A36 and A37 that fails at an attempt. No entry has the transaction's id.
+/// The first of A36, A47 and A37 that fails at an attempt. No entry has the transaction's id.
 pub(crate) fn check_families<S: BuildHasher + Copy + Drop>(
     alloc: Global,
     policy: &Policy,

@@ -177,6 +177,13 @@ impl Policy {
         self.set.limit(Setting::LegacySigops)
     }
 
+    /// Whether version 3 is standard, and keeps to small families (BIP 431).
+    pub fn truc(&self) -> bool
+        ensures { result ≡ self.now.standards.truc }
+    {
+        self.set.is_on(Setting::Truc)
+    }
+
     /// What is standard.
     pub fn standards(&self) -> Standards
         ensures { result ≡ self.now.standards }
@@ -188,6 +195,7 @@ impl Policy {
             bare_multisig: self.set.is_on(Setting::BareMultisig),
             least_size: self.set.get(Setting::LeastSize),
             data_total: self.set.limit(Setting::DataTotal),
+            truc: self.truc(),
         }
     }
 
