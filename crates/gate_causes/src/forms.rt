@@ -27,7 +27,7 @@ pub(crate) static EVENTS: [&str; 17] = [
 ];
 
 /// The lines of openings.
-pub(crate) static OPENINGS: [&str; 35] = [
+pub(crate) static OPENINGS: [&str; 36] = [
     "budget N",
     "policy core-22|core-25|core-26|core-27|core-28|core-29|core-30|knots-29",
     "from HEIGHT",
@@ -63,6 +63,7 @@ pub(crate) static OPENINGS: [&str; 35] = [
     "anchors 0|1",
     "maxtxlegacysigops N",
     "datacarriertotal N",
+    "truc 0|1",
 ];
 
 /// The lines that begin a lane, or end an opening, and that end a round of lanes.

@@ -10,6 +10,7 @@ use Rattle.gate_admit.specs.declared.Attempt.TheVariants.{First}
 use Rattle.gate_admit.specs.declared.Grant.{Grant}
 use Rattle.gate_admit.specs.Rules.{decision_of}
 use Rattle.gate_admit.specs.Submission.{admitted, entry_of, holds, submitted_by, submit_of}
+use Rattle.gate_admit.specs.Truc.{sibling_of}
 use Rattle.gate_chain.specs.Forgetting.{forget_denial}
 use Rattle.gate_chain.specs.declared.ChainDenial.{ChainDenial}
 use Rattle.gate_admit.specs.Verdicts.{row_rules}
@@ -47,7 +48,7 @@ concluded_denied w peer now None (Ok grant) h = (refl, refl, refl)
 concluded_denied w peer now None (Err denial) h = (refl, refl, refl)
 concluded_denied w peer now (Some tx) (Err denial) h = (refl, refl, refl)
 concluded_denied w peer now (Some tx) (Ok grant) h =
-    let after = entry_of w.policy w.budget w.pool w.floor (admitted tx grant now) in
+    let after = entry_of w.policy w.budget w.pool (sibling_of First w.policy w.pool tx) w.floor (admitted tx grant now) in
     absurd (granted_denied (record w { pool = after.entries; floor = after.floor }) peer tx grant (holds after.entries (txid_of tx)) h)
 
 submitted_denied : (w : World) (peer now : ℕ) (transaction : Option Tx) → IsDenied (submitted w peer now transaction).0 → IsAsIn w (submitted w peer now transaction).1
@@ -66,7 +67,7 @@ sent_by_denied w id now None (Ok grant) h = (refl, refl, refl)
 sent_by_denied w id now None (Err denial) h = (refl, refl, refl)
 sent_by_denied w id now (Some tx) (Err denial) h = (refl, refl, refl)
 sent_by_denied w id now (Some tx) (Ok grant) h =
-    let after = entry_of w.policy w.budget w.pool w.floor (admitted tx grant now) in
+    let after = entry_of w.policy w.budget w.pool (sibling_of First w.policy w.pool tx) w.floor (admitted tx grant now) in
     absurd (granted_failed (record w { pool = after.entries; floor = after.floor }) id tx grant (holds after.entries (txid_of tx)) h)
 
 sent_denied : (w : World) (id : Id) (now : ℕ) (transaction : Option Tx) → IsDenied (sent w id transaction (submit_of (standing_of w) transaction now w.budget)).0

@@ -5,8 +5,8 @@ use Rattle.gate_bytes.specs.Order.{first_failing}
 use Rattle.gate_tx.specs.Tx.{Tx}
 use Rattle.gate_standard.specs.declared.Denial.{Denial}
 use Rattle.gate_pool.specs.Pool.{Admitted as Entry, size_of}
-use Rattle.gate_pool.specs.Family.{entered as entered_with}
 use Rattle.gate_trim.specs.Expiry.{expired}
+use Rattle.gate_pool.specs.Counting.{entered_beside}
 use Rattle.gate_trim.proofs.Trimmings.{trim_within}
 use Rattle.gate_admit.specs.Good.{Limits}
 use Rattle.gate_admit.specs.declared.Attempt.TheVariants.{First}
@@ -14,6 +14,7 @@ use Rattle.gate_admit.specs.Rules.{decision_of}
 use Rattle.gate_admit.specs.Standing.{Standing}
 use Rattle.gate_admit.specs.declared.Grant.{Grant}
 use Rattle.gate_admit.specs.Submission.{admitted, entry_of, submitted_by, submit_of}
+use Rattle.gate_admit.specs.Truc.{sibling_of}
 use Rattle.gate_admit.specs.Verdicts.{row_rules}
 use Rattle.gate_admit.proofs.Submissions.{AreYoung, granted_young, submission_floor}
 use Rattle.gate_chain.specs.Blocks.{Block}
@@ -54,7 +55,7 @@ submission_within : (over : Standing) (transaction : Option Tx) (now budget : �
 unfolding entry_of
 submission_within over transaction now budget (Err denial) h = h
 submission_within over None now budget (Ok grant) h = h
-submission_within over (Some tx) now budget (Ok grant) h = let e = admitted tx grant now in trim_within over.policy.incremental_rate budget (expired over.policy.stay e.time (entered_with over.entries e)) over.floor
+submission_within over (Some tx) now budget (Ok grant) h = let e = admitted tx grant now in trim_within over.policy.incremental_rate budget (expired over.policy.stay e.time (entered_beside over.entries (sibling_of First over.policy over.entries tx) e)) over.floor
 
 after_within : (w : World) (now : ℕ) (transaction : Option Tx) → IsWithin w → size_of (submit_of (standing_of w) transaction now w.budget).entries ≤ w.budget
 unfolding submit_of

@@ -257,6 +257,7 @@ good_forgotten limits h n entries good =
             (λ i d lt. (All-contains_itself (spent_by entries) i d lt, good.sound.coins i d lt));
         fresh = All-weaker (λ (e : Admitted). is_known_txid h (txid_of e.tx) ≡ false) (λ (e : Admitted). is_known_txid after (txid_of e.tx) ≡ false)
             (λ e k. unknown_still h n wanted (txid_of e.tx) k) entries good.sound.fresh;
+        light = good.sound.light;
         limited = good.sound.limited;
         bounds = good.sound.bounds;
       };

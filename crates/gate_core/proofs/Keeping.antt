@@ -17,7 +17,8 @@ use Rattle.gate_chain.specs.History.{History}
 use Rattle.gate_bytes.proofs.Members.{Contains-cons_cases, not_in_none}
 use Rattle.gate_block.specs.Switching.{switch_rules}
 use Rattle.gate_pool.specs.Pool.{Admitted}
-use Rattle.gate_pool.specs.Family.{is_below_some, is_conflict, without_below, entered as entered_with}
+use Rattle.gate_pool.specs.Counting.{is_counted, entered_beside}
+use Rattle.gate_pool.specs.Family.{is_below_some, without_below}
 use Rattle.gate_pool.proofs.Entries.{Contains-map, Contains-from_map}
 use Rattle.gate_pool.proofs.Walking.{Contains-from_filter}
 use Rattle.gate_admit.specs.declared.Attempt.TheVariants.{First}
@@ -27,6 +28,7 @@ use Rattle.gate_admit.specs.Rules.{decision_of}
 use Rattle.gate_admit.specs.Policies.{IsPolicy}
 use Rattle.gate_admit.specs.Standing.{Standing}
 use Rattle.gate_admit.specs.Submission.{admitted, entry_of, submitted_by, submit_of}
+use Rattle.gate_admit.specs.Truc.{sibling_of}
 use Rattle.gate_admit.specs.Verdicts.{row_rules}
 use Rattle.gate_admit.proofs.Entering.{StaysUnconnected, stays_if_apart, stays_if_unconnected}
 use Rattle.gate_admit.proofs.Submissions.{empty_good, entry_within, submission_good}
@@ -80,12 +82,12 @@ StaysApart w (Forget blocks) = Unit {0}
 
 -- ---- where transactions come from
 
-entered_from : (entries : List Admitted) (e a : Admitted) → Contains (entered_with entries e) a → Contains (map (λ (x : Admitted). x.tx) entries ++ e.tx ∷ []) a.tx
-entered_from entries e a h =
+entered_from : (entries : List Admitted) (sibling : Option (List ℕ)) (e a : Admitted) → Contains (entered_beside entries sibling e) a → Contains (map (λ (x : Admitted). x.tx) entries ++ e.tx ∷ []) a.tx
+entered_from entries sibling e a h =
     let tx_of : Admitted → Tx = λ x. x.tx in
-    ⊎_elim (λ k. Contains-append_left (map tx_of entries) (e.tx ∷ []) a.tx (Contains-map tx_of entries a (Contains-from_filter (λ x. not (is_below_some (is_conflict e.tx) entries x)) entries a k)))
+    ⊎_elim (λ k. Contains-append_left (map tx_of entries) (e.tx ∷ []) a.tx (Contains-map tx_of entries a (Contains-from_filter (λ x. not (is_below_some (is_counted sibling e.tx) entries x)) entries a k)))
     (λ k. Contains-append_right (map tx_of entries) (e.tx ∷ []) a.tx (Contains-map tx_of (e ∷ []) a k))
-    (Contains-append_cases (without_below (is_conflict e.tx) entries) (e ∷ []) a h)
+    (Contains-append_cases (without_below (is_counted sibling e.tx) entries) (e ∷ []) a h)
 
 decision_from : (over : Standing) (transaction : Option Tx) (now budget : ℕ) (decision : Result Grant Denial) (tx : Tx)
     → Contains (map (λ (e : Admitted). e.tx) (submitted_by over transaction now budget decision).entries) tx → Contains (map (λ (e : Admitted). e.tx) over.entries ++ option_to_list transaction) tx
@@ -93,8 +95,9 @@ decision_from over transaction now budget (Err denial) tx h = Contains-append_le
 decision_from over None now budget (Ok grant) tx h = Contains-append_left _ _ tx h
 decision_from over (Some other) now budget (Ok grant) tx h =
     let e = admitted other grant now in
-    let w = Contains-from_map (λ (a : Admitted). a.tx) (entry_of over.policy budget over.entries over.floor e).entries tx h in
-    subst (λ (t : Tx). Contains (map (λ (a : Admitted). a.tx) over.entries ++ other ∷ []) t) w.is (entered_from over.entries e w.item (entry_within over.policy budget over.entries over.floor e w.item w.among))
+    let sibling = sibling_of First over.policy over.entries other in
+    let w = Contains-from_map (λ (a : Admitted). a.tx) (entry_of over.policy budget over.entries sibling over.floor e).entries tx h in
+    subst (λ (t : Tx). Contains (map (λ (a : Admitted). a.tx) over.entries ++ other ∷ []) t) w.is (entered_from over.entries sibling e w.item (entry_within over.policy budget over.entries sibling over.floor e w.item w.among))
 
 submission_from : (over : Standing) (transaction : Option Tx) (now budget : ℕ) (tx : Tx)
     → Contains (map (λ (e : Admitted). e.tx) (submit_of over transaction now budget).entries) tx → Contains (map (λ (e : Admitted). e.tx) over.entries ++ option_to_list transaction) tx

@@ -126,6 +126,7 @@ good_learnt limits h entries coin absent good = record {
     fresh = All-weaker (λ (e : Admitted). Contains entries e × (is_known_txid h (txid_of e.tx) ≡ false)) (λ (e : Admitted). is_known_txid (learnt h coin) (txid_of e.tx) ≡ false)
         (λ e k. unknown_still h coin (txid_of e.tx) (absent_id entries coin.outpoint.txid absent e k.0) k.1) entries
         (λ i d lt. (All-contains_itself entries i d lt, good.sound.fresh i d lt));
+    light = good.sound.light;
     limited = good.sound.limited;
     bounds = good.sound.bounds;
   };

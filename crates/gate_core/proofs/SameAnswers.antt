@@ -19,7 +19,7 @@ use Rattle.gate_chain.specs.Times.{times_of, tip_of, mtp_at, mtp_of}
 use Rattle.gate_locks.specs.Finality.{is_final_at}
 use Rattle.gate_locks.specs.Locks.{has_relative_locks, is_by_time, is_disabled, is_later_by, is_lock_met_by, median_at, sequence_locks_met_by, span_of}
 use Rattle.gate_pool.specs.Pool.{Admitted}
-use Rattle.gate_pool.specs.Family.{replaced_of}
+use Rattle.gate_pool.specs.Counting.{replaced_beside}
 use Rattle.gate_rbf.specs.Replacing.{replacement_rules}
 use Rattle.gate_submission.specs.Alone.{alone_rules}
 use Rattle.gate_admit.specs.declared.Attempt.{Attempt}
@@ -32,6 +32,7 @@ use Rattle.gate_admit.specs.Reports.{report_rules, reported, rules_of_verdict, s
 use Rattle.gate_admit.specs.Rules.{admission_rules, balance_rules, coin_rules, coin_value_rules, coins_value, decision_of, denied_or, final_rules, grant_of, heights_of, is_chain_coin_from, lock_rules, outputs_value, payment_rules, pool_rules}
 use Rattle.gate_admit.specs.Standing.{Standing, standing}
 use Rattle.gate_admit.specs.Submission.{submit_of, submitted_by}
+use Rattle.gate_admit.specs.Truc.{sibling_of}
 use Rattle.gate_admit.specs.Verdicts.{VerdictTable, verdict_of}
 
 -- ---- lists whose members are asked the same
@@ -144,25 +145,25 @@ module _ (c d : History) (entries : List Admitted) (floor : ℕ) (a b : VerdictT
       ++ (coin_value_rules (tip_same c d first times i + 1) 0 coins
       ++ (balance_rules (coins_value coins) (outputs_value tx)
       ++ (report_rules policy answers tx
-      ++ (payment_rules attempt policy floor fee vsize
+      ++ (payment_rules attempt policy tx floor fee vsize
       ++ (limit_rules attempt policy entries tx vsize
-      ++ (replacement_rules (incremental_feerate policy) policy.parents entries tx fee vsize
+      ++ (replacement_rules (incremental_feerate policy) policy.parents entries (sibling_of attempt policy entries tx) tx fee vsize
       ++ verdicts_same a b (wtxid_of tx) 0 tx.inputs verdicts i))))))))))
 
-  grant_same : grant_of (standing d entries floor b policy) tx ≡ grant_of (standing c entries floor a policy) tx
+  grant_same : (attempt : Attempt) → grant_of attempt (standing d entries floor b policy) tx ≡ grant_of attempt (standing c entries floor a policy) tx
   unfolding grant_of
-  grant_same = ap (λ (coins : List Coin). grant_with coins) coins_same
+  grant_same attempt = ap (λ (coins : List Coin). grant_with coins) coins_same
     where
       grant_with : List Coin → Grant
       grant_with coins = record {
         fee = coins_value coins - outputs_value tx;
         vsize = vsize_of policy.sigop_size (sigop_cost (reported tx.inputs coins) tx.outputs) tx;
-        replaced = length (replaced_of entries tx);
+        replaced = length (replaced_beside entries (sibling_of attempt policy entries tx) tx);
       }
 
   pub decision_same : (attempt : Attempt) → decision_of attempt (standing d entries floor b policy) (Some tx) ≡ decision_of attempt (standing c entries floor a policy) (Some tx)
   unfolding decision_of
-  decision_same attempt = λ i. denied_or (first_failing (rules_same attempt i)) (grant_same i)
+  decision_same attempt = λ i. denied_or (first_failing (rules_same attempt i)) (grant_same attempt i)
 
   pub outcome_same : (now budget : ℕ) → submit_of (standing d entries floor b policy) (Some tx) now budget ≡ submit_of (standing c entries floor a policy) (Some tx) now budget
   unfolding submit_of

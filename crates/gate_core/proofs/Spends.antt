@@ -9,7 +9,8 @@ use Rattle.gate_chain.specs.Forgetting.{forget_denial}
 use Rattle.gate_chain.specs.declared.ChainDenial.{ChainDenial}
 use Rattle.gate_graph.specs.Family.{reaches}
 use Rattle.gate_pool.specs.Pool.{Admitted as Entry}
-use Rattle.gate_pool.specs.Family.{steps, entered as entered_with}
+use Rattle.gate_pool.specs.Counting.{entered_beside}
+use Rattle.gate_pool.specs.Family.{steps}
 use Rattle.gate_trim.specs.Expiry.{expired, is_stale}
 use Rattle.gate_trim.proofs.Trimmings.{trim_keeps}
 use Rattle.gate_admit.specs.declared.Attempt.TheVariants.{First}
@@ -19,10 +20,11 @@ use Rattle.gate_admit.specs.Rules.{decision_of}
 use Rattle.gate_admit.specs.Policies.{Policy}
 use Rattle.gate_admit.specs.Standing.{Standing}
 use Rattle.gate_admit.specs.Submission.{admitted, entry_of, submitted_by, submit_of}
+use Rattle.gate_admit.specs.Truc.{sibling_of}
 use Rattle.gate_admit.proofs.Granted.{decided_live}
 use Rattle.gate_reorg.specs.Events.{event_rules, event_of}
 use Rattle.gate_submission.specs.Blocks.{present}
-use Rattle.gate_reorg.proofs.Spending.{SpendOnce, below_once, entered_once, events_spend_once, part_once}
+use Rattle.gate_reorg.proofs.Spending.{SpendOnce, below_once, beside_once, events_spend_once, part_once}
 use Rattle.gate_message.specs.declared.event.Event.{Event}
 use Rattle.gate_message.specs.declared.event.Event.TheVariants.{Enter, Leave, Tx as Submit, Mempool, GetBlock, Headers, FeeFilter, Rpc, SetFloor, Set as Turn, Chain as Extend, LearnCoin, LearnVerdict, Forget}
 use Rattle.gate_message.specs.declared.denial.PeerDenial.{PeerDenial}
@@ -36,17 +38,18 @@ use Rattle.gate_core.specs.World.{World, standing_of}
 use Rattle.gate_rpc.specs.Calls.{request_of}
 use Rattle.gate_core.proofs.Calls.{call_gives}
 
-entry_once : (policy : Policy) (budget : ℕ) (entries : List Entry) (floor : ℕ) (e : Entry) → SpendOnce (entered_with entries e) → SpendOnce (entry_of policy budget entries floor e).entries
+entry_once : (policy : Policy) (budget : ℕ) (entries : List Entry) (sibling : Option (List ℕ)) (floor : ℕ) (e : Entry) → SpendOnce (entered_beside entries sibling e) → SpendOnce (entry_of policy budget entries sibling floor e).entries
 unfolding entry_of
-entry_once policy budget entries floor e h =
-    trim_keeps SpendOnce (λ l txid. part_once (λ (a : Entry). not (reaches (steps l) txid (txid_of a.tx))) l) policy.incremental_rate budget (expired policy.stay e.time (entered_with entries e)) floor
-    (below_once (is_stale policy.stay e.time) (entered_with entries e) h)
+entry_once policy budget entries sibling floor e h =
+    trim_keeps SpendOnce (λ l txid. part_once (λ (a : Entry). not (reaches (steps l) txid (txid_of a.tx))) l) policy.incremental_rate budget (expired policy.stay e.time (entered_beside entries sibling e)) floor
+    (below_once (is_stale policy.stay e.time) (entered_beside entries sibling e) h)
 
 submission_once : (over : Standing) (transaction : Option Tx) (now budget : ℕ) (decision : Result Grant Denial) → decision_of First over transaction ≡ decision → SpendOnce over.entries
     → SpendOnce (submitted_by over transaction now budget decision).entries
 submission_once over transaction now budget (Err denial) is h = h
 submission_once over None now budget (Ok grant) is h = h
-submission_once over (Some tx) now budget (Ok grant) is h = entry_once over.policy budget over.entries over.floor (admitted tx grant now) (entered_once over tx grant now (decided_live First over tx grant is) h)
+submission_once over (Some tx) now budget (Ok grant) is h = entry_once over.policy budget over.entries (sibling_of First over.policy over.entries tx) over.floor (admitted tx grant now)
+    (beside_once over (sibling_of First over.policy over.entries tx) tx grant now (decided_live First over tx grant is) h)
 
 after_once : (w : World) (now : ℕ) (transaction : Option Tx) → SpendOnce w.pool → SpendOnce (submit_of (standing_of w) transaction now w.budget).entries
 unfolding submit_of

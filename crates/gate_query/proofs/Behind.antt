@@ -9,7 +9,7 @@ use Rattle.gate_tx.specs.declared.TxIn.{TxIn}
 use Rattle.gate_tx.specs.Ids.{txid_of}
 use Rattle.gate_tx.specs.Tx.{Tx}
 use Rattle.gate_standard.specs.declared.Denial.{Denial}
-use Rattle.gate_standard.specs.declared.Denial.TheVariants.{MempoolConflict}
+use Rattle.gate_standard.specs.declared.Denial.TheVariants.{MempoolConflict, TrucViolation}
 use Rattle.gate_pool.specs.Keeping.{IsNew}
 use Rattle.gate_pool.specs.Pool.{Admitted, entry_by_txid, has_txid, spender_of}
 use Rattle.gate_admit.specs.Bounds.{FitsAnEntry}
@@ -19,7 +19,7 @@ use Rattle.gate_admit.specs.Rules.{decision_of}
 use Rattle.gate_admit.specs.Standing.{Standing}
 use Rattle.gate_admit.specs.Submission.{admitted}
 use Rattle.gate_admit.proofs.Granted.{granted_absent}
-use Rattle.gate_query.specs.Queries.{has_conflict, is_from_conflict, unreplacing}
+use Rattle.gate_query.specs.Queries.{has_conflict, is_from_conflict, is_from_sibling, unevicting, unreplacing}
 
 -- without the entry of an id that no entry has, the entries are the same
 none_left : (entries : List Admitted) (txid : List ℕ) → entry_by_txid entries txid ≡ None → filter (λ (a : Admitted). not (has_txid a txid)) entries ≡ entries
@@ -81,3 +81,17 @@ grants_new over now tx false (Err denial) is found = tt
 grants_new over now tx false (Ok grant) is found =
     let absent = granted_absent First over tx grant is in
     record { txid = absent.0; wtxid = absent.1; points = no_spender over.entries tx.inputs (sym found) }
+
+-- ---- the decision where no sibling is evicted either
+
+pub unevicting_fits : (b : Bool) (decision : Result Grant Denial) → FitsAnEntry decision → FitsAnEntry (unevicting b decision)
+unevicting_fits false decision fits = fits
+unevicting_fits true (Ok grant) fits = tt
+unevicting_fits true (Err denial) fits = fits_either (is_from_sibling denial) TrucViolation denial
+
+-- what holds of what is granted holds of it where less is granted
+pub unevicting_new : (over : Standing) (now : ℕ) (tx : Tx) (b : Bool) (decision : Result Grant Denial) → IfOk decision (λ (grant : Grant). IsNew over.entries (admitted tx grant now))
+    → IfOk (unevicting b decision) (λ (grant : Grant). IsNew over.entries (admitted tx grant now))
+unevicting_new over now tx false decision new = new
+unevicting_new over now tx true (Ok grant) new = tt
+unevicting_new over now tx true (Err denial) new = new_either over now tx (is_from_sibling denial) TrucViolation denial

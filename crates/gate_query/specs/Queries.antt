@@ -1,5 +1,5 @@
 -- What is answered about several entries, about outpoints, and about several transactions, over the plain list of the entries.
-use Rattle.std.specs.Prelude.{ℕ, nat_le, Bool, true, false, is_none, is_some, if◌then◌else◌, map, List, [], ◌∷◌, ◌++◌, Option, Some, None, option_map, Result, Ok, Err}
+use Rattle.std.specs.Prelude.{ℕ, nat_le, Bool, true, false, ◌&&◌, is_none, is_some, if◌then◌else◌, map, List, [], ◌∷◌, ◌++◌, Option, Some, None, option_map, Result, Ok, Err}
 use Rattle.std.specs.List.{list_any}
 use Rattle.std.specs.Option.{option_to_list}
 use Rattle.gate_tx.specs.declared.OutPoint.{OutPoint}
@@ -7,7 +7,7 @@ use Rattle.gate_tx.specs.declared.TxIn.{TxIn}
 use Rattle.gate_tx.specs.Tx.{Tx}
 use Rattle.gate_tx.specs.Ids.{txid_of, wtxid_of}
 use Rattle.gate_standard.specs.declared.Denial.{Denial}
-use Rattle.gate_standard.specs.declared.Denial.TheVariants.{Decode, MempoolConflict}
+use Rattle.gate_standard.specs.declared.Denial.TheVariants.{Decode, MempoolConflict, SpendsConflicting, TrucViolation}
 use Rattle.gate_standard.specs.Denials.{rule_of}
 use Rattle.gate_pool.specs.Pool.{Admitted, entry_by_txid, spender_of}
 use Rattle.gate_admit.specs.declared.Attempt.TheVariants.{First}
@@ -15,6 +15,7 @@ use Rattle.gate_admit.specs.declared.Grant.{Grant}
 use Rattle.gate_admit.specs.Rules.{decision_of}
 use Rattle.gate_admit.specs.Standing.{Standing}
 use Rattle.gate_admit.specs.Submission.{admitted}
+use Rattle.gate_admit.specs.Truc.{sibling_of}
 use Rattle.gate_rpc.specs.declared.error.RpcError.{RpcError}
 use Rattle.gate_rpc.specs.declared.error.RpcError.TheVariants.{Denied}
 use Rattle.gate_rpc.specs.declared.items.KnownEntry.{KnownEntry}
@@ -58,9 +59,9 @@ spendings_of entries points = map (spending_of entries) points
 abbrev pub has_conflict : List Admitted → Tx → Bool
 has_conflict entries tx = list_any (λ (i : TxIn). is_some (spender_of entries i.prevout)) tx.inputs
 
--- A23, or a rule that is tested behind it
+-- A23, or a rule that is tested behind it: those with the numbers from A23 to A47, but not A51, which is tested behind A16
 abbrev pub is_from_conflict : Denial → Bool
-is_from_conflict denial = nat_le (rule_of MempoolConflict) (rule_of denial)
+is_from_conflict denial = nat_le (rule_of MempoolConflict) (rule_of denial) && nat_le (rule_of denial) (rule_of TrucViolation)
 
 -- the decision where nothing may be replaced: A23 fails for each transaction that spends what an entry spends
 abbrev pub unreplacing : Bool → Result Grant Denial → Result Grant Denial
@@ -68,8 +69,21 @@ unreplacing false decision = decision
 unreplacing true (Ok grant) = Err MempoolConflict
 unreplacing true (Err denial) = if is_from_conflict denial then Err MempoolConflict else Err denial
 
+-- A47, or a rule that is tested behind it: those with the numbers from A37 to A47, but not A51, which is tested behind A16
+abbrev pub is_from_sibling : Denial → Bool
+is_from_sibling denial = nat_le (rule_of SpendsConflicting) (rule_of denial) && nat_le (rule_of denial) (rule_of TrucViolation)
+
+-- the decision where no sibling is evicted either: A47 fails for each transaction that has one
+abbrev pub unevicting : Bool → Result Grant Denial → Result Grant Denial
+unevicting false decision = decision
+unevicting true (Ok grant) = Err TrucViolation
+unevicting true (Err denial) = if is_from_sibling denial then Err TrucViolation else Err denial
+
+abbrev pub has_sibling : Standing → Tx → Bool
+has_sibling over tx = is_some (sibling_of First over.policy over.entries tx)
+
 abbrev pub listed_decision : Standing → Tx → Result Grant Denial
-listed_decision over tx = unreplacing (has_conflict over.entries tx) (decision_of First over (Some tx))
+listed_decision over tx = unevicting (has_sibling over tx) (unreplacing (has_conflict over.entries tx) (decision_of First over (Some tx)))
 
 -- what becomes of a transaction with these ids
 abbrev pub outcome_by : List ℕ → List ℕ → Result Grant Denial → Outcome

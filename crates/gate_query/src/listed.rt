@@ -6,9 +6,9 @@ ghost use Rattle.gate_admit.specs.Lending.{lent_with};
 ghost use Rattle.gate_admit.specs.Bounds.{FitsAnEntry};
 ghost use Rattle.gate_admit.specs.Submission.{admitted};
 ghost use Rattle.gate_pool.specs.Keeping.{IsNew};
-ghost use Rattle.gate_query.specs.Queries.{entry_by, has_conflict, listed_decision, newcomer, outcome_by, outcome_on, outcomes_of, tested_list, unreplacing};
+ghost use Rattle.gate_query.specs.Queries.{entry_by, has_conflict, is_from_conflict, is_from_sibling, listed_decision, newcomer, outcome_by, outcome_on, outcomes_of, tested_list, unevicting, unreplacing};
 
-use gate_admit::{Conditions, Entry, Grant, Pool, Prepared, judge};
+use gate_admit::{Conditions, Entry, Grant, Pool, Prepared, judge, sibling};
 use gate_bytes::{Copied, Counted, Kept, Memory};
 use gate_rpc::{Outcome, RpcError, RpcResult};
 use gate_standard::Denial;
@@ -26,6 +26,14 @@ fn has_conflict<S: BuildHasher + Copy + Drop>(pool: &Pool<S>, transaction: &Tran
         .any(|input| pool.spender(&input.prevout).is_some())
 }
 
+/// Whether a rule is A23, or is tested behind it: those with the numbers from A23 to A47.
+fn is_from_conflict(denial: Denial) -> bool
+    ensures { result ≡ is_from_conflict denial }
+{
+    let rule = denial.rule();
+    rule >= Denial::MempoolConflict.rule() && rule <= Denial::TrucViolation.rule()
+}
+
 /// A decision where nothing may be replaced.
 fn unreplacing(has_conflict: bool, decision: Result<Grant, Denial>) -> Result<Grant, Denial>
     ensures { result ≡ unreplacing has_conflict decision }
@@ -35,8 +43,33 @@ fn unreplacing(has_conflict: bool, decision: Result<Grant, Denial>) -> Result<Gr
     }
     match decision {
         Ok(_) => Err(Denial::MempoolConflict),
-        Err(denial) => if denial.rule() >= Denial::MempoolConflict.rule() {
+        Err(denial) => if is_from_conflict(denial) {
             Err(Denial::MempoolConflict)
+        } else {
+            Err(denial)
+        },
+    }
+}
+
+/// Whether a rule is A47, or is tested behind it: those with the numbers from A37 to A47.
+fn is_from_sibling(denial: Denial) -> bool
+    ensures { result ≡ is_from_sibling denial }
+{
+    let rule = denial.rule();
+    rule >= Denial::SpendsConflicting.rule() && rule <= Denial::TrucViolation.rule()
+}
+
+/// A decision where no sibling is evicted.
+fn unevicting(has_sibling: bool, decision: Result<Grant, Denial>) -> Result<Grant, Denial>
+    ensures { result ≡ unevicting has_sibling decision }
+{
+    if !has_sibling {
+        return decision;
+    }
+    match decision {
+        Ok(_) => Err(Denial::TrucViolation),
+        Err(denial) => if is_from_sibling(denial) {
+            Err(Denial::TrucViolation)
         } else {
             Err(denial)
         },
@@ -66,7 +99,10 @@ fn decide<S: BuildHasher + Copy + Drop>(
         under.verdicts,
         under.policy,
     )?;
-    Ok(unreplacing(has_conflict(pool, identified.transaction()), decision))
+    let tx = identified.transaction();
+    let sibling = sibling(alloc, under.policy, pool, tx)?;
+    let decision = unreplacing(has_conflict(pool, tx), decision);
+    Ok(unevicting(sibling.is_some(), decision))
 }
 
 /// What becomes of a transaction of a list, with its entry if it is allowed.

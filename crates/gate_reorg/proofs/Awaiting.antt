@@ -49,12 +49,13 @@ sound_at_last policy chain entries h = record {
       subst (λ (p : OutPoint). IsSome (view_coin chain entries p)) w.is
       (⊎_elim (λ c. c) (λ (n : MadeBy [] w.item.prevout). absurd (not_in_none n.0 n.1)) (h.coins e m w.item w.among)));
   fresh = λ k d l. h.fresh (get_or entries k d) (Contains-get_or entries k d l);
+  light = h.orderly.light;
   limited = h.orderly.limited;
 }
 
 -- what is sound is orderly
 pub sound_orderly : (policy : Policy) (chain : History) (entries : List Admitted) → IsSound policy chain entries → AreOrderly policy entries
-sound_orderly policy chain entries h = record { bounds = h.bounds; txids = h.txids; wtxids = h.wtxids; spends = h.spends; limited = h.limited }
+sound_orderly policy chain entries h = record { bounds = h.bounds; txids = h.txids; wtxids = h.wtxids; spends = h.spends; light = h.light; limited = h.limited }
 
 -- ---- blocks in the place of others
 

@@ -33,6 +33,7 @@ pub record AreOrderly (policy : Policy) (entries : List Admitted) : Type 0 where
   pub txids : AllPairs DifferByTxid entries
   pub wtxids : AllPairs DifferByWtxid entries
   pub spends : AllPairs Differ (spent_by entries)
+  pub light : All (λ (e : Admitted). e.vsize ≤ 100000) entries
   pub limited : All (λ (e : Admitted). IsLimited policy entries (txid_of e.tx)) entries
 
 pub orderly_part : (policy : Policy) (k : Admitted → Bool) (entries : List Admitted) → AreOrderly policy entries → AreOrderly policy (filter k entries)
@@ -41,6 +42,7 @@ orderly_part policy k entries h = record {
   txids = AllPairs-filter DifferByTxid k entries h.txids;
   wtxids = AllPairs-filter DifferByWtxid k entries h.wtxids;
   spends = AllPairs-flat_map_filter (λ (e : Admitted). spends_of e.tx) Differ k entries h.spends;
+  light = All-filter k (λ (e : Admitted). e.vsize ≤ 100000) entries h.light;
   limited = All-weaker (λ (e : Admitted). IsLimited policy entries (txid_of e.tx)) (λ (e : Admitted). IsLimited policy (filter k entries) (txid_of e.tx))
       (λ e. limited_part policy k entries (txid_of e.tx)) (filter k entries) (All-filter k (λ (e : Admitted). IsLimited policy entries (txid_of e.tx)) entries h.limited);
 }

@@ -11,8 +11,8 @@ use Rattle.gate_standard.specs.declared.Denial.{Denial}
 use Rattle.gate_chain.specs.Blocks.{Block}
 use Rattle.gate_chain.specs.History.{History}
 use Rattle.gate_block.specs.Switching.{left_of, last_blocks, switched}
-use Rattle.gate_pool.specs.Pool.{Admitted}
-use Rattle.gate_pool.specs.Family.{steps, names, is_conflict, without_below}
+use Rattle.gate_pool.specs.Pool.{Admitted, has_txid}
+use Rattle.gate_pool.specs.Family.{steps, names, is_below_some, is_conflict, without_below}
 use Rattle.gate_pool.proofs.Entries.{Contains-map, Contains-from_map}
 use Rattle.gate_pool.proofs.Walking.{Contains-from_filter}
 use Rattle.gate_trim.specs.Expiry.{expired, is_stale}
@@ -22,10 +22,12 @@ use Rattle.gate_admit.specs.declared.Grant.{Grant}
 use Rattle.gate_admit.specs.Good.{connected_transactions}
 use Rattle.gate_admit.specs.Rules.{decision_of}
 use Rattle.gate_admit.specs.Submission.{admitted}
+use Rattle.gate_admit.specs.Truc.{TrucHolds}
+use Rattle.gate_admit.proofs.Kin.{truc_part}
 use Rattle.gate_admit.proofs.Staying.{stays_within}
 use Rattle.gate_reorg.specs.Events.{terms_after, event_of}
-use Rattle.gate_reorg.specs.Goodness.{BlocksOnlyTake, EventsBringNothingElse, FloorsNeverFall, met_by}
-use Rattle.gate_reorg.specs.Reorganisation.{Terms, standing_again, all_confirmed, has_id, unconfirmed, tried, tried_again, all_tried_again, brought_back, is_premature, without_premature, returned, pool_after}
+use Rattle.gate_reorg.specs.Goodness.{BlocksKeepTruc, BlocksOnlyTake, EventsBringNothingElse, FloorsNeverFall, met_by}
+use Rattle.gate_reorg.specs.Reorganisation.{Terms, standing_again, confirmed, without_txid, all_confirmed, has_id, unconfirmed, tried, tried_again, all_tried_again, brought_back, is_premature, without_premature, returned, pool_after}
 use Rattle.gate_submission.specs.Blocks.{transactions_of}
 use Rattle.gate_reorg.proofs.Knowing.{blocks_cases, Contains-first_blocks, Contains-last_blocks}
 use Rattle.gate_reorg.proofs.Leaving.{all_confirmed_leaves}
@@ -134,3 +136,18 @@ blocks_only_take = record {
   floor = λ over blocks now budget. refl;
   entries = λ over blocks now budget e m. (all_confirmed_leaves over.entries (transactions_of blocks)).within e m;
 }
+
+-- families of version 3 stay small where a transaction is confirmed, and where transactions are, one after another
+confirmed_truc : (entries : List Admitted) (tx : Tx) → TrucHolds entries → TrucHolds (confirmed entries tx)
+unfolding confirmed
+confirmed_truc entries tx h =
+    let rest = without_txid entries (txid_of tx) in
+    truc_part (λ (a : Admitted). not (is_below_some (is_conflict tx) rest a)) rest (truc_part (λ (a : Admitted). not (has_txid a (txid_of tx))) entries h)
+
+all_confirmed_truc : (entries : List Admitted) (txs : List Tx) → TrucHolds entries → TrucHolds (all_confirmed entries txs)
+all_confirmed_truc entries [] h = h
+all_confirmed_truc entries (tx ∷ txs) h = all_confirmed_truc (confirmed entries tx) txs (confirmed_truc entries tx h)
+
+pub blocks_keep_truc : BlocksKeepTruc
+unfolding event_of pool_after
+blocks_keep_truc over blocks now budget h = all_confirmed_truc over.entries (transactions_of blocks) h

@@ -1,5 +1,5 @@
 -- What holds of the pool after any chain event, whatever the blocks are: no outpoint is spent twice, and the budget is kept.
-use Rattle.std.proofs.Common.{◌≡◌, ◌≤◌, ℕ, Bool, true, false, cond, not, List, [], ◌∷◌, Some, Result, Ok, Err, refl, sym, subst, arith}
+use Rattle.std.proofs.Common.{◌≡◌, ◌≤◌, ℕ, Bool, true, false, cond, not, List, [], ◌∷◌, Option, Some, Result, Ok, Err, refl, sym, subst, arith}
 use Rattle.std.specs.Prelude.{◌==◌, filter}
 use Rattle.std.specs.List.{AllPairs}
 use Rattle.gate_graph.specs.Family.{reaches}
@@ -8,6 +8,7 @@ use Rattle.gate_tx.specs.Tx.{Tx}
 use Rattle.gate_standard.specs.declared.Denial.{Denial}
 use Rattle.gate_block.specs.Switching.{last_blocks}
 use Rattle.gate_pool.specs.Pool.{Admitted, has_txid, spends_of, spent_by, size_of}
+use Rattle.gate_pool.specs.Counting.{is_counted, entered_beside}
 use Rattle.gate_pool.specs.Family.{steps, is_below_some, is_conflict, names, without_below, entered}
 use Rattle.gate_trim.specs.Expiry.{expired, is_stale}
 use Rattle.gate_trim.proofs.Trimmings.{trim_keeps, trim_within}
@@ -18,7 +19,7 @@ use Rattle.gate_admit.specs.Rules.{decision_of}
 use Rattle.gate_admit.specs.Standing.{Standing}
 use Rattle.gate_admit.specs.Submission.{admitted}
 use Rattle.gate_admit.proofs.Filtering.{AllPairs-flat_map_filter}
-use Rattle.gate_admit.proofs.Granted.{Differ, decided_live}
+use Rattle.gate_admit.proofs.Granted.{Differ, decided_live, unspent_beside}
 use Rattle.gate_admit.proofs.Lists.{AllPairs-append}
 use Rattle.gate_reorg.specs.Events.{terms_after, event_of}
 use Rattle.gate_reorg.specs.Goodness.{EventsKeepTheBudget, EventsSpendOnce}
@@ -43,6 +44,12 @@ pub entered_once : (over : Standing) (tx : Tx) (grant : Grant) (now : ℕ) → I
 entered_once over tx grant now k h =
     subst (AllPairs Differ) (sym (spent_by-push (without_below (is_conflict tx) over.entries) (admitted tx grant now)))
     (AllPairs-append Differ (spent_by (without_below (is_conflict tx) over.entries)) (spends_of tx) (below_once (is_conflict tx) over.entries h) k.single k.unspent)
+
+-- nor does one that enters in place of a sibling
+pub beside_once : (over : Standing) (sibling : Option (List ℕ)) (tx : Tx) (grant : Grant) (now : ℕ) → IsGrantable over tx → SpendOnce over.entries → SpendOnce (entered_beside over.entries sibling (admitted tx grant now))
+beside_once over sibling tx grant now k h =
+    subst (AllPairs Differ) (sym (spent_by-push (without_below (is_counted sibling tx) over.entries) (admitted tx grant now)))
+    (AllPairs-append Differ (spent_by (without_below (is_counted sibling tx) over.entries)) (spends_of tx) (below_once (is_counted sibling tx) over.entries h) k.single (unspent_beside sibling tx over.entries))
 
 confirmed_once : (entries : List Admitted) (t : Tx) → SpendOnce entries → SpendOnce (confirmed entries t)
 unfolding confirmed

@@ -1,12 +1,12 @@
 -- Transactions that are tried again keep entries sound but for what is still to come.
-use Rattle.std.proofs.Common.{◌≡◌, ◌≢◌, ◌||◌, ◌&&◌, ℕ, Bool, true, false, not, List, [], ◌∷◌, ◌++◌, get_or, Some, Result, Ok, Err, refl, sym, ap, ◌∙◌, subst, ◌⊎◌, inl, inr, ⊎_elim, append-nil}
+use Rattle.std.proofs.Common.{◌≡◌, ◌≢◌, ◌≤◌, ◌||◌, ◌&&◌, ℕ, Bool, true, false, not, List, [], ◌∷◌, ◌++◌, get_or, Some, Result, Ok, Err, refl, sym, ap, ◌∙◌, subst, ◌⊎◌, inl, inr, ⊎_elim, append-nil}
 use Rattle.std.specs.Prelude.{Contains, IsSome}
 use Rattle.std.specs.List.{All, AllPairs, list_any}
 use Rattle.std.specs.Str.{bytes_eq}
 use Rattle.std.specs.Cmp.Lexicographic.{bytes_decides}
 use Rattle.std.proofs.lemmas.Bool.{true≢false, false_from_ne_true, and_parts}
 use Rattle.std.proofs.lemmas.Grind.{flat_map-append}
-use Rattle.std.proofs.lemmas.List.Elements.{All-contains, All-filter, Contains-get_or, Contains-append_left, Contains-append_right, Contains-append_cases}
+use Rattle.std.proofs.lemmas.List.Elements.{All-append, All-contains, All-filter, Contains-get_or, Contains-append_left, Contains-append_right, Contains-append_cases}
 use Rattle.gate_bytes.specs.Order.{first_failing}
 use Rattle.gate_graph.specs.Family.{reaches}
 use Rattle.gate_bytes.proofs.Members.{Contains-cons_cases, Contains-head, Contains-rest, any_is, list_any_of, not_in_none}
@@ -31,7 +31,7 @@ use Rattle.gate_admit.specs.Granting.{IsGrantable}
 use Rattle.gate_admit.specs.Rules.{admission_rules, decision_of, grant_of}
 use Rattle.gate_admit.specs.Standing.{Standing}
 use Rattle.gate_admit.specs.Submission.{admitted}
-use Rattle.gate_admit.proofs.Granted.{Differ, decided_live, granted}
+use Rattle.gate_admit.proofs.Granted.{Differ, decided_live, decided_small, granted}
 use Rattle.gate_admit.proofs.Lists.{AllPairs-one, AllPairs-append, All-one}
 use Rattle.gate_admit.proofs.Readmitted.{again_limited}
 use Rattle.gate_admit.proofs.Removing.{DifferByTxid, DifferByWtxid}
@@ -118,6 +118,7 @@ own_beside over t k i c = false_from_ne_true _ (λ h.
 
 module _
     (over : Standing) (t : Tx) (ts : List Tx) (grant : Grant) (now : ℕ) (h : IsSoundBut over.policy (t ∷ ts) over.chain over.entries) (k : IsGrantable over t) (fresh : is_known_txid over.chain (txid_of t) ≡ false)
+    (light : grant.vsize ≤ 100000)
     (limited : All (λ (a : Admitted). IsLimited over.policy (entered over.entries (admitted t grant now)) (txid_of a.tx)) (entered over.entries (admitted t grant now)))
   where
     left_is : IsSoundBut over.policy (t ∷ ts) over.chain (without_below (is_conflict t) over.entries)
@@ -135,6 +136,7 @@ module _
           wtxids = AllPairs-append DifferByWtxid left (e ∷ []) left_is.orderly.wtxids (AllPairs-one DifferByWtxid e)
               (λ n d l. All-one (λ (b : Admitted). wtxid_of (get_or left n d).tx ≢ wtxid_of b.tx) e (All-filter stays (λ (a : Admitted). wtxid_of a.tx ≢ wtxid_of t) over.entries k.wtxid n d l));
           spends = subst (AllPairs Differ) (sym (spent_by-push left e)) (AllPairs-append Differ (spent_by left) (spends_of t) left_is.orderly.spends k.single k.unspent);
+          light = All-append (λ (a : Admitted). a.vsize ≤ 100000) left (e ∷ []) left_is.orderly.light (All-one (λ (a : Admitted). a.vsize ≤ 100000) e light);
           limited = limited;
         }
 
@@ -192,7 +194,7 @@ granted_new : (over : Standing) (t : Tx) (grant : Grant) → IsSettled over.chai
     → decision_of Again over (Some t) ≡ Ok grant → is_known_txid over.chain (txid_of t) ≡ false
 unfolding decision_of
 granted_new over t grant settled fresh is_tx apart d =
-    let passes = (granted (first_failing (admission_rules Again over t)) (grant_of over t) grant d).0 in
+    let passes = (granted (first_failing (admission_rules Again over t)) (grant_of Again over t) grant d).0 in
     unknown over.chain (txid_of t) (decided_live Again over t grant d).fresh
     (unconnected Again over t settled (λ k e l. fresh (get_or over.entries k e) (Contains-get_or over.entries k e l)) is_tx apart passes)
 
@@ -206,6 +208,7 @@ module _ (under : Terms) (settled : IsSettled under.chain) where
       go (Ok grant) e =
           granted_kept (standing_again under entries) t ts grant under.second h (decided_live Again (standing_again under entries) t grant e)
           (granted_new (standing_again under entries) t grant settled h.fresh is_tx apart e)
+          (decided_small Again (standing_again under entries) t grant h.orderly.bounds e)
           (again_limited (standing_again under entries) t grant under.second h.orderly.limited e)
       go (Err denial) e = refused_kept under.policy under.chain entries t ts h
 

@@ -16,6 +16,7 @@ use Rattle.gate_block.specs.Switching.{last_blocks, switched, switch_rules}
 use Rattle.gate_pool.specs.Pool.{Admitted, spent_by, size_of}
 use Rattle.gate_admit.specs.Good.{AreApart, IsGood, IsSettled, Limits, SpendsCoins, connected_transactions, limits_for}
 use Rattle.gate_admit.specs.Standing.{Standing}
+use Rattle.gate_admit.specs.Truc.{TrucHolds}
 use Rattle.gate_reorg.specs.Reorganisation.{input_heights, spends_young_coin}
 use Rattle.gate_submission.specs.Blocks.{transactions_of}
 use Rattle.gate_reorg.specs.Events.{event_of}
@@ -92,6 +93,10 @@ pub record BlocksOnlyTake : Type 0 where
   pub floor : (over : Standing) (blocks : List Block) (now budget : ℕ) → (event_of over 0 blocks now budget).floor ≡ over.floor
   pub entries : (over : Standing) (blocks : List Block) (now budget : ℕ) (e : Admitted)
       → Contains (event_of over 0 blocks now budget).entries e → Contains over.entries e
+
+-- an event that disconnects no block leaves families of version 3 small, if they were
+abbrev pub BlocksKeepTruc : Type 0
+BlocksKeepTruc = (over : Standing) (blocks : List Block) (now budget : ℕ) → TrucHolds over.entries → TrucHolds (event_of over 0 blocks now budget).entries
 
 -- whatever the blocks are, no outpoint is spent by two entries, or twice by one, if none was before
 abbrev pub EventsSpendOnce : Type 0

@@ -1,5 +1,5 @@
 //! Laws of chain events, stated apart from their steps.
-ghost use Rattle.gate_reorg.specs.Goodness.{BlocksComeBack, BlocksOnlyTake, EntriesAreUnconfirmed, EventsBringNothingElse, EventsKeepPoolsGood, EventsKeepTheBudget, EventsSpendCoins, EventsSpendOnce, FloorsNeverFall, ReturnsLeaveTheRipe};
+ghost use Rattle.gate_reorg.specs.Goodness.{BlocksComeBack, BlocksKeepTruc, BlocksOnlyTake, EntriesAreUnconfirmed, EventsBringNothingElse, EventsKeepPoolsGood, EventsKeepTheBudget, EventsSpendCoins, EventsSpendOnce, FloorsNeverFall, ReturnsLeaveTheRipe};
 
 /// An event that no rule denies keeps a settled chain settled and a good pool good, if transactions are told apart by
 /// their ids.
@@ -45,6 +45,11 @@ pub fn floors_never_fall()
 /// An event that disconnects no block leaves the floor as it was, and adds no entry.
 pub fn blocks_only_take()
     ensures { BlocksOnlyTake }
+{}
+
+/// An event that disconnects no block leaves families of version 3 small (TRUC, BIP 431), if they were.
+pub fn blocks_keep_truc()
+    ensures { BlocksKeepTruc }
 {}
 
 /// Whatever the blocks are, no event makes two entries spend one outpoint, or one entry spend one twice.

@@ -15,7 +15,7 @@ mod staleness;
 pub use event::chain_event;
 pub use gate_submission::{Moved, recall_spelled};
 pub use law::{
-    blocks_come_back, blocks_only_take, entries_are_unconfirmed, events_bring_nothing_else,
-    events_keep_pools_good, events_keep_the_budget, events_spend_coins, events_spend_once,
-    floors_never_fall, returns_leave_the_ripe,
+    blocks_come_back, blocks_keep_truc, blocks_only_take, entries_are_unconfirmed,
+    events_bring_nothing_else, events_keep_pools_good, events_keep_the_budget, events_spend_coins,
+    events_spend_once, floors_never_fall, returns_leave_the_ripe,
 };

@@ -217,6 +217,7 @@ token_plain denials.VerdictMissing = refl
 token_plain denials.SoftVerdict = refl
 token_plain denials.HardVerdict = refl
 token_plain denials.MempoolFull = refl
+token_plain denials.TrucViolation = refl
 token_plain denials.DataCarrier = refl
 
 chain_token_plain : (denial : ChainDenial) → plain (chain_token denial) ≡ true
