@@ -20,27 +20,28 @@ use Rattle.gate_inputs.specs.declared.Answers.{Answers}
 use Rattle.gate_standard.specs.Amounts.{required_fee, feerate}
 use Rattle.gate_standard.specs.declared.Feerate.{Feerate}
 use Rattle.gate_standard.specs.Outputs.{carries_data, dust_threshold_of, is_below, is_dust}
-use Rattle.gate_standard.specs.Rules.{left_behind, rules_of_input, rules_of_output, rules_of_outputs, output_value_rules, transaction_rules, form_rules, output_rules}
+use Rattle.gate_standard.specs.Rules.{left_behind, rules_of_input, rules_of_output, rules_of_outputs, output_value_rules, transaction_rules, version_rules, form_rules, output_rules}
 use Rattle.gate_standard.specs.declared.Denial.{Denial}
-use Rattle.gate_submission.specs.Alone.{alone_rules, own_rules}
+use Rattle.gate_submission.specs.Alone.{alone_rules}
 use Rattle.gate_chain.specs.Times.{tip_of, mtp_of}
 use Rattle.gate_locks.specs.Finality.{is_final_at, threshold_of}
 use Rattle.gate_locks.specs.Locks.{is_by_time, is_disabled, median_at, span_of}
-use Rattle.gate_pool.specs.Pool.{Admitted, spender_of, size_of}
-use Rattle.gate_pool.specs.Family.{ancestors_above, is_conflict, conflicts_of, replaced_of, fees_of}
-use Rattle.gate_rbf.specs.Replacing.{replacement_rules, rules_beside, sharers, signals}
+use Rattle.gate_pool.specs.Pool.{Admitted, entry_by_txid, spender_of, size_of}
+use Rattle.gate_pool.specs.Family.{ancestors_above, fees_of}
+use Rattle.gate_pool.specs.Counting.{is_counted, counted_of, replaced_beside}
+use Rattle.gate_rbf.specs.Replacing.{is_replaceable, replacement_rules, rules_beside, sharers}
 use Rattle.gate_admit.specs.declared.attempt.Attempt.TheVariants.{First}
 use Rattle.gate_admit.specs.declared.grant.Grant.{Grant}
 use Rattle.gate_admit.specs.Coins.{coins_of, view_coin}
-use Rattle.gate_admit.specs.Limits.{limit_rules}
+use Rattle.gate_admit.specs.Limits.{has_second_try, limit_rules}
 use Rattle.gate_admit.specs.Policies.{Policy, feerate_by, incremental_feerate, most_ancestors, relay_feerate}
 use Rattle.gate_admit.specs.Reports.{has_relayed_witness, is_relayed, legacy_sigops, reported, report_rules, vsize_of, verdict_rules, rules_of_verdict}
-use Rattle.gate_admit.specs.Rules.{final_rules, pool_rules, coin_rules, lock_rules, coin_value_rules, balance_rules, fee_rules, floor_rule, payment_rules, relay_rule, admission_rules, coins_value, outputs_value, grant_of, denied_or, decision_of, is_immature}
+use Rattle.gate_admit.specs.Rules.{final_rules, pool_rules, coin_rules, lock_rules, coin_value_rules, balance_rules, fee_rules, floor_rule, is_relay_fee_first, payment_rules, relay_rule, admission_rules, coins_value, outputs_value, grant_of, denied_or, decision_of, is_immature}
 use Rattle.gate_admit.specs.Standing.{Standing}
 use Rattle.gate_admit.specs.Verdicts.{verdict_of}
 use Rattle.gate_figures.specs.declared.figures.Figures.{Figures}
 use Rattle.gate_figures.specs.declared.figures.Figures.TheVariants.{Ancestors, AncestorsSized, BareMultisig, DataLeft, DataScript, Dust, HeightLocked, Input, LegacySigops, NoCoin, NonstandardSpend, NonstandardWitness, Outpaid, Script, Spent, TimeLocked, Young}
-use Rattle.gate_figures.specs.Figures.{allowed_ancestors, coinless, crowded, data_past, data_past_total, doubted, dust, fee_at, figures_of, height_locked, locked, locked_by, locked_coin, many_legacy, nonstandard, nonstandard_inputs, nonstandard_spend, nonstandard_witness, script_figures, time_locked, non_signalling, non_signalling_by, is_good, outpaid, outpaid_at, outpaid_by, paying_figures, pays, pays_above, sized, vsize_at, cost_at, young, young_by}
+use Rattle.gate_figures.specs.Figures.{allowed_ancestors, coinless, crowded, data_past, data_past_total, doubted, dust, fee_at, figures_of, height_locked, locked, locked_by, locked_coin, many_legacy, nonstandard, nonstandard_inputs, nonstandard_spend, nonstandard_witness, script_figures, time_locked, non_signalling, non_signalling_by, is_good, outpaid, outpaid_at, outpaid_by, outpaid_sibling, paying_figures, pays, pays_above, sibling_in, sized, vsize_at, cost_at, young, young_by}
 use Rattle.gate_figures.specs.Laws.{Decide, FiguresDecide}
 
 lt_from : (m n : ℕ) → nat_lt m n ≡ true → m < n
@@ -244,19 +245,19 @@ witness_decides over anchors index (a ∷ answers) = go (witness_decides over an
     go later true = later
     go later false = tt
 
-non_signalling_by_decides : (over : Standing) (index : ℕ) (o : Option Admitted) → over.policy.full_rbf ≡ false → IfSome (non_signalling_by index o) (Decide over)
-non_signalling_by_decides over index None asked = tt
-non_signalling_by_decides over index (Some e) asked = go (signals e.tx)
+non_signalling_by_decides : (over : Standing) (by_version : Bool) (index : ℕ) (o : Option Admitted) → over.policy.full_rbf ≡ false → IfSome (non_signalling_by by_version index o) (Decide over)
+non_signalling_by_decides over by_version index None asked = tt
+non_signalling_by_decides over by_version index (Some e) asked = go (is_replaceable by_version e.tx)
   where
     go : (b : Bool) → IfSome (if b then None else Some (Spent index (txid_of e.tx))) (Decide over)
     go true = tt
     go false = asked
 
-non_signalling_decides : (over : Standing) (index : ℕ) (inputs : List TxIn) → over.policy.full_rbf ≡ false → IfSome (non_signalling over.entries index inputs) (Decide over)
-non_signalling_decides over index [] asked = tt
-non_signalling_decides over index (i ∷ inputs) asked =
-    one_or over (non_signalling_by index (spender_of over.entries i.prevout)) (non_signalling over.entries (index + 1) inputs)
-    (non_signalling_by_decides over index (spender_of over.entries i.prevout) asked) (non_signalling_decides over (index + 1) inputs asked)
+non_signalling_decides : (over : Standing) (by_version : Bool) (index : ℕ) (inputs : List TxIn) → over.policy.full_rbf ≡ false → IfSome (non_signalling by_version over.entries index inputs) (Decide over)
+non_signalling_decides over by_version index [] asked = tt
+non_signalling_decides over by_version index (i ∷ inputs) asked =
+    one_or over (non_signalling_by by_version index (spender_of over.entries i.prevout)) (non_signalling by_version over.entries (index + 1) inputs)
+    (non_signalling_by_decides over by_version index (spender_of over.entries i.prevout) asked) (non_signalling_decides over by_version (index + 1) inputs asked)
 
 -- where an entry is asked for a signal, there is no full replacement
 asks : (full other : Bool) → (not full && other) ≡ true → full ≡ false
@@ -277,26 +278,30 @@ outpaid_decides over rate (i ∷ inputs) =
     one_or over (outpaid_by rate (spender_of over.entries i.prevout)) (outpaid over.entries rate inputs)
     (outpaid_by_decides over rate (spender_of over.entries i.prevout)) (outpaid_decides over rate inputs)
 
-outpaid_at_decides : (over : Standing) (rate : Option ℕ) (inputs : List TxIn) → IfSome (outpaid_at over.entries rate inputs) (Decide over)
+outpaid_sibling_decides : (over : Standing) (rate : ℕ) (sibling : Option (List ℕ)) → IfSome (outpaid_sibling over.entries rate sibling) (Decide over)
+outpaid_sibling_decides over rate None = tt
+outpaid_sibling_decides over rate (Some txid) = outpaid_by_decides over rate (entry_by_txid over.entries txid)
+
+outpaid_at_decides : (over : Standing) (sibling : Option (List ℕ)) (rate : Option ℕ) (inputs : List TxIn) → IfSome (outpaid_at over.entries sibling rate inputs) (Decide over)
 unfolding outpaid_at
-outpaid_at_decides over None inputs = tt
-outpaid_at_decides over (Some rate) inputs = outpaid_decides over rate inputs
+outpaid_at_decides over sibling None inputs = tt
+outpaid_at_decides over sibling (Some rate) inputs = one_or over (outpaid over.entries rate inputs) (outpaid_sibling over.entries rate sibling) (outpaid_decides over rate inputs) (outpaid_sibling_decides over rate sibling)
 
 -- a transaction of any size may have as many ancestors as the policy says
-allows : (policy : Policy) (vsize : ℕ) → policy.ancestors ≤ allowed_ancestors policy vsize
-allows policy vsize = go (nat_le vsize 10000)
+allows : (policy : Policy) (tx : Tx) (vsize : ℕ) → policy.ancestors ≤ allowed_ancestors policy tx vsize
+allows policy tx vsize = go (has_second_try tx vsize)
   where
     go : (b : Bool) → policy.ancestors ≤ (if b then most_ancestors policy else policy.ancestors)
     go true = le-max_left policy.ancestors 2
     go false = le_refl policy.ancestors
 
-crowded_decides : (over : Standing) (above : List Admitted) (vsize : Option ℕ) → IfSome (crowded over.policy above vsize) (Decide over)
-crowded_decides over above None = tt
-crowded_decides over above (Some vsize) = go (nat_lt (allowed_ancestors over.policy vsize) (length above + 1)) (nat_lt over.policy.ancestors_size (size_of above + vsize)) refl refl
+crowded_decides : (over : Standing) (tx : Tx) (above : List Admitted) (vsize : Option ℕ) → IfSome (crowded over.policy tx above vsize) (Decide over)
+crowded_decides over tx above None = tt
+crowded_decides over tx above (Some vsize) = go (nat_lt (allowed_ancestors over.policy tx vsize) (length above + 1)) (nat_lt over.policy.ancestors_size (size_of above + vsize)) refl refl
   where
-    go : (a b : Bool) → nat_lt (allowed_ancestors over.policy vsize) (length above + 1) ≡ a → nat_lt over.policy.ancestors_size (size_of above + vsize) ≡ b
-        → IfSome (if a then Some (Ancestors (length above + 1) (allowed_ancestors over.policy vsize)) else if b then Some (AncestorsSized (size_of above + vsize) over.policy.ancestors_size) else None) (Decide over)
-    go true b e f = (allows over.policy vsize, lt_from (allowed_ancestors over.policy vsize) (length above + 1) e)
+    go : (a b : Bool) → nat_lt (allowed_ancestors over.policy tx vsize) (length above + 1) ≡ a → nat_lt over.policy.ancestors_size (size_of above + vsize) ≡ b
+        → IfSome (if a then Some (Ancestors (length above + 1) (allowed_ancestors over.policy tx vsize)) else if b then Some (AncestorsSized (size_of above + vsize) over.policy.ancestors_size) else None) (Decide over)
+    go true b e f = (allows over.policy tx vsize, lt_from (allowed_ancestors over.policy tx vsize) (length above + 1) e)
     go false true e f = (omega arith, lt_from over.policy.ancestors_size (size_of above + vsize) f)
     go false false e f = tt
 
@@ -368,7 +373,11 @@ each_output_shows over tx left (o ∷ outputs) =
 
 form_shows : (over : Standing) (tx : Tx) → AllShow over tx (form_rules tx)
 unfolding figures_of paying_figures form_rules
-form_shows over tx = (λ _. tt, (λ h. lt_from 400_000 _ h, each_shows over tx rules_of_input (input_shows over tx) tx.inputs))
+form_shows over tx = (λ h. lt_from 400_000 _ h, each_shows over tx rules_of_input (input_shows over tx) tx.inputs)
+
+version_shows : (over : Standing) (tx : Tx) → AllShow over tx (version_rules over.policy.standards.truc tx)
+unfolding figures_of paying_figures version_rules
+version_shows over tx = (λ _. tt, tt)
 
 outputs_show : (over : Standing) (tx : Tx) → AllShow over tx (output_rules over.policy.standards tx)
 unfolding figures_of paying_figures output_rules
@@ -377,8 +386,10 @@ outputs_show over tx =
     (λ h. (le_refl over.policy.standards.data_outputs, lt_from over.policy.standards.data_outputs _ h), (λ h. (omega arith, lt_from _ over.policy.standards.least_size h), tt))
 
 alone_shows : (over : Standing) (tx : Tx) → AllShow over tx (alone_rules over.policy.standards tx)
-unfolding alone_rules own_rules
-alone_shows over tx = both_show over tx (own_rules tx) (output_rules over.policy.standards tx) (both_show over tx (transaction_rules tx) (form_rules tx) (transaction_shows over tx) (form_shows over tx)) (outputs_show over tx)
+unfolding alone_rules
+alone_shows over tx =
+    both_show over tx (transaction_rules tx) _ (transaction_shows over tx)
+    (both_show over tx (version_rules over.policy.standards.truc tx) _ (version_shows over tx) (both_show over tx (form_rules tx) (output_rules over.policy.standards tx) (form_shows over tx) (outputs_show over tx)))
 
 unfinal : (tx : Tx) (next_height median : ℕ) → not (is_final_at tx next_height median) ≡ true → threshold_of tx.locktime next_height median ≤ tx.locktime
 unfolding is_final_at
@@ -396,7 +407,7 @@ final_shows over tx = (λ h. unfinal tx (tip_of over.chain + 1) (median_at over.
 
 pool_shows : (over : Standing) (tx : Tx) → AllShow over tx (pool_rules over.policy over.entries tx)
 unfolding figures_of paying_figures pool_rules
-pool_shows over tx = (λ _. tt, (λ _. tt, (λ h. non_signalling_decides over 0 tx.inputs (asks over.policy.full_rbf _ h), tt)))
+pool_shows over tx = (λ _. tt, (λ _. tt, (λ h. non_signalling_decides over over.policy.standards.truc 0 tx.inputs (asks over.policy.full_rbf _ h), tt)))
 
 coin_shows : (over : Standing) (tx : Tx) → AllShow over tx (coin_rules over.chain over.entries tx)
 unfolding figures_of paying_figures coin_rules
@@ -423,9 +434,9 @@ reports_show over tx =
     (λ _. inputs_decide over answers, (λ _. witness_decides over over.policy.anchors 0 answers, (λ h. lt_from 16000 _ h, tt)))
 
 payment_shows : (over : Standing) (tx : Tx)
-    → AllShow over tx (payment_rules First over.policy over.floor (fee_at over.chain over.entries tx) (vsize_of over.policy.sigop_size (cost_at over.chain over.entries tx) tx))
+    → AllShow over tx (payment_rules First over.policy tx over.floor (fee_at over.chain over.entries tx) (vsize_of over.policy.sigop_size (cost_at over.chain over.entries tx) tx))
 unfolding figures_of paying_figures fee_rules
-payment_shows over tx = go over.policy.relay_fee_first
+payment_shows over tx = go (is_relay_fee_first over.policy tx)
   where
     fee : ℕ
     fee = fee_at over.chain over.entries tx
@@ -445,31 +456,31 @@ payment_shows over tx = go over.policy.relay_fee_first
 
 limits_show : (over : Standing) (tx : Tx) (vsize : ℕ) → AllShow over tx (limit_rules First over.policy over.entries tx vsize)
 unfolding figures_of paying_figures limit_rules
-limits_show over tx vsize = (λ _. crowded_decides over (ancestors_above over.entries tx.inputs) (vsize_at over.policy.sigop_size over.chain over.entries tx), (λ _. tt, tt))
+limits_show over tx vsize = (λ _. crowded_decides over tx (ancestors_above over.entries tx.inputs) (vsize_at over.policy.sigop_size over.chain over.entries tx), (λ _. tt, (λ _. tt, tt)))
 
 beside_shows : (over : Standing) (tx : Tx)
-    → AllShow over tx (rules_beside (incremental_feerate over.policy) over.entries (conflicts_of over.entries tx) (sharers over.policy.parents over.entries tx) (fees_of (replaced_of over.entries tx)) tx (fee_at over.chain over.entries tx) (vsize_of over.policy.sigop_size (cost_at over.chain over.entries tx) tx))
+    → AllShow over tx (rules_beside (incremental_feerate over.policy) over.entries (counted_of over.entries (sibling_in over tx) tx) (sharers over.policy.parents over.entries (sibling_in over tx) tx) (fees_of (replaced_beside over.entries (sibling_in over tx) tx)) tx (fee_at over.chain over.entries tx) (vsize_of over.policy.sigop_size (cost_at over.chain over.entries tx) tx))
 unfolding figures_of paying_figures rules_beside
 beside_shows over tx = (
-  λ _. outpaid_at_decides over _ tx.inputs,
+  λ _. outpaid_at_decides over (sibling_in over tx) _ tx.inputs,
   (
     λ h. lt_from 100 _ h,
     (
       λ _. tt,
       (
         λ h. lt_from _ _ h,
-        (λ h. above_decides over tx (fees_of (replaced_of over.entries tx)) (fee_at over.chain over.entries tx) (cost_at over.chain over.entries tx) h, tt),
+        (λ h. above_decides over tx (fees_of (replaced_beside over.entries (sibling_in over tx) tx)) (fee_at over.chain over.entries tx) (cost_at over.chain over.entries tx) h, tt),
       ),
     ),
   ),
 )
 
 replacement_shows : (over : Standing) (tx : Tx)
-    → AllShow over tx (replacement_rules (incremental_feerate over.policy) over.policy.parents over.entries tx (fee_at over.chain over.entries tx) (vsize_of over.policy.sigop_size (cost_at over.chain over.entries tx) tx))
+    → AllShow over tx (replacement_rules (incremental_feerate over.policy) over.policy.parents over.entries (sibling_in over tx) tx (fee_at over.chain over.entries tx) (vsize_of over.policy.sigop_size (cost_at over.chain over.entries tx) tx))
 unfolding replacement_rules
-replacement_shows over tx = go (list_any (is_conflict tx) over.entries)
+replacement_shows over tx = go (list_any (is_counted (sibling_in over tx) tx) over.entries)
   where
-    go : (b : Bool) → AllShow over tx (if b then rules_beside (incremental_feerate over.policy) over.entries (conflicts_of over.entries tx) (sharers over.policy.parents over.entries tx) (fees_of (replaced_of over.entries tx)) tx (fee_at over.chain over.entries tx) (vsize_of over.policy.sigop_size (cost_at over.chain over.entries tx) tx) else [])
+    go : (b : Bool) → AllShow over tx (if b then rules_beside (incremental_feerate over.policy) over.entries (counted_of over.entries (sibling_in over tx) tx) (sharers over.policy.parents over.entries (sibling_in over tx) tx) (fees_of (replaced_beside over.entries (sibling_in over tx) tx)) tx (fee_at over.chain over.entries tx) (vsize_of over.policy.sigop_size (cost_at over.chain over.entries tx) tx) else [])
     go true = beside_shows over tx
     go false = tt
 
@@ -498,9 +509,9 @@ all_show over tx =
     (both_show over tx (coin_value_rules (tip_of over.chain + 1) 0 coins) _ (coin_values_show over tx (tip_of over.chain + 1) 0 coins)
     (both_show over tx (balance_rules (coins_value coins) (outputs_value tx)) _ (balance_shows over tx)
     (both_show over tx (report_rules over.policy (reported tx.inputs coins) tx) _ (reports_show over tx)
-    (both_show over tx (payment_rules First over.policy over.floor (fee_at over.chain over.entries tx) (vsize_of over.policy.sigop_size (cost_at over.chain over.entries tx) tx)) _ (payment_shows over tx)
+    (both_show over tx (payment_rules First over.policy tx over.floor (fee_at over.chain over.entries tx) (vsize_of over.policy.sigop_size (cost_at over.chain over.entries tx) tx)) _ (payment_shows over tx)
     (both_show over tx (limit_rules First over.policy over.entries tx (vsize_of over.policy.sigop_size (cost_at over.chain over.entries tx) tx)) _ (limits_show over tx _)
-    (both_show over tx (replacement_rules (incremental_feerate over.policy) over.policy.parents over.entries tx (fee_at over.chain over.entries tx) (vsize_of over.policy.sigop_size (cost_at over.chain over.entries tx) tx)) _ (replacement_shows over tx)
+    (both_show over tx (replacement_rules (incremental_feerate over.policy) over.policy.parents over.entries (sibling_in over tx) tx (fee_at over.chain over.entries tx) (vsize_of over.policy.sigop_size (cost_at over.chain over.entries tx) tx)) _ (replacement_shows over tx)
     (verdict_shows over tx 0 tx.inputs)))))))))))
 
 denied : (found : Option Denial) (grant : Grant) (denial : Denial) → denied_or found grant ≡ Err denial → found ≡ Some denial
@@ -518,4 +529,4 @@ denied (Some said) grant denial h = ap said_by h
 pub figures_decide : FiguresDecide
 unfolding decision_of
 figures_decide over tx denial h =
-    found over tx denial (admission_rules First over tx) (all_show over tx) (denied (first_failing (admission_rules First over tx)) (grant_of over tx) denial h)
+    found over tx denial (admission_rules First over tx) (all_show over tx) (denied (first_failing (admission_rules First over tx)) (grant_of First over tx) denial h)

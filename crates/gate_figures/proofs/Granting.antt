@@ -14,6 +14,7 @@ use Rattle.gate_admit.specs.Policies.{incremental_feerate}
 use Rattle.gate_admit.specs.Reports.{report_rules, vsize_of}
 use Rattle.gate_admit.specs.Rules.{admission_rules, balance_rules, decision_of, fee_rules, grant_of}
 use Rattle.gate_admit.specs.Standing.{Standing}
+use Rattle.gate_admit.specs.Truc.{sibling_of}
 use Rattle.gate_admit.proofs.Granted.{granted}
 use Rattle.gate_admit.proofs.Passing.{Passes, passes as group_by_group}
 use Rattle.gate_figures.specs.Figures.{cost_at, fee_at}
@@ -34,19 +35,19 @@ reached : (test : ℕ → Bool) (fee : ℕ) (found : Option ℕ) → fee ≤ max
 reached test fee None small passed least = let less : fee < 2 ^ 64 = omega arith in true≢false (sym passed ∙ least fee less)
 reached test fee (Some n) small passed least = leb-true n fee (sym (least fee) ∙ passed)
 
-grant_reaches : (over : Standing) (tx : Tx) (found : Option ℕ) → Passes First over tx → IsLeastFor over (Some tx) found → Reaches found (grant_of over tx).fee
+grant_reaches : (over : Standing) (tx : Tx) (found : Option ℕ) → Passes First over tx → IsLeastFor over (Some tx) found → Reaches found (grant_of First over tx).fee
 unfolding balance_rules report_rules grant_of
 grant_reaches over tx found p least =
     let vsize = vsize_of over.policy.sigop_size (cost_at over.chain over.entries tx) tx in
     let fee = fee_at over.chain over.entries tx in
     let sized = subst (λ (b : Bool). IsLeastFee over.policy over.floor over.entries tx (if b then None else Some vsize) found) p.report.1.1.0 least in
     let passed : passes (fee_side over.policy over.floor over.entries tx vsize fee) ≡ true =
-    three_pass (fee_rules over.policy over.floor fee vsize) (limit_rules First over.policy over.entries tx vsize) (replacement_rules (incremental_feerate over.policy) over.policy.parents over.entries tx fee vsize)
+    three_pass (fee_rules over.policy tx over.floor fee vsize) (limit_rules First over.policy over.entries tx vsize) (replacement_rules (incremental_feerate over.policy) over.policy.parents over.entries (sibling_of First over.policy over.entries tx) tx fee vsize)
     p.payment p.limits p.replacement in
     reached (λ n. passes (fee_side over.policy over.floor over.entries tx vsize n)) fee found (ltb-false _ _ p.balance.1.0) passed sized
 
 pub grants_reach_the_least_fee : GrantsReachTheLeastFee
 unfolding decision_of
 grants_reach_the_least_fee over tx grant found h least =
-    let both = granted (first_failing (admission_rules First over tx)) (grant_of over tx) grant h in
+    let both = granted (first_failing (admission_rules First over tx)) (grant_of First over tx) grant h in
     subst (λ (g : Grant). Reaches found g.fee) both.1 (grant_reaches over tx found (group_by_group First over tx both.0) least)

@@ -1,5 +1,6 @@
 pub mod Reporting
 pub mod Deciding
+pub mod Gone
 pub mod Thresholds
 pub mod Passing
 pub mod Granting

@@ -15,7 +15,8 @@ use Rattle.gate_standard.specs.declared.Denial.{Denial}
 use Rattle.gate_standard.specs.declared.Denial.TheVariants.{MempoolMinFee, MinRelayFee, LowerFeeRate, TooManyReplacements, AddsUnconfirmed, LowerFee, LowerDifference}
 use Rattle.gate_standard.specs.declared.Feerate.{Feerate}
 use Rattle.gate_pool.specs.Pool.{Admitted}
-use Rattle.gate_pool.specs.Family.{AreIdsOf, conflicts_of, fees_of, is_conflict, replaced_of}
+use Rattle.gate_pool.specs.Family.{AreIdsOf, fees_of}
+use Rattle.gate_pool.specs.Counting.{counted_of, is_counted, replaced_beside}
 use Rattle.gate_pool.proofs.Adding.{passed}
 use Rattle.gate_pool.proofs.Walking.{Contains-filter, Contains-from_filter}
 use Rattle.gate_rbf.specs.declared.ParentsOf.{ParentsOf}
@@ -23,7 +24,8 @@ use Rattle.gate_rbf.specs.Replacing.{adds_parent, descendant_count, replacement_
 use Rattle.gate_admit.specs.declared.attempt.Attempt.TheVariants.{First}
 use Rattle.gate_admit.specs.Limits.{limit_rules}
 use Rattle.gate_admit.specs.Policies.{Policy, feerate_by, incremental_feerate, relay_feerate}
-use Rattle.gate_admit.specs.Rules.{fee_rules}
+use Rattle.gate_admit.specs.Rules.{fee_rules, is_relay_fee_first}
+use Rattle.gate_admit.specs.Truc.{sibling_of}
 use Rattle.gate_figures.specs.Least.{IsLeast, fee_side, passes}
 use Rattle.gate_figures.proofs.Thresholds.{both_from, least_above, neither_below, not_below, pays_both}
 
@@ -58,17 +60,17 @@ in_order true a b fee =
     two MinRelayFee MempoolMinFee (nat_lt fee b) (nat_lt fee a) ∙ neither_below b a fee ∙ ap (λ n. nat_le n fee) same
 in_order false a b fee = two MempoolMinFee MinRelayFee (nat_lt fee a) (nat_lt fee b) ∙ neither_below a b fee
 
-pub payment_asks : (policy : Policy) (floor vsize fee : ℕ)
-    → passes (fee_rules policy floor fee vsize) ≡ nat_le (max (required_fee (feerate_by policy floor) vsize) (required_fee (relay_feerate policy) vsize)) fee
+pub payment_asks : (policy : Policy) (tx : Tx) (floor vsize fee : ℕ)
+    → passes (fee_rules policy tx floor fee vsize) ≡ nat_le (max (required_fee (feerate_by policy floor) vsize) (required_fee (relay_feerate policy) vsize)) fee
 unfolding fee_rules
-payment_asks policy floor vsize fee = in_order policy.relay_fee_first (required_fee (feerate_by policy floor) vsize) (required_fee (relay_feerate policy) vsize) fee
+payment_asks policy tx floor vsize fee = in_order (is_relay_fee_first policy tx) (required_fee (feerate_by policy floor) vsize) (required_fee (relay_feerate policy) vsize) fee
 
 -- ---- A38 to A42
 
 -- A39 and A40, which ask nothing of the fee
-abbrev pub may_replace : ParentsOf → List Admitted → Tx → Bool
-may_replace parents entries tx =
-    not (nat_lt 100 (descendant_count entries (conflicts_of entries tx))) && not (list_any (adds_parent entries (sharers parents entries tx)) tx.inputs)
+abbrev pub may_replace : ParentsOf → List Admitted → Option (List ℕ) → Tx → Bool
+may_replace parents entries sibling tx =
+    not (nat_lt 100 (descendant_count entries (counted_of entries sibling tx))) && not (list_any (adds_parent entries (sharers parents entries sibling tx)) tx.inputs)
 
 beside_asks : (a b c : Bool) (above paid own fee : ℕ) → a ≡ nat_lt fee above
     → passes ((LowerFeeRate, a) ∷ (TooManyReplacements, b) ∷ (AddsUnconfirmed, c) ∷ (LowerFee, nat_lt fee paid) ∷ (LowerDifference, nat_lt (fee - paid) own) ∷ [])
@@ -80,27 +82,27 @@ beside_asks a b c above paid own fee is =
     ∙ ap (λ x. (not b && not c) && (nat_le above fee && x)) (pays_both paid own fee)
     ∙ ap (λ x. (not b && not c) && x) (both_from above (paid + own) fee)
 
--- beside conflicts, of which each has a lower feerate exactly from `above` on
-pub replacing_asks : (rate : Feerate) (parents : ParentsOf) (entries : List Admitted) (tx : Tx) (vsize above : ℕ) → list_any (is_conflict tx) entries ≡ true
-    → ((fee : ℕ) → list_any (λ (c : Admitted). nat_le (feerate fee vsize) (feerate c.fee c.vsize)) (conflicts_of entries tx) ≡ nat_lt fee above)
-    → (fee : ℕ) → passes (replacement_rules rate parents entries tx fee vsize) ≡ (may_replace parents entries tx && nat_le (max above (fees_of (replaced_of entries tx) + required_fee rate vsize)) fee)
+-- beside what counts as a conflict, of which each has a lower feerate exactly from `above` on
+pub replacing_asks : (rate : Feerate) (parents : ParentsOf) (entries : List Admitted) (sibling : Option (List ℕ)) (tx : Tx) (vsize above : ℕ) → list_any (is_counted sibling tx) entries ≡ true
+    → ((fee : ℕ) → list_any (λ (c : Admitted). nat_le (feerate fee vsize) (feerate c.fee c.vsize)) (counted_of entries sibling tx) ≡ nat_lt fee above)
+    → (fee : ℕ) → passes (replacement_rules rate parents entries sibling tx fee vsize) ≡ (may_replace parents entries sibling tx && nat_le (max above (fees_of (replaced_beside entries sibling tx) + required_fee rate vsize)) fee)
 unfolding replacement_rules rules_beside
-replacing_asks rate parents entries tx vsize above some outpaid fee = go (list_any (is_conflict tx) entries) some
+replacing_asks rate parents entries sibling tx vsize above some outpaid fee = go (list_any (is_counted sibling tx) entries) some
   where
     go : (b : Bool) → b ≡ true
-        → passes (if b then rules_beside rate entries (conflicts_of entries tx) (sharers parents entries tx) (fees_of (replaced_of entries tx)) tx fee vsize else [])
-        ≡ (may_replace parents entries tx && nat_le (max above (fees_of (replaced_of entries tx) + required_fee rate vsize)) fee)
-    go true e = beside_asks _ _ _ above (fees_of (replaced_of entries tx)) (required_fee rate vsize) fee (outpaid fee)
+        → passes (if b then rules_beside rate entries (counted_of entries sibling tx) (sharers parents entries sibling tx) (fees_of (replaced_beside entries sibling tx)) tx fee vsize else [])
+        ≡ (may_replace parents entries sibling tx && nat_le (max above (fees_of (replaced_beside entries sibling tx) + required_fee rate vsize)) fee)
+    go true e = beside_asks _ _ _ above (fees_of (replaced_beside entries sibling tx)) (required_fee rate vsize) fee (outpaid fee)
     go false e = absurd (false≢true e)
 
--- without a conflict nothing is asked
-pub alone_asks : (rate : Feerate) (parents : ParentsOf) (entries : List Admitted) (tx : Tx) (vsize fee : ℕ) → list_any (is_conflict tx) entries ≡ false
-    → passes (replacement_rules rate parents entries tx fee vsize) ≡ true
+-- where nothing counts as a conflict nothing is asked
+pub alone_asks : (rate : Feerate) (parents : ParentsOf) (entries : List Admitted) (sibling : Option (List ℕ)) (tx : Tx) (vsize fee : ℕ) → list_any (is_counted sibling tx) entries ≡ false
+    → passes (replacement_rules rate parents entries sibling tx fee vsize) ≡ true
 unfolding replacement_rules
-alone_asks rate parents entries tx vsize fee none = go (list_any (is_conflict tx) entries) none
+alone_asks rate parents entries sibling tx vsize fee none = go (list_any (is_counted sibling tx) entries) none
   where
     go : (b : Bool) → b ≡ false
-        → passes (if b then rules_beside rate entries (conflicts_of entries tx) (sharers parents entries tx) (fees_of (replaced_of entries tx)) tx fee vsize else []) ≡ true
+        → passes (if b then rules_beside rate entries (counted_of entries sibling tx) (sharers parents entries sibling tx) (fees_of (replaced_beside entries sibling tx)) tx fee vsize else []) ≡ true
     go false e = refl
     go true e = absurd (false≢true (sym e))
 
@@ -180,67 +182,71 @@ rate_asks fee vsize rate size least some same is = least_above fee vsize rate si
 
 -- ---- the least fee beside conflicts
 
-module _ (rate : Feerate) (parents : ParentsOf) (entries : List Admitted) (tx : Tx) (vsize above gone own paying : ℕ) (ids : List (List ℕ)) (some : (length ids == 0) ≡ false)
-    (are : AreIdsOf ids (conflicts_of entries tx))
-    (outpaid : (fee : ℕ) → list_any (λ (c : Admitted). nat_le (feerate fee vsize) (feerate c.fee c.vsize)) (conflicts_of entries tx) ≡ nat_lt fee above)
-    (gone_is : gone ≡ fees_of (replaced_of entries tx)) (own_is : own ≡ required_fee rate vsize) where
-  asks : (fee : ℕ) → passes (replacement_rules rate parents entries tx fee vsize) ≡ (may_replace parents entries tx && nat_le (max above (gone + own)) fee)
+module _ (rate : Feerate) (parents : ParentsOf) (entries : List Admitted) (sibling : Option (List ℕ)) (tx : Tx) (vsize above gone own paying : ℕ) (ids : List (List ℕ)) (some : (length ids == 0) ≡ false)
+    (are : AreIdsOf ids (counted_of entries sibling tx))
+    (outpaid : (fee : ℕ) → list_any (λ (c : Admitted). nat_le (feerate fee vsize) (feerate c.fee c.vsize)) (counted_of entries sibling tx) ≡ nat_lt fee above)
+    (gone_is : gone ≡ fees_of (replaced_beside entries sibling tx)) (own_is : own ≡ required_fee rate vsize) where
+  asks : (fee : ℕ) → passes (replacement_rules rate parents entries sibling tx fee vsize) ≡ (may_replace parents entries sibling tx && nat_le (max above (gone + own)) fee)
   asks fee =
       let there : 0 < length ids = positive (length ids) (eqb-false (length ids) 0 some) in
-      replacing_asks rate parents entries tx vsize above (some_by_ids (is_conflict tx) entries ids there are) outpaid fee
-      ∙ sym (λ i. may_replace parents entries tx && nat_le (max above (gone_is i + own_is i)) fee)
+      replacing_asks rate parents entries sibling tx vsize above (some_by_ids (is_counted sibling tx) entries ids there are) outpaid fee
+      ∙ sym (λ i. may_replace parents entries sibling tx && nat_le (max above (gone_is i + own_is i)) fee)
 
-  pub least_found : (least : ℕ) → least ≡ max (max above (gone + own)) paying → passes (replacement_rules rate parents entries tx least vsize) ≡ true
-      → IsLeast (λ fee. nat_le paying fee && passes (replacement_rules rate parents entries tx fee vsize)) (Some least)
+  pub least_found : (least : ℕ) → least ≡ max (max above (gone + own)) paying → passes (replacement_rules rate parents entries sibling tx least vsize) ≡ true
+      → IsLeast (λ fee. nat_le paying fee && passes (replacement_rules rate parents entries sibling tx fee vsize)) (Some least)
   least_found least is passed =
-      found_least (λ fee. passes (replacement_rules rate parents entries tx fee vsize)) (may_replace parents entries tx) (max above (gone + own)) paying asks least is passed
+      found_least (λ fee. passes (replacement_rules rate parents entries sibling tx fee vsize)) (may_replace parents entries sibling tx) (max above (gone + own)) paying asks least is passed
 
-  pub none_found : (least : ℕ) → least ≡ max (max above (gone + own)) paying → passes (replacement_rules rate parents entries tx least vsize) ≡ false
-      → IsLeast (λ fee. nat_le paying fee && passes (replacement_rules rate parents entries tx fee vsize)) None
+  pub none_found : (least : ℕ) → least ≡ max (max above (gone + own)) paying → passes (replacement_rules rate parents entries sibling tx least vsize) ≡ false
+      → IsLeast (λ fee. nat_le paying fee && passes (replacement_rules rate parents entries sibling tx fee vsize)) None
   none_found least is failed = λ fee small.
-      none_helps (λ fee. passes (replacement_rules rate parents entries tx fee vsize)) (may_replace parents entries tx) (max above (gone + own)) paying asks least is failed fee
+      none_helps (λ fee. passes (replacement_rules rate parents entries sibling tx fee vsize)) (may_replace parents entries sibling tx) (max above (gone + own)) paying asks least is failed fee
 
-  pub none_in_reach : 2 ^ 64 ≤ max (max above (gone + own)) paying → IsLeast (λ fee. nat_le paying fee && passes (replacement_rules rate parents entries tx fee vsize)) None
+  pub none_in_reach : 2 ^ 64 ≤ max (max above (gone + own)) paying → IsLeast (λ fee. nat_le paying fee && passes (replacement_rules rate parents entries sibling tx fee vsize)) None
   none_in_reach great = λ fee small.
       let less : fee < max (max above (gone + own)) paying = omega arith in
-      none_reaches (λ fee. passes (replacement_rules rate parents entries tx fee vsize)) (may_replace parents entries tx) (max above (gone + own)) paying asks fee less
+      none_reaches (λ fee. passes (replacement_rules rate parents entries sibling tx fee vsize)) (may_replace parents entries sibling tx) (max above (gone + own)) paying asks fee less
 
--- without a conflict what is paid anyway is enough
-pub paying_found : (rate : Feerate) (parents : ParentsOf) (entries : List Admitted) (tx : Tx) (vsize paying : ℕ) (ids : List (List ℕ)) → (length ids == 0) ≡ true
-    → AreIdsOf ids (conflicts_of entries tx) → IsLeast (λ fee. nat_le paying fee && passes (replacement_rules rate parents entries tx fee vsize)) (Some paying)
-paying_found rate parents entries tx vsize paying ids none are =
-    let alone : list_any (is_conflict tx) entries ≡ false = none_by_ids (is_conflict tx) entries ids (eqb-true (length ids) 0 none) are in
-    alone_least (λ fee. passes (replacement_rules rate parents entries tx fee vsize)) paying (λ fee. alone_asks rate parents entries tx vsize fee alone)
+-- where nothing counts as a conflict what is paid anyway is enough
+pub paying_found : (rate : Feerate) (parents : ParentsOf) (entries : List Admitted) (sibling : Option (List ℕ)) (tx : Tx) (vsize paying : ℕ) (ids : List (List ℕ)) → (length ids == 0) ≡ true
+    → AreIdsOf ids (counted_of entries sibling tx) → IsLeast (λ fee. nat_le paying fee && passes (replacement_rules rate parents entries sibling tx fee vsize)) (Some paying)
+paying_found rate parents entries sibling tx vsize paying ids none are =
+    let alone : list_any (is_counted sibling tx) entries ≡ false = none_by_ids (is_counted sibling tx) entries ids (eqb-true (length ids) 0 none) are in
+    alone_least (λ fee. passes (replacement_rules rate parents entries sibling tx fee vsize)) paying (λ fee. alone_asks rate parents entries sibling tx vsize fee alone)
 
 -- ---- A34 to A42
 
 sides : (x l r : Bool) → l ≡ true → (x && (l && r)) ≡ (x && r)
 sides x l r h = ap (λ b. x && (b && r)) h
 
+-- A38 to A42 of a submission
+abbrev pub replacing : Policy → List Admitted → Tx → ℕ → ℕ → List (Rule Denial)
+replacing policy entries tx vsize fee = replacement_rules (incremental_feerate policy) policy.parents entries (sibling_of First policy entries tx) tx fee vsize
+
 parts : (policy : Policy) (floor : ℕ) (entries : List Admitted) (tx : Tx) (vsize fee : ℕ)
     → passes (fee_side policy floor entries tx vsize fee)
-    ≡ (passes (fee_rules policy floor fee vsize) && (passes (limit_rules First policy entries tx vsize) && passes (replacement_rules (incremental_feerate policy) policy.parents entries tx fee vsize)))
+    ≡ (passes (fee_rules policy tx floor fee vsize) && (passes (limit_rules First policy entries tx vsize) && passes (replacing policy entries tx vsize fee)))
 parts policy floor entries tx vsize fee =
-    passes-append (fee_rules policy floor fee vsize) (limit_rules First policy entries tx vsize ++ replacement_rules (incremental_feerate policy) policy.parents entries tx fee vsize)
-    ∙ ap (λ b. passes (fee_rules policy floor fee vsize) && b) (passes-append (limit_rules First policy entries tx vsize) (replacement_rules (incremental_feerate policy) policy.parents entries tx fee vsize))
+    passes-append (fee_rules policy tx floor fee vsize) (limit_rules First policy entries tx vsize ++ replacing policy entries tx vsize fee)
+    ∙ ap (λ b. passes (fee_rules policy tx floor fee vsize) && b) (passes-append (limit_rules First policy entries tx vsize) (replacing policy entries tx vsize fee))
 
--- where A36 or A37 fails no fee helps
+-- where A36, A47 or A37 fails no fee helps
 pub limits_fail : (policy : Policy) (floor : ℕ) (entries : List Admitted) (tx : Tx) (vsize : ℕ) → passes (limit_rules First policy entries tx vsize) ≡ false
     → IsLeast (λ fee. passes (fee_side policy floor entries tx vsize fee)) None
 limits_fail policy floor entries tx vsize fails = λ fee small. parts policy floor entries tx vsize fee ∙ and_right _ _ (and_left _ _ fails)
 
--- where both pass the other rules decide
+-- where they pass the other rules decide
 pub limits_pass : (policy : Policy) (floor : ℕ) (entries : List Admitted) (tx : Tx) (vsize paying : ℕ) (found : Option ℕ) → passes (limit_rules First policy entries tx vsize) ≡ true
-    → ((fee : ℕ) → passes (fee_rules policy floor fee vsize) ≡ nat_le paying fee)
-    → IsLeast (λ fee. nat_le paying fee && passes (replacement_rules (incremental_feerate policy) policy.parents entries tx fee vsize)) found
+    → ((fee : ℕ) → passes (fee_rules policy tx floor fee vsize) ≡ nat_le paying fee)
+    → IsLeast (λ fee. nat_le paying fee && passes (replacing policy entries tx vsize fee)) found
     → IsLeast (λ fee. passes (fee_side policy floor entries tx vsize fee)) found
 limits_pass policy floor entries tx vsize paying found passed asks least = go found least
   where
-    same : (fee : ℕ) → passes (fee_side policy floor entries tx vsize fee) ≡ (nat_le paying fee && passes (replacement_rules (incremental_feerate policy) policy.parents entries tx fee vsize))
+    same : (fee : ℕ) → passes (fee_side policy floor entries tx vsize fee) ≡ (nat_le paying fee && passes (replacing policy entries tx vsize fee))
     same fee =
-        parts policy floor entries tx vsize fee ∙ sides _ _ _ passed ∙ ap (λ b. b && passes (replacement_rules (incremental_feerate policy) policy.parents entries tx fee vsize)) (asks fee)
+        parts policy floor entries tx vsize fee ∙ sides _ _ _ passed ∙ ap (λ b. b && passes (replacing policy entries tx vsize fee)) (asks fee)
 
-    go : (o : Option ℕ) → IsLeast (λ fee. nat_le paying fee && passes (replacement_rules (incremental_feerate policy) policy.parents entries tx fee vsize)) o
+    go : (o : Option ℕ) → IsLeast (λ fee. nat_le paying fee && passes (replacing policy entries tx vsize fee)) o
         → IsLeast (λ fee. passes (fee_side policy floor entries tx vsize fee)) o
     go None least = λ fee small. same fee ∙ least fee small
     go (Some n) least = λ fee. same fee ∙ least fee

@@ -21,13 +21,17 @@ use Rattle.gate_standard.specs.declared.Denial.TheVariants.{Oversize, TxSize, Sc
 use Rattle.gate_chain.specs.History.{History}
 use Rattle.gate_chain.specs.Times.{tip_of, mtp_of}
 use Rattle.gate_locks.specs.Locks.{is_by_time, is_disabled, median_at, span_of}
-use Rattle.gate_pool.specs.Pool.{Admitted, size_of, spender_of}
-use Rattle.gate_pool.specs.Family.{ancestors_above, conflicts_of, fees_of, replaced_of}
-use Rattle.gate_rbf.specs.Replacing.{descendant_count, signals}
+use Rattle.gate_pool.specs.Pool.{Admitted, entry_by_txid, size_of, spender_of}
+use Rattle.gate_pool.specs.Family.{ancestors_above, fees_of}
+use Rattle.gate_pool.specs.Counting.{counted_of, replaced_beside}
+use Rattle.gate_rbf.specs.Replacing.{descendant_count, is_replaceable}
+use Rattle.gate_admit.specs.declared.Attempt.TheVariants.{First}
+use Rattle.gate_admit.specs.Limits.{has_second_try}
+use Rattle.gate_admit.specs.Truc.{sibling_of}
 use Rattle.gate_submission.specs.declared.verdict.Verdict.{Verdict}
 use Rattle.gate_submission.specs.declared.verdict.Verdict.TheVariants.{Good}
 use Rattle.gate_admit.specs.Coins.{coins_of, view_coin}
-use Rattle.gate_admit.specs.Policies.{Policy, carve_out_size, feerate_by, incremental_feerate, most_ancestors, relay_feerate}
+use Rattle.gate_admit.specs.Policies.{Policy, feerate_by, incremental_feerate, most_ancestors, relay_feerate}
 use Rattle.gate_admit.specs.Reports.{has_relayed_witness, is_relayed, legacy_sigops, reported, sigop_cost, vsize_of}
 use Rattle.gate_admit.specs.Rules.{coins_value, is_immature, outputs_value}
 use Rattle.gate_admit.specs.Standing.{Standing}
@@ -140,15 +144,16 @@ nonstandard_witness anchors index (answers ∷ rest) =
 
 -- ---- entries that conflict with the transaction
 
--- the entry that spends the outpoint of the input at this index, if it doesn't signal that it may be replaced
-abbrev pub non_signalling_by : ℕ → Option Admitted → Option Figures
-non_signalling_by index None = None
-non_signalling_by index (Some e) = if signals e.tx then None else Some (Spent index (txid_of e.tx))
+-- the entry that spends the outpoint of the input at this index, if it doesn't say that it may be replaced,
+-- by its version too or by its sequences alone
+abbrev pub non_signalling_by : Bool → ℕ → Option Admitted → Option Figures
+non_signalling_by by_version index None = None
+non_signalling_by by_version index (Some e) = if is_replaceable by_version e.tx then None else Some (Spent index (txid_of e.tx))
 
 -- the first such entry, input by input, among inputs from this index on
-abbrev pub non_signalling : List Admitted → ℕ → List TxIn → Option Figures
-non_signalling entries index [] = None
-non_signalling entries index (input ∷ inputs) = option_or (non_signalling_by index (spender_of entries input.prevout)) (non_signalling entries (index + 1) inputs)
+abbrev pub non_signalling : Bool → List Admitted → ℕ → List TxIn → Option Figures
+non_signalling by_version entries index [] = None
+non_signalling by_version entries index (input ∷ inputs) = option_or (non_signalling_by by_version index (spender_of entries input.prevout)) (non_signalling by_version entries (index + 1) inputs)
 
 -- the feerate of a fee for a size; a fee that 64 bits don't hold has no feerate
 unfoldable pub rate_at : ℕ → Option ℕ → Option ℕ
@@ -165,10 +170,19 @@ abbrev pub outpaid : List Admitted → ℕ → List TxIn → Option Figures
 outpaid entries rate [] = None
 outpaid entries rate (input ∷ inputs) = option_or (outpaid_by rate (spender_of entries input.prevout)) (outpaid entries rate inputs)
 
--- the first such entry, input by input; none if there is no feerate
-unfoldable pub outpaid_at : List Admitted → Option ℕ → List TxIn → Option Figures
-outpaid_at entries None inputs = None
-outpaid_at entries (Some rate) inputs = outpaid entries rate inputs
+-- the sibling of this id, if it pays at least this feerate
+abbrev pub outpaid_sibling : List Admitted → ℕ → Option (List ℕ) → Option Figures
+outpaid_sibling entries rate None = None
+outpaid_sibling entries rate (Some txid) = outpaid_by rate (entry_by_txid entries txid)
+
+-- the first such entry, input by input, or else such a sibling
+abbrev pub outpaid_beside : List Admitted → Option (List ℕ) → ℕ → List TxIn → Option Figures
+outpaid_beside entries sibling rate inputs = option_or (outpaid entries rate inputs) (outpaid_sibling entries rate sibling)
+
+-- the same; none if there is no feerate
+unfoldable pub outpaid_at : List Admitted → Option (List ℕ) → Option ℕ → List TxIn → Option Figures
+outpaid_at entries sibling None inputs = None
+outpaid_at entries sibling (Some rate) inputs = outpaid_beside entries sibling rate inputs
 
 -- ---- fees
 
@@ -206,15 +220,15 @@ pays_above rate gone fee (Some vsize) = Some (Above fee gone (required_fee rate 
 -- ---- families
 
 -- how many ancestors a transaction of this size may have by one of the two tries, itself among them
-abbrev pub allowed_ancestors : Policy → ℕ → ℕ
-allowed_ancestors policy vsize = if nat_le vsize carve_out_size then most_ancestors policy else policy.ancestors
+abbrev pub allowed_ancestors : Policy → Tx → ℕ → ℕ
+allowed_ancestors policy tx vsize = if has_second_try tx vsize then most_ancestors policy else policy.ancestors
 
 -- the transaction's ancestors and itself, if they are too many or too large
-abbrev pub crowded : Policy → List Admitted → Option ℕ → Option Figures
-crowded policy above None = None
-crowded policy above (Some vsize) =
-    if nat_lt (allowed_ancestors policy vsize) (length above + 1)
-    then Some (Ancestors (length above + 1) (allowed_ancestors policy vsize))
+abbrev pub crowded : Policy → Tx → List Admitted → Option ℕ → Option Figures
+crowded policy tx above None = None
+crowded policy tx above (Some vsize) =
+    if nat_lt (allowed_ancestors policy tx vsize) (length above + 1)
+    then Some (Ancestors (length above + 1) (allowed_ancestors policy tx vsize))
     else if nat_lt policy.ancestors_size (size_of above + vsize) then Some (AncestorsSized (size_of above + vsize) policy.ancestors_size) else None
 
 -- ---- verdicts
@@ -231,16 +245,20 @@ doubted verdicts wtxid index (input ∷ inputs) =
 
 -- ---- the whole
 
+-- the id of the sibling that a transaction evicts
+abbrev pub sibling_in : Standing → Tx → Option (List ℕ)
+sibling_in over tx = sibling_of First over.policy over.entries tx
+
 -- the figures of the rules on what a transaction pays and for what size
 unfoldable pub paying_figures : Standing → Tx → Denial → Option Figures
 paying_figures over tx InBelowOut = Some (Balance (coins_at over.chain over.entries tx) (outputs_value tx))
 paying_figures over tx TooManySigops = Some (Costs (cost_at over.chain over.entries tx))
 paying_figures over tx MempoolMinFee = pays (feerate_by over.policy over.floor) (fee_at over.chain over.entries tx) (vsize_at over.policy.sigop_size over.chain over.entries tx)
 paying_figures over tx MinRelayFee = pays (relay_feerate over.policy) (fee_at over.chain over.entries tx) (vsize_at over.policy.sigop_size over.chain over.entries tx)
-paying_figures over tx TooLongChain = crowded over.policy (ancestors_above over.entries tx.inputs) (vsize_at over.policy.sigop_size over.chain over.entries tx)
-paying_figures over tx LowerFeeRate = outpaid_at over.entries (rate_at (fee_at over.chain over.entries tx) (vsize_at over.policy.sigop_size over.chain over.entries tx)) tx.inputs
-paying_figures over tx LowerFee = Some (Pays (fee_at over.chain over.entries tx) (fees_of (replaced_of over.entries tx)))
-paying_figures over tx LowerDifference = pays_above (incremental_feerate over.policy) (fees_of (replaced_of over.entries tx)) (fee_at over.chain over.entries tx) (vsize_at over.policy.sigop_size over.chain over.entries tx)
+paying_figures over tx TooLongChain = crowded over.policy tx (ancestors_above over.entries tx.inputs) (vsize_at over.policy.sigop_size over.chain over.entries tx)
+paying_figures over tx LowerFeeRate = outpaid_at over.entries (sibling_in over tx) (rate_at (fee_at over.chain over.entries tx) (vsize_at over.policy.sigop_size over.chain over.entries tx)) tx.inputs
+paying_figures over tx LowerFee = Some (Pays (fee_at over.chain over.entries tx) (fees_of (replaced_beside over.entries (sibling_in over tx) tx)))
+paying_figures over tx LowerDifference = pays_above (incremental_feerate over.policy) (fees_of (replaced_beside over.entries (sibling_in over tx) tx)) (fee_at over.chain over.entries tx) (vsize_at over.policy.sigop_size over.chain over.entries tx)
 paying_figures over tx other = None
 
 -- the figures by which a rule denies a transaction; a rule without figures has none
@@ -253,13 +271,13 @@ figures_of over tx DataCarrier = data_past_total over.policy.standards.data_tota
 figures_of over tx BelowDust = dust over.policy.standards.dust_rate 0 tx.outputs
 figures_of over tx TxSizeSmall = Some (Small (stripped_size_of tx) over.policy.standards.least_size)
 figures_of over tx NonFinal = Some (Final tx.locktime (tip_of over.chain + 1) (median_at over.chain (tip_of over.chain)))
-figures_of over tx MempoolConflict = non_signalling over.entries 0 tx.inputs
+figures_of over tx MempoolConflict = non_signalling over.policy.standards.truc over.entries 0 tx.inputs
 figures_of over tx MissingOrSpent = coinless over.chain over.entries 0 tx.inputs
 figures_of over tx NonBip68Final = locked over.chain over.entries 0 tx.inputs
 figures_of over tx NonstandardInputs = nonstandard_inputs over.policy (reported tx.inputs (coins_of over.chain over.entries tx.inputs))
 figures_of over tx WitnessNonstandard = nonstandard_witness over.policy.anchors 0 (reported tx.inputs (coins_of over.chain over.entries tx.inputs))
 figures_of over tx PrematureSpend = young over.chain over.entries 0 tx.inputs
-figures_of over tx TooManyReplacements = Some (Descendants (descendant_count over.entries (conflicts_of over.entries tx)))
+figures_of over tx TooManyReplacements = Some (Descendants (descendant_count over.entries (counted_of over.entries (sibling_in over tx) tx)))
 figures_of over tx VerdictMissing = doubted over.verdicts (wtxid_of tx) 0 tx.inputs
 figures_of over tx SoftVerdict = doubted over.verdicts (wtxid_of tx) 0 tx.inputs
 figures_of over tx HardVerdict = doubted over.verdicts (wtxid_of tx) 0 tx.inputs

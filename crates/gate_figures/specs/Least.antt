@@ -10,6 +10,7 @@ use Rattle.gate_admit.specs.Limits.{limit_rules}
 use Rattle.gate_admit.specs.Policies.{Policy, incremental_feerate}
 use Rattle.gate_admit.specs.Rules.{fee_rules}
 use Rattle.gate_admit.specs.Standing.{Standing}
+use Rattle.gate_admit.specs.Truc.{sibling_of}
 use Rattle.gate_figures.specs.Figures.{vsize_at}
 
 -- none of these rules fails
@@ -19,7 +20,8 @@ passes rules = is_none (first_failing rules)
 -- A34 to A42, over a pool with this floor, on a transaction of this size that pays this fee
 abbrev pub fee_side : Policy → ℕ → List Admitted → Tx → ℕ → ℕ → List (Rule Denial)
 fee_side policy floor entries tx vsize fee =
-    fee_rules policy floor fee vsize ++ (limit_rules First policy entries tx vsize ++ replacement_rules (incremental_feerate policy) policy.parents entries tx fee vsize)
+    fee_rules policy tx floor fee vsize
+    ++ (limit_rules First policy entries tx vsize ++ replacement_rules (incremental_feerate policy) policy.parents entries (sibling_of First policy entries tx) tx fee vsize)
 
 -- what is found of a test of fees: a number, if the fees that pass are exactly those from it on; none, if no fee passes that 64 bits
 -- hold

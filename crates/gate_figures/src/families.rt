@@ -1,50 +1,54 @@
 //! The families of a transaction: its ancestors, and what it would replace.
 ghost use Rattle.std.specs.Prelude.{◌≡◌, Bool, IfOk, filter, length};
-ghost use Rattle.gate_pool.specs.Family.{AreIdsOf, OfThese, ancestors_above, conflicts_of, descendants_of, fees_of, replaced_of};
+ghost use Rattle.gate_pool.specs.Family.{AreIdsOf, OfThese, ancestors_above, descendants_of, fees_of};
+ghost use Rattle.gate_pool.specs.Counting.{counted_of, replaced_beside};
 ghost use Rattle.gate_pool.specs.Pool.{Admitted};
 ghost use Rattle.gate_pool.specs.Search.{IsEntry};
 ghost use Rattle.gate_rbf.specs.Replacing.{descendant_count};
+ghost use Rattle.gate_admit.specs.declared.attempt.Attempt.TheVariants.{First};
+ghost use Rattle.gate_admit.specs.Truc.{sibling_of};
 ghost use Rattle.gate_figures.specs.Figures.{allowed_ancestors, crowded};
 
 use crate::figures::Figures;
-use gate_admit::{CARVE_OUT_VSIZE, Policy, Pool};
+use crate::room::has_second_try;
+use gate_admit::{Policy, Pool, sibling};
 use gate_bytes::Memory;
 use gate_pool::{add_up, ancestors, descendants};
 use gate_rbf::conflicts;
-use gate_tx::{Transaction, TxIn, Txid};
+use gate_tx::{Transaction, Txid};
 use std::alloc::Global;
 use std::hash::BuildHasher;
 
 /// How many ancestors a transaction of this size may have, itself among them: a small transaction may have a parent in
-/// any case, by the second try.
-fn allowed_ancestors(policy: &Policy, vsize: u64) -> usize
-    ensures { result ≡ allowed_ancestors policy.now vsize }
+/// any case, by the second try, unless it is of version 3.
+fn allowed_ancestors(policy: &Policy, tx: &Transaction, vsize: u64) -> usize
+    ensures { result ≡ allowed_ancestors policy.now tx.now vsize }
 {
-    if vsize <= CARVE_OUT_VSIZE {
+    if has_second_try(tx, vsize) {
         policy.ancestors().max(2)
     } else {
         policy.ancestors()
     }
 }
 
-/// The ancestors of a transaction with these inputs, and itself, if they are too many or too large.
+/// The ancestors of a transaction, and itself, if they are too many or too large.
 pub(crate) fn crowded<S: BuildHasher + Copy + Drop>(
     alloc: Global,
     policy: &Policy,
     pool: &Pool<S>,
-    inputs: &[TxIn],
+    tx: &Transaction,
     vsize: Option<u64>,
 ) -> Result<Option<Figures>, Memory>
-    ensures { IfOk result (λ found. found ≡ crowded policy.now (ancestors_above pool.now.entries inputs.now) vsize) }
+    ensures { IfOk result (λ found. found ≡ crowded policy.now tx.now (ancestors_above pool.now.entries tx.now.inputs) vsize) }
 {
     let Some(vsize) = vsize else {
         return Ok(None);
     };
-    let found = ancestors(alloc, pool, inputs, pool.count())?;
+    let found = ancestors(alloc, pool, tx.inputs(), pool.count())?;
     let above = found.unwrap();
     let sums = add_up(pool, above.as_slice());
     let count = sums.count as u128 + 1;
-    let most = allowed_ancestors(policy, vsize);
+    let most = allowed_ancestors(policy, tx, vsize);
     if count > most as u128 {
         return Ok(Some(Figures::Ancestors { count, most }));
     }
@@ -56,28 +60,31 @@ pub(crate) fn crowded<S: BuildHasher + Copy + Drop>(
     Ok(None)
 }
 
-/// The ids of the entries that a transaction would replace: those that it conflicts with, and all that is below them.
+/// The ids of the entries that a transaction would replace: those that it conflicts with, the sibling with this id, and
+/// all that is below them.
 pub(crate) fn replaced<S: BuildHasher + Copy + Drop>(
     alloc: Global,
     pool: &Pool<S>,
+    sibling: Option<Txid>,
     tx: &Transaction,
 ) -> Result<Vec<Txid>, Memory>
-    ensures { IfOk result (λ ids. AreIdsOf ids.items (replaced_of pool.now.entries tx.now)) }
+    ensures { IfOk result (λ ids. AreIdsOf ids.items (replaced_beside pool.now.entries sibling tx.now)) }
 {
-    let ids = conflicts(alloc, pool, tx)?;
+    let ids = conflicts(alloc, pool, sibling, tx)?;
     let found = descendants(alloc, pool, ids.as_slice(), pool.count())?;
     Ok(found.unwrap())
 }
 
-/// The total fee of the entries that a transaction would replace, in satoshi.
+/// The total fee of the entries that a transaction would replace, the sibling with this id among them, in satoshi.
 pub(crate) fn fees_gone<S: BuildHasher + Copy + Drop>(
     alloc: Global,
     pool: &Pool<S>,
+    sibling: Option<Txid>,
     tx: &Transaction,
 ) -> Result<u128, Memory>
-    ensures { IfOk result (λ fees. fees ≡ fees_of (replaced_of pool.now.entries tx.now)) }
+    ensures { IfOk result (λ fees. fees ≡ fees_of (replaced_beside pool.now.entries sibling tx.now)) }
 {
-    let gone = replaced(alloc, pool, tx)?;
+    let gone = replaced(alloc, pool, sibling, tx)?;
     Ok(add_up(pool, gone.as_slice()).fees)
 }
 
@@ -103,14 +110,43 @@ fn count_below_all<S: BuildHasher + Copy + Drop>(pool: &Pool<S>, ids: &[Txid]) -
     sum
 }
 
-/// How many descendants the entries that a transaction conflicts with have in total, themselves among them.
-pub(crate) fn descendant_count<S: BuildHasher + Copy + Drop>(
+/// The total fee of the entries that a transaction would replace, its own sibling among them, in satoshi.
+pub(crate) fn fees_replaced<S: BuildHasher + Copy + Drop>(
     alloc: Global,
+    policy: &Policy,
     pool: &Pool<S>,
     tx: &Transaction,
 ) -> Result<u128, Memory>
-    ensures { IfOk result (λ count. count ≡ descendant_count pool.now.entries (conflicts_of pool.now.entries tx.now)) }
+    ensures { IfOk result (λ fees. fees ≡ fees_of (replaced_beside pool.now.entries (sibling_of First policy.now pool.now.entries tx.now) tx.now)) }
 {
-    let ids = conflicts(alloc, pool, tx)?;
+    let sibling = sibling(alloc, policy, pool, tx)?;
+    fees_gone(alloc, pool, sibling, tx)
+}
+
+/// How many descendants the entries that a transaction conflicts with, and the sibling with this id, have in total,
+/// themselves among them.
+pub(crate) fn descendant_count<S: BuildHasher + Copy + Drop>(
+    alloc: Global,
+    pool: &Pool<S>,
+    sibling: Option<Txid>,
+    tx: &Transaction,
+) -> Result<u128, Memory>
+    ensures { IfOk result (λ count. count ≡ descendant_count pool.now.entries (counted_of pool.now.entries sibling tx.now)) }
+{
+    let ids = conflicts(alloc, pool, sibling, tx)?;
     Ok(count_below_all(pool, ids.as_slice()))
+}
+
+/// How many descendants the entries that a transaction conflicts with, and its own sibling, have in total, themselves among
+/// them.
+pub(crate) fn descendants_replaced<S: BuildHasher + Copy + Drop>(
+    alloc: Global,
+    policy: &Policy,
+    pool: &Pool<S>,
+    tx: &Transaction,
+) -> Result<u128, Memory>
+    ensures { IfOk result (λ count. count ≡ descendant_count pool.now.entries (counted_of pool.now.entries (sibling_of First policy.now pool.now.entries tx.now) tx.now)) }
+{
+    let sibling = sibling(alloc, policy, pool, tx)?;
+    descendant_count(alloc, pool, sibling, tx)
 }

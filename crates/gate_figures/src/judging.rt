@@ -9,7 +9,7 @@ ghost use Rattle.gate_figures.specs.Figures.{figures_of, paying_figures};
 
 use crate::coins::{coinless, young};
 use crate::explanation::{Explained, Explanation};
-use crate::families::{crowded, descendant_count, fees_gone};
+use crate::families::{crowded, descendants_replaced, fees_replaced};
 use crate::fees::{Price, pays, pays_above};
 use crate::figures::Figures;
 use crate::locks::locked;
@@ -17,7 +17,7 @@ use crate::outputs::{carriers, data_past, dust, nonstandard};
 use crate::reports::{nonstandard_inputs, nonstandard_witness};
 use crate::rivals::{non_signalling, outpaid_at, rate_at};
 use crate::verdicts::doubted;
-use gate_admit::{Prepared, judge, tip_median};
+use gate_admit::{Prepared, judge, sibling, tip_median};
 use gate_bytes::Memory;
 use gate_core::{Event, State, submission};
 use gate_standard::Denial;
@@ -52,14 +52,18 @@ fn paying_figures<S: BuildHasher + Copy + Drop>(
             price.vsize,
         )),
         Denial::MinRelayFee => Ok(pays(policy.relay_feerate(), price.fee, price.vsize)),
-        Denial::TooLongChain => crowded(alloc, policy, pool, inputs, price.vsize),
-        Denial::LowerFeeRate => Ok(outpaid_at(pool, inputs, rate_at(price.fee, price.vsize))),
+        Denial::TooLongChain => crowded(alloc, policy, pool, transaction, price.vsize),
+        Denial::LowerFeeRate => {
+            let sibling = sibling(alloc, policy, pool, transaction)?;
+            let rate = rate_at(price.fee, price.vsize);
+            Ok(outpaid_at(pool, sibling, inputs, rate))
+        }
         Denial::LowerFee => Ok(Some(Figures::Pays {
             fee: price.fee,
-            needs: fees_gone(alloc, pool, transaction)?,
+            needs: fees_replaced(alloc, policy, pool, transaction)?,
         })),
         Denial::LowerDifference => {
-            let gone = fees_gone(alloc, pool, transaction)?;
+            let gone = fees_replaced(alloc, policy, pool, transaction)?;
             let rate = policy.incremental_feerate();
             Ok(pays_above(rate, gone, price.fee, price.vsize))
         }
@@ -109,7 +113,7 @@ fn figures_of<S: BuildHasher + Copy + Drop>(
             height: chain.tip() + 1,
             median: tip_median(chain),
         })),
-        Denial::MempoolConflict => Ok(non_signalling(pool, inputs)),
+        Denial::MempoolConflict => Ok(non_signalling(standards.truc, pool, inputs)),
         Denial::MissingOrSpent => Ok(coinless(chain, pool, inputs)),
         Denial::VerdictMissing | Denial::SoftVerdict | Denial::HardVerdict => {
             Ok(doubted(state.verdicts(), tx))
@@ -119,7 +123,7 @@ fn figures_of<S: BuildHasher + Copy + Drop>(
         Denial::NonstandardInputs => nonstandard_inputs(alloc, policy, chain, pool, inputs),
         Denial::WitnessNonstandard => nonstandard_witness(alloc, policy, chain, pool, inputs),
         Denial::TooManyReplacements => Ok(Some(Figures::Descendants {
-            count: descendant_count(alloc, pool, transaction)?,
+            count: descendants_replaced(alloc, policy, pool, transaction)?,
         })),
         _ => paying_figures(alloc, state, tx, denial),
     }
@@ -140,8 +144,8 @@ fn figures_for<S: BuildHasher + Copy + Drop>(
     }
 }
 
-/// The grant of a submission, or why it is denied.
-fn explain_submission<S: BuildHasher + Copy + Drop>(
+/// The grant of a submission, or the first rule of the written order that fails, with the figures of its definition.
+pub fn explain_submission<S: BuildHasher + Copy + Drop>(
     alloc: Global,
     state: &State<S>,
     prepared: &Prepared,

@@ -2,6 +2,7 @@
 ghost use Rattle.std.specs.Prelude.{◌≡◌, ◌<◌, ◌≤◌, ◌+◌, ◌^◌, ◌&&◌, ℕ, max, nat_le, nat_lt, Contains, IfOk, IfSome};
 ghost use Rattle.std.specs.List.{list_any};
 ghost use Rattle.gate_tx.specs.Ids.{txid_of};
+ghost use Rattle.gate_tx.specs.Tx.{Tx};
 ghost use Rattle.gate_standard.specs.Amounts.{feerate};
 ghost use Rattle.gate_pool.specs.Pool.{Admitted};
 ghost use Rattle.gate_pool.specs.Family.{OfThese};
@@ -15,7 +16,7 @@ ghost use Rattle.gate_figures.specs.Figures.{vsize_at};
 use crate::families::fees_gone;
 use crate::fees::Price;
 use crate::room::limits_denial;
-use gate_admit::{Entry, Floor, Policy, Pool, Prepared};
+use gate_admit::{Entry, Floor, Policy, Pool, Prepared, sibling};
 use gate_bytes::Memory;
 use gate_core::{Event, State, submission};
 use gate_rbf::{ParentsOf, conflicts, judge_replacement};
@@ -70,7 +71,7 @@ fn fee_over_all<S: BuildHasher + Copy + Drop>(pool: &Pool<S>, ids: &[Txid], vsiz
 
 /// The least fee with which a transaction of this size pays what the pool's floor and every relay ask: A34 and A35.
 fn fee_to_relay(policy: &Policy, floor: &Floor, vsize: u64) -> u128
-    ensures { (fee : ℕ) → passes (fee_rules policy.now floor.now fee vsize) ≡ nat_le result fee }
+    ensures { (tx : Tx) → (fee : ℕ) → passes (fee_rules policy.now tx floor.now fee vsize) ≡ nat_le result fee }
 {
     let by_floor = policy.feerate(floor.rate()).fee(vsize);
     let by_relay = policy.relay_feerate().fee(vsize);
@@ -94,6 +95,7 @@ fn greatest(above: u128, gone: u128, own: u128, paying: u128) -> Option<u64>
 fn may_replace<S: BuildHasher + Copy + Drop>(
     alloc: Global,
     pool: &Pool<S>,
+    sibling: Option<Txid>,
     tx: &Transaction,
     rate: Feerate,
     parents: ParentsOf,
@@ -101,9 +103,9 @@ fn may_replace<S: BuildHasher + Copy + Drop>(
     vsize: u64,
 ) -> Result<bool, Memory>
     requires { 0 < vsize }
-    ensures { IfOk result (λ may. may ≡ passes (replacement_rules rate parents pool.now.entries tx.now fee vsize)) }
+    ensures { IfOk result (λ may. may ≡ passes (replacement_rules rate parents pool.now.entries sibling tx.now fee vsize)) }
 {
-    let found = judge_replacement(alloc, pool, tx, rate, parents, fee, vsize)?;
+    let found = judge_replacement(alloc, pool, sibling, tx, rate, parents, fee, vsize)?;
     Ok(found.is_ok())
 }
 
@@ -112,6 +114,7 @@ fn may_replace<S: BuildHasher + Copy + Drop>(
 fn fee_to_replace<S: BuildHasher + Copy + Drop>(
     alloc: Global,
     pool: &Pool<S>,
+    sibling: &Option<Txid>,
     tx: &Transaction,
     rate: Feerate,
     parents: ParentsOf,
@@ -119,21 +122,21 @@ fn fee_to_replace<S: BuildHasher + Copy + Drop>(
     vsize: u64,
 ) -> Result<Option<u128>, Memory>
     requires { 0 < vsize }
-    ensures { IfOk result (IsLeast (λ fee. nat_le paying fee && passes (replacement_rules rate parents pool.now.entries tx.now fee vsize))) }
+    ensures { IfOk result (IsLeast (λ fee. nat_le paying fee && passes (replacement_rules rate parents pool.now.entries sibling.now tx.now fee vsize))) }
 {
-    let found = conflicts(alloc, pool, tx)?;
+    let found = conflicts(alloc, pool, *sibling, tx)?;
     let ids = found.as_slice();
     if ids.is_empty() {
         return Ok(Some(paying));
     }
     let above = fee_over_all(pool, ids, vsize);
-    let gone = fees_gone(alloc, pool, tx)?;
+    let gone = fees_gone(alloc, pool, *sibling, tx)?;
     let own = rate.fee(vsize);
     let Some(least) = greatest(above, gone, own, paying) else {
         return Ok(None);
     };
     // With this fee the rules on what is replaced that are not about fees decide.
-    let replaces = may_replace(alloc, pool, tx, rate, parents, least, vsize)?;
+    let replaces = may_replace(alloc, pool, *sibling, tx, rate, parents, least, vsize)?;
     if !replaces {
         return Ok(None);
     }
@@ -161,7 +164,17 @@ fn least_fee_at<S: BuildHasher + Copy + Drop>(
     }
     let paying = fee_to_relay(policy, floor, vsize);
     let rate = policy.incremental_feerate();
-    let found = fee_to_replace(alloc, pool, tx, rate, policy.parents(), paying, vsize)?;
+    let sibling = sibling(alloc, policy, pool, tx)?;
+    let found = fee_to_replace(
+        alloc,
+        pool,
+        &sibling,
+        tx,
+        rate,
+        policy.parents(),
+        paying,
+        vsize,
+    )?;
     Ok(found)
 }
 
@@ -181,8 +194,9 @@ fn least_fee_of<S: BuildHasher + Copy + Drop>(
     Ok(found)
 }
 
-/// The least fee of a submission.
-fn least_fee_for<S: BuildHasher + Copy + Drop>(
+/// The least fee, in satoshi, with which a submission would pass A34 to A42, with all else as it is. It is `None` if no fee
+/// helps, for a transaction with too many signature operations (A33), and for bytes that are no transaction.
+pub fn least_fee_for<S: BuildHasher + Copy + Drop>(
     alloc: Global,
     state: &State<S>,
     prepared: &Prepared,

@@ -21,7 +21,7 @@ mod verdicts;
 
 pub use explanation::{Explained, Explanation};
 pub use figures::Figures;
-pub use judging::explain;
+pub use judging::{explain, explain_submission};
 pub use laws::{figures_decide, grants_reach_the_least_fee};
-pub use least::least_fee;
+pub use least::{least_fee, least_fee_for};
 pub use relating::{Relatives, relatives_in};

@@ -5,7 +5,7 @@ ghost use Rattle.gate_core.specs.World.{standing_of};
 ghost use Rattle.gate_figures.specs.Relatives.{AreRelatives, RelativesFound};
 
 use crate::families::replaced;
-use gate_admit::Pool;
+use gate_admit::{Policy, Pool, sibling};
 use gate_bytes::Memory;
 use gate_core::{Event, State, submission};
 use gate_pool::parents;
@@ -19,7 +19,7 @@ use std::hash::BuildHasher;
 pub struct Relatives {
     /// Those that spend an outpoint that it spends.
     pub conflicts: Vec<Txid>,
-    /// Those that it would replace: the conflicts, and all that is below them.
+    /// Those that it would replace: the conflicts, its sibling, and all that is below them.
     pub replaced: Vec<Txid>,
     /// Those whose outputs it spends.
     pub parents: Vec<Txid>,
@@ -27,14 +27,16 @@ pub struct Relatives {
 
 fn relatives_of<S: BuildHasher + Copy + Drop>(
     alloc: Global,
+    policy: &Policy,
     pool: &Pool<S>,
     tx: &Transaction,
 ) -> Result<Relatives, Memory>
-    ensures { IfOk result (AreRelatives pool.now.entries tx.now) }
+    ensures { IfOk result (AreRelatives policy.now pool.now.entries tx.now) }
 {
+    let sibling = sibling(alloc, policy, pool, tx)?;
     Ok(Relatives {
-        conflicts: conflicts(alloc, pool, tx)?,
-        replaced: replaced(alloc, pool, tx)?,
+        conflicts: conflicts(alloc, pool, None, tx)?,
+        replaced: replaced(alloc, pool, sibling, tx)?,
         parents: parents(alloc, pool, tx.inputs())?,
     })
 }
@@ -46,7 +48,7 @@ pub fn relatives_in<S: BuildHasher + Copy + Drop>(
     state: &State<S>,
     event: &Event,
 ) -> Result<Option<Relatives>, Memory>
-    ensures { IfOk result (RelativesFound (standing_of state.now).entries (submission_of event.now)) }
+    ensures { IfOk result (RelativesFound (standing_of state.now) (submission_of event.now)) }
 {
     let Some(prepared) = submission(event) else {
         return Ok(None);
@@ -54,7 +56,7 @@ pub fn relatives_in<S: BuildHasher + Copy + Drop>(
     match prepared.candidate() {
         Some(candidate) => {
             let tx = candidate.identified().get().transaction();
-            Ok(Some(relatives_of(alloc, state.pool(), tx)?))
+            Ok(Some(relatives_of(alloc, state.policy(), state.pool(), tx)?))
         }
         None => Ok(None),
     }

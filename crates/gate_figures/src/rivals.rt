@@ -1,21 +1,22 @@
 //! The entries that conflict with a transaction, and that it can't replace.
 ghost use Rattle.std.specs.Prelude.{◌≡◌, ◌<◌, IfSome};
 ghost use Rattle.std.specs.Option.{option_copied};
-ghost use Rattle.gate_figures.specs.Figures.{non_signalling, non_signalling_by, outpaid, outpaid_at, outpaid_by, rate_at};
+ghost use Rattle.gate_figures.specs.Figures.{non_signalling, non_signalling_by, outpaid, outpaid_at, outpaid_beside, outpaid_by, outpaid_sibling, rate_at};
 
 use crate::figures::Figures;
 use gate_admit::{Entry, Pool};
-use gate_rbf::signals;
+use gate_rbf::is_replaceable;
 use gate_standard::rate_of;
-use gate_tx::TxIn;
+use gate_tx::{TxIn, Txid};
 use std::hash::BuildHasher;
 
-/// The entry that spends the outpoint of this input, if it doesn't signal that it may be replaced.
-fn non_signalling_by(input: usize, spender: Option<&Entry>) -> Option<Figures>
-    ensures { result ≡ non_signalling_by input (option_copied spender.entry) }
+/// The entry that spends the outpoint of this input, if it doesn't say that it may be replaced, where version 3 is standard
+/// or isn't.
+fn non_signalling_by(truc: bool, input: usize, spender: Option<&Entry>) -> Option<Figures>
+    ensures { result ≡ non_signalling_by truc input (option_copied spender.entry) }
 {
     let entry = spender?;
-    if signals(entry.transaction()) {
+    if is_replaceable(truc, entry.transaction()) {
         return None;
     }
     Some(Figures::Spent {
@@ -24,15 +25,17 @@ fn non_signalling_by(input: usize, spender: Option<&Entry>) -> Option<Figures>
     })
 }
 
-/// The first input whose outpoint is spent by an entry that doesn't signal that it may be replaced.
+/// The first input whose outpoint is spent by an entry that doesn't say that it may be replaced, where version 3 is
+/// standard or isn't.
 pub(crate) fn non_signalling<S: BuildHasher + Copy + Drop>(
+    truc: bool,
     pool: &Pool<S>,
     inputs: &[TxIn],
 ) -> Option<Figures>
-    ensures { result ≡ non_signalling pool.now.entries 0 inputs.now }
+    ensures { result ≡ non_signalling truc pool.now.entries 0 inputs.now }
 {
     for input in 0..inputs.len() {
-        if let Some(found) = non_signalling_by(input, pool.spender(&inputs[input].prevout)) {
+        if let Some(found) = non_signalling_by(truc, input, pool.spender(&inputs[input].prevout)) {
             return Some(found);
         }
     }
@@ -84,14 +87,45 @@ fn outpaid<S: BuildHasher + Copy + Drop>(
     None
 }
 
-/// The first entry, input by input, that conflicts and pays at least this feerate; `None` if there is no feerate.
+/// The sibling with this id, if it pays at least this feerate.
+fn outpaid_sibling<S: BuildHasher + Copy + Drop>(
+    pool: &Pool<S>,
+    sibling: Option<Txid>,
+    rate: u128,
+) -> Option<Figures>
+    ensures { result ≡ outpaid_sibling pool.now.entries rate sibling }
+{
+    match sibling {
+        Some(txid) => outpaid_by(rate, pool.entry(&txid)),
+        None => None,
+    }
+}
+
+/// The first entry, input by input, that conflicts and pays at least this feerate, or else the sibling with this id, if it
+/// does.
+fn outpaid_beside<S: BuildHasher + Copy + Drop>(
+    pool: &Pool<S>,
+    sibling: Option<Txid>,
+    inputs: &[TxIn],
+    rate: u128,
+) -> Option<Figures>
+    ensures { result ≡ outpaid_beside pool.now.entries sibling rate inputs.now }
+{
+    match outpaid(pool, inputs, rate) {
+        Some(found) => Some(found),
+        None => outpaid_sibling(pool, sibling, rate),
+    }
+}
+
+/// What `outpaid_beside` finds at this feerate; `None` if there is no feerate.
 #[tactic(auto, unfolding(crate::specs::Figures::outpaid_at))]
 pub(crate) fn outpaid_at<S: BuildHasher + Copy + Drop>(
     pool: &Pool<S>,
+    sibling: Option<Txid>,
     inputs: &[TxIn],
     rate: Option<u128>,
 ) -> Option<Figures>
-    ensures { result ≡ outpaid_at pool.now.entries rate inputs.now }
+    ensures { result ≡ outpaid_at pool.now.entries sibling rate inputs.now }
 {
-    outpaid(pool, inputs, rate?)
+    outpaid_beside(pool, sibling, inputs, rate?)
 }

@@ -1,19 +1,20 @@
-//! Whether a transaction has room beside its families, and doesn't descend from what it would replace: A36 and A37.
+//! Whether a transaction has room beside its families, keeps to those of version 3, and doesn't descend from what it would
+//! replace: A36, A47 and A37.
 ghost use Rattle.std.specs.Prelude.{◌≡◌, ◌<◌, ◌≤◌, ◌^◌, None, IfOk, IfSome, length, max, Contains};
 ghost use Rattle.std.specs.List.{list_all};
 ghost use Rattle.gate_bytes.specs.Order.{first_failing};
 ghost use Rattle.gate_tx.specs.Ids.{txid_of};
 ghost use Rattle.gate_pool.specs.Pool.{Admitted};
 ghost use Rattle.gate_pool.specs.Family.{ancestors_above, conflicts_of, sums_of, AreIdsOf, OfThese};
-ghost use Rattle.gate_admit.specs.Limits.{usual_limits, grown, is_within, fits_families, has_room_below, limit_rules};
+ghost use Rattle.gate_admit.specs.Limits.{usual_limits, grown, is_within, fits_families, has_room_below, has_second_try, limit_rules};
 ghost use Rattle.gate_admit.specs.declared.attempt.Attempt.TheVariants.{First};
 ghost use Rattle.gate_figures.specs.Rooms.{limits_by};
 
-use gate_admit::{CARVE_OUT_VSIZE, Policy, Pool};
+use gate_admit::{CARVE_OUT_VSIZE, Policy, Pool, is_truc_violation};
 use gate_bytes::Memory;
 use gate_pool::{Above, family_above};
 use gate_rbf::DirectConflicts;
-use gate_standard::Denial;
+use gate_standard::{Denial, is_truc};
 use gate_tx::{Transaction, Txid};
 use std::alloc::Global;
 use std::hash::BuildHasher;
@@ -119,7 +120,14 @@ fn is_within<S: BuildHasher + Copy + Drop>(
     each_has_room(pool, &above.ids, vsize, room)
 }
 
-/// Whether one of the two tries of A36 succeeds; only a small transaction has a second one.
+/// Whether a transaction of this size has a second try: a small one, unless it is of version 3.
+pub(crate) fn has_second_try(tx: &Transaction, vsize: u64) -> bool
+    ensures { result ≡ has_second_try tx.now vsize }
+{
+    vsize <= CARVE_OUT_VSIZE && !is_truc(tx)
+}
+
+/// Whether one of the two tries of A36 succeeds; not every transaction has a second one.
 fn fits_families<S: BuildHasher + Copy + Drop>(
     policy: &Policy,
     direct: &DirectConflicts<'_, S>,
@@ -136,7 +144,7 @@ fn fits_families<S: BuildHasher + Copy + Drop>(
     if is_within(pool, above, vsize, room) {
         return true;
     }
-    if vsize > CARVE_OUT_VSIZE {
+    if !has_second_try(direct.transaction(), vsize) {
         return false;
     }
     let carved_out = Room {
@@ -171,7 +179,7 @@ fn most_ancestors(policy: &Policy) -> usize
     policy.ancestors().max(2)
 }
 
-/// The first of A36 and A37 that fails beside these conflicts.
+/// The first of A36, A47 and A37 that fails beside these conflicts.
 #[tactic(auto, unfolding(gate_admit::specs::Limits::limit_rules))]
 fn denial_beside<S: BuildHasher + Copy + Drop>(
     alloc: Global,
@@ -188,13 +196,16 @@ fn denial_beside<S: BuildHasher + Copy + Drop>(
     if !fits_families(policy, direct, &above, vsize) {
         return Ok(Some(Denial::TooLongChain));
     }
+    if is_truc_violation(alloc, policy, direct.pool(), direct.transaction(), vsize)? {
+        return Ok(Some(Denial::TrucViolation));
+    }
     if direct.has_one_of(&above.ids) {
         return Ok(Some(Denial::SpendsConflicting));
     }
     Ok(None)
 }
 
-/// The first of A36 and A37 that fails for a transaction of this size.
+/// The first of A36, A47 and A37 that fails for a transaction of this size.
 pub(crate) fn limits_denial<S: BuildHasher + Copy + Drop>(
     alloc: Global,
     policy: &Policy,

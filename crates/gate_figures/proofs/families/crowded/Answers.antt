@@ -17,5 +17,5 @@ unwrap-above-requires g c =
       arith,
       c.in_ok-found.ensures.many none,
       c.count.ensures,
-      shorter (λ (e : Admitted). list_any (λ (i : TxIn). reaches (steps entries) (txid_of e.tx) i.prevout.txid) c.args.inputs.now) entries,
+      shorter (λ (e : Admitted). list_any (λ (i : TxIn). reaches (steps entries) (txid_of e.tx) i.prevout.txid) c.inputs.result.now) entries,
     )))

@@ -7,9 +7,9 @@ use Rattle.gate_figures.proofs.Passing.{payment_asks}
 use Rattle.gate_figures.proofs.least.fee_to_relay.Goals as goal
 
 pub returns : goal.returns
-returns c = λ fee.
+returns c = λ tx fee.
     let by_floor : c.fee-by_floor.result ≡ required_fee (feerate_by c.args.policy.now c.args.floor.now) c.args.vsize =
     c.fee-by_floor.ensures ∙ ap (λ (r : Feerate). required_fee r c.args.vsize) (c.feerate.ensures ∙ ap (feerate_by c.args.policy.now) c.rate.ensures) in
     let by_relay : c.fee-by_relay.result ≡ required_fee (relay_feerate c.args.policy.now) c.args.vsize =
     c.fee-by_relay.ensures ∙ ap (λ (r : Feerate). required_fee r c.args.vsize) c.relay_feerate.ensures in
-    payment_asks c.args.policy.now c.args.floor.now c.args.vsize fee ∙ ap (λ (n : ℕ). nat_le n fee) (sym (c.max.ensures ∙ (λ i. max (by_floor i) (by_relay i))))
+    payment_asks c.args.policy.now tx c.args.floor.now c.args.vsize fee ∙ ap (λ (n : ℕ). nat_le n fee) (sym (c.max.ensures ∙ (λ i. max (by_floor i) (by_relay i))))
