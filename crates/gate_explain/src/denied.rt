@@ -3,7 +3,7 @@ use gate_bytes::Memory;
 use gate_causes::call_cause;
 use gate_lines::read_number;
 use gate_message::{Event, PeerDenial, Reply};
-use gate_rpc::{RpcError, RpcReply, RpcResult};
+use gate_rpc::{Outcome, RpcError, RpcReply, RpcResult};
 use gate_standard::Denial;
 use std::alloc::Global;
 use std::fmt;
@@ -18,6 +18,11 @@ pub(crate) struct RuleName {
 impl RuleName {
     fn new(layer: &'static str, number: u8) -> RuleName {
         RuleName { layer, number }
+    }
+
+    /// The name of a rule of admission.
+    pub(crate) fn of_admission(denial: Denial) -> RuleName {
+        RuleName::new("A", denial.rule())
     }
 
     /// Whether this text is the name.
@@ -78,7 +83,7 @@ fn denied_rule(denial: &PeerDenial) -> RuleName {
         PeerDenial::HeadersDuringDownload => RuleName::new("P", 8),
         PeerDenial::UnknownBlock => RuleName::new("P", 9),
         PeerDenial::HistoricalUploadTarget => RuleName::new("P", 10),
-        PeerDenial::Admission(denial) => RuleName::new("A", denial.rule()),
+        PeerDenial::Admission(denial) => RuleName::of_admission(*denial),
     }
 }
 
@@ -86,7 +91,7 @@ fn denied_rule(denial: &PeerDenial) -> RuleName {
 fn answered_rule(answer: &RpcReply) -> Option<RuleName> {
     match answer {
         RpcReply::NotAllowed => Some(RuleName::new("U", 1)),
-        _ => Some(RuleName::new("A", denial_of_call(answer)?.rule())),
+        _ => Some(RuleName::of_admission(denial_of_call(answer)?)),
     }
 }
 
@@ -97,6 +102,20 @@ pub(crate) fn rule_in(reply: &Reply) -> Option<RuleName> {
         Reply::Refused(denial) => Some(RuleName::new("C", denial.rule())),
         Reply::Rpc(answer) => answered_rule(answer.get()),
         _ => None,
+    }
+}
+
+/// What would become of each transaction of a list, if a reply says it of several.
+pub(crate) fn outcomes_in(reply: &Reply) -> &[Outcome] {
+    match reply {
+        Reply::Rpc(answer) => match answer.get() {
+            RpcReply::Answer {
+                result: RpcResult::Outcomes(outcomes),
+                ..
+            } => outcomes.get().as_slice(),
+            _ => &[],
+        },
+        _ => &[],
     }
 }
 

@@ -1,10 +1,10 @@
 //! The totals of the events of a run, by their replies.
 use crate::counted_noun::CountedNoun;
-use crate::denied::{RuleName, rule_in};
+use crate::denied::{RuleName, outcomes_in, rule_in};
 use gate_bytes::Memory;
 use gate_figures::Explained;
 use gate_message::{Event, Reply};
-use gate_rpc::{RpcReply, RpcResult};
+use gate_rpc::{Outcome, RpcReply, RpcResult};
 use gate_rules::rules;
 use std::alloc::Global;
 use std::cell::Cell;
@@ -138,7 +138,8 @@ impl EventTotals {
         self.events.get()
     }
 
-    /// Counts an event by its reply. How many entries a user's transaction replaced is known from the explanation alone.
+    /// Counts an event by its reply, and each transaction that a list was denied. How many entries a user's transaction
+    /// replaced is known from the explanation alone.
     pub(crate) fn count(&self, event: &Event, explained: &Option<Explained>, reply: &Reply) {
         add(&self.events, 1);
         self.learning.count(event, reply);
@@ -147,8 +148,12 @@ impl EventTotals {
             add(&self.replaced, replaced_by(explained, reply));
         }
         if let Some(rule) = rule_in(reply) {
-            add(&self.denied, 1);
             self.count_rule(rule);
+        }
+        for outcome in outcomes_in(reply) {
+            if let Outcome::Rejected { denial, .. } = outcome {
+                self.count_rule(RuleName::of_admission(*denial));
+            }
         }
     }
 
@@ -158,7 +163,9 @@ impl EventTotals {
         add(&self.faults, 1);
     }
 
+    /// Counts a denial by this rule.
     fn count_rule(&self, rule: RuleName) {
+        add(&self.denied, 1);
         for count in self.counts.as_slice() {
             if rule.is(count.rule) {
                 add(&count.times, 1);

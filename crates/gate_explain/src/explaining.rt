@@ -1,16 +1,18 @@
 //! Who looks on at `gate run --explain`, and speaks on standard error.
 use crate::counted_noun::CountedNoun;
+use crate::denied::outcomes_in;
 use crate::event_totals::EventTotals;
 use crate::moves::{reason_to_enter, reason_to_leave, second_of};
-use crate::object::reply_object;
+use crate::object::{listed_object, reply_object};
 use crate::progress::Progress;
 use crate::sight::Sight;
 use crate::telling::Telling;
-use crate::told::reply_told;
+use crate::told::{Told, reply_told};
 use gate_bytes::Memory;
 use gate_causes::ReportForm;
 use gate_core::State;
 use gate_message::{Event, Reply};
+use gate_rpc::Outcome;
 use gate_run::Onlooker;
 use gate_tx::Txid;
 use std::alloc::Global;
@@ -137,6 +139,48 @@ impl<T: Eprint> Explaining<'_, T> {
         }
     }
 
+    /// Says why a transaction of a list would be denied: the one at this place of so many.
+    fn tell_denied<S: BuildHasher + Copy + Drop>(
+        &self,
+        state: &State<S>,
+        place: usize,
+        count: usize,
+        txid: &Txid,
+        told: &Told,
+    ) -> Result<(), Memory> {
+        let line = self.telling.position.line();
+        let number = (place as u64).saturating_add(1);
+        match self.telling.form {
+            ReportForm::Words => {
+                let text = told.text(self.alloc, state)?;
+                let _written = eprintln!(self.rt;
+                    "gate: line {line}: transaction {number} of {count}: {text}"
+                );
+            }
+            ReportForm::Json => {
+                let object = listed_object(self.alloc, line, number, txid, state, told)?;
+                let _written = eprintln!(self.rt; "{object}");
+            }
+        }
+        Ok(())
+    }
+
+    /// Says of each transaction of a list why it would be denied, if it would.
+    fn tell_listed<S: BuildHasher + Copy + Drop>(
+        &self,
+        state: &State<S>,
+        sight: &Sight,
+        reply: &Reply,
+    ) {
+        let outcomes = outcomes_in(reply);
+        for (place, outcome) in outcomes.iter().enumerate() {
+            if let Outcome::Rejected { txid, denial, .. } = outcome {
+                let told = sight.listed(place, *denial);
+                let _told = self.tell_denied(state, place, outcomes.len(), txid, &told);
+            }
+        }
+    }
+
     /// Says what is said of a reply.
     fn tell_reply<S: BuildHasher + Copy + Drop>(
         &self,
@@ -184,6 +228,7 @@ impl<S: BuildHasher + Copy + Drop, T: Clock + Eprint> Onlooker<S> for Explaining
         };
         self.totals.count(event, &sight.explained, reply);
         self.tell_reply(state, &sight, event, reply);
+        self.tell_listed(state, &sight, reply);
         self.tell_moves(state, &sight, event);
     }
 

@@ -10,6 +10,7 @@ mod denied;
 mod event_totals;
 mod explaining;
 mod figure_fields;
+mod listed;
 mod moves;
 mod object;
 mod progress;

@@ -1,9 +1,10 @@
 //! What helps a submission that is denied.
 use gate_bytes::Memory;
-use gate_core::State;
-use gate_figures::{Explained, least_fee};
+use gate_core::{State, submission};
+use gate_figures::{Explained, least_fee_for};
 use gate_message::Event;
 use gate_standard::Denial;
+use gate_submission::Prepared;
 use std::alloc::Global;
 use std::fmt;
 use std::hash::BuildHasher;
@@ -21,11 +22,11 @@ pub(crate) enum Remedy {
 }
 
 impl Remedy {
-    /// What helps the submission of an event that is denied by this rule, over the state before the event.
-    fn of<S: BuildHasher + Copy + Drop>(
+    /// What helps a submission that is denied by this rule over this state.
+    pub(crate) fn of<S: BuildHasher + Copy + Drop>(
         alloc: Global,
         state: &State<S>,
-        event: &Event,
+        prepared: &Prepared,
         denial: Denial,
     ) -> Result<Remedy, Memory> {
         match denial {
@@ -33,11 +34,12 @@ impl Remedy {
             | Denial::MinRelayFee
             | Denial::LowerFeeRate
             | Denial::LowerFee
-            | Denial::LowerDifference => match least_fee(alloc, state, event)? {
+            | Denial::LowerDifference => match least_fee_for(alloc, state, prepared)? {
                 Some(fee) => Ok(Remedy::Fee(fee)),
                 None => Ok(Remedy::NoFee),
             },
             Denial::TooLongChain
+            | Denial::TrucViolation
             | Denial::SpendsConflicting
             | Denial::TooManyReplacements
             | Denial::AddsUnconfirmed => Ok(Remedy::NoFee),
@@ -53,9 +55,9 @@ impl Remedy {
         event: &Event,
         explained: &Option<Explained>,
     ) -> Remedy {
-        match explained {
-            Some(Err(explanation)) => {
-                match Remedy::of(alloc, state, event, explanation.denial) {
+        match (explained, submission(event)) {
+            (Some(Err(explanation)), Some(prepared)) => {
+                match Remedy::of(alloc, state, prepared, explanation.denial) {
                     Ok(remedy) => remedy,
                     Err(_) => Remedy::Unknown,
                 }

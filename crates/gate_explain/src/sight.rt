@@ -1,9 +1,12 @@
 //! What is kept from before an event until after its reply.
+use crate::listed::{Listed, all_listed};
 use crate::remedy::Remedy;
+use crate::told::Told;
 use gate_bytes::Memory;
 use gate_core::State;
 use gate_figures::{Explained, Relatives, explain, relatives_in};
 use gate_message::Event;
+use gate_standard::Denial;
 use std::alloc::Global;
 use std::hash::BuildHasher;
 
@@ -14,6 +17,8 @@ pub struct Sight {
     pub(crate) explained: Option<Explained>,
     /// What helps the transaction, if it will be denied.
     pub(crate) remedy: Remedy,
+    /// What is known of each transaction of the list that the event asks about; empty for any other event.
+    pub(crate) listed: Vec<Listed>,
     /// The entries that this transaction has to do with, if somebody asks for them.
     pub(crate) relatives: Option<Relatives>,
     /// The virtual size of the pool.
@@ -41,11 +46,23 @@ impl Sight {
             None
         };
         let explained = found(explain(alloc, state, event));
+        let listed = match all_listed(alloc, state, event) {
+            Ok(listed) => listed,
+            Err(_) => Vec::new(alloc),
+        };
         Sight {
+            listed,
             remedy: Remedy::for_event(alloc, state, event, &explained),
             explained,
             relatives,
             pool_size: state.pool().size(),
+        }
+    }
+    /// What is known of the rule that denies the transaction at this place of the list.
+    pub(crate) fn listed(&self, place: usize, denial: Denial) -> Told {
+        match self.listed.as_slice().get(place) {
+            Some(listed) => listed.told(denial),
+            None => Listed::unknown().told(denial),
         }
     }
 }
