@@ -5,12 +5,14 @@ _gate() {
     ((COMP_CWORD > 1)) || command=
     case "$command ${COMP_WORDS[COMP_CWORD - 1]}" in
         "try --coin") words="" ;;
+        "try --psbt") mapfile -t COMPREPLY < <(compgen -f -- "$word") ;;
+        "try --height") words="" ;;
         "try --policy") words="core-22 core-25 core-26 core-27 core-28 core-29 core-30 knots-29" ;;
         "try --set") words="" ;;
         "try --tip") words="" ;;
         "try --time") words="" ;;
         "try --verdict") words="ok soft hard" ;;
-        "try "*) words="- --coin --policy --set --tip --time --verdict --json --help" ;;
+        "try "*) words="- --coin --psbt --height --policy --set --tip --time --verdict --json --help" ;;
         "check "*) words="- --help" ;;
         "run "*)
             words="--explain --explain-json --strict --help"

@@ -12,6 +12,8 @@ complete -c gate -n '__fish_use_subcommand' -a help -d 'Print this message or th
 complete -c gate -s h -l help -d 'Print help'
 complete -c gate -n '__fish_use_subcommand' -s V -l version -d 'Print version'
 complete -c gate -n '__fish_seen_subcommand_from try' -l coin -x -d 'A coin that they spend'
+complete -c gate -n '__fish_seen_subcommand_from try' -l psbt -r -F -d 'A PSBT (BIP 174)'
+complete -c gate -n '__fish_seen_subcommand_from try' -l height -x -d 'The height of the PSBT\'s coins'
 complete -c gate -n '__fish_seen_subcommand_from try' -l policy -x -a 'core-22 core-25 core-26 core-27 core-28 core-29 core-30 knots-29' -d 'The release whose policy decides'
 complete -c gate -n '__fish_seen_subcommand_from try' -l set -x -d 'A setting of the policy'
 complete -c gate -n '__fish_seen_subcommand_from try' -l tip -x -d 'The height of the chain\'s last block'

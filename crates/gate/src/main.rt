@@ -9,8 +9,8 @@ use gate_causes::{
 };
 use gate_explain::{AuditExplaining, Explaining, Telling};
 use gate_prog::{
-    ArgsFault, Explain, Job, LaneFault, OutcomeRecorder, Source, Trial, TrialFault, read_args,
-    read_trial, run_audit, run_gate, run_job, trial_job,
+    ArgsFault, Explain, Job, LaneFault, OutcomeRecorder, PsbtFault, Source, Trial, TrialFault,
+    decode_psbt, read_args, read_psbt, read_trial, run_audit, run_gate, run_job, trial_job,
 };
 use std::alloc::{AllocError, AllocFailed, Global};
 use std::fs::Files;
@@ -413,15 +413,19 @@ fn explained_word(alloc: Global, args: &[String]) -> Result<Option<String>, Allo
     Ok(Some(word))
 }
 
-/// The most bytes that are read of transactions on standard input.
+/// The most bytes that are read of transactions on standard input, or of a PSBT.
 const MAX_INPUT: usize = 1 << 30;
 
 /// All that standard input has.
 fn whole_input<R: AllocGlobal + Input>(rt: &R) -> Result<Vec<u8>, Fault> {
-    let alloc = rt.alloc();
-    let Ok(mut reader) = BufReader::with_capacity(alloc, BUFFER, rt.reader()) else {
+    let Ok(mut reader) = BufReader::with_capacity(rt.alloc(), BUFFER, rt.reader()) else {
         return Err(Fault::Lane(LaneFault::Memory));
     };
+    whole_of(rt.alloc(), &mut reader)
+}
+
+/// All that a reader has.
+fn whole_of<B: BufRead>(alloc: Global, reader: &mut B) -> Result<Vec<u8>, Fault> {
     let mut input = Vec::new(alloc);
     // each round takes a byte at least, so the last one finds the end, or one byte too many
     for _ in 0..MAX_INPUT + 1 {
@@ -464,8 +468,70 @@ fn tell_verdict<R: Eprint>(rt: &R, trial: &Trial<'_>) {
     };
 }
 
-/// Tries what the words behind `try` name, where `-` stands for the words of standard input, and gives the status: 2 for a
-/// fault of usage.
+/// Whether the PSBT that words behind `try` name is standard input.
+fn is_psbt_input(words: &[&str]) -> bool {
+    let mut is_named = false;
+    for word in words {
+        if is_named {
+            return *word == "-";
+        }
+        is_named = *word == "--psbt";
+    }
+    false
+}
+
+/// Says on standard error what is wrong with a PSBT, if it can't be taken, and gives the status of a fault of usage.
+fn psbt_status<R: Eprint>(
+    rt: &R,
+    path: &str,
+    taken: Result<(), PsbtFault>,
+) -> Result<Option<u8>, Fault> {
+    match taken {
+        Ok(()) => Ok(None),
+        Err(PsbtFault::Memory) => Err(Fault::Lane(LaneFault::Memory)),
+        Err(fault) => {
+            let _written = eprintln!(rt; "gate: {path}: {fault}");
+            Ok(Some(2))
+        }
+    }
+}
+
+/// Takes the PSBT of these bytes into a trial: a fault if it can't be taken.
+fn take_psbt(alloc: Global, trial: &mut Trial<'_>, bytes: &[u8]) -> Result<(), PsbtFault> {
+    let decoded = decode_psbt(alloc, bytes)?;
+    let psbt = read_psbt(alloc, &decoded)?;
+    trial.take_psbt(alloc, &psbt)
+}
+
+/// Takes the PSBT that a trial names, standard input if it is `-`, and gives a status if there is none or it can't be taken.
+fn take_named_psbt<R: AllocGlobal + Files + Eprint>(
+    rt: &R,
+    trial: &mut Trial<'_>,
+    input: &[u8],
+) -> Result<Option<u8>, Fault> {
+    let alloc = rt.alloc();
+    let Some(path) = trial.psbt else {
+        return Ok(None);
+    };
+    if path == "-" {
+        return psbt_status(rt, path, take_psbt(alloc, trial, input));
+    }
+    let file = match fs::open(rt, path) {
+        Ok(file) => file,
+        Err(error) => {
+            let _written = eprintln!(rt; "gate: {path}: {error}");
+            return Ok(Some(2));
+        }
+    };
+    let Ok(mut reader) = BufReader::with_capacity(alloc, BUFFER, file) else {
+        return Err(Fault::Lane(LaneFault::Memory));
+    };
+    let bytes = whole_of(alloc, &mut reader)?;
+    psbt_status(rt, path, take_psbt(alloc, trial, &bytes))
+}
+
+/// Tries what the words behind `try` name, where `-` stands for the words of standard input, or for the PSBT that it is, and
+/// gives the status: 2 for a fault of usage.
 fn run_trial<
     R: AllocGlobal + Files + Clock + Input + Print + Eprint + RandomSource + Threads + Wait + Sync,
 >(rt: &R, words: &[&str], terminals: Terminals) -> Result<u8, Fault> {
@@ -475,12 +541,14 @@ fn run_trial<
     } else {
         Vec::new(alloc)
     };
-    let Ok(text) = std::str::from_utf8(input.as_slice()) else {
+    let is_psbt = is_psbt_input(words);
+    let spelled: &[u8] = if is_psbt { &[] } else { input.as_slice() };
+    let Ok(text) = std::str::from_utf8(spelled) else {
         return Err(Fault::Words);
     };
     let mut all = Vec::new(alloc);
     for word in words {
-        if *word == "-" {
+        if *word == "-" && !is_psbt {
             for word in text.split_ascii_whitespace() {
                 all.push(word)?;
             }
@@ -488,7 +556,7 @@ fn run_trial<
             all.push(*word)?;
         }
     }
-    let trial = match read_trial(alloc, all.as_slice(), second_now(rt)) {
+    let mut trial = match read_trial(alloc, all.as_slice(), second_now(rt)) {
         Ok(trial) => trial,
         Err(TrialFault::Usage(text)) => {
             let _written = eprintln!(rt;
@@ -498,6 +566,9 @@ fn run_trial<
         }
         Err(TrialFault::Memory) => return Err(Fault::Lane(LaneFault::Memory)),
     };
+    if let Some(status) = take_named_psbt(rt, &mut trial, input.as_slice())? {
+        return Ok(status);
+    }
     let Ok(job) = trial_job(alloc, &trial) else {
         return Err(Fault::Lane(LaneFault::Memory));
     };

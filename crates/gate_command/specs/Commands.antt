@@ -58,8 +58,8 @@ run_app =
 -- `try`, whose words are read elsewhere
 abbrev pub try_app : App
 try_app =
-    with_rule (with_rule (with_rule (with_rule (with_rule (with_rule (with_rule (with_rule (new_app (codes "try")) (new_rule (codes "HEX")))
-    (option_rule (codes "coin"))) (option_rule (codes "policy"))) (option_rule (codes "set"))) (option_rule (codes "tip"))) (option_rule (codes "time")))
+    with_rule (with_rule (with_rule (with_rule (with_rule (with_rule (with_rule (with_rule (with_rule (with_rule (new_app (codes "try")) (new_rule (codes "HEX")))
+    (option_rule (codes "coin"))) (option_rule (codes "psbt"))) (option_rule (codes "height"))) (option_rule (codes "policy"))) (option_rule (codes "set"))) (option_rule (codes "tip"))) (option_rule (codes "time")))
     (option_rule (codes "verdict"))) (switch_rule (codes "json"))
 
 -- `lanes`, with or without `--workers N`, `--journal` and `--explain`

@@ -176,6 +176,8 @@ fn try_command<'a>(alloc: Global) -> Result<Command<'a>, AllocError>
         .after_help(help::TRY_END)
         .arg(try_word(alloc))?
         .arg(try_option(alloc, "coin", "COIN", help::TRY_COIN))?
+        .arg(try_option(alloc, "psbt", "FILE", help::TRY_PSBT))?
+        .arg(try_option(alloc, "height", "HEIGHT", help::TRY_HEIGHT))?
         .arg(try_option(alloc, "policy", "NAME", help::TRY_POLICY))?
         .arg(try_option(alloc, "set", "SETTING", help::TRY_SET))?
         .arg(try_option(alloc, "tip", "HEIGHT", help::TRY_TIP))?

@@ -23,6 +23,7 @@ Examples:
   gate run --explain examples/own-payment.txt
   gate run --strict examples/own-payment.txt
   gate try --tip 100 --coin 1111111111111111111111111111111111111111111111111111111111111111:0,100000,1,00142222222222222222222222222222222222222222 - < examples/payment.hex
+  gate try --tip 100 --psbt examples/payment.psbt --height 90
   gate check 01000000000000000000
   gate check - < examples/payment.hex
   gate lanes --journal < examples/lanes.txt
@@ -121,6 +122,13 @@ pub(crate) const TRY_COIN: &str = "A coin that they spend: TXID:N,VALUE,HEIGHT,S
 with its value in satoshi, and `,cb` behind it if it
 is a coinbase's; may be repeated";
 
+pub(crate) const TRY_PSBT: &str = "A PSBT (BIP 174), in binary or in base64, whose coins
+they spend, but those of --coin; without HEX its own
+transaction is tried, which has to be final; `-` is
+standard input";
+
+pub(crate) const TRY_HEIGHT: &str = "The height of the PSBT's coins";
+
 pub(crate) const TRY_POLICY: &str = "The release whose policy decides: core-22, core-25,
 core-26, core-27, core-28, core-29, core-30 or
 knots-29; core-22 if it is left out";
@@ -142,9 +150,10 @@ pub(crate) const TRY_JSON: &str = "Answers and explanations in JSON";
 pub(crate) const TRY_END: &str = "Exit status:
   0  they would be relayed
   1  one of them is denied; or writing failed, or memory ran out
-  2  the words ask for nothing, or a coin is none
+  2  the words ask for nothing, a coin is none, or the PSBT can't be taken
 
 Examples:
+  gate try --tip 100 --psbt examples/payment.psbt --height 90
   gate try --tip 100 --coin 1111111111111111111111111111111111111111111111111111111111111111:0,100000,1,00142222222222222222222222222222222222222222 - < examples/payment.hex
 
 It runs an opening and events as `gate run` does, and prints what `gate run`

@@ -6,9 +6,11 @@
 
 mod fault;
 mod reading;
+mod signed;
 mod text;
 mod trial;
 
 pub use fault::TrialFault;
+pub use gate_psbt::{PsbtFault, decode_psbt, read_psbt};
 pub use reading::read_trial;
-pub use trial::{Trial, TrialCoin, TrialSetting};
+pub use trial::{SpentCoin, Trial, TrialCoin, TrialSetting};

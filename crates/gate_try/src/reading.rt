@@ -122,6 +122,8 @@ fn take_option<'a>(
         "--set" => trial.settings.push(setting_in(alloc, value)?)?,
         "--tip" => trial.tip = number_in(alloc, option, value, "a height")?,
         "--time" => trial.time = number_in(alloc, option, value, "a second since 1970")?,
+        "--psbt" => trial.psbt = Some(value),
+        "--height" => trial.height = number_in(alloc, option, value, "a height")?,
         _ => {
             if !is_verdict(value) {
                 return Err(usage(format!(in alloc;
@@ -146,12 +148,80 @@ fn takes_value(option: &str) -> bool {
         || option == "--tip"
         || option == "--time"
         || option == "--verdict"
+        || option == "--psbt"
+        || option == "--height"
 }
 
-/// Reads the words behind `try` as a trial, at this second if they name none. `--tip` and a transaction have to be there.
+/// Which options were given, of those that are needed.
+#[derive(Clone, Copy)]
+struct GivenOptions {
+    tip: bool,
+    psbt: bool,
+    height: bool,
+}
+
+/// The options that were given, with one more.
+fn with_option(given: GivenOptions, option: &str) -> GivenOptions {
+    GivenOptions {
+        tip: given.tip || option == "--tip",
+        psbt: given.psbt || option == "--psbt",
+        height: given.height || option == "--height",
+    }
+}
+
+/// What is wrong with the value of an option, if something is. The name of a file is no word of the text, and may have spaces.
+fn misused(alloc: Global, given: GivenOptions, option: &str, value: &str) -> Option<TrialFault> {
+    if option != "--psbt" {
+        if has_space(value) {
+            return Some(usage(format!(in alloc; "\"{value}\" is more than one word")));
+        }
+        return None;
+    }
+    if given.psbt {
+        return Some(usage(format!(in alloc; "--psbt may be given once")));
+    }
+    None
+}
+
+/// What is wrong with words that were read, if something is lacking or too much.
+fn lack<'a>(alloc: Global, trial: &Trial<'a>, given: GivenOptions) -> Option<TrialFault> {
+    if trial.transactions.is_empty() && !given.psbt {
+        return Some(usage(format!(in alloc;
+            "a transaction is required, in hexadecimal digits, or a PSBT by --psbt"
+        )));
+    }
+    if !given.tip {
+        return Some(usage(format!(in alloc;
+            "--tip is required: the height of the chain's last block"
+        )));
+    }
+    if given.psbt && !given.height {
+        return Some(usage(format!(in alloc;
+            "--height is required with --psbt: the height of the PSBT's coins"
+        )));
+    }
+    if given.height && !given.psbt {
+        return Some(usage(format!(in alloc;
+            "--height is the height of a PSBT's coins: --psbt is required with it"
+        )));
+    }
+    None
+}
+
+/// The fault of an option that there isn't.
+fn unexpected(alloc: Global, word: &str) -> TrialFault {
+    usage(format!(in alloc; "unexpected option {word}"))
+}
+
+/// Reads the words behind `try` as a trial, at this second if they name none. `--tip` has to be there, and a transaction or a
+/// PSBT with the height of its coins, which are not read here.
 pub fn read_trial<'a>(alloc: Global, words: &[&'a str], now: u32) -> Result<Trial<'a>, TrialFault> {
     let mut trial = Trial::new(alloc, now);
-    let mut has_tip = false;
+    let mut given = GivenOptions {
+        tip: false,
+        psbt: false,
+        height: false,
+    };
     let mut place = 0;
     while place < words.len() {
         let word = words[place];
@@ -167,24 +237,19 @@ pub fn read_trial<'a>(alloc: Global, words: &[&'a str], now: u32) -> Result<Tria
             }
             let value = words[place];
             place += 1;
-            if has_space(value) {
-                return Err(usage(format!(in alloc; "\"{value}\" is more than one word")));
+            if let Some(fault) = misused(alloc, given, word, value) {
+                return Err(fault);
             }
-            has_tip = has_tip || word == "--tip";
+            given = with_option(given, word);
             take_option(alloc, &mut trial, word, value)?;
         } else if word.starts_with('-') {
-            return Err(usage(format!(in alloc; "unexpected option {word}")));
+            return Err(unexpected(alloc, word));
         } else {
             trial.transactions.push(word)?;
         }
     }
-    if trial.transactions.is_empty() {
-        return Err(usage(format!(in alloc; "a transaction is required, in hexadecimal digits")));
+    match lack(alloc, &trial, given) {
+        Some(fault) => Err(fault),
+        None => Ok(trial),
     }
-    if !has_tip {
-        return Err(usage(format!(in alloc;
-            "--tip is required: the height of the chain's last block"
-        )));
-    }
-    Ok(trial)
 }

@@ -1,6 +1,8 @@
 //! What is tried.
+use gate_bytes::Text;
 use gate_register::Setting;
 use gate_release::Release;
+use gate_tx::{OutPoint, TxOut};
 use std::alloc::Global;
 
 /// A coin that transactions may spend, by its words.
@@ -16,6 +18,13 @@ pub struct TrialCoin<'a> {
     pub is_coinbase: bool,
 }
 
+/// A coin that a PSBT has, by the outpoint that names it.
+#[derive(Drop)]
+pub struct SpentCoin {
+    pub point: OutPoint,
+    pub output: TxOut,
+}
+
 /// A setting of the opening, with its number.
 #[derive(Clone, Copy)]
 pub struct TrialSetting {
@@ -29,6 +38,14 @@ pub struct Trial<'a> {
     /// Each in hexadecimal digits, parents first.
     pub transactions: Vec<&'a str>,
     pub coins: Vec<TrialCoin<'a>>,
+    /// The file of a PSBT that is named.
+    pub psbt: Option<&'a str>,
+    /// The coins of the PSBT, beside those that are said.
+    pub spent: Vec<SpentCoin>,
+    /// The height of the PSBT's coins.
+    pub height: u32,
+    /// The PSBT's own transaction, in hexadecimal digits, if it is tried in place of others.
+    pub finished: Option<Text>,
     /// The release whose numbers the settings have that are not said.
     pub policy: Option<Release>,
     /// The settings that are said.
@@ -50,6 +67,10 @@ impl<'a> Trial<'a> {
         Trial {
             transactions: Vec::new(alloc),
             coins: Vec::new(alloc),
+            psbt: None,
+            spent: Vec::new(alloc),
+            height: 0,
+            finished: None,
             policy: None,
             settings: Vec::new(alloc),
             tip: 0,

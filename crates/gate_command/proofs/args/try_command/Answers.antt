@@ -21,4 +21,6 @@ returns c =
     let five = one_more _ _ _ _ _ four c.try_option-4.ensures c.in_ok-arg-5.ensures in
     let six = one_more _ _ _ _ _ five c.try_option-5.ensures c.in_ok-arg-6.ensures in
     let seven = one_more _ _ _ _ _ six c.try_option-6.ensures c.in_ok-arg-7.ensures in
-    IfOk-weaker c.arg-8.result _ _ (λ r added. one_more _ r _ _ _ seven c.json_switch.ensures added) c.arg-8.ensures
+    let eight = one_more _ _ _ _ _ seven c.try_option-7.ensures c.in_ok-arg-8.ensures in
+    let nine = one_more _ _ _ _ _ eight c.try_option-8.ensures c.in_ok-arg-9.ensures in
+    IfOk-weaker c.arg-10.result _ _ (λ r added. one_more _ r _ _ _ nine c.json_switch.ensures added) c.arg-10.ensures
