@@ -202,7 +202,7 @@ class CallerModel(Model):
         before, told = self.pool, []
         for tx in made:
             rule = self.user_failing(tx)
-            if len(made) > 1 and self.conflicts(tx) and (rule is None or int(rule[1:]) > 23):
+            if len(made) > 1 and self.conflicts(tx) and (rule is None or 23 < int(rule[1:]) <= 47):
                 rule = "A23"
             told.append(self.tested(tx, rule))
             if rule is None:

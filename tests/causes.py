@@ -23,9 +23,9 @@ LACKS = {
     "core-25": None,
     "core-26": None,
     "core-27": None,
-    "core-28": "version 3 (A12), and packages of a parent and its child",
-    "core-29": "version 3 (A12), packages of a parent and its child, and dust that a child spends (A17)",
-    "core-30": "version 3 (A12), packages of a parent and its child, and dust that a child spends (A17)",
+    "core-28": "packages of a parent and its child",
+    "core-29": "packages of a parent and its child, and dust that a child spends (A17)",
+    "core-30": "packages of a parent and its child, and dust that a child spends (A17)",
     "knots-29": "version 3 (A12), packages of a parent and its child, dust that a child spends (A17), and options of its own",
 }
 # what begins a line of an opening and is no setting

@@ -164,7 +164,7 @@ class ChainModel(Model):
             or any(rule not in ("A34", "A35") for rule in self.amounts(tx))
             or self.passes_limits(tx)
             or any(entry in self.conflicts(tx) for entry in self.above(tx))
-            or any(True for _ in self.replacement(tx))
+            or any(True for _ in self.replacing(tx, self.conflicts(tx)))
             or any(True for _ in self.judged(tx))
         )
 

@@ -129,6 +129,7 @@ def test_examples_in_the_help(gate):
         "gate run --explain examples/own-payment.txt": 0,
         "gate run --strict examples/own-payment.txt": 1,
         TRIED: 0,
+        "gate try --tip 100 --psbt examples/payment.psbt --height 90": 0,
         "gate check - < examples/payment.hex": 0,
         "gate check 01000000000000000000": 1,
         "gate lanes --journal < examples/lanes.txt": 0,

@@ -27,6 +27,11 @@ METHODS = (
     "sendrawtransaction, testmempoolaccept, getrawmempool, getmempoolentry, getmempoolancestors, getmempooldescendants, getmempoolinfo, getrawtransaction"
     " or gettxspendingprevout"
 )
+UNPAID = "A35 The fee is below the fee for the virtual size at the rate that minrelaytxfee says (1,000 satoshi per 1,000 virtual bytes)"
+SPENT = (
+    "A23 An entry of the pool spends the same outpoint, and none of its inputs has a sequence of at most 0xfffffffd, so that it may not be replaced;"
+    " with mempoolfullrbf it may be, and if it has version 3 and truc is 1"
+)
 FORGETTING = "C6 More blocks are to be disconnected than are connected, or than 100; or more are to be forgotten than are connected"
 
 
@@ -75,6 +80,27 @@ def test_fees(gate):
         (sent(floor), "A34 pays 100, needs 164; the least fee is 164"),
         (sent(payment(3, 100001)), "A29 coins of 100000, outputs of 100001"),
     ])
+
+
+def listed(*made):
+    """A call that asks about several transactions at once."""
+    return 'user a rpc 5000 {"method":"testmempoolaccept","params":[[%s]],"id":1}' % ",".join('"%s"' % tx.hex() for tx in made)
+
+
+def test_lists(gate):
+    """Each transaction of a list that is denied, with the figures that those before it don't change; all of them are counted."""
+    low, poor, first, again = payment(1, 99950), payment(3, 99990), payment(2, 99000), payment(2, 98000)
+    child = spending((first, 0), value=98990)
+    fee, coinless = "A35 pays %d, needs 82; the least fee is 82", "A25 input 0: no coin %s:0"
+    events = [listed(low, poor, payment(9, 1000)), listed(first, child, again), sent(payment(2, 99500)), listed(low, child, again)]
+    told, last = said_of(gate, OPENING + [coin(number) for number in (1, 2, 3)], [ENTER] + events)
+    said = [[line for event, line in told if event == it] for it in events]
+    same_lines(said[0], ["transaction 1 of 3: " + fee % 50, "transaction 2 of 3: " + fee % 10, "transaction 3 of 3: " + coinless % printed(number_hash(9))])
+    # the child spends what the one before it makes, and the last one what the first one spends
+    same_lines(said[1], ["transaction 2 of 3: " + UNPAID, "transaction 3 of 3: " + SPENT])
+    # now the child has no coin, and the last one could replace the entry, but not in a list
+    same_lines(said[3], ["transaction 1 of 3: " + fee % 50, "transaction 2 of 3: " + coinless % first.txid(), "transaction 3 of 3: " + SPENT])
+    true("all are counted: %s" % last, "1 admitted, 0 replaced, 8 denied (A23 2, A25 2, A35 4)" in last)
 
 
 def test_coins(gate):
@@ -189,6 +215,19 @@ def test_no_fee_helps(gate):
     children = [spending((many, index), value=29000) for index in range(2)]
     explains(gate, OPENING + [coin(1), "limitdescendantcount 2"], [(ENTER, None), (sent(many), None)] + [(sent(tx), None) for tx in children] + [
         (sent(spending((many, 2), value=29999)), "A35 pays 1, needs 82; no fee helps"),
+    ])
+
+
+def test_a_sibling(gate):
+    """What the sibling pays has to be paid too, and it is named where it pays no less."""
+    parent = Transaction([Input(number_hash(1))], [Output(49000), Output(49000)], 3)
+    first = spending((parent, 0), value=48000)
+    as_much, less = spending((parent, 1), value=48000), spending((parent, 1), value=47919)
+    for child in (first, as_much, less):
+        child.version = 3
+    explains(gate, OPENING + [coin(1), "truc 1"], [(ENTER, None), (sent(parent), None), (sent(first), None),
+        (sent(as_much), "A38 pays 12195 per 1000 virtual bytes, needs more than the 12195 of %s; the least fee is 1082" % first.txid()),
+        (sent(less), "A42 1081 - 1000 = 81, needs 82; the least fee is 1082"),
     ])
 
 

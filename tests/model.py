@@ -21,6 +21,9 @@ MULTISIG = bytes.fromhex("5121" + "02" * 33 + "51ae")
 ANCHOR = bytes.fromhex("51024e73")
 LAST_SIGNAL = 0xFFFFFFFD
 SMALL = 10000
+TRUC = 3
+TRUC_SIZE = 10000
+TRUC_CHILD_SIZE = 1000
 MOST_REPLACED = 100
 TWO_WEEKS = 1209600
 HOUR = 3600
@@ -112,6 +115,10 @@ class Entry:
     def signals(self):
         """Whether it says itself that it may be replaced."""
         return any(one.sequence <= LAST_SIGNAL for one in self.tx.inputs)
+
+    def is_truc(self):
+        """Whether it has version 3."""
+        return self.tx.version == TRUC
 
 
 def policy_lines(opening, spoken):
@@ -242,7 +249,8 @@ class Model:
         if rule:
             return self.denied(rule, peer)
         entry = Entry(tx, self.fee(tx), self.size(tx), now)
-        replaced = self.remove(self.conflicts(tx), "replaced")
+        self.gone["evicted"] += len(self.sibling(tx))
+        replaced = self.remove(self.counted(tx), "replaced")
         self.pool.append(entry)
         self.remove([one for one in self.pool if one.time + HOUR * self.opening["mempoolexpiry"] < now], "expired")
         self.trim()
@@ -291,7 +299,7 @@ class Model:
         wtxid = tx.wtxid()
         if any(entry.wtxid == wtxid for entry in self.pool):
             return "P5"
-        order = (self.alone, self.in_pool_and_chain, self.amounts, self.families, self.replacement, self.judged)
+        order = (self.alone, self.in_pool_and_chain, self.amounts, self.limited, self.family_of_version_three, self.conflicts_above, self.replacement, self.judged)
         return next((rule for rules in order for rule in rules(tx)), None)
 
     def alone(self, tx):
@@ -315,7 +323,7 @@ class Model:
             yield "A11" if 2 <= len(tx.inputs[0].script) <= 100 else "A9"
         if NULL in points:
             yield "A10"
-        if tx.version not in (1, 2):
+        if tx.version not in ((1, 2, TRUC) if self.opening["truc"] else (1, 2)):
             yield "A12"
         if tx.weight() > 400000:
             yield "A13"
@@ -344,7 +352,7 @@ class Model:
         hash = tx.hash()
         if any(entry.hash == hash for entry in self.pool):
             yield "A22"
-        if not self.opening["mempoolfullrbf"] and not all(entry.signals() for entry in self.conflicts(tx)):
+        if not self.opening["mempoolfullrbf"] and not all(entry.signals() or self.opening["truc"] and entry.is_truc() for entry in self.conflicts(tx)):
             yield "A23"
         lacks = any(self.coin(one) is None for one in tx.inputs)
         own = any((hash, index) in self.chain_coins() for index in range(len(tx.outputs)))
@@ -377,19 +385,57 @@ class Model:
         if cost_of(tx, self.opening.coins) > 16000:
             yield "A33"
         asked = [("A34", self.floor), ("A35", self.opening["minrelaytxfee"])]
-        for rule, rate in reversed(asked) if self.opening["relayfeefirst"] else asked:
+        relay_first = self.opening["relayfeefirst"] and not (self.opening["truc"] and tx.version == TRUC)
+        for rule, rate in reversed(asked) if relay_first else asked:
             if self.fee(tx) < self.fee_at(rate, self.size(tx)):
                 yield rule
 
-    def families(self, tx):
-        above, direct = self.above(tx), self.conflicts(tx)
+    def limited(self, tx):
+        above = self.above(tx)
         if all(self.passed(limits, above, self.size(tx)) for limits in self.tries(tx)):
             yield "A36"
-        if any(entry in direct for entry in above):
+
+    def family_of_version_three(self, tx):
+        if not self.opening["truc"]:
+            return
+        above, is_truc = self.above(tx), tx.version == TRUC
+        if any(entry.is_truc() != is_truc for entry in above):
+            yield "A47"
+        if is_truc and (len(above) > 1 or self.size(tx) > (TRUC_CHILD_SIZE if above else TRUC_SIZE)):
+            yield "A47"
+        if is_truc and len(above) == 1 and self.others_below(tx) and not self.replaces_child(tx) and not self.sibling(tx):
+            yield "A47"
+
+    def others_below(self, tx):
+        """The descendants of its only ancestor, without that."""
+        above = self.above(tx)
+        return self.below(above) - above
+
+    def replaces_child(self, tx):
+        """Whether it conflicts with a child of its only ancestor."""
+        hashes = {entry.hash for entry in self.above(tx)}
+        return any(entry.parents & hashes for entry in self.conflicts(tx))
+
+    def sibling(self, tx):
+        """The entry that a transaction of version 3 evicts, in a list of its own."""
+        if not self.opening["truc"] or tx.version != TRUC or len(self.above(tx)) != 1 or self.replaces_child(tx):
+            return []
+        others = list(self.others_below(tx))
+        return others if len(others) == 1 and len(self.above(others[0].tx)) == 1 else []
+
+    def counted(self, tx):
+        """The entries that count as direct conflicts: a sibling too."""
+        return self.conflicts(tx) + self.sibling(tx)
+
+    def conflicts_above(self, tx):
+        direct = self.conflicts(tx)
+        if any(entry in direct for entry in self.above(tx)):
             yield "A37"
 
     def replacement(self, tx):
-        direct = self.conflicts(tx)
+        return self.replacing(tx, self.counted(tx))
+
+    def replacing(self, tx, direct):
         if not direct:
             return
         fee, size = self.fee(tx), self.size(tx)
@@ -468,7 +514,7 @@ class Model:
         most = KILO * self.opening["limitancestorsize"]
         usual = Limits(self.opening["limitancestorcount"], most, descendants, size)
         carved_out = Limits(2, most, descendants + 1, size + SMALL)
-        return [usual, carved_out] if self.size(tx) <= SMALL else [usual]
+        return [usual, carved_out] if self.size(tx) <= SMALL and tx.version != TRUC else [usual]
 
     def passed(self, limits, above, size):
         """Which of the limits a transaction with these ancestors passes."""

@@ -57,6 +57,18 @@ def test_fees(gate):
     })
 
 
+def test_lists(gate):
+    """An object for each transaction of a list that is denied, with its number and txid."""
+    low, unknown = payment(1, 99950), payment(9, 1000)
+    call = 'user a rpc 5000 {"method":"testmempoolaccept","params":[["%s","%s","%s"]],"id":1}' % (payment(2, 99000).hex(), low.hex(), unknown.hex())
+    said, last = objects(gate, OPENING + [coin(1), coin(2)], [call])
+    same("objects", said, [
+        {"line": 1, "transaction": 2, "denied": low.txid(), "rule": "A35", "token": "min relay fee not met", "pays": 50, "needs": 82, "least_fee": 82},
+        {"line": 1, "transaction": 3, "denied": unknown.txid(), "rule": "A25", "token": "bad-txns-inputs-missingorspent", "input": 0, "txid": printed(number_hash(9)), "vout": 0},
+    ])
+    same("counts", (last["denied"], last["rules"]), (2, {"A35": 1, "A25": 1}))
+
+
 def test_lines_and_calls(gate):
     """A line that does not parse, bytes that do not decode, an error of a call, and a rule without figures."""
     said, last = objects(gate, OPENING, [ENTER, "nonsense \"x", "peer 1 tx 5000 00", "user a rpc 0 {", "peer 2 leave"])

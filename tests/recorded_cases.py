@@ -26,18 +26,24 @@ CASES, FULL = "knots-29-cases", "knots-29-full"
 # the release whose policy the node had, and what it had otherwise
 RELEASE = "core-29"
 OTHERWISE = {"permitbaremultisig": 0, "keepinvalid": 1}
-# what no case says, since it decides about none: the node's own number is the release's
-UNSAID = ("maxtxlegacysigops",)
+# what not every case says: the node's own number is the release's
+UNSAID = ("maxtxlegacysigops", "truc")
 # how the node names a refusal, where the policy has another name
 NAMES = {
     "bad-txns-input-sigops-toomany-overall": "bad-txns-nonstandard-inputs",
     "bad-txns-input-witness-unknown": "bad-txns-nonstandard-inputs",
     "bad-witness-anchor-not-empty": "bad-witness-nonstandard",
     "mempool-script-verify-flag-failed": "non-mandatory-script-verify-flag",
+    "truc-ancestors-toomany": "TRUC-violation",
+    "truc-child-toobig": "TRUC-violation",
+    "truc-descendants-toomany": "TRUC-violation",
+    "truc-spends-nontruc": "TRUC-violation",
+    "truc-spent-by-nontruc": "TRUC-violation",
+    "truc-vsize-toobig": "TRUC-violation",
 }
-PACKAGE, LIST, VERSION_3, DUST, BEHIND = "packages", "lists, which the node judges as packages", "version 3", "dust that a child may spend", "behind these"
+PACKAGE, LIST, DUST, BEHIND = "packages", "lists, which the node judges as packages", "dust that a child may spend", "behind these"
 # how many answers were compared when this was written
-COMPARED = {CASES: 471, FULL: 8}
+COMPARED = {CASES: 753, FULL: 10}
 EXPIRY = 336 * 3600
 COINBASE = "00" * 32
 
@@ -114,8 +120,6 @@ class Event:
             return PACKAGE
         if self.is_list:
             return LIST
-        if any(it.version == 3 for it in self.transactions):
-            return VERSION_3
         if any(map(has_dust, self.transactions)) and not self.refusal().startswith("dust"):
             return DUST
         return None
@@ -204,7 +208,7 @@ class Case:
         """What blocks that go give back to the node's pool alone."""
         count = int(event.line.split(" ")[1])
         gone = [self.chain.pop() for _ in range(min(count, len(self.chain)))]
-        self.foreign.update(it.txid for block in gone for it in block[1:] if it.version == 3 or has_dust(it))
+        self.foreign.update(it.txid for block in gone for it in block[1:] if has_dust(it))
         self.chain += event.blocks
 
 
@@ -226,6 +230,11 @@ def policy_name(said, met):
     return NAMES.get(name, name)
 
 
+def in_order(found):
+    """What is told of an entry, with its parents and children in one order."""
+    return {name: sorted(it) if isinstance(it, list) else it for name, it in found.items()}
+
+
 def wanted_of(event, unsure, met):
     """What the gate has to say, from the node's answer."""
     told = event.told()
@@ -238,7 +247,7 @@ def wanted_of(event, unsure, met):
         return {**found, "reason": policy_name(told["reject-reason"], met)}
     if event.kind == "getrawmempool":
         return sorted(set(told) - unsure)
-    return told
+    return in_order(told)
 
 
 def found_of(event, reply, unsure):
@@ -258,7 +267,7 @@ def found_of(event, reply, unsure):
         return {**{name: it[name] for name in ("allowed", "txid", "wtxid")}, **told}
     if event.kind == "getrawmempool":
         return sorted(set(result) - unsure)
-    return {name: result[name] for name in event.told() if name in result}
+    return in_order({name: result[name] for name in event.told() if name in result})
 
 
 def compared(gate, case, met):
@@ -285,7 +294,7 @@ def all_compared(gate, name):
         more, number, reasons = compared(gate, case, met)
         differ += more
         count, left_out, whole, cases = count + number, left_out + reasons, whole + (not reasons), cases + 1
-    told = ", ".join("%d %s" % (left_out[it], it) for it in (PACKAGE, LIST, VERSION_3, DUST, BEHIND))
+    told = ", ".join("%d %s" % (left_out[it], it) for it in (PACKAGE, LIST, DUST, BEHIND))
     print("%s: %d answers in %d cases compared, %d cases whole; left out: %s" % (name, count, cases, whole, told), flush=True)
     same_lines(differ, [])
     true("at least %d answers compared, and not %d" % (COMPARED[name], count), count >= COMPARED[name])
@@ -293,8 +302,8 @@ def all_compared(gate, name):
 
 
 def test_a_node_of_today(gate):
-    """Each answer that a node with Bitcoin Core 29's policy gave, but for what needs version 3, packages, or dust that a child
-    spends, and for what hangs together with that."""
+    """Each answer that a node with Bitcoin Core 29's policy gave, but for what needs packages, or dust that a child spends, and
+    for what hangs together with that."""
     met = all_compared(gate, CASES)
     same("names that the node doesn't use", [it for it in NAMES if not met[it]], [])
 

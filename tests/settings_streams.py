@@ -9,7 +9,7 @@ from itertools import product
 
 from bitcoin import Input, Output, Transaction, number_hash
 from gate import same
-from model import ANCHOR, HOUR, KILO, MULTISIG, RETURN, USUAL, Coin, Model, Opening, dust, fees_of, policy_lines, rate_of, releases
+from model import ANCHOR, HOUR, KILO, MULTISIG, RETURN, USUAL, TRUC, TRUC_CHILD_SIZE, Coin, Model, Opening, dust, fees_of, policy_lines, rate_of, releases
 from random_streams import compared
 
 STREAMS = 150
@@ -154,6 +154,39 @@ class Stream:
         """Outputs of several keys, whose operations count for more than the bytes."""
         return self.payment([Output(100000, MULTISIG) for _ in range(self.random.randint(1, 3))])
 
+    def of_version_three(self):
+        """A payment of version 3, with a second output for a child, now and then of two coins."""
+        tx = self.payment([Output(VALUE // 2)])
+        tx.version = TRUC
+        return tx
+
+    def child(self):
+        """A child of an entry, most often of its version, which pays what is asked, and for its sibling, or a satoshi less."""
+        spent = {point for entry in self.model.pool for point in entry.spent}
+        free = [(entry, index) for entry in self.model.pool for index, output in enumerate(entry.tx.outputs)
+                if output.script == Output(0).script and (entry.hash, index) not in spent]
+        if not free:
+            return self.of_version_three()
+        entry, index = self.random.choice([it for it in free if it[0].is_truc() and not self.model.parents(it[0].tx)] or free)
+        inputs, value = [Input(entry.hash, index, sequence=self.random.choice((LAST, SIGNAL)))], entry.tx.outputs[index].value
+        if self.random.random() < 0.1:
+            (hash, number), more = self.coin()
+            inputs, value = inputs + [Input(hash, number)], value + more
+        tx = Transaction(inputs, [Output(1000)], self.random.choice((entry.tx.version, entry.tx.version, entry.tx.version, 2, TRUC)), 0)
+        if self.random.random() < 0.2:
+            self.fill(tx, TRUC_CHILD_SIZE + self.random.choice((0, 0, 1)))
+        paid = fees_of(self.model.below(self.model.counted(tx)))
+        asked = paid + self.model.fee_at(self.opening["incrementalrelayfee"], self.model.size(tx)) if paid else self.asked_of(tx)
+        return self.paying(tx, value, asked + self.random.choice((-1, 0, 0, 0, 1, 1000)))
+
+    def fill(self, tx, size):
+        """Gives a transaction this virtual size, if that is one byte more or less: by outputs, and data in the last one."""
+        plain = Output(dust(Output(0), self.opening))
+        while self.model.size(tx) + 31 < size - 40:
+            tx.outputs.append(plain)
+        tx.outputs.append(Output(0, data(1)))
+        tx.outputs[-1] = Output(0, data(1 + max(0, size - self.model.size(tx))))
+
     def small(self):
         """A transaction of the least size, or a byte less: its one output carries data."""
         (hash, index), _ = self.coin()
@@ -201,7 +234,8 @@ class Stream:
             self.later()
         elif draw < 0.3:
             self.now += self.random.randint(0, 100)
-        make = self.random.choice((self.payment, self.payment, self.replacement, self.replacement, self.dusty, self.carrying, self.filling, self.anchored, self.legacy, self.counting, self.small))
+        makes = (self.payment, self.payment, self.replacement, self.replacement, self.dusty, self.carrying, self.filling, self.anchored, self.legacy, self.counting, self.small, self.of_version_three)
+        make = self.random.choice(makes + (self.of_version_three,) * 2 * self.opening["truc"] + (self.child,) * 6 * self.opening["truc"])
         return self.submitted(make())
 
 
@@ -221,7 +255,7 @@ def test_settings(gate):
             met[reply[: len("denied A29 keep")]] += reply.startswith("denied A29")
         met.update(made.model.gone)
     same("ways in which no stream met an invalid transaction", [it for it in ("denied A29 clos", "denied A29 keep") if met[it] < 10], [])
-    same("rules of settings that no stream met", [rule for rule in ("A16", "A17", "A18", "A19", "A31", "A32", "A34", "A35", "A42", "A46", "A51", "admitted", "expired", "trimmed", "replaced") if met[rule] < 20], [])
+    same("rules of settings that no stream met", [rule for rule in ("A12", "A16", "A17", "A18", "A19", "A31", "A32", "A34", "A35", "A42", "A46", "A47", "A51", "admitted", "expired", "trimmed", "replaced", "evicted") if met[rule] < 20], [])
 
 
 def test_releases(gate):

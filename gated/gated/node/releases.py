@@ -14,7 +14,7 @@ KNOTS = "knots-29"
 KNOTS_SINCE = 290000
 # the rule that a setting decides, where one alone does
 RULES = {
-    "datacarriersize": "A16", "permitbaremultisig": "A16", "dustrelayfee": "A17", "datacarrieroutputs": "A18", "mintxsize": "A19", "mempoolfullrbf": "A23", "anchors": "A31",
+    "truc": "A12", "datacarriersize": "A16", "permitbaremultisig": "A16", "dustrelayfee": "A17", "datacarrieroutputs": "A18", "mintxsize": "A19", "mempoolfullrbf": "A23", "anchors": "A31",
     "maxtxlegacysigops": "A31", "minrelaytxfee": "A35", "limitancestorcount": "A36", "limitancestorsize": "A36", "limitdescendantcount": "A36", "limitdescendantsize": "A36", "replacedparents": "A40",
     "incrementalrelayfee": "A42", "datacarriertotal": "A51",
 }  # fmt: skip
@@ -61,6 +61,7 @@ CHANGES = (
     Change(290000, SAME_REFUSAL, "A31", "bad-txns-input-witness-unknown"),
     Change(290000, SAME_REFUSAL, "A32", "bad-witness-anchor-not-empty"),
     Change(290000, SAME_REFUSAL, "A44", "mempool-script-verify-flag-failed"),
+    Change(290000, SAME_REFUSAL, "A47", "truc-"),
 )
 # what data a transaction has at the most: an option above it decides nothing, since no heavier one is standard (A13)
 MOST_DATA = 100000
