@@ -235,7 +235,7 @@ class Stream:
         elif draw < 0.3:
             self.now += self.random.randint(0, 100)
         makes = (self.payment, self.payment, self.replacement, self.replacement, self.dusty, self.carrying, self.filling, self.anchored, self.legacy, self.counting, self.small, self.of_version_three)
-        make = self.random.choice(makes + (self.of_version_three,) * 2 * self.opening["truc"] + (self.child,) * 6 * self.opening["truc"])
+        make = self.random.choice(makes + (self.of_version_three,) * 2 * self.opening["truc"] + (self.child,) * 10 * self.opening["truc"])
         return self.submitted(make())
 
 
