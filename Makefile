@@ -48,8 +48,8 @@ make try       the rows and the program's own tests alone, on the built program;
 make bench     what the program costs, in instructions and time; make bench LONG=1 with larger pools too
                bench/run --beside OTHER PROGRAM compares two programs
 make install   puts the program that make gate built below PREFIX (/usr/local), with its manual page, completions
-               for bash, zsh and fish, the documents, the examples, the settings of releases and what goes beside a
-               node (gate-opening, gate-compare, gated), and the library if make lib built it; DESTDIR stands before it;
+               for bash, zsh and fish, the documents, the examples and what goes beside a node (gate-opening,
+               gate-compare, gated), and the library if make lib built it; DESTDIR stands before it;
                make uninstall takes all of it away
 endef
 export HELP
