@@ -43,12 +43,12 @@ def folder(crate):
     return os.path.join(ROOT, "crates", crate)
 
 
-def is_new(built, parts=("src", "specs", "proofs")):
-    """Whether what was built is there, and newer than all that it is made of: these folders of each crate."""
+def is_new(built, parts=("src", "specs", "proofs"), made_of=None):
+    """Whether what was built is there, and newer than all that it is made of: these folders of these crates, or of all."""
     if not os.access(built, os.R_OK):
         return False
     files = [os.path.join(ROOT, "crates.txt")]
-    for crate in uses():
+    for crate in uses() if made_of is None else made_of:
         files += (os.path.join(at, name) for part in parts for at, _, names in os.walk(os.path.join(folder(crate), part)) for name in names)
     return max(map(os.path.getmtime, files)) < os.path.getmtime(built)
 
