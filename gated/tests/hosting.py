@@ -2,21 +2,31 @@
 
 import base64
 import http.client
+import importlib.util
 import json
 import os
 import re
+import shutil
 import signal
 import socket
 import subprocess
 import sys
 import tempfile
 import time
+import unittest
 
 from gate import Differs, same
 
 HERE = os.path.dirname(os.path.abspath(__file__))
 ROOT = os.path.dirname(os.path.dirname(HERE))
 GATED = os.path.join(ROOT, "gated", "bin", "gated")
+SYSTEM_PYTHON = "/usr/bin/python3"
+# where `make lib` puts the library
+BUILT = os.path.join(ROOT, "crates", "gate_c", "out", "library", "lib", "libgate_c.so.0")
+# the library that is the gate, in gated's own process; without one the gate is the program as a child
+LIBRARY = None
+# what gated says of it
+IN_PROCESS = "the library in this process"
 # how long an answer, a start and an end may take: more, if the machine has other work
 SECONDS = 120
 # a journal is synced before each answer, which takes long on a disk that others write to; what is tested here is not the disk
@@ -33,9 +43,65 @@ class RpcFailed(Exception):
         self.status, self.error = status, error
 
 
+def library_in(folder):
+    """The library in a folder that `make lib` filled."""
+    path = os.path.join(os.path.abspath(folder), "lib", "libgate_c.so.0")
+    if not os.path.isfile(path):
+        sys.exit("%s is not there: make lib builds it" % path)
+    return path
+
+
+def compiled(source, folder, *words):
+    """A library that stands for the gate's, from a source of tests/hosts."""
+    compiler = shutil.which("cc") or shutil.which("gcc") or shutil.which("clang")
+    if compiler is None:
+        raise unittest.SkipTest("no compiler for C is on this machine")
+    path = os.path.join(folder, "libgate_c.so.0")
+    words = ["-std=c11", "-shared", "-fPIC", "-I", os.path.join(ROOT, "lib"), *words, "-o", path, os.path.join(ROOT, "tests", "hosts", source)]
+    subprocess.run([compiler, *words], check=True)
+    return path
+
+
+def library_of(gate, folder):
+    """The library that is there, or else one that asks the program."""
+    built = LIBRARY or os.path.exists(BUILT) and BUILT
+    return built or compiled("program_library.c", folder, "-DPROGRAM=%s" % json.dumps(gate.program))
+
+
 def environment_of(**variables):
-    """What gated runs under: this Python."""
-    return dict(os.environ, PYTHON=sys.executable, **variables)
+    """What gated runs under: this Python, or the system's own if this one lacks what gated needs; and the library."""
+    python = sys.executable if importlib.util.find_spec("aiohttp") else SYSTEM_PYTHON
+    return {**os.environ, "PYTHON": python, **({"GATE_LIBRARY": LIBRARY} if LIBRARY else {}), **variables}
+
+
+def needs_a_child():
+    if LIBRARY:
+        raise unittest.SkipTest("the gate is the library, and no child")
+
+
+def child_of(process):
+    """The process that a gated runs as its gate."""
+    needs_a_child()
+    found = []
+    # it was started by the thread that has the gate
+    for task in os.listdir("/proc/%d/task" % process.pid):
+        with open("/proc/%d/task/%s/children" % (process.pid, task)) as children:
+            found += children.read().split()
+    return int(found[0])
+
+
+def memory(process):
+    """The resident bytes of a process and of its children."""
+    found = {}
+    for name in os.listdir("/proc"):
+        if name.isdecimal():
+            try:
+                with open("/proc/%s/status" % name) as lines:
+                    told = dict(line.split(":", 1) for line in lines if ":" in line)
+                found[int(name)] = int(told["PPid"]), int(told.get("VmRSS", "0 kB").split()[0]) * 1024
+            except (OSError, ValueError):
+                pass
+    return found[process][1], sum(size for parent, size in found.values() if parent == process)
 
 
 def free_port():
@@ -66,8 +132,8 @@ class Gated:
         self.cookie, self.journal = os.path.join(folder, "gated.cookie"), os.path.join(folder, "journal")
         self.words = [
             "--node", node_url, "--cookie", node_cookie, "--listen", "127.0.0.1:%d" % self.port, "--rpccookiefile", self.cookie,
-            "--journal", self.journal, "--metrics", "127.0.0.1:%d" % self.metrics_port, "--gate", self.program, "--child",
-            "--shadow", "--check", "0.5", "--poll", "0.1", *words,
+            "--journal", self.journal, "--metrics", "127.0.0.1:%d" % self.metrics_port, "--gate", self.program,
+            *([] if LIBRARY else ["--child"]), "--shadow", "--check", "0.5", "--poll", "0.1", *words,
         ]  # fmt: skip
         self.log = os.path.join(folder, "gated.log")
         self.process = None
@@ -92,6 +158,16 @@ class Gated:
             self.process.kill()
             self.process.wait()
             raise
+        if LIBRARY:
+            same("the gate", self.kinds()[-1], IN_PROCESS)
+
+    def takes_the_library(self):
+        """It is started without a child."""
+        self.words = [word for word in self.words if word != "--child"]
+
+    def kinds(self):
+        """What each gated so far has said of its gate."""
+        return re.findall(r" gated \S+ beside \S+: ([^,\n]+),", "".join(self.lines()))
 
     def is_open(self):
         if self.process.poll() is not None:

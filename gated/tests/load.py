@@ -22,6 +22,7 @@ ROOT = os.path.dirname(os.path.dirname(HERE))
 sys.path[:0] = [it for it in (HERE, os.path.dirname(HERE), os.path.join(ROOT, "tests"), os.path.join(ROOT, "tools")) if it not in sys.path]
 
 from gate import Gate, same, true
+from hosting import memory
 from kinds import long
 from model_node import COIN_VALUE, number_hash, payment_of
 from test_following import Beside
@@ -76,20 +77,6 @@ class Client(threading.Thread):
         if method == "testmempoolaccept" and told["result"][0]["txid"] != tx.txid():
             raise AssertionError("asked about %s, answered about %s" % (tx.txid(), told["result"]))
         self.answers[method] += 1
-
-
-def memory(process):
-    """The resident bytes of a process and of its children."""
-    found = {}
-    for name in os.listdir("/proc"):
-        if name.isdecimal():
-            try:
-                with open("/proc/%s/status" % name) as lines:
-                    told = dict(line.split(":", 1) for line in lines if ":" in line)
-                found[int(name)] = int(told["PPid"]), int(told.get("VmRSS", "0 kB").split()[0]) * 1024
-            except (OSError, ValueError):
-                pass
-    return found[process][1], sum(size for parent, size in found.values() if parent == process)
 
 
 def is_flat(before, after, what):

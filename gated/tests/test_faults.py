@@ -17,9 +17,10 @@ import threading
 import time
 from pathlib import Path
 
+import hosting
 from bitcoin import Input, Output, Transaction
 from gate import same, true
-from hosting import GATED, RpcFailed, environment_of, free_port, until
+from hosting import GATED, RpcFailed, child_of, environment_of, free_port, needs_a_child, until
 from model_node import COIN_VALUE, number_hash, payment_of
 from test_answering import failed
 from test_following import Beside
@@ -115,13 +116,14 @@ def test_what_is_behind(gate):
 
 def test_the_first_lines_of_the_log(gate):
     """They say which gate it is, beside which node, without a password, and where callers, cookie, journal and metrics are."""
+    kind = hosting.IN_PROCESS if hosting.LIBRARY else "%s as a child" % gate.program
     with Beside(gate) as it:
         it.gated.words[it.gated.words.index(it.node.url)] = it.node.url.replace("//", "//name:secret@")
         it.open()
         first = [line.split(" INFO ")[-1].rstrip("\n") for line in it.gated.lines()[:2]]
         places = "callers at 127.0.0.1:%d, cookie in %s, journal in %s, metrics at 127.0.0.1:%d"
         where = places % (it.gated.port, it.gated.cookie, it.gated.journal, it.gated.metrics_port)
-        wanted = ["gated 0.1.0 beside %s: %s as a child, %s" % (it.node.url, gate.program, where), "the gate is open: tip 119, 0 transactions"]
+        wanted = ["gated 0.1.0 beside %s: %s, %s" % (it.node.url, kind, where), "the gate is open: tip 119, 0 transactions"]
         same("its first lines", first, wanted)
 
 
@@ -174,18 +176,6 @@ def with_wrapper(folder, gate, text):
         file.write('#!/bin/sh\n%s\nexec "%s" "$@"\n' % (text, gate.program))
     os.chmod(path, 0o755)
     return path
-
-
-def child_of(process):
-    """The process that a gated runs."""
-    with open("/proc/%d/task/%d/children" % (process.pid, process.pid)) as children:
-        found = children.read().split()
-    if not found:
-        # it was started by the thread that has the gate
-        for task in os.listdir("/proc/%d/task" % process.pid):
-            with open("/proc/%d/task/%s/children" % (process.pid, task)) as children:
-                found += children.read().split()
-    return int(found[0])
 
 
 def test_a_child_that_hangs(gate):
@@ -247,6 +237,7 @@ def quiet(call, *given):
 
 def test_answers_during_an_opening(gate):
     """While an opening is at work, callers are told at once by code -28, and the second door answers."""
+    needs_a_child()
     with Beside(gate) as it:
         it.gated.words[it.gated.words.index(it.gated.program)] = with_wrapper(it.folder.name, gate, "sleep 6")
         it.open()

@@ -6,15 +6,15 @@ import os
 import random
 import signal
 import socket
+import subprocess
 import tempfile
 import time
-import unittest
 
 from bitcoin import Input, Output, Transaction
 from gate import same, true
 from gated.announcements import AskedAnnouncements, Came, Gone, Moved
 from gated.pool import PoolWatch
-from hosting import ROOT, Gated, until
+from hosting import GATED, IN_PROCESS, Gated, environment_of, library_of, until
 from model import fees_of, size_of
 from model_node import COIN_VALUE, ModelNode, number_hash, payment_of
 
@@ -112,20 +112,29 @@ def test_pool_and_blocks(gate):
 
 
 def test_the_library_in_the_process(gate):
-    """The same over the library that `make lib` has built, which is what gated takes where it is there."""
-    if not os.path.exists(os.path.join(ROOT, "crates", "gate_c", "out", "library", "lib", "libgate_c.so.0")):
-        raise unittest.SkipTest("the library is not built")
+    """The same over the library, which is what gated takes where it is there; the gate is opened anew in the same process, and an
+    opening that it refuses ends gated. A library that asks the program stands for the one that has to be proved first."""
     with Beside(gate) as it:
-        it.gated.words.remove("--child")
+        library = library_of(gate, it.folder.name)
+        it.gated.takes_the_library()
         first = it.pay(outputs=2)
-        it.open()
+        it.gated.start(GATE_LIBRARY=library)
+        same("the gate", it.gated.kinds(), [IN_PROCESS])
+        it.is_alike()
         it.child(first)
         it.node.mine()
+        it.is_alike()
+        it.node.lost = 1
         it.pay()
+        it.pay()
+        it.opened(2)
         it.is_alike()
         it.agrees()
         same("status", it.gated.end(), 0)
-        it.gated.is_legal(1)
+        it.gated.is_legal(2)
+        words = [GATED, *it.gated.words, "--line", "bogus 1"]
+        done = subprocess.run(words, env=environment_of(GATE_LIBRARY=library), capture_output=True, text=True, timeout=60, check=False)
+        same("its end", (done.returncode, done.stderr.splitlines()[-1]), (1, "gated: the gate refuses the opening: opening 2 bad-line: bogus 1"))
 
 
 def test_asked_again_and_again(gate):

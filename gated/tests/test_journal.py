@@ -7,16 +7,14 @@ import hashlib
 import hmac
 import io
 import os
-import shutil
 import subprocess
 import sys
 import tempfile
 import threading
-import unittest
 from pathlib import Path
 
 from gate import same, true
-from hosting import HERE, ROOT
+from hosting import HERE, compiled
 from kinds import long
 
 from gated import config, journal
@@ -284,21 +282,10 @@ def with_library(path, *words, **variables):
     return done.returncode, done.stdout + done.stderr
 
 
-def fake_library(folder):
-    """A library that takes each line for its own reply."""
-    compiler = shutil.which("cc") or shutil.which("gcc") or shutil.which("clang")
-    if compiler is None:
-        raise unittest.SkipTest("no compiler for C is on this machine")
-    path = os.path.join(folder, "libgate_c.so.0")
-    source = os.path.join(ROOT, "tests", "hosts", "fake_library.c")
-    subprocess.run([compiler, "-std=c11", "-shared", "-fPIC", "-I", os.path.join(ROOT, "lib"), "-o", path, source], check=True)
-    return path
-
-
 def test_the_library(gate):
     """The library in place of the program: replies, a reply that is kept, lines that fail, an opening that is refused."""
     with tempfile.TemporaryDirectory() as folder:
-        status, said = with_library(fake_library(folder), "-c", ASKS_LIBRARY)
+        status, said = with_library(compiled("fake_library.c", folder), "-c", ASKS_LIBRARY)
     wanted = [
         "'a line\\n'", "''", "''", "'%s'" % ("x" * 20), "'a reply\\n'", "Unanswered the line is too long", "Unanswered out of memory",
         "Ended the library fails: the gate or the event is closed", "'and on\\n'", "OpeningRefused the gate refuses the opening: opening 1 bad-line: refuse",
@@ -322,7 +309,7 @@ WHICH = "import sys; from gated.engine import opener; it = opener(sys.argv[1] or
 def test_which_gate(gate):
     """The library where it is built, unless a child is asked for; else the program as a child, by its path or as `gate`."""
     with tempfile.TemporaryDirectory() as folder:
-        library = fake_library(folder)
+        library = compiled("fake_library.c", folder)
         Path(folder, "gate").symlink_to(gate.program)
         nothing = os.path.join(folder, "nothing.so")
         for path, words, wanted in (
