@@ -1,19 +1,23 @@
 #!/usr/bin/env python3
 """A long run beside a node of this machine (bitcoind, or litecoind, in regtest) with 64 clients.
 
-  gated/tests/lasting.py PROGRAM [SECONDS] [CLIENTS] [--folder FOLDER] [--pause SECONDS] [--patience SECONDS]
+  gated/tests/lasting.py PROGRAM [SECONDS] [CLIENTS] [--library FOLDER] [--folder FOLDER] [--pause SECONDS] [--patience SECONDS]
 
 A block comes every ten seconds. Every minute something happens meanwhile: a reorganisation of one to three blocks, the gate's
-process is killed, gated is killed, gated is restarted, the node is restarted. Each client waits for its answer before its next
-call, looks whether it is the answer to that call, and sends a payment again until gated answers it by its txid. Every twenty
-seconds the clients pause, and the two pools, their floors and all entries have to be alike. At the end each payment that was
-answered by its txid has to be in the node's chain, and each file of the journal has to be legal. Standard error says every minute
-how far it is. What the run writes is kept if a FOLDER is named, which has to be new. On a machine that has other work, clients
-may pause before each call, and have more patience with a payment.
+process is killed, gated is killed, all connections of gated to its node and its callers are cut, gated is restarted, the node is
+restarted. Each client waits for its answer before its next call, looks whether it is the answer to that call, and sends a payment
+again until gated answers it by its txid. Every twenty seconds the clients pause, and the two pools, their floors and all entries
+have to be alike. At the end each payment that was answered by its txid has to be in the node's chain, and each file of the
+journal has to be legal. Standard error says every minute how far it is.
+
+The gate is PROGRAM as a child; with --library it is the library that `make lib` put into that folder, in gated's own process,
+which is killed as gated is, and PROGRAM audits. What the run writes is kept if a FOLDER is named, which has to be new. On a machine
+that has other work, clients may pause before each call, and have more patience with a payment.
 """
 
 import argparse
 import contextlib
+import ctypes
 import http.client
 import json
 import os
@@ -21,6 +25,8 @@ import random
 import re
 import shutil
 import signal
+import socket
+import stat
 import sys
 import tempfile
 import threading
@@ -36,15 +42,17 @@ sys.path[:0] = [it for it in (HERE, os.path.dirname(HERE), os.path.join(ROOT, "t
 import hosting
 from bitcoin import Output, Transaction
 from gate import Gate, same, true
-from hosting import until
+from hosting import child_of, memory, until
 from kinds import long
 from live import NODES, Coin, Live, script_of
-from load import memory
-from test_faults import child_of
 
 SECONDS, CLIENTS = 240, 64
 BLOCK_SECONDS, COMPARED_SECONDS, TROUBLE_SECONDS = 10, 20, 60
-TROUBLES = ("reorganisation", "child killed", "gated killed", "reorganisation", "gated restarted", "node restarted")
+TROUBLES = ("reorganisation", "child killed", "gated killed", "connections cut", "reorganisation", "gated restarted", "node restarted")
+# a system call that has no name in Python
+PIDFD_GETFD = 438
+# what gated's log says of each opening
+OPENED = "the gate is open:"
 # coins of each client
 COINS = 4
 FEE = 1000
@@ -184,6 +192,7 @@ class Lasting:
     def __init__(self, live, clients, is_over, pace):
         self.live, self.pause, self.pace = live, Pause(), pace
         self.counts, self.sizes = Counter(), []
+        self.troubles = [it for it in TROUBLES if it != "child killed" or not hosting.LIBRARY]
         self.clients = [Client(number, live, coins, self.pause, is_over, pace) for number, coins in enumerate(coins_for(live, clients))]
 
     def run(self, seconds):
@@ -220,7 +229,7 @@ class Lasting:
             self.sizes.append(memory(self.live.gated.process.pid))
 
     def trouble(self):
-        kind = TROUBLES[sum(self.counts[it] for it in set(TROUBLES)) % len(TROUBLES)]
+        kind = self.troubles[sum(self.counts[it] for it in set(TROUBLES)) % len(self.troubles)]
         self.counts[kind] += 1
         gated, node = self.live.gated, self.live.node
         if kind == "reorganisation":
@@ -232,6 +241,8 @@ class Lasting:
             same("the node's tip", node.ask("getbestblockhash"), parent["hash"])
         elif kind == "child killed":
             os.kill(child_of(gated.process), signal.SIGKILL)
+        elif kind == "connections cut":
+            self.counts["connections"] += cut(gated.process)
         elif kind == "gated killed":
             gated.end(signal.SIGKILL)
             gated.start()
@@ -257,7 +268,7 @@ class Lasting:
             "answers": dict(answers.most_common()), "happened": dict(self.counts), "comparisons": self.live.counts["comparisons"],
             "entries compared": self.live.counts["entries compared"], "half within ms": round(1000 * times[len(times) // 2]),
             "99 % within ms": round(1000 * times[len(times) * 99 // 100]), "slowest ms": round(1000 * times[-1]),
-            "MB of gated, first quarter and end": [round(it[0] / 1e6, 1) for it in (quarter, self.sizes[-1])],
+            "MB of gated, first quarter, end and most": [round(it[0] / 1e6, 1) for it in (quarter, self.sizes[-1], max(self.sizes))],
         }  # fmt: skip
 
 
@@ -272,6 +283,33 @@ def coins_for(live, clients):
         made += [Coin(tx.hash(), index, value, coin.truth) for index in range(each)]
     live.generate(6)
     return [made[at : at + COINS] for at in range(0, clients * COINS, COINS)]
+
+
+def cut(process):
+    """Cuts all connections of a process to its node and its callers, as if the other end did; how many there were."""
+    count = 0
+    for it in sockets_of(process):
+        # what listens has no other end
+        with it, contextlib.suppress(OSError):
+            if it.family == socket.AF_INET and it.getpeername():
+                it.shutdown(socket.SHUT_RDWR)
+                count += 1
+    return count
+
+
+def sockets_of(process):
+    """The sockets that a process has open, each once more for this one."""
+    handle, call = os.pidfd_open(process.pid), ctypes.CDLL(None).syscall
+    try:
+        for name in os.listdir("/proc/%d/fd" % process.pid):
+            # none, if it was closed just now
+            number = call(PIDFD_GETFD, handle, int(name), 0)
+            if number >= 0 and stat.S_ISSOCK(os.fstat(number).st_mode):
+                yield socket.socket(fileno=number)
+            elif number >= 0:
+                os.close(number)
+    finally:
+        os.close(handle)
 
 
 def confirmed(live):
@@ -315,11 +353,12 @@ def lasting(gate, seconds, clients, kept=None, pace=Pace()):
                 run.compare()
                 same("payments that were lost", sorted(paid - confirmed(live)), [])
                 run.say()
-                since = {"differences since the last start": live.gated.differences(), "openings since the last start": live.gated.metric("gate_openings_total")}
+                since = {"differences since the last start": live.gated.differences(), "openings": sum(OPENED in line for line in live.gated.lines())}
                 same("status", live.gated.end(), 0)
         finally:
             live.node.stop()
-        figures = {"followed": way, "seconds": seconds, "clients": clients, **vars(pace), "payments, none lost": len(paid), **run.figures(), **since}
+        (kind,) = set(live.gated.kinds())
+        figures = {"gate": kind, "followed": way, "seconds": seconds, "clients": clients, **vars(pace), "payments, none lost": len(paid), **run.figures(), **since}
         print(json.dumps(figures, indent=1), file=sys.stderr, flush=True)
         # an audit replays in a part of the time in which callers asked
         lines, status = live.gated.audit(600 + seconds)
@@ -339,12 +378,14 @@ if __name__ == "__main__":
     words.add_argument("program", metavar="PROGRAM")
     words.add_argument("seconds", metavar="SECONDS", type=int, nargs="?", default=SECONDS)
     words.add_argument("clients", metavar="CLIENTS", type=int, nargs="?", default=CLIENTS)
+    words.add_argument("--library", metavar="FOLDER")
     words.add_argument("--folder")
     words.add_argument("--pause", type=float, default=Pace.pause)
     words.add_argument("--patience", type=float, default=Pace.patience)
     asked = words.parse_args()
     gate, pace = Gate(os.path.abspath(asked.program), seconds=1200), Pace(asked.pause, asked.patience)
     hosting.SECONDS = max(hosting.SECONDS, asked.patience)
+    hosting.LIBRARY = hosting.library_in(asked.library) if asked.library else None
     try:
         lasting(gate, asked.seconds, asked.clients, asked.folder, pace)
     except unittest.SkipTest as reason:
