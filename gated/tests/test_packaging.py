@@ -9,8 +9,10 @@ import tempfile
 import unittest
 from pathlib import Path
 
+import hosting
 from gate import same, true
-from hosting import GATED, ROOT, environment_of
+from hosting import GATED, IN_PROCESS, ROOT, environment_of, library_of
+from test_following import Beside
 from test_journal import written
 
 SECONDS = 300
@@ -83,7 +85,7 @@ def test_the_unit(gate):
     """systemd's own list of what a service may do gives the unit less than 3 of 10; it is bounded, and its gate isn't ended by others."""
     unit = os.path.join(ROOT, "gated", "share", "gated.service")
     text = Path(unit).read_text()
-    for line in ("WatchdogSec=", "MemoryMax=", "UMask=0077", "LimitNOFILE=", "KillMode=mixed"):
+    for line in ("WatchdogSec=", "MemoryMax=", "UMask=0077", "LimitNOFILE=", "KillMode=mixed", "MemoryDenyWriteExecute=true"):
         true("it has %s" % line, "\n" + line in text)
     if not shutil.which("systemd-analyze"):
         raise unittest.SkipTest("systemd-analyze is not on this machine")
@@ -92,3 +94,33 @@ def test_the_unit(gate):
     if not found:
         raise unittest.SkipTest("systemd-analyze can't look at a unit that is not installed: %s" % (said.splitlines() or [status])[-1])
     true("its level is %s" % found[1], float(found[1]) < 3)
+
+
+# goes on as another program, which may no more make memory executable than the unit lets it; 77 if the system can't forbid it
+DENIED = """
+import ctypes, mmap, os, sys
+if ctypes.CDLL(None).prctl(65, 1, 0, 0, 0):
+    sys.exit(77)
+try:
+    mmap.mmap(-1, 4096, prot=mmap.PROT_READ | mmap.PROT_WRITE | mmap.PROT_EXEC)
+except PermissionError:
+    os.execv(sys.argv[1], sys.argv[1:])
+"""
+
+
+def test_no_memory_is_made_executable(gate):
+    """gated and its gate go on under MemoryDenyWriteExecute, as a child and as the library in the process."""
+    before = [sys.executable, "-c", DENIED]
+    if done_by(*before, "/bin/true")[0] == 77:
+        raise unittest.SkipTest("this system has no PR_SET_MDWE (Linux 6.3)")
+    for is_child in {not hosting.LIBRARY, False}:
+        with Beside(gate) as it:
+            if not is_child:
+                it.gated.takes_the_library()
+            it.gated.before = before
+            it.gated.start(GATE_LIBRARY=library_of(gate, it.folder.name))
+            same("the gate", it.gated.kinds() == [IN_PROCESS], not is_child)
+            it.pay()
+            it.is_alike()
+            same("status", it.gated.end(), 0)
+            it.gated.is_legal(1)
