@@ -157,10 +157,14 @@ class Keeper:
             raise Full("the queue is full")
         return await self._put(job, opens=False)
 
-    async def _put(self, job: Job[Result], opens: bool) -> Result:
-        if not self._is_open and not opens:
-            # whoever asks now is told now, whatever the gate is at
+    def has_to_be_open(self) -> None:
+        """Closed if there is no gate: whoever asks now is told now, whatever the gate is at."""
+        if not self._is_open:
             raise Closed(self._why)
+
+    async def _put(self, job: Job[Result], opens: bool) -> Result:
+        if not opens:
+            self.has_to_be_open()
         done: asyncio.Future[Result] = asyncio.get_running_loop().create_future()
         await self._queue.put(_Waiting(job, opens, done))
         return await done
@@ -230,12 +234,15 @@ class Keeper:
         began = self._asked_at = time.monotonic()
         try:
             reply = self._engine.answer(line)
+            self._timed(time.monotonic() - began)
+            if is_kept and self._journal is not None:
+                self._journal.entry(line, reply)
+            return reply.rstrip("\n")
+        except (MemoryError, OSError) as error:
+            # the gate may have answered, and the journal may not have it
+            raise Ended("the gate's answer is lost: %s" % (str(error) or type(error).__name__)) from error
         finally:
             self._asked_at = None
-        self._timed(time.monotonic() - began)
-        if is_kept and self._journal is not None:
-            self._journal.entry(line, reply)
-        return reply.rstrip("\n")
 
     def _end(self, why: str) -> None:
         self._is_open = False

@@ -3,6 +3,7 @@
 import asyncio
 import base64
 import contextlib
+import errno
 import hashlib
 import hmac
 import io
@@ -18,7 +19,7 @@ from hosting import HERE, compiled
 from kinds import long
 
 from gated import config, journal
-from gated.engine import ChildGate, OpeningRefused, Unanswered
+from gated.engine import ChildGate, Ended, OpeningRefused, Unanswered
 from gated.journal import Bounds, Journal, JournalFailed
 from gated.keeper import SEGMENT_FULL, Closed, Full, Keeper
 from gated.users import BadUser, Users
@@ -128,12 +129,15 @@ class Slow:
     def __init__(self):
         self.may = threading.Event()
         self.closed = False
+        self.fails = None
 
     def open(self, opening):
         pass
 
     def answer(self, line):
         self.may.wait(10)
+        if self.fails is not None:
+            raise self.fails
         return "set\n"
 
     def stop(self):
@@ -230,6 +234,28 @@ def test_a_line_of_two(gate):
             raise AssertionError("it was asked")
 
     kept(run)
+
+
+def test_an_answer_that_is_lost(gate):
+    """What an engine or the journal's memory fails at ends the gate: the journal may lack what the gate answered."""
+    async def run(keeper, engines):
+        for number, failure in enumerate((MemoryError(), BlockingIOError(errno.EAGAIN, "no room"))):
+            await keeper.opened(OPENING, "", lambda turn: None)
+            engines[number].may.set()
+            same("reply", await keeper.offered(lambda turn: turn.ask("x")), "set")
+            engines[number].fails = failure
+            for kind, why in ((Ended, "the gate's answer is lost: "), (Closed, "the gate's answer is lost: ")):
+                try:
+                    await keeper.offered(lambda turn: turn.ask("y"))
+                except (Ended, Closed) as error:
+                    same("its end", (type(error), str(error).startswith(why)), (kind, True))
+                else:
+                    raise AssertionError("it was answered")
+            same("closed", engines[number].closed, True)
+
+    with tempfile.TemporaryDirectory() as folder:
+        kept(run, Journal(Path(folder)))
+        same("entries", [it.read_text().count("> ") for it in journal.segments(Path(folder))], [1, 1])
 
 
 def test_the_child(gate):
