@@ -73,6 +73,7 @@ class Trying:
 
     async def tried(self, user: str, listed: list[str], rate: Any) -> list[dict[str, Any]]:
         """What the gate says of these transactions, and of those that pay more than the caller wants, what the node says."""
+        self._keeper.has_to_be_open()
         transactions = [it for it in map(read, listed) if it is not None]
         ask = functools.partial(asking.asked, user=user, method="testmempoolaccept", params=[listed])
         if len(transactions) < len(listed):
@@ -98,11 +99,14 @@ class Trying:
 
     async def sent(self, user: str, digits: str, rate: Any, burn: Any) -> str:
         """The txid of a transaction that the gate takes and the node, too."""
+        self._keeper.has_to_be_open()
         one = read(digits)
         if one is None:
             return str(await self._keeper.offered(functools.partial(asking.asked, user=user, method="sendrawtransaction", params=[digits])))
         await self._has_to_burn_no_more(one, rate, burn)
         async with self._sending:
+            # it may have been closed while others were before this one
+            self._keeper.has_to_be_open()
             is_new = await self._taken(user, one, await self._judged([one], rate, functools.partial(_tried_by_gate, listed=[one])))
             await self._handed_on(one, rate, burn, is_new)
         return one.txid

@@ -14,6 +14,7 @@ from model_node import COIN_VALUE, SENDING_HELP, WITHOUT_COINS, Failure, RpcErro
 from test_answering import basic, failed, fresh, rpcauth
 from test_following import Beside
 
+CLOSED = "The gate is being opened from its node: try again"
 KINDS = ("busy", "cut", "late", "odd")
 USERS = ("--rpcauth", rpcauth("shop", "secret"), "--rpcauth", rpcauth("viewer", "other"))
 LISTS = ("--line", "rpcwhitelist shop:sendrawtransaction,testmempoolaccept", "--line", "rpcwhitelist viewer:getmempoolinfo", "--line", "rpcwhitelistdefault 0")
@@ -240,6 +241,35 @@ def test_two_that_contradict_each_other(gate):
             true("the one that pays more is taken: %s" % answers, answers[pair[1].txid()] == pair[1].txid())
         it.is_alike()
         same("openings", it.gated.metric("gate_openings_total"), 1)
+
+
+def test_a_node_that_hangs(gate):
+    """While the node gives no answer at all, a gate that is closed for it says so at once to whoever tries a transaction or sends
+    one, and those payments that waited behind another are told, too, each without a question to the node."""
+    with Beside(gate, "--forward", "--timeout", "3") as it:
+        it.open()
+        paid, said = [fresh(it) for _ in range(12)], []
+        same("tried", it.gated.rpc("testmempoolaccept", [paid[0].hex()])[0]["allowed"], True)
+        it.node.failures["testmempoolaccept"] = Failure("late")
+        them = [threading.Thread(target=lambda one=one: said.append(failed(lambda: it.gated.rpc("sendrawtransaction", one.hex())))) for one in paid]
+        for thread in them:
+            thread.start()
+        until("all have been asked about what they burn", lambda: it.node.asked.count(WITHOUT_COINS) == len(paid))
+        it.node.late = 60.0
+        until("the gate is closed", lambda: any("opening the gate anew: the node does not answer" in line for line in it.gated.lines()))
+        for method, one in (("testmempoolaccept", [paid[0].hex()]), ("sendrawtransaction", paid[0].hex())):
+            same(method, failed(lambda method=method, one=one: it.gated.rpc(method, one)), (500, -28, CLOSED))
+        for thread in them:
+            thread.join()
+        same("the last of those that waited", said[-1], (500, -28, CLOSED))
+        it.node.late = 0.0
+        it.node.failures.clear()
+        it.is_alike()
+        for one in paid:
+            same("sent again", it.gated.rpc("sendrawtransaction", one.hex()), one.txid())
+        it.is_alike()
+        it.gated.end()
+        it.gated.is_legal(None)
 
 
 def test_permissions_first(gate):
