@@ -92,7 +92,7 @@ class LiveNode:
         words += self.more + ["-%s=%s" % it for it in options.items()] + ["-zmqpubsequence=tcp://127.0.0.1:%d" % self.zmq_port]
         with open(os.path.join(self.folder, "said.log"), "a") as said:
             self.process = subprocess.Popen(words, stdin=subprocess.DEVNULL, stdout=said, stderr=said)
-        until("the node answers", self.answers, 120)
+        until("the node answers", self.answers)
 
     def answers(self):
         if self.process.poll() is not None:
@@ -110,7 +110,7 @@ class LiveNode:
             except (OSError, Differs, http.client.HTTPException):
                 self.process.terminate()
             try:
-                self.process.wait(120)
+                self.process.wait(hosting.SECONDS)
             except subprocess.TimeoutExpired:
                 self.process.kill()
                 raise Differs("the node doesn't end: it had to be killed") from None
