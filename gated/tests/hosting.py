@@ -146,7 +146,7 @@ class Gated:
 
     def __exit__(self, *failed):
         self.end()
-        if failed[0] is not None:
+        if failed[0] is not None and os.path.exists(self.log):
             print("the last lines of gated's log:\n%s" % "".join(self.lines()[-30:]), file=sys.stderr)
 
     def start(self, **variables):

@@ -4,7 +4,6 @@ import json
 import os
 import shutil
 import subprocess
-import sys
 import tempfile
 import unittest
 
@@ -16,6 +15,7 @@ from kinds import long
 from live import NODES, Live, script_of
 from model_node import COIN_VALUE, RpcError, number_hash, payment_of
 from test_answering import basic, failed, fresh, rpcauth
+from test_faults import ends
 from test_following import Beside
 
 HASH = "ab" * 32
@@ -84,10 +84,8 @@ def test_who_may_pass(gate):
 def test_what_cannot_be_passed(gate):
     """A call that the gate answers is none that may be passed to the node."""
     with Beside(gate) as it:
-        words = [sys.executable, "-m", "gated", *it.gated.words, "--passthrough", "getmempoolinfo"]
-        environment = dict(os.environ, PYTHONPATH=os.path.dirname(os.path.dirname(os.path.abspath(__file__))))
-        done = subprocess.run(words, env=environment, capture_output=True, text=True, timeout=60, check=False)
-        same("its end", (done.returncode, done.stderr), (1, "gated: getmempoolinfo is a call that the gate answers\n"))
+        said = ends(*it.gated.words, "--passthrough", "getmempoolinfo")
+        same("its end", said, (1, "gated: getmempoolinfo is a call that the gate answers\n"))
 
 
 def test_transactions(gate):
