@@ -1,5 +1,5 @@
 -- What the chain's caller changes, and what it leaves.
-use Rattle.std.proofs.Common.{◌≡◌, ◌≢◌, ℕ, List, Option, Some, None, Result, Ok, Err, refl, ap, ◌∙◌}
+use Rattle.std.proofs.Common.{◌≡◌, ℕ, List, Option, Some, None, Result, Ok, Err, refl, ap, ◌∙◌}
 use Rattle.gate_bytes.specs.Order.{first_failing}
 use Rattle.gate_tx.specs.Tx.{Tx}
 use Rattle.gate_standard.specs.declared.Denial.{Denial}
@@ -10,11 +10,10 @@ use Rattle.gate_admit.specs.declared.Grant.{Grant}
 use Rattle.gate_admit.specs.Rules.{decision_of}
 use Rattle.gate_admit.specs.Submission.{Submitted, submit_of}
 use Rattle.gate_admit.specs.Verdicts.{row_rules}
-use Rattle.gate_message.specs.declared.caller.Caller.TheVariants.{Chain}
 use Rattle.gate_message.specs.declared.denial.PeerDenial.{PeerDenial}
 use Rattle.gate_message.specs.declared.denial.PeerDenial.TheVariants.{Admission}
 use Rattle.gate_message.specs.declared.event.Event.{Event}
-use Rattle.gate_message.specs.declared.event.Event.TheVariants.{Enter, Leave, Tx as Submit, Mempool, GetBlock, Headers, FeeFilter, Rpc, SetFloor, Set as Turn, Chain as Extend, LearnCoin, LearnVerdict, Forget}
+use Rattle.gate_message.specs.declared.event.Event.TheVariants.{Enter, Leave, Tx as Submit, Mempool, GetBlock, Headers, FeeFilter, Rpc, SetFloor, Set as Turn, Chain as OfChain}
 use Rattle.gate_message.specs.declared.reply.Reply.{Reply}
 use Rattle.gate_message.specs.declared.reply.Reply.TheVariants.{Denied}
 use Rattle.gate_message.specs.Callers.{caller_of}
@@ -45,9 +44,6 @@ answered_knows : (w : World) (peer : ℕ) (served : Reply × World) (denial : Op
 answered_knows w peer served (Some denial) h = (refl, refl)
 answered_knows w peer served None h = h
 
-by_chain : {X : Type 0} → (Chain ≢ Chain) → X
-by_chain h = absurd (h refl)
-
 pub others_leave_the_chain : OthersLeaveTheChain
 unfolding step_of
 others_leave_the_chain w (Enter peer address) h = answered_knows w peer (entered w peer address) (first_failing (entering_rules w.sessions peer)) (refl, refl)
@@ -63,10 +59,7 @@ others_leave_the_chain w (FeeFilter peer rate) h = answered_knows w peer (filter
 others_leave_the_chain w (Rpc call) h = call_gives (λ p. KnowsAs w p.1) w call.time call.user (request_of call.json) (λ answer. (refl, refl)) (λ id transaction is. (refl, refl))
 others_leave_the_chain w (SetFloor rate) h = (refl, refl)
 others_leave_the_chain w (Turn switch on) h = (refl, refl)
-others_leave_the_chain w (Extend disconnect now blocks) h = by_chain h
-others_leave_the_chain w (LearnCoin coin) h = by_chain h
-others_leave_the_chain w (LearnVerdict row) h = by_chain h
-others_leave_the_chain w (Forget blocks) h = by_chain h
+others_leave_the_chain w (OfChain event) h = absurd (h refl)
 
 -- ---- what is learnt and forgotten
 

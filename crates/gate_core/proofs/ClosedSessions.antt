@@ -8,7 +8,7 @@ use Rattle.gate_standard.specs.declared.Denial.TheVariants.{Decode}
 use Rattle.gate_message.specs.declared.caller.Caller.{Caller}
 use Rattle.gate_message.specs.declared.caller.Caller.TheVariants.{Chain, Operator, Peer, User}
 use Rattle.gate_message.specs.declared.event.Event.{Event}
-use Rattle.gate_message.specs.declared.event.Event.TheVariants.{Enter, Leave, Tx as Submit, Mempool, GetBlock, Headers, FeeFilter, Rpc, SetFloor, Set as Turn, Chain as Extend, LearnCoin, LearnVerdict, Forget}
+use Rattle.gate_message.specs.declared.event.Event.TheVariants.{Enter, Leave, Tx as Submit, Mempool, GetBlock, Headers, FeeFilter, Rpc, SetFloor, Set as Turn, Chain as OfChain}
 use Rattle.gate_message.specs.declared.denial.PeerDenial.{PeerDenial}
 use Rattle.gate_message.specs.declared.denial.PeerDenial.TheVariants.{PeerUnknown, PeerClosed, PeerKnown, BlocksOnly, AlreadyInMempool, MempoolNoBloom, MempoolUploadTarget, HeadersDuringDownload, UnknownBlock, HistoricalUploadTarget, Admission}
 use Rattle.gate_message.specs.declared.reply.Reply.{Reply}
@@ -65,10 +65,7 @@ step_closed w (FeeFilter number rate) peer s own h shut = ap (λ r. told (answer
 step_closed w (Rpc call) peer s own h shut = cc
 step_closed w (SetFloor rate) peer s own h shut = cc
 step_closed w (Turn switch on) peer s own h shut = cc
-step_closed w (Extend disconnect now blocks) peer s own h shut = no_peer peer own
-step_closed w (LearnCoin coin) peer s own h shut = no_peer peer own
-step_closed w (LearnVerdict row) peer s own h shut = no_peer peer own
-step_closed w (Forget blocks) peer s own h shut = no_peer peer own
+step_closed w (OfChain event) peer s own h shut = no_peer peer own
 
 by_caller : (event : Event) (peer : ℕ) → (caller_of event ≡ Peer peer) ⊎ (caller_of event ≢ Peer peer)
 by_caller event peer = by (caller_of event)

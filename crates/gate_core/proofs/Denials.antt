@@ -11,25 +11,20 @@ use Rattle.gate_admit.specs.declared.Grant.{Grant}
 use Rattle.gate_admit.specs.Rules.{decision_of}
 use Rattle.gate_admit.specs.Submission.{admitted, entry_of, holds, submitted_by, submit_of}
 use Rattle.gate_admit.specs.Truc.{sibling_of}
-use Rattle.gate_chain.specs.Forgetting.{forget_denial}
-use Rattle.gate_chain.specs.declared.ChainDenial.{ChainDenial}
-use Rattle.gate_admit.specs.Verdicts.{row_rules}
-use Rattle.gate_reorg.specs.Events.{Happened, event_rules, event_of}
-use Rattle.gate_submission.specs.Blocks.{present}
 use Rattle.gate_message.specs.declared.event.Event.{Event}
-use Rattle.gate_message.specs.declared.event.Event.TheVariants.{Enter, Leave, Tx as Submit, Mempool, GetBlock, Headers, FeeFilter, Rpc, SetFloor, Set as Turn, Chain as Extend, LearnCoin, LearnVerdict, Forget}
+use Rattle.gate_message.specs.declared.event.Event.TheVariants.{Enter, Leave, Tx as Submit, Mempool, GetBlock, Headers, FeeFilter, Rpc, SetFloor, Set as Turn, Chain as OfChain}
 use Rattle.gate_message.specs.declared.denial.PeerDenial.{PeerDenial}
 use Rattle.gate_message.specs.declared.reply.Reply.{Reply}
 use Rattle.gate_core.specs.World.{World, standing_of}
 use Rattle.gate_core.specs.Access.{entering_rules, session_rules, submission_rules, listing_rules, block_rules, headers_rules}
 use Rattle.gate_core.specs.PeerSteps.{concluded, decided, answered, entered, left, submitted, listed, block_given, headers_given, filter_set}
-use Rattle.gate_core.specs.ChainSteps.{chained_as, coin_rules, forgotten_as, learnt_as, with_coin, with_verdict}
 use Rattle.gate_core.specs.Steps.{step_of}
 use Rattle.gate_core.specs.Runs.{run_of}
 use Rattle.gate_core.specs.RpcSteps.{sent, sent_as, told}
 use Rattle.gate_rpc.specs.declared.id.Id.{Id}
 use Rattle.gate_rpc.specs.Calls.{request_of}
 use Rattle.gate_core.proofs.Calls.{call_gives}
+use Rattle.gate_core.proofs.Following.{chain_gives}
 use Rattle.gate_core.specs.SessionLaws.{IsDenied}
 
 -- chain, pool and floor are those of another state
@@ -80,18 +75,6 @@ answered_denied : (w : World) (peer : ℕ) (served : Reply × World) (denial : O
 answered_denied w peer served (Some denial) done h = (refl, refl, refl)
 answered_denied w peer served None done h = done h
 
-chained_denied : (w : World) (after : Happened) (denial : Option ChainDenial) → IsDenied (chained_as w after denial).0 → IsAsIn w (chained_as w after denial).1
-chained_denied w after (Some denial) h = (refl, refl, refl)
-chained_denied w after None h = absurd h
-
-learnt_denied : (w after : World) (denial : Option ChainDenial) → IsDenied (learnt_as w after denial).0 → IsAsIn w (learnt_as w after denial).1
-learnt_denied w after (Some denial) h = (refl, refl, refl)
-learnt_denied w after None h = absurd h
-
-forgotten_denied : (w : World) (n : ℕ) (denial : Option ChainDenial) → IsDenied (forgotten_as w n denial).0 → IsAsIn w (forgotten_as w n denial).1
-forgotten_denied w n (Some denial) h = (refl, refl, refl)
-forgotten_denied w n None h = absurd h
-
 step_denied : (w : World) (event : Event) → IsDenied (step_of w event).0 → IsAsIn w (step_of w event).1
 unfolding step_of
 step_denied w (Enter peer address) h = answered_denied w peer (entered w peer address) (first_failing (entering_rules w.sessions peer)) (λ k. absurd k) h
@@ -106,10 +89,8 @@ step_denied w (Rpc call) h =
     call_gives (λ p. IsDenied p.0 → IsAsIn w p.1) w call.time call.user (request_of call.json) (λ answer k. (refl, refl, refl)) (λ id transaction is k. sent_denied w id call.time transaction k) h
 step_denied w (SetFloor rate) h = absurd h
 step_denied w (Turn switch on) h = absurd h
-step_denied w (Extend disconnect now blocks) h = chained_denied w (event_of (standing_of w) disconnect (present blocks) now w.budget) (first_failing (event_rules w.chain disconnect blocks)) h
-step_denied w (LearnCoin coin) h = learnt_denied w (with_coin w coin) (first_failing (coin_rules w coin)) h
-step_denied w (LearnVerdict row) h = learnt_denied w (with_verdict w row) (first_failing (row_rules w.verdicts row)) h
-step_denied w (Forget blocks) h = forgotten_denied w blocks (forget_denial w.chain blocks) h
+step_denied w (OfChain event) h =
+    chain_gives (λ p. IsDenied p.0 → IsAsIn w p.1) w event (λ denial k. (refl, refl, refl)) (λ disconnect now blocks is passes k. absurd k) (λ coin passes k. absurd k) (λ row k. absurd k) (λ blocks k. absurd k) h
 
 pub run_denied : (events : List Event) (w : World) → All IsDenied (run_of w events).0 → IsAsIn w (run_of w events).1
 run_denied [] w h = (refl, refl, refl)

@@ -15,18 +15,13 @@ use Rattle.gate_admit.specs.Standing.{Standing}
 use Rattle.gate_admit.specs.declared.Grant.{Grant}
 use Rattle.gate_admit.specs.Submission.{admitted, entry_of, submitted_by, submit_of}
 use Rattle.gate_admit.specs.Truc.{sibling_of}
-use Rattle.gate_admit.specs.Verdicts.{row_rules}
 use Rattle.gate_admit.proofs.Submissions.{AreYoung, granted_young, submission_floor}
-use Rattle.gate_chain.specs.Blocks.{Block}
-use Rattle.gate_chain.specs.Forgetting.{forget_denial}
-use Rattle.gate_chain.specs.declared.ChainDenial.{ChainDenial}
-use Rattle.gate_reorg.specs.Events.{event_rules, event_of}
 use Rattle.gate_submission.specs.Blocks.{present}
 use Rattle.gate_reorg.proofs.Origins.{floors_never_fall}
 use Rattle.gate_reorg.proofs.Spending.{events_keep_the_budget}
 use Rattle.gate_message.specs.declared.caller.Caller.TheVariants.{Operator}
 use Rattle.gate_message.specs.declared.event.Event.{Event}
-use Rattle.gate_message.specs.declared.event.Event.TheVariants.{Enter, Leave, Tx as Submit, Mempool, GetBlock, Headers, FeeFilter, Rpc, SetFloor, Set as Turn, Chain as Extend, LearnCoin, LearnVerdict, Forget}
+use Rattle.gate_message.specs.declared.event.Event.TheVariants.{Enter, Leave, Tx as Submit, Mempool, GetBlock, Headers, FeeFilter, Rpc, SetFloor, Set as Turn, Chain as OfChain}
 use Rattle.gate_message.specs.declared.denial.PeerDenial.{PeerDenial}
 use Rattle.gate_message.specs.declared.reply.Reply.{Reply}
 use Rattle.gate_message.specs.declared.reply.Reply.TheVariants.{Admitted}
@@ -35,11 +30,11 @@ use Rattle.gate_message.specs.Callers.{caller_of}
 use Rattle.gate_core.specs.Opening.{Start}
 use Rattle.gate_core.specs.PeerSteps.{decided, answered, entered, left, submitted, listed, block_given, headers_given, filter_set}
 use Rattle.gate_core.specs.Runs.{run_of}
-use Rattle.gate_core.specs.ChainSteps.{chained_as, coin_rules, forgotten_as, learnt_as, with_coin, with_verdict}
 use Rattle.gate_core.specs.Steps.{step_of}
 use Rattle.gate_core.specs.World.{World, opened_world, standing_of}
 use Rattle.gate_rpc.specs.Calls.{request_of}
 use Rattle.gate_core.proofs.Calls.{call_gives}
+use Rattle.gate_core.proofs.Following.{chain_gives}
 use Rattle.gate_core.proofs.Running.{run_same_limits}
 
 -- ---- the budget
@@ -70,18 +65,6 @@ answered_within : (w : World) (peer : ℕ) (served : Reply × World) (denial : O
 answered_within w peer served (Some denial) h done = h
 answered_within w peer served None h done = done
 
-chained_within : (w : World) (disconnect now : ℕ) (blocks : List (Option Block)) (denial : Option ChainDenial) → IsWithin w → IsWithin (chained_as w (event_of (standing_of w) disconnect (present blocks) now w.budget) denial).1
-chained_within w disconnect now blocks (Some denial) h = h
-chained_within w disconnect now blocks None h = events_keep_the_budget (standing_of w) disconnect (present blocks) now w.budget h
-
-learnt_within : (w after : World) (denial : Option ChainDenial) → IsWithin w → IsWithin after → IsWithin (learnt_as w after denial).1
-learnt_within w after (Some denial) h done = h
-learnt_within w after None h done = done
-
-forgotten_within : (w : World) (n : ℕ) (denial : Option ChainDenial) → IsWithin w → IsWithin (forgotten_as w n denial).1
-forgotten_within w n (Some denial) h = h
-forgotten_within w n None h = h
-
 step_within : (w : World) (event : Event) → IsWithin w → IsWithin (step_of w event).1
 unfolding step_of
 step_within w (Enter peer address) h = answered_within w peer (entered w peer address) (first_failing (entering_rules w.sessions peer)) h h
@@ -97,10 +80,8 @@ step_within w (FeeFilter peer rate) h = answered_within w peer (filter_set w pee
 step_within w (Rpc call) h = call_gives (λ p. IsWithin p.1) w call.time call.user (request_of call.json) (λ answer. h) (λ id transaction is. after_within w call.time transaction h)
 step_within w (SetFloor rate) h = h
 step_within w (Turn switch on) h = h
-step_within w (Extend disconnect now blocks) h = chained_within w disconnect now blocks (first_failing (event_rules w.chain disconnect blocks)) h
-step_within w (LearnCoin coin) h = learnt_within w (with_coin w coin) (first_failing (coin_rules w coin)) h h
-step_within w (LearnVerdict row) h = learnt_within w (with_verdict w row) (first_failing (row_rules w.verdicts row)) h h
-step_within w (Forget blocks) h = forgotten_within w blocks (forget_denial w.chain blocks) h
+step_within w (OfChain event) h =
+    chain_gives (λ p. IsWithin p.1) w event (λ denial. h) (λ disconnect now blocks is passes. events_keep_the_budget (standing_of w) disconnect (present blocks) now w.budget h) (λ coin passes. h) (λ row. h) (λ blocks. h)
 
 run_within : (events : List Event) (w : World) → IsWithin w → IsWithin (run_of w events).1
 run_within [] w h = h
@@ -125,19 +106,6 @@ submitted_floor w peer now transaction =
     let s = submit_of (standing_of w) transaction now w.budget in
     omega (arith, submission_floor (standing_of w) transaction now w.budget, decided_floor (record w { pool = s.entries; floor = s.floor }) peer transaction s.decision)
 
-chained_floor : (w : World) (disconnect now : ℕ) (blocks : List (Option Block)) (denial : Option ChainDenial)
-    → w.floor ≤ (chained_as w (event_of (standing_of w) disconnect (present blocks) now w.budget) denial).1.floor
-chained_floor w disconnect now blocks (Some denial) = omega arith
-chained_floor w disconnect now blocks None = floors_never_fall (standing_of w) disconnect (present blocks) now w.budget
-
-learnt_floor : (w after : World) (denial : Option ChainDenial) → w.floor ≤ after.floor → w.floor ≤ (learnt_as w after denial).1.floor
-learnt_floor w after (Some denial) h = omega arith
-learnt_floor w after None h = h
-
-forgotten_floor : (w : World) (n : ℕ) (denial : Option ChainDenial) → w.floor ≤ (forgotten_as w n denial).1.floor
-forgotten_floor w n (Some denial) = omega arith
-forgotten_floor w n None = omega arith
-
 step_floor : (w : World) (event : Event) → caller_of event ≢ Operator → w.floor ≤ (step_of w event).1.floor
 unfolding step_of
 step_floor w (Enter peer address) h = answered_floor w peer (entered w peer address) (first_failing (entering_rules w.sessions peer)) (omega arith)
@@ -151,10 +119,9 @@ step_floor w (Rpc call) h =
     call_gives (λ p. w.floor ≤ p.1.floor) w call.time call.user (request_of call.json) (λ answer. omega arith) (λ id transaction is. submission_floor (standing_of w) transaction call.time w.budget)
 step_floor w (SetFloor rate) h = absurd (h refl)
 step_floor w (Turn switch on) h = absurd (h refl)
-step_floor w (Extend disconnect now blocks) h = chained_floor w disconnect now blocks (first_failing (event_rules w.chain disconnect blocks))
-step_floor w (LearnCoin coin) h = learnt_floor w (with_coin w coin) (first_failing (coin_rules w coin)) (omega arith)
-step_floor w (LearnVerdict row) h = learnt_floor w (with_verdict w row) (first_failing (row_rules w.verdicts row)) (omega arith)
-step_floor w (Forget blocks) h = forgotten_floor w blocks (forget_denial w.chain blocks)
+step_floor w (OfChain event) h =
+    chain_gives (λ p. w.floor ≤ p.1.floor) w event (λ denial. omega arith) (λ disconnect now blocks is passes. floors_never_fall (standing_of w) disconnect (present blocks) now w.budget)
+    (λ coin passes. omega arith) (λ row. omega arith) (λ blocks. omega arith)
 
 pub run_floor : (events : List Event) (w : World) → All (λ (e : Event). caller_of e ≢ Operator) events → w.floor ≤ (run_of w events).1.floor
 run_floor [] w others = omega arith

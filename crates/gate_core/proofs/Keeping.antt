@@ -10,9 +10,7 @@ use Rattle.gate_tx.specs.Text.{IsTx}
 use Rattle.gate_tx.specs.Tx.{Tx}
 use Rattle.gate_standard.specs.declared.Denial.{Denial}
 use Rattle.gate_chain.specs.Blocks.{Block}
-use Rattle.gate_chain.specs.declared.ChainDenial.{ChainDenial}
 use Rattle.gate_chain.specs.declared.ChainDenial.TheVariants.{BlockDecode}
-use Rattle.gate_chain.specs.Forgetting.{forget_denial}
 use Rattle.gate_chain.specs.History.{History}
 use Rattle.gate_bytes.proofs.Members.{Contains-cons_cases, not_in_none}
 use Rattle.gate_block.specs.Switching.{switch_rules}
@@ -29,29 +27,31 @@ use Rattle.gate_admit.specs.Policies.{IsPolicy}
 use Rattle.gate_admit.specs.Standing.{Standing}
 use Rattle.gate_admit.specs.Submission.{admitted, entry_of, submitted_by, submit_of}
 use Rattle.gate_admit.specs.Truc.{sibling_of}
-use Rattle.gate_admit.specs.Verdicts.{row_rules}
 use Rattle.gate_admit.proofs.Entering.{StaysUnconnected, stays_if_apart, stays_if_unconnected}
 use Rattle.gate_admit.proofs.Submissions.{empty_good, entry_within, submission_good}
-use Rattle.gate_reorg.specs.Events.{Happened, event_rules, event_of}
+use Rattle.gate_reorg.specs.Events.{event_rules, event_of}
 use Rattle.gate_submission.specs.Blocks.{present}
 use Rattle.gate_submission.specs.Blocks.{transactions_of as block_transactions}
 use Rattle.gate_reorg.proofs.Keeping.{events_keep_pools_good}
 use Rattle.gate_reorg.proofs.Origins.{events_bring_nothing_else}
 use Rattle.gate_reorg.proofs.Spent.{events_spend_coins}
+use Rattle.gate_message.specs.declared.chain_event.ChainEvent.{ChainEvent}
+use Rattle.gate_message.specs.declared.chain_event.ChainEvent.TheVariants.{MoveTip}
 use Rattle.gate_message.specs.declared.event.Event.{Event}
-use Rattle.gate_message.specs.declared.event.Event.TheVariants.{Enter, Leave, Tx as Submit, Mempool, GetBlock, Headers, FeeFilter, Rpc, SetFloor, Set as Turn, Chain as Extend, LearnCoin, LearnVerdict, Forget}
+use Rattle.gate_message.specs.declared.event.Event.TheVariants.{Enter, Leave, Tx as Submit, Mempool, GetBlock, Headers, FeeFilter, Rpc, SetFloor, Set as Turn, Chain as OfChain}
 use Rattle.gate_core.specs.Opening.{Start}
 use Rattle.gate_message.specs.declared.denial.PeerDenial.{PeerDenial}
 use Rattle.gate_message.specs.declared.reply.Reply.{Reply}
 use Rattle.gate_core.specs.World.{World, opened_world, standing_of}
 use Rattle.gate_core.specs.Access.{entering_rules, session_rules, submission_rules, listing_rules, block_rules, headers_rules}
 use Rattle.gate_core.specs.PeerSteps.{decided, answered, entered, left, submitted, listed, block_given, headers_given, filter_set}
-use Rattle.gate_core.specs.ChainSteps.{chained_as, coin_rules, forgotten_as, learnt_as, with_coin, with_verdict}
+use Rattle.gate_core.specs.ChainSteps.{chained_as, with_verdict}
 use Rattle.gate_core.specs.Steps.{step_of}
-use Rattle.gate_message.specs.Spelled.{IsSpelled, offered, transactions_of}
+use Rattle.gate_message.specs.Spelled.{IsSpelled, connected_by, offered, transactions_of}
 use Rattle.gate_core.specs.Good.{IsApartFrom, IsGoodWorld, StepGives, limits_of, transactions_in}
 use Rattle.gate_rpc.specs.Calls.{request_of}
 use Rattle.gate_core.proofs.Calls.{call_gives}
+use Rattle.gate_core.proofs.Following.{chain_gives}
 use Rattle.gate_core.proofs.Forgetting.{forgetting_from, forgetting_good}
 use Rattle.gate_core.proofs.Learning.{coin_good}
 
@@ -75,10 +75,7 @@ StaysApart w (FeeFilter peer rate) = Unit {0}
 StaysApart w (Rpc call) = StaysUnconnected (standing_of w) (offered (request_of call.json))
 StaysApart w (SetFloor rate) = Unit {0}
 StaysApart w (Turn switch on) = Unit {0}
-StaysApart w (Extend disconnect now blocks) = IsApartFrom w (Extend disconnect now blocks)
-StaysApart w (LearnCoin coin) = Unit {0}
-StaysApart w (LearnVerdict row) = Unit {0}
-StaysApart w (Forget blocks) = Unit {0}
+StaysApart w (OfChain event) = IsApartFrom w (OfChain event)
 
 -- ---- where transactions come from
 
@@ -195,10 +192,9 @@ switch_passes : (h : History) (disconnect : ℕ) (blocks : List (Option Block)) 
 unfolding event_rules
 switch_passes h disconnect blocks passes = rest_passes (list_any is_none blocks) BlockDecode _ passes
 
-chained_good : (w : World) (disconnect now : ℕ) (blocks : List (Option Block)) → IsSpelled (Extend disconnect now blocks) → IsApartFrom w (Extend disconnect now blocks) → IsGoodWorld w
-    → (denial : Option ChainDenial) → first_failing (event_rules w.chain disconnect blocks) ≡ denial → IsGoodWorld (chained_as w (event_of (standing_of w) disconnect (present blocks) now w.budget) denial).1
-chained_good w disconnect now blocks told apart good (Some denial) is = good
-chained_good w disconnect now blocks told apart good None is =
+moved_good : (w : World) (disconnect now : ℕ) (blocks : List (Option Block)) → IsSpelled (OfChain (MoveTip disconnect now blocks)) → IsApartFrom w (OfChain (MoveTip disconnect now blocks)) → IsGoodWorld w
+    → first_failing (event_rules w.chain disconnect blocks) ≡ None → IsGoodWorld (chained_as w (event_of (standing_of w) disconnect (present blocks) now w.budget) None).1
+moved_good w disconnect now blocks told apart good is =
     let after = event_of (standing_of w) disconnect (present blocks) now w.budget in
     let stays = events_keep_pools_good (standing_of w) disconnect (present blocks) now w.budget (switch_passes w.chain disconnect blocks is)
     (record { settled = good.chain; entries_spelled = good.spelled; blocks_spelled = told; apart = apart; good = good.pool }) in
@@ -213,15 +209,6 @@ chained_good w disconnect now blocks told apart good None is =
           (events_bring_nothing_else (standing_of w) disconnect (present blocks) now w.budget e.tx
           (Contains-append_right (connected_transactions after.chain) (map (λ (a : Admitted). a.tx) after.entries) e.tx (Contains-map (λ (a : Admitted). a.tx) after.entries e m))));
     }
-
--- a coin or a verdict that is learnt, or not
-learnt_good : (w after : World) (denial : Option ChainDenial) → IsGoodWorld w → (denial ≡ None → IsGoodWorld after) → IsGoodWorld (learnt_as w after denial).1
-learnt_good w after (Some denial) good done = good
-learnt_good w after None good done = done refl
-
-forgotten_good : (w : World) (n : ℕ) (denial : Option ChainDenial) → IsGoodWorld w → IsGoodWorld (forgotten_as w n denial).1
-forgotten_good w n (Some denial) good = good
-forgotten_good w n None good = forgetting_good w n good
 
 pub step_good : (w : World) (event : Event) → IsSpelled event → StaysApart w event → IsGoodWorld w → IsGoodWorld (step_of w event).1
 unfolding step_of
@@ -238,10 +225,10 @@ step_good w (Rpc call) told new good =
     (λ id transaction is. after_good w call.time transaction (subst (λ (o : Option Tx). IfSome o IsTx) (sym is) told) (subst (StaysUnconnected (standing_of w)) (sym is) new) good)
 step_good w (SetFloor rate) told new good = same_good w _ refl refl refl good
 step_good w (Turn switch on) told new good = same_good w _ refl refl refl good
-step_good w (Extend disconnect now blocks) told new good = chained_good w disconnect now blocks told new good (first_failing (event_rules w.chain disconnect blocks)) refl
-step_good w (LearnCoin coin) told new good = learnt_good w (with_coin w coin) (first_failing (coin_rules w coin)) good (λ passes. coin_good w coin passes good)
-step_good w (LearnVerdict row) told new good = learnt_good w (with_verdict w row) (first_failing (row_rules w.verdicts row)) good (λ passes. same_good w (with_verdict w row) refl refl refl good)
-step_good w (Forget blocks) told new good = forgotten_good w blocks (forget_denial w.chain blocks) good
+step_good w (OfChain event) told new good =
+    chain_gives (λ p. IsGoodWorld p.1) w event (λ denial. good)
+    (λ disconnect now blocks is passes. moved_good w disconnect now blocks (subst (λ (e : ChainEvent). IsSpelled (OfChain e)) is told) (subst (λ (e : ChainEvent). IsApartFrom w (OfChain e)) is new) good passes)
+    (λ coin passes. coin_good w coin passes good) (λ row. same_good w (with_verdict w row) refl refl refl good) (λ blocks. forgetting_good w blocks good)
 
 -- a part of what is apart is
 pub apart_part : (part whole : List Tx) → ((tx : Tx) → Contains part tx → Contains whole tx) → AreApart whole → AreApart part
@@ -270,10 +257,7 @@ apart_stays w (FeeFilter peer rate) settled spelled apart = tt
 apart_stays w (Rpc call) settled spelled apart = offered_stays w (offered (request_of call.json)) settled spelled apart
 apart_stays w (SetFloor rate) settled spelled apart = tt
 apart_stays w (Turn switch on) settled spelled apart = tt
-apart_stays w (Extend disconnect now blocks) settled spelled apart = apart
-apart_stays w (LearnCoin coin) settled spelled apart = tt
-apart_stays w (LearnVerdict row) settled spelled apart = tt
-apart_stays w (Forget blocks) settled spelled apart = tt
+apart_stays w (OfChain event) settled spelled apart = apart
 
 -- no event changes the limits
 decided_limits : (w : World) (peer : ℕ) (transaction : Option Tx) (decision : Result Grant Denial) → limits_of (decided w peer transaction decision).1 ≡ limits_of w
@@ -284,18 +268,6 @@ decided_limits w peer (Some tx) (Err denial) = refl
 answered_limits : (w : World) (peer : ℕ) (served : Reply × World) (denial : Option PeerDenial) → limits_of served.1 ≡ limits_of w → limits_of (answered w peer served denial).1 ≡ limits_of w
 answered_limits w peer served (Some denial) h = refl
 answered_limits w peer served None h = h
-
-chained_limits : (w : World) (after : Happened) (denial : Option ChainDenial) → limits_of (chained_as w after denial).1 ≡ limits_of w
-chained_limits w after (Some denial) = refl
-chained_limits w after None = refl
-
-learnt_limits : (w after : World) (denial : Option ChainDenial) → limits_of after ≡ limits_of w → limits_of (learnt_as w after denial).1 ≡ limits_of w
-learnt_limits w after (Some denial) h = refl
-learnt_limits w after None h = h
-
-forgotten_limits : (w : World) (n : ℕ) (denial : Option ChainDenial) → limits_of (forgotten_as w n denial).1 ≡ limits_of w
-forgotten_limits w n (Some denial) = refl
-forgotten_limits w n None = refl
 
 pub step_limits : (w : World) (event : Event) → limits_of (step_of w event).1 ≡ limits_of w
 unfolding step_of
@@ -311,24 +283,7 @@ step_limits w (FeeFilter peer rate) = answered_limits w peer (filter_set w peer 
 step_limits w (Rpc call) = call_gives (λ p. limits_of p.1 ≡ limits_of w) w call.time call.user (request_of call.json) (λ answer. refl) (λ id transaction is. refl)
 step_limits w (SetFloor rate) = refl
 step_limits w (Turn switch on) = refl
-step_limits w (Extend disconnect now blocks) = chained_limits w (event_of (standing_of w) disconnect (present blocks) now w.budget) (first_failing (event_rules w.chain disconnect blocks))
-step_limits w (LearnCoin coin) = learnt_limits w (with_coin w coin) (first_failing (coin_rules w coin)) refl
-step_limits w (LearnVerdict row) = learnt_limits w (with_verdict w row) (first_failing (row_rules w.verdicts row)) refl
-step_limits w (Forget blocks) = forgotten_limits w blocks (forget_denial w.chain blocks)
-
-chained_from : (w : World) (disconnect now : ℕ) (blocks : List (Option Block)) (denial : Option ChainDenial) (tx : Tx)
-    → Contains (transactions_in (chained_as w (event_of (standing_of w) disconnect (present blocks) now w.budget) denial).1) tx → Contains (transactions_in w ++ block_transactions (present blocks)) tx
-chained_from w disconnect now blocks (Some denial) tx h = Contains-append_left _ _ tx h
-chained_from w disconnect now blocks None tx h = events_bring_nothing_else (standing_of w) disconnect (present blocks) now w.budget tx h
-
-learnt_from : (w after : World) (denial : Option ChainDenial) (tx : Tx) → (Contains (transactions_in after) tx → Contains (transactions_in w) tx) → Contains (transactions_in (learnt_as w after denial).1) tx
-    → Contains (transactions_in w) tx
-learnt_from w after (Some denial) tx from h = h
-learnt_from w after None tx from h = from h
-
-forgotten_from : (w : World) (n : ℕ) (denial : Option ChainDenial) (tx : Tx) → Contains (transactions_in (forgotten_as w n denial).1) tx → Contains (transactions_in w) tx
-forgotten_from w n (Some denial) tx h = h
-forgotten_from w n None tx h = forgetting_from w n tx h
+step_limits w (OfChain event) = chain_gives (λ p. limits_of p.1 ≡ limits_of w) w event (λ denial. refl) (λ disconnect now blocks is passes. refl) (λ coin passes. refl) (λ row. refl) (λ blocks. refl)
 
 pub step_from : (w : World) (event : Event) (tx : Tx) → Contains (transactions_in (step_of w event).1) tx → Contains (transactions_in w ++ transactions_of event) tx
 unfolding step_of
@@ -346,10 +301,10 @@ step_from w (Rpc call) tx h =
     (λ id transaction is k. subst (λ (o : Option Tx). Contains (transactions_in w ++ option_to_list o) tx) is (after_from w call.time transaction tx k)) h
 step_from w (SetFloor rate) tx h = Contains-append_left _ _ tx h
 step_from w (Turn switch on) tx h = Contains-append_left _ _ tx h
-step_from w (Extend disconnect now blocks) tx h = chained_from w disconnect now blocks (first_failing (event_rules w.chain disconnect blocks)) tx h
-step_from w (LearnCoin coin) tx h = Contains-append_left _ _ tx (learnt_from w (with_coin w coin) (first_failing (coin_rules w coin)) tx (λ k. k) h)
-step_from w (LearnVerdict row) tx h = Contains-append_left _ _ tx (learnt_from w (with_verdict w row) (first_failing (row_rules w.verdicts row)) tx (λ k. k) h)
-step_from w (Forget blocks) tx h = Contains-append_left _ _ tx (forgotten_from w blocks (forget_denial w.chain blocks) tx h)
+step_from w (OfChain event) tx h =
+    chain_gives (λ p. Contains (transactions_in p.1) tx → Contains (transactions_in w ++ connected_by event) tx) w event (λ denial k. Contains-append_left _ _ tx k)
+    (λ disconnect now blocks is passes k. subst (λ (e : ChainEvent). Contains (transactions_in w ++ connected_by e) tx) (sym is) (events_bring_nothing_else (standing_of w) disconnect (present blocks) now w.budget tx k))
+    (λ coin passes k. Contains-append_left _ _ tx k) (λ row k. Contains-append_left _ _ tx k) (λ blocks k. Contains-append_left _ _ tx (forgetting_from w blocks tx k)) h
 
 -- a step gives what it is to give
 pub step_gives : (w : World) (event : Event) (reply : Reply) (next : World) → IsSpelled event → (reply, next) ≡ step_of w event → StepGives w event reply next

@@ -5,6 +5,7 @@ mod ClosedSessions
 mod Closing
 mod Denials
 mod Floors
+mod Following
 mod Forgetting
 pub mod Keeping
 mod Guarding

@@ -4,16 +4,11 @@ use Rattle.gate_bytes.specs.Order.{first_failing}
 use Rattle.gate_tx.specs.Tx.{Tx}
 use Rattle.gate_standard.specs.declared.Denial.{Denial}
 use Rattle.gate_admit.specs.declared.Grant.{Grant}
-use Rattle.gate_admit.specs.Verdicts.{row_rules}
 use Rattle.gate_pool.specs.Pool.{Admitted, listing_of}
 use Rattle.gate_tx.specs.Ids.{txid_of}
 use Rattle.gate_admit.specs.Submission.{submit_of}
-use Rattle.gate_chain.specs.Forgetting.{forget_denial}
-use Rattle.gate_chain.specs.declared.ChainDenial.{ChainDenial}
-use Rattle.gate_reorg.specs.Events.{Happened, event_rules, event_of}
-use Rattle.gate_submission.specs.Blocks.{present}
 use Rattle.gate_message.specs.declared.event.Event.{Event}
-use Rattle.gate_message.specs.declared.event.Event.TheVariants.{Enter, Leave, Tx as Submit, Mempool, GetBlock, Headers, FeeFilter, Rpc, SetFloor, Set as Turn, Chain as Extend, LearnCoin, LearnVerdict, Forget}
+use Rattle.gate_message.specs.declared.event.Event.TheVariants.{Enter, Leave, Tx as Submit, Mempool, GetBlock, Headers, FeeFilter, Rpc, SetFloor, Set as Turn, Chain as OfChain}
 use Rattle.gate_message.specs.declared.denial.PeerDenial.{PeerDenial}
 use Rattle.gate_message.specs.declared.reply.Reply.{Reply}
 use Rattle.gate_message.specs.declared.reply.Reply.TheVariants.{Listing, Rpc as Answered}
@@ -30,10 +25,10 @@ use Rattle.gate_rpc.specs.declared.reply.RpcReply.{RpcReply}
 use Rattle.gate_rpc.specs.declared.reply.RpcReply.TheVariants.{NotAllowed, Answer}
 use Rattle.gate_rpc.specs.Calls.{request_of}
 use Rattle.gate_core.proofs.Calls.{call_gives}
+use Rattle.gate_core.proofs.Following.{chain_gives}
 use Rattle.gate_core.specs.World.{World, standing_of}
 use Rattle.gate_core.specs.Access.{entering_rules, session_rules, submission_rules, listing_rules, block_rules, headers_rules}
 use Rattle.gate_core.specs.PeerSteps.{decided, answered, entered, left, submitted, listed, block_given, headers_given, filter_set}
-use Rattle.gate_core.specs.ChainSteps.{chained_as, coin_rules, forgotten_as, learnt_as, with_coin, with_verdict}
 use Rattle.gate_core.specs.Steps.{step_of}
 use Rattle.gate_core.specs.RpcSteps.{is_barred, commanded, called_by, rpc_step}
 use Rattle.gate_core.specs.Runs.{ListsThePool, AnswersThePool, DescribesThePool, told_to}
@@ -57,18 +52,6 @@ answered_lists : {X : Type 0} (w : World) (peer : ℕ) (served : Reply × World)
 answered_lists w peer served (Some denial) txids done h = cc
 answered_lists w peer served None txids done h = done h
 
-chained_lists : {X : Type 0} (w : World) (after : Happened) (denial : Option ChainDenial) (txids : List (List ℕ)) → (chained_as w after denial).0 ≡ Listing txids → X
-chained_lists w after (Some denial) txids h = cc
-chained_lists w after None txids h = cc
-
-learnt_lists : {X : Type 0} (w after : World) (denial : Option ChainDenial) (txids : List (List ℕ)) → (learnt_as w after denial).0 ≡ Listing txids → X
-learnt_lists w after (Some denial) txids h = cc
-learnt_lists w after None txids h = cc
-
-forgotten_lists : {X : Type 0} (w : World) (n : ℕ) (denial : Option ChainDenial) (txids : List (List ℕ)) → (forgotten_as w n denial).0 ≡ Listing txids → X
-forgotten_lists w n (Some denial) txids h = cc
-forgotten_lists w n None txids h = cc
-
 no_answer : {X : Type 0} (answer : RpcReply) (txids : List (List ℕ)) → Answered answer ≡ Listing txids → X
 no_answer answer txids h = cc
 
@@ -91,10 +74,8 @@ step_lists w (Rpc call) txids h =
     (λ id transaction is k. no_answer _ txids k) h
 step_lists w (SetFloor rate) txids h = cc
 step_lists w (Turn switch on) txids h = cc
-step_lists w (Extend disconnect now blocks) txids h = chained_lists w (event_of (standing_of w) disconnect (present blocks) now w.budget) (first_failing (event_rules w.chain disconnect blocks)) txids h
-step_lists w (LearnCoin coin) txids h = learnt_lists w (with_coin w coin) (first_failing (coin_rules w coin)) txids h
-step_lists w (LearnVerdict row) txids h = learnt_lists w (with_verdict w row) (first_failing (row_rules w.verdicts row)) txids h
-step_lists w (Forget blocks) txids h = forgotten_lists w blocks (forget_denial w.chain blocks) txids h
+step_lists w (OfChain event) txids h =
+    chain_gives (λ p. p.0 ≡ Listing txids → Told w (OfChain event) txids) w event (λ denial k. cc) (λ disconnect now blocks is passes k. cc) (λ coin passes k. cc) (λ row k. cc) (λ blocks k. cc) h
 
 some_is : (reply other : Reply) → Some reply ≡ Some other → reply ≡ other
 some_is reply other h = cc

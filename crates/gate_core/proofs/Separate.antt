@@ -8,14 +8,9 @@ use Rattle.gate_standard.specs.declared.Denial.{Denial}
 use Rattle.gate_standard.specs.declared.Denial.TheVariants.{Decode}
 use Rattle.gate_admit.specs.declared.Grant.{Grant}
 use Rattle.gate_admit.specs.Submission.{submit_of}
-use Rattle.gate_admit.specs.Verdicts.{row_rules}
-use Rattle.gate_chain.specs.Forgetting.{forget_denial}
-use Rattle.gate_chain.specs.declared.ChainDenial.{ChainDenial}
-use Rattle.gate_reorg.specs.Events.{Happened, event_rules, event_of}
-use Rattle.gate_submission.specs.Blocks.{present}
 use Rattle.gate_message.specs.declared.caller.Caller.TheVariants.{Peer}
 use Rattle.gate_message.specs.declared.event.Event.{Event}
-use Rattle.gate_message.specs.declared.event.Event.TheVariants.{Enter, Leave, Tx as Submit, Mempool, GetBlock, Headers, FeeFilter, Rpc, SetFloor, Set as Turn, Chain as Extend, LearnCoin, LearnVerdict, Forget}
+use Rattle.gate_message.specs.declared.event.Event.TheVariants.{Enter, Leave, Tx as Submit, Mempool, GetBlock, Headers, FeeFilter, Rpc, SetFloor, Set as Turn, Chain as OfChain}
 use Rattle.gate_message.specs.declared.denial.PeerDenial.{PeerDenial}
 use Rattle.gate_message.specs.declared.denial.PeerDenial.TheVariants.{Admission}
 use Rattle.gate_message.specs.declared.denial.Then.{Then}
@@ -27,11 +22,11 @@ use Rattle.gate_core.specs.Sessions.{Session, session, session_of, rate_after, c
 use Rattle.gate_core.specs.World.{World, flags_at, standing_of}
 use Rattle.gate_core.specs.Access.{entering_rules, session_rules, submission_rules, listing_rules, block_rules, headers_rules}
 use Rattle.gate_core.specs.PeerSteps.{sessions_after, then_for, decided, answered, entered, left, submitted, listed, block_given, headers_given, filter_set}
-use Rattle.gate_core.specs.ChainSteps.{chained_as, coin_rules, forgotten_as, learnt_as, with_coin, with_verdict}
 use Rattle.gate_core.specs.Steps.{step_of}
 use Rattle.gate_core.specs.Runs.{run_of}
 use Rattle.gate_rpc.specs.Calls.{request_of}
 use Rattle.gate_core.proofs.Calls.{call_gives}
+use Rattle.gate_core.proofs.Following.{chain_gives}
 
 differs : (a b : ℕ) → a ≢ b → nat_eq a b ≡ false
 differs a b h = false_from_ne_true (nat_eq a b) (λ k. h (eqb-true a b k))
@@ -85,18 +80,6 @@ answered_leaves : (w : World) (peer other : ℕ) (served : Reply × World) (deni
 answered_leaves w peer other served (Some denial) h done = after_leaves (then_for w peer denial) w.sessions peer other h
 answered_leaves w peer other served None h done = done
 
-chained_leaves : (w : World) (other : ℕ) (after : Happened) (denial : Option ChainDenial) → session_of (chained_as w after denial).1.sessions other ≡ session_of w.sessions other
-chained_leaves w other after (Some denial) = refl
-chained_leaves w other after None = refl
-
-learnt_leaves : (w after : World) (other : ℕ) (denial : Option ChainDenial) → after.sessions ≡ w.sessions → session_of (learnt_as w after denial).1.sessions other ≡ session_of w.sessions other
-learnt_leaves w after other (Some denial) h = refl
-learnt_leaves w after other None h = ap (λ sessions. session_of sessions other) h
-
-forgotten_leaves : (w : World) (n other : ℕ) (denial : Option ChainDenial) → session_of (forgotten_as w n denial).1.sessions other ≡ session_of w.sessions other
-forgotten_leaves w n other (Some denial) = refl
-forgotten_leaves w n other None = refl
-
 another : (peer other : ℕ) → Peer peer ≢ Peer other → other ≢ peer
 another peer other h = λ k. h (ap Peer (sym k))
 
@@ -121,10 +104,8 @@ step_leaves w (Rpc call) other h =
     call_gives (λ p. session_of p.1.sessions other ≡ session_of w.sessions other) w call.time call.user (request_of call.json) (λ answer. refl) (λ id transaction is. refl)
 step_leaves w (SetFloor rate) other h = refl
 step_leaves w (Turn switch on) other h = refl
-step_leaves w (Extend disconnect now blocks) other h = chained_leaves w other (event_of (standing_of w) disconnect (present blocks) now w.budget) (first_failing (event_rules w.chain disconnect blocks))
-step_leaves w (LearnCoin coin) other h = learnt_leaves w (with_coin w coin) other (first_failing (coin_rules w coin)) refl
-step_leaves w (LearnVerdict row) other h = learnt_leaves w (with_verdict w row) other (first_failing (row_rules w.verdicts row)) refl
-step_leaves w (Forget blocks) other h = forgotten_leaves w blocks other (forget_denial w.chain blocks)
+step_leaves w (OfChain event) other h =
+    chain_gives (λ p. session_of p.1.sessions other ≡ session_of w.sessions other) w event (λ denial. refl) (λ disconnect now blocks is passes. refl) (λ coin passes. refl) (λ row. refl) (λ blocks. refl)
 
 pub run_leaves : (events : List Event) (w : World) (peer : ℕ) → All (λ (e : Event). caller_of e ≢ Peer peer) events → session_of (run_of w events).1.sessions peer ≡ session_of w.sessions peer
 run_leaves [] w peer others = refl

@@ -4,9 +4,6 @@ use Rattle.gate_bytes.specs.Order.{first_failing}
 use Rattle.gate_tx.specs.Ids.{txid_of}
 use Rattle.gate_tx.specs.Tx.{Tx}
 use Rattle.gate_standard.specs.declared.Denial.{Denial}
-use Rattle.gate_chain.specs.Blocks.{Block}
-use Rattle.gate_chain.specs.Forgetting.{forget_denial}
-use Rattle.gate_chain.specs.declared.ChainDenial.{ChainDenial}
 use Rattle.gate_graph.specs.Family.{reaches}
 use Rattle.gate_pool.specs.Pool.{Admitted as Entry}
 use Rattle.gate_pool.specs.Counting.{entered_beside}
@@ -15,28 +12,26 @@ use Rattle.gate_trim.specs.Expiry.{expired, is_stale}
 use Rattle.gate_trim.proofs.Trimmings.{trim_keeps}
 use Rattle.gate_admit.specs.declared.Attempt.TheVariants.{First}
 use Rattle.gate_admit.specs.declared.Grant.{Grant}
-use Rattle.gate_admit.specs.Verdicts.{row_rules}
 use Rattle.gate_admit.specs.Rules.{decision_of}
 use Rattle.gate_admit.specs.Policies.{Policy}
 use Rattle.gate_admit.specs.Standing.{Standing}
 use Rattle.gate_admit.specs.Submission.{admitted, entry_of, submitted_by, submit_of}
 use Rattle.gate_admit.specs.Truc.{sibling_of}
 use Rattle.gate_admit.proofs.Granted.{decided_live}
-use Rattle.gate_reorg.specs.Events.{event_rules, event_of}
 use Rattle.gate_submission.specs.Blocks.{present}
 use Rattle.gate_reorg.proofs.Spending.{SpendOnce, below_once, beside_once, events_spend_once, part_once}
 use Rattle.gate_message.specs.declared.event.Event.{Event}
-use Rattle.gate_message.specs.declared.event.Event.TheVariants.{Enter, Leave, Tx as Submit, Mempool, GetBlock, Headers, FeeFilter, Rpc, SetFloor, Set as Turn, Chain as Extend, LearnCoin, LearnVerdict, Forget}
+use Rattle.gate_message.specs.declared.event.Event.TheVariants.{Enter, Leave, Tx as Submit, Mempool, GetBlock, Headers, FeeFilter, Rpc, SetFloor, Set as Turn, Chain as OfChain}
 use Rattle.gate_message.specs.declared.denial.PeerDenial.{PeerDenial}
 use Rattle.gate_message.specs.declared.reply.Reply.{Reply}
 use Rattle.gate_core.specs.Access.{entering_rules, session_rules, submission_rules, listing_rules, block_rules, headers_rules}
-use Rattle.gate_core.specs.ChainSteps.{chained_as, coin_rules, forgotten_as, learnt_as, with_coin, with_verdict}
 use Rattle.gate_core.specs.PeerSteps.{decided, answered, entered, left, submitted, listed, block_given, headers_given, filter_set}
 use Rattle.gate_core.specs.Runs.{run_of}
 use Rattle.gate_core.specs.Steps.{step_of}
 use Rattle.gate_core.specs.World.{World, standing_of}
 use Rattle.gate_rpc.specs.Calls.{request_of}
 use Rattle.gate_core.proofs.Calls.{call_gives}
+use Rattle.gate_core.proofs.Following.{chain_gives}
 
 entry_once : (policy : Policy) (budget : ℕ) (entries : List Entry) (sibling : Option (List ℕ)) (floor : ℕ) (e : Entry) → SpendOnce (entered_beside entries sibling e) → SpendOnce (entry_of policy budget entries sibling floor e).entries
 unfolding entry_of
@@ -64,19 +59,6 @@ answered_once : (w : World) (peer : ℕ) (served : Reply × World) (denial : Opt
 answered_once w peer served (Some denial) h done = h
 answered_once w peer served None h done = done
 
-chained_once : (w : World) (disconnect now : ℕ) (blocks : List (Option Block)) (denial : Option ChainDenial) → SpendOnce w.pool
-    → SpendOnce (chained_as w (event_of (standing_of w) disconnect (present blocks) now w.budget) denial).1.pool
-chained_once w disconnect now blocks (Some denial) h = h
-chained_once w disconnect now blocks None h = events_spend_once (standing_of w) disconnect (present blocks) now w.budget h
-
-learnt_once : (w after : World) (denial : Option ChainDenial) → SpendOnce w.pool → SpendOnce after.pool → SpendOnce (learnt_as w after denial).1.pool
-learnt_once w after (Some denial) h done = h
-learnt_once w after None h done = done
-
-forgotten_once : (w : World) (n : ℕ) (denial : Option ChainDenial) → SpendOnce w.pool → SpendOnce (forgotten_as w n denial).1.pool
-forgotten_once w n (Some denial) h = h
-forgotten_once w n None h = h
-
 step_once : (w : World) (event : Event) → SpendOnce w.pool → SpendOnce (step_of w event).1.pool
 unfolding step_of
 step_once w (Enter peer address) h = answered_once w peer (entered w peer address) (first_failing (entering_rules w.sessions peer)) h h
@@ -92,10 +74,8 @@ step_once w (FeeFilter peer rate) h = answered_once w peer (filter_set w peer ra
 step_once w (Rpc call) h = call_gives (λ p. SpendOnce p.1.pool) w call.time call.user (request_of call.json) (λ answer. h) (λ id transaction is. after_once w call.time transaction h)
 step_once w (SetFloor rate) h = h
 step_once w (Turn switch on) h = h
-step_once w (Extend disconnect now blocks) h = chained_once w disconnect now blocks (first_failing (event_rules w.chain disconnect blocks)) h
-step_once w (LearnCoin coin) h = learnt_once w (with_coin w coin) (first_failing (coin_rules w coin)) h h
-step_once w (LearnVerdict row) h = learnt_once w (with_verdict w row) (first_failing (row_rules w.verdicts row)) h h
-step_once w (Forget blocks) h = forgotten_once w blocks (forget_denial w.chain blocks) h
+step_once w (OfChain event) h =
+    chain_gives (λ p. SpendOnce p.1.pool) w event (λ denial. h) (λ disconnect now blocks is passes. events_spend_once (standing_of w) disconnect (present blocks) now w.budget h) (λ coin passes. h) (λ row. h) (λ blocks. h)
 
 pub run_once : (events : List Event) (w : World) → SpendOnce w.pool → SpendOnce (run_of w events).1.pool
 run_once [] w h = h

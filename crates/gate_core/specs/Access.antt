@@ -10,7 +10,7 @@ use Rattle.gate_chain.specs.Times.{tip_of, time_of}
 use Rattle.gate_pool.specs.Pool.{Admitted, entry_by_wtxid}
 use Rattle.gate_net.specs.Permissions.{Permissions}
 use Rattle.gate_message.specs.declared.event.Event.{Event}
-use Rattle.gate_message.specs.declared.event.Event.TheVariants.{Enter, Leave, Tx as Submit, Mempool, GetBlock, Headers, FeeFilter, Rpc, SetFloor, Set, Chain as Extend, LearnCoin, LearnVerdict, Forget}
+use Rattle.gate_message.specs.declared.event.Event.TheVariants.{Enter, Leave, Tx as Submit, Mempool, GetBlock, Headers, FeeFilter, Rpc, SetFloor, Set, Chain as OfChain}
 use Rattle.gate_message.specs.declared.denial.PeerDenial.{PeerDenial}
 use Rattle.gate_message.specs.declared.denial.PeerDenial.TheVariants.{PeerUnknown, PeerClosed, PeerKnown, BlocksOnly, AlreadyInMempool, MempoolNoBloom, MempoolUploadTarget, HeadersDuringDownload, UnknownBlock, HistoricalUploadTarget, Admission}
 use Rattle.gate_core.specs.Sessions.{Session, session_of, flags_in}
@@ -114,10 +114,7 @@ caller_rules w (FeeFilter peer rate) = session_rules w.sessions peer
 caller_rules w (Rpc call) = []
 caller_rules w (SetFloor rate) = []
 caller_rules w (Set switch on) = []
-caller_rules w (Extend disconnect now blocks) = []
-caller_rules w (LearnCoin coin) = []
-caller_rules w (LearnVerdict row) = []
-caller_rules w (Forget blocks) = []
+caller_rules w (OfChain event) = []
 
 -- a denial names a rule that fails, with none failing before it; without one no rule fails
 abbrev pub AccessFollowsTheOrder : Type 0

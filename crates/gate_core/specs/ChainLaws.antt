@@ -11,8 +11,9 @@ use Rattle.gate_admit.specs.Submission.{submit_of}
 use Rattle.gate_admit.specs.Verdicts.{verdict_of}
 use Rattle.gate_submission.specs.declared.VerdictRow.{VerdictRow}
 use Rattle.gate_message.specs.declared.caller.Caller.TheVariants.{Chain}
+use Rattle.gate_message.specs.declared.chain_event.ChainEvent.TheVariants.{LearnCoin, LearnVerdict, Forget}
 use Rattle.gate_message.specs.declared.event.Event.{Event}
-use Rattle.gate_message.specs.declared.event.Event.TheVariants.{Tx as Submit, LearnCoin, LearnVerdict, Forget}
+use Rattle.gate_message.specs.declared.event.Event.TheVariants.{Tx as Submit, Chain as OfChain}
 use Rattle.gate_message.specs.Callers.{caller_of}
 use Rattle.gate_core.specs.Steps.{step_of}
 use Rattle.gate_core.specs.World.{World, standing_of}
@@ -27,9 +28,9 @@ apart_from_chain w other = record w { chain = other.chain; verdicts = other.verd
 
 -- what is learnt and forgotten changes the chain and the verdicts alone: the pool, its floor, the sessions and the settings stay
 pub record LearningLeavesTheRest : Type 0 where
-  pub coins : (w : World) (coin : OpeningCoin) → (step_of w (LearnCoin coin)).1 ≡ apart_from_chain w (step_of w (LearnCoin coin)).1
-  pub verdicts : (w : World) (row : VerdictRow) → (step_of w (LearnVerdict row)).1 ≡ apart_from_chain w (step_of w (LearnVerdict row)).1
-  pub forgetting : (w : World) (blocks : ℕ) → (step_of w (Forget blocks)).1 ≡ apart_from_chain w (step_of w (Forget blocks)).1
+  pub coins : (w : World) (coin : OpeningCoin) → (step_of w (OfChain (LearnCoin coin))).1 ≡ apart_from_chain w (step_of w (OfChain (LearnCoin coin))).1
+  pub verdicts : (w : World) (row : VerdictRow) → (step_of w (OfChain (LearnVerdict row))).1 ≡ apart_from_chain w (step_of w (OfChain (LearnVerdict row))).1
+  pub forgetting : (w : World) (blocks : ℕ) → (step_of w (OfChain (Forget blocks))).1 ≡ apart_from_chain w (step_of w (OfChain (Forget blocks))).1
 
 -- what the answer to a transaction rests on is the same in two states: the coins of its inputs, the verdicts on them, whether an
 -- opening coin came from it, and which of its own outputs are unspent coins
@@ -43,9 +44,9 @@ pub record AsksTheSame (w v : World) (tx : Tx) : Type 0 where
 -- a submission has one answer before and after blocks, coins and verdicts are forgotten, if what the answer rests on is the same:
 -- one decision, the same pool and floor after it, and one reply to a peer
 pub record ForgettingChangesNoAnswer : Type 0 where
-  pub decision : (w : World) (blocks : ℕ) (tx : Tx) → AsksTheSame w (step_of w (Forget blocks)).1 tx
-      → decision_of First (standing_of (step_of w (Forget blocks)).1) (Some tx) ≡ decision_of First (standing_of w) (Some tx)
-  pub outcome : (w : World) (blocks now : ℕ) (tx : Tx) → AsksTheSame w (step_of w (Forget blocks)).1 tx
-      → submit_of (standing_of (step_of w (Forget blocks)).1) (Some tx) now w.budget ≡ submit_of (standing_of w) (Some tx) now w.budget
-  pub reply : (w : World) (blocks peer now : ℕ) (tx : Tx) → AsksTheSame w (step_of w (Forget blocks)).1 tx
-      → (step_of (step_of w (Forget blocks)).1 (Submit peer now (Some tx))).0 ≡ (step_of w (Submit peer now (Some tx))).0
+  pub decision : (w : World) (blocks : ℕ) (tx : Tx) → AsksTheSame w (step_of w (OfChain (Forget blocks))).1 tx
+      → decision_of First (standing_of (step_of w (OfChain (Forget blocks))).1) (Some tx) ≡ decision_of First (standing_of w) (Some tx)
+  pub outcome : (w : World) (blocks now : ℕ) (tx : Tx) → AsksTheSame w (step_of w (OfChain (Forget blocks))).1 tx
+      → submit_of (standing_of (step_of w (OfChain (Forget blocks))).1) (Some tx) now w.budget ≡ submit_of (standing_of w) (Some tx) now w.budget
+  pub reply : (w : World) (blocks peer now : ℕ) (tx : Tx) → AsksTheSame w (step_of w (OfChain (Forget blocks))).1 tx
+      → (step_of (step_of w (OfChain (Forget blocks))).1 (Submit peer now (Some tx))).0 ≡ (step_of w (Submit peer now (Some tx))).0

@@ -13,6 +13,8 @@ use Rattle.gate_admit.specs.Verdicts.{row_rules, rows_over, with_row}
 use Rattle.gate_reorg.specs.Events.{Happened, event_rules, event_of}
 use Rattle.gate_submission.specs.Blocks.{present}
 use Rattle.gate_submission.specs.declared.VerdictRow.{VerdictRow}
+use Rattle.gate_message.specs.declared.chain_event.ChainEvent.{ChainEvent}
+use Rattle.gate_message.specs.declared.chain_event.ChainEvent.TheVariants.{MoveTip, LearnCoin, LearnVerdict, Forget}
 use Rattle.gate_message.specs.declared.reply.Reply.{Reply}
 use Rattle.gate_message.specs.declared.reply.Reply.TheVariants.{Set, Moved, Forgotten, Refused}
 use Rattle.gate_core.specs.World.{World, standing_of}
@@ -76,3 +78,11 @@ forgotten_as w n None =
 
 abbrev pub forget_step : World → ℕ → Reply × World
 forget_step w n = forgotten_as w n (forget_denial w.chain n)
+
+-- ---- the step
+
+abbrev pub chain_step : World → ChainEvent → Reply × World
+chain_step w (MoveTip disconnect now blocks) = chained w disconnect now blocks
+chain_step w (LearnCoin coin) = coin_step w coin
+chain_step w (LearnVerdict row) = verdict_step w row
+chain_step w (Forget blocks) = forget_step w blocks

@@ -1,7 +1,8 @@
 -- The step and what it rests on at small values, by computation.
 use Rattle.std.specs.Prelude.{◌≡◌, ℕ, ℤ, pos, Bool, true, false, List, [], ◌∷◌, None, Some, Result, Ok, Err, codes, replicate}
 use Rattle.gate_standard.specs.declared.Denial.TheVariants.{Decode, VinEmpty}
-use Rattle.gate_message.specs.declared.event.Event.TheVariants.{Enter, Leave, Tx as Submit, Mempool, GetBlock, Headers as AskHeaders, FeeFilter, SetFloor, Set as Turn, LearnCoin, LearnVerdict, Forget}
+use Rattle.gate_message.specs.declared.chain_event.ChainEvent.TheVariants.{LearnCoin, LearnVerdict, Forget}
+use Rattle.gate_message.specs.declared.event.Event.TheVariants.{Enter, Leave, Tx as Submit, Mempool, GetBlock, Headers as AskHeaders, FeeFilter, SetFloor, Set as Turn, Chain as OfChain}
 use Rattle.gate_message.specs.declared.switch.Switch.TheVariants.{Download}
 use Rattle.gate_message.specs.declared.denial.Then.TheVariants.{Keep, Close, Relay}
 use Rattle.gate_message.specs.declared.denial.PeerDenial.TheVariants.{PeerUnknown, PeerClosed, PeerKnown, BlocksOnly, AlreadyInMempool, MempoolNoBloom, MempoolUploadTarget, HeadersDuringDownload, UnknownBlock, HistoricalUploadTarget, Admission}
@@ -162,16 +163,16 @@ plain_coin = small_coin (pos 5) [] 1
 
 -- steps of the chain's caller that learn and forget, and blocks below the first one
 pub record LearningSteps : Type 0 where
-  pub learns : step_of (two_blocks 0 [] []) (LearnCoin plain_coin) ≡ (Set, two_blocks 0 (plain_coin ∷ []) [])
-  pub worthless : step_of (two_blocks 0 [] []) (LearnCoin (small_coin (pos 2_100_000_000_000_001) [] 1)) ≡ (Refused CoinValue, two_blocks 0 [] [])
-  pub unspendable : step_of (two_blocks 0 [] []) (LearnCoin (small_coin (pos 5) (0x6a ∷ []) 1)) ≡ (Refused CoinUnspendable, two_blocks 0 [] [])
-  pub too_high : step_of (two_blocks 0 [] []) (LearnCoin (small_coin (pos 5) [] 2)) ≡ (Refused CoinAboveOpening, two_blocks 0 [] [])
-  pub as_high : step_of (two_blocks 5 [] []) (LearnCoin (small_coin (pos 5) [] 6)) ≡ (Set, two_blocks 5 (small_coin (pos 5) [] 6 ∷ []) [])
-  pub known : step_of (two_blocks 0 (plain_coin ∷ []) []) (LearnCoin plain_coin) ≡ (Refused CoinKnown, two_blocks 0 (plain_coin ∷ []) [])
-  pub verdict : step_of (two_blocks 0 [] []) (LearnVerdict (small_row Good)) ≡ (Set, two_blocks 0 [] (small_row Good ∷ []))
-  pub verdict_again : step_of (two_blocks 0 [] (small_row Good ∷ [])) (LearnVerdict (small_row Hard)) ≡ (Refused VerdictKnown, two_blocks 0 [] (small_row Good ∷ []))
-  pub forgets : step_of (two_blocks 0 (plain_coin ∷ []) (small_row Good ∷ [])) (Forget 0) ≡ (Forgotten 0 1 1, two_blocks 0 [] [])
-  pub too_few : step_of (two_blocks 0 (plain_coin ∷ []) []) (Forget 1) ≡ (Refused NoUndo, two_blocks 0 (plain_coin ∷ []) [])
+  pub learns : step_of (two_blocks 0 [] []) (OfChain (LearnCoin plain_coin)) ≡ (Set, two_blocks 0 (plain_coin ∷ []) [])
+  pub worthless : step_of (two_blocks 0 [] []) (OfChain (LearnCoin (small_coin (pos 2_100_000_000_000_001) [] 1))) ≡ (Refused CoinValue, two_blocks 0 [] [])
+  pub unspendable : step_of (two_blocks 0 [] []) (OfChain (LearnCoin (small_coin (pos 5) (0x6a ∷ []) 1))) ≡ (Refused CoinUnspendable, two_blocks 0 [] [])
+  pub too_high : step_of (two_blocks 0 [] []) (OfChain (LearnCoin (small_coin (pos 5) [] 2))) ≡ (Refused CoinAboveOpening, two_blocks 0 [] [])
+  pub as_high : step_of (two_blocks 5 [] []) (OfChain (LearnCoin (small_coin (pos 5) [] 6))) ≡ (Set, two_blocks 5 (small_coin (pos 5) [] 6 ∷ []) [])
+  pub known : step_of (two_blocks 0 (plain_coin ∷ []) []) (OfChain (LearnCoin plain_coin)) ≡ (Refused CoinKnown, two_blocks 0 (plain_coin ∷ []) [])
+  pub verdict : step_of (two_blocks 0 [] []) (OfChain (LearnVerdict (small_row Good))) ≡ (Set, two_blocks 0 [] (small_row Good ∷ []))
+  pub verdict_again : step_of (two_blocks 0 [] (small_row Good ∷ [])) (OfChain (LearnVerdict (small_row Hard))) ≡ (Refused VerdictKnown, two_blocks 0 [] (small_row Good ∷ []))
+  pub forgets : step_of (two_blocks 0 (plain_coin ∷ []) (small_row Good ∷ [])) (OfChain (Forget 0)) ≡ (Forgotten 0 1 1, two_blocks 0 [] [])
+  pub too_few : step_of (two_blocks 0 (plain_coin ∷ []) []) (OfChain (Forget 1)) ≡ (Refused NoUndo, two_blocks 0 (plain_coin ∷ []) [])
   pub below_the_first : step_of (two_blocks 5 [] []) (GetBlock 7 4) ≡ (Denied UnknownBlock Keep, two_blocks 5 [] [])
   pub the_first : step_of (two_blocks 5 [] []) (GetBlock 7 5) ≡ (Block 5 1000, two_blocks 5 [] [])
   pub headers_below : step_of (two_blocks 5 [] []) (AskHeaders 7 4) ≡ (Headers 5 2, two_blocks 5 [] [])

@@ -5,7 +5,7 @@ use Rattle.gate_tx.specs.Money.{max_money}
 use Rattle.gate_standard.specs.declared.Denial.TheVariants.{MempoolFull}
 use Rattle.gate_message.specs.declared.caller.Caller.TheVariants.{Peer}
 use Rattle.gate_message.specs.declared.event.Event.{Event}
-use Rattle.gate_message.specs.declared.event.Event.TheVariants.{Enter, Leave, Tx as Submit, Mempool, GetBlock, Headers, FeeFilter, Rpc, SetFloor, Set as Turn, Chain as Extend, LearnCoin, LearnVerdict, Forget}
+use Rattle.gate_message.specs.declared.event.Event.TheVariants.{Enter, Leave, Tx as Submit, Mempool, GetBlock, Headers, FeeFilter, Rpc, SetFloor, Set as Turn, Chain as OfChain}
 use Rattle.gate_message.specs.declared.denial.PeerDenial.TheVariants.{PeerClosed, PeerKnown, Admission}
 use Rattle.gate_message.specs.declared.denial.Then.TheVariants.{Keep}
 use Rattle.gate_message.specs.declared.reply.Reply.{Reply}
@@ -33,10 +33,7 @@ closed_reply (FeeFilter peer rate) = Some (Denied PeerClosed Keep)
 closed_reply (Rpc call) = None
 closed_reply (SetFloor rate) = None
 closed_reply (Turn switch on) = None
-closed_reply (Extend disconnect now blocks) = None
-closed_reply (LearnCoin coin) = None
-closed_reply (LearnVerdict row) = None
-closed_reply (Forget blocks) = None
+closed_reply (OfChain event) = None
 
 -- after any events a closed session is as it was, and each event of its peer among them has the reply to a closed session
 abbrev pub ClosedStaysClosed : Type 0

@@ -10,7 +10,7 @@ use Rattle.gate_rpc.specs.declared.request.Request.{Request}
 use Rattle.gate_rpc.specs.declared.fault.CallError.{CallError}
 use Rattle.gate_rpc.specs.Calls.{request_of}
 use Rattle.gate_message.specs.declared.event.Event.{Event}
-use Rattle.gate_message.specs.declared.event.Event.TheVariants.{Enter, Leave, Tx as Submit, Mempool, GetBlock, Headers, FeeFilter, Rpc, SetFloor, Set, Chain as Extend, LearnCoin, LearnVerdict, Forget}
+use Rattle.gate_message.specs.declared.event.Event.TheVariants.{Enter, Leave, Tx as Submit, Mempool, GetBlock, Headers, FeeFilter, Rpc, SetFloor, Set, Chain as OfChain}
 use Rattle.gate_core.specs.World.{World}
 
 -- what a command submits, to let it enter or to ask whether it would: one transaction, or what spells none. A list of several
@@ -44,10 +44,7 @@ submission_of (FeeFilter peer rate) = None
 submission_of (Rpc call) = submitted_in (request_of call.json)
 submission_of (SetFloor rate) = None
 submission_of (Set switch on) = None
-submission_of (Extend disconnect now blocks) = None
-submission_of (LearnCoin coin) = None
-submission_of (LearnVerdict row) = None
-submission_of (Forget blocks) = None
+submission_of (OfChain event) = None
 
 -- the submission that stands for this one, if there is one, is the same
 abbrev pub StandsFor : Option (Option Tx) → Option (Option Tx) → Type 0

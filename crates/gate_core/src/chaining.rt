@@ -2,19 +2,16 @@
 ghost use Rattle.std.specs.Prelude.{◌≡◌, Some, true, is_some, IfOk, OnOk, OnErr};
 ghost use Rattle.gate_bytes.specs.Order.{first_failing};
 ghost use Rattle.gate_pool.specs.Pool.{entry_by_txid};
-ghost use Rattle.gate_message.specs.Callers.{caller_of};
 ghost use Rattle.gate_message.specs.Replies.{chain_reply};
-ghost use Rattle.gate_message.specs.declared.caller.Caller.TheVariants.{Chain as TheChain};
-ghost use Rattle.gate_core.specs.ChainSteps.{chained, coin_rules, coin_step, verdict_step, forget_step};
+ghost use Rattle.gate_core.specs.ChainSteps.{chain_step, chained, coin_rules, coin_step, verdict_step, forget_step};
 ghost use Rattle.gate_core.specs.Planning.{world_of};
-ghost use Rattle.gate_core.specs.Steps.{step_of};
 ghost use Rattle.gate_pool.specs.Moves.{IsMarked};
 
 use crate::parts::StateParts;
 use gate_admit::{OpeningCoin, Pool, VerdictRow};
 use gate_bytes::{Copied, Memory};
 use gate_chain::{Block, ChainDenial, ChainFault, CoinTest};
-use gate_message::{ChainOutcome, Event};
+use gate_message::{ChainEvent, ChainOutcome};
 use gate_reorg::chain_event;
 use gate_tx::OutPoint;
 use std::alloc::Global;
@@ -39,28 +36,29 @@ impl<'a, S: BuildHasher + Copy + Drop> CoinTest for Spends<'a, S> {
 impl<S: BuildHasher + Copy + Drop> StateParts<S> {
     /// Makes an event of the chain's caller. A denial names the first rule that fails, and then nothing changes; nor does
     /// it if memory runs out.
-    #[tactic(auto, unfolding(crate::specs::Steps::step_of))]
-    pub(crate) fn follow(&mut self, alloc: Global, event: &Event) -> Result<ChainOutcome, Memory>
-        requires { caller_of event.now ≡ TheChain }
-        ensures ok { IfOk result (λ outcome. (chain_reply outcome, world_of self.new) ≡ step_of (world_of self.old) event.now) }
+    pub(crate) fn follow(
+        &mut self,
+        alloc: Global,
+        event: &ChainEvent,
+    ) -> Result<ChainOutcome, Memory>
+        ensures ok { IfOk result (λ outcome. (chain_reply outcome, world_of self.new) ≡ chain_step (world_of self.old) event.now) }
         ensures err { OnErr result (world_of self.new ≡ world_of self.old) }
         ensures before { IsMarked self.old.pool → OnOk result (self.new.pool.before ≡ self.old.pool.entries) }
     {
         match event {
-            Event::Chain {
+            ChainEvent::MoveTip {
                 disconnect,
                 now,
                 blocks,
-            } => self.change_chain(alloc, *disconnect, *now, blocks.get().as_slice()),
-            Event::LearnCoin(coin) => self.learn_coin(alloc, coin),
-            Event::LearnVerdict(row) => self.learn_verdict(*row),
-            Event::Forget { blocks } => self.forget(alloc, *blocks),
-            _ => unreachable!(),
+            } => self.move_tip(alloc, *disconnect, *now, blocks.get().as_slice()),
+            ChainEvent::LearnCoin(coin) => self.learn_coin(alloc, coin),
+            ChainEvent::LearnVerdict(row) => self.learn_verdict(*row),
+            ChainEvent::Forget { blocks } => self.forget(alloc, *blocks),
         }
     }
 
     /// Disconnects this many blocks and connects these in their place, at this second.
-    fn change_chain(
+    fn move_tip(
         &mut self,
         alloc: Global,
         disconnect: u64,

@@ -1,16 +1,13 @@
 //! The parts of a state, and its step in two: a plan that takes all memory and changes nothing, and its commit.
-ghost use Rattle.std.specs.Prelude.{◌≡◌, ◌≢◌, IfOk, OnOk};
+ghost use Rattle.std.specs.Prelude.{◌≡◌, IfOk, OnOk};
 ghost use Rattle.std.specs.Option.{option_copied};
 ghost use Rattle.gate_core.specs.Submissions.{StandsFor, submission_of};
-ghost use Rattle.gate_message.specs.Callers.{caller_of};
-ghost use Rattle.gate_message.specs.declared.caller.Caller.TheVariants.{Chain as TheChain};
 ghost use Rattle.gate_message.specs.declared.reply.Reply.{Reply};
-ghost use Rattle.gate_core.specs.Steps.{step_of};
 ghost use Rattle.gate_message.specs.Replies.{settled};
-ghost use Rattle.gate_core.specs.Planning.{Fits, Plans, made_by, world_of};
+ghost use Rattle.gate_core.specs.Planning.{Fits, HasRoom, IsMadeBy, made_by, world_of};
 ghost use Rattle.gate_pool.specs.Moves.{IsMarked};
 
-use crate::planning::{Change, Plan};
+use crate::planning::{Change, Plan, Step};
 use crate::session::Sessions;
 use crate::sharing::LastListing;
 use crate::submitting::standing_for;
@@ -43,51 +40,48 @@ pub(crate) struct StateParts<S: BuildHasher + Copy + Drop> {
 }
 
 impl<S: BuildHasher + Copy + Drop> StateParts<S> {
-    /// The plan of any event but the chain's: the reply to it, and what it will change. The memory for the change is
-    /// taken, and nothing changes yet. `prepared` may stand for the event's submission.
+    /// How the step of an event is made. A plan has the reply to it, and what it will change: the memory for the change
+    /// is taken, and nothing changes yet. `prepared` may stand for the event's submission.
     #[tactic(auto, unfolding(crate::specs::Steps::step_of))]
-    pub(crate) fn plan(
+    pub(crate) fn plan<'a>(
         &mut self,
         alloc: Global,
-        event: &Event,
+        event: &'a Event,
         prepared: Option<&Prepared>,
-    ) -> Result<Plan, Memory>
-        requires planned { caller_of event.now ≢ TheChain }
-        requires prepared { StandsFor (option_copied prepared) (submission_of event.now) }
-        ensures ok { IfOk result (Plans (world_of self.old) (step_of (world_of self.old) event.now)) }
-        ensures fits { IfOk result (λ plan. Fits plan.change self.new.sessions self.new.pool) }
+    ) -> Result<Step<'a>, Memory>
+        requires { StandsFor (option_copied prepared) (submission_of event.now) }
+        ensures ok { IfOk result (IsMadeBy (world_of self.old) event.now) }
+        ensures fits { IfOk result (λ step. HasRoom step self.new.sessions self.new.pool) }
         ensures same { world_of self.new ≡ world_of self.old }
         ensures marked { IsMarked self.old.pool → OnOk result (IsMarked self.new.pool) }
     {
-        match event {
-            Event::Enter { peer, address } => self.entering(*peer, address),
-            Event::Leave { peer } => Ok(self.leaving(*peer)),
+        let plan = match event {
+            Event::Enter { peer, address } => self.entering(*peer, address)?,
+            Event::Leave { peer } => self.leaving(*peer),
             Event::Tx {
                 peer,
                 now,
                 transaction,
-            } => self.submission(alloc, *peer, *now, standing_for(prepared, transaction)),
-            Event::Mempool { peer } => self.listing(alloc, *peer),
-            Event::GetBlock { peer, height } => Ok(self.giving_block(*peer, *height)),
-            Event::Headers { peer, height } => Ok(self.giving_headers(*peer, *height)),
-            Event::FeeFilter { peer, rate } => Ok(self.filtering(*peer, *rate)),
-            Event::Rpc(call) => self.calling(alloc, call.get(), prepared),
-            Event::SetFloor { rate } => Ok(Plan {
+            } => self.submission(alloc, *peer, *now, standing_for(prepared, transaction))?,
+            Event::Mempool { peer } => self.listing(alloc, *peer)?,
+            Event::GetBlock { peer, height } => self.giving_block(*peer, *height),
+            Event::Headers { peer, height } => self.giving_headers(*peer, *height),
+            Event::FeeFilter { peer, rate } => self.filtering(*peer, *rate),
+            Event::Rpc(call) => self.calling(alloc, call.get(), prepared)?,
+            Event::SetFloor { rate } => Plan {
                 reply: Reply::Set,
                 change: Change::SetFloor { rate: *rate },
-            }),
-            Event::Set { switch, on } => Ok(Plan {
+            },
+            Event::Set { switch, on } => Plan {
                 reply: Reply::Set,
                 change: Change::Turn {
                     switch: *switch,
                     on: *on,
                 },
-            }),
-            Event::Chain { .. } => unreachable!(),
-            Event::LearnCoin(_) => unreachable!(),
-            Event::LearnVerdict(_) => unreachable!(),
-            Event::Forget { .. } => unreachable!(),
-        }
+            },
+            Event::Chain(event) => return Ok(Step::Chain(event)),
+        };
+        Ok(Step::Planned(plan))
     }
 
     /// Makes a change that fits, without memory. It returns the denial of a newcomer that does not stay in the pool,

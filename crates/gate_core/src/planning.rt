@@ -1,7 +1,7 @@
-//! The plan of a step: its reply, and what it changes.
+//! How a step is made: the plan of its reply and of what it changes, or the event of the chain that is followed.
 use gate_admit::PlannedEntry;
 use gate_bytes::Boxed;
-use gate_message::{Reply, Switch};
+use gate_message::{ChainEvent, Reply, Switch};
 use gate_net::Permissions;
 
 /// What a step changes.
@@ -22,6 +22,15 @@ pub(crate) enum Change {
 pub(crate) struct Plan {
     pub(crate) reply: Reply,
     pub(crate) change: Change,
+}
+
+/// How the step of an event is made.
+#[derive(Drop)]
+pub(crate) enum Step<'a> {
+    /// By a plan and its commit.
+    Planned(Plan),
+    /// As the chain's caller asks, without a plan.
+    Chain(&'a ChainEvent),
 }
 
 impl Plan {

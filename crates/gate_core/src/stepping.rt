@@ -1,55 +1,20 @@
-//! The step of an event, as a plan and its commit, or as what the chain's caller asks for.
-ghost use Rattle.std.specs.Prelude.{◌≡◌, ◌≢◌, IfOk, OnOk, OnErr};
+//! The step of an event: a plan and its commit, or what the chain's caller asks for.
+ghost use Rattle.std.specs.Prelude.{◌≡◌, IfOk, OnOk, OnErr};
 ghost use Rattle.std.specs.Option.{option_copied};
 ghost use Rattle.gate_core.specs.Submissions.{StandsFor, submission_of};
-ghost use Rattle.gate_message.specs.Callers.{caller_of};
-ghost use Rattle.gate_message.specs.declared.caller.Caller.TheVariants.{Chain as TheChain};
 ghost use Rattle.gate_message.specs.Recording.{AreCopies};
 ghost use Rattle.gate_core.specs.Planning.{world_of};
 ghost use Rattle.gate_core.specs.Steps.{step_of};
-ghost use Rattle.gate_pool.specs.Moves.{IsMarked};
 
 use crate::parts::StateParts;
-use crate::planning::Plan;
+use crate::planning::{Plan, Step};
 use gate_admit::Prepared;
 use gate_bytes::Memory;
-use gate_message::{Caller, Event, Replies, Reply};
+use gate_message::{Event, Replies, Reply};
 use std::alloc::Global;
 use std::hash::BuildHasher;
 
 impl<S: BuildHasher + Copy + Drop> StateParts<S> {
-    /// The step of any event but the chain's: a plan, and its commit.
-    fn plan_and_commit(&mut self, alloc: Global, event: &Event) -> Result<Reply, Memory>
-        requires planned { caller_of event.now ≢ TheChain }
-        ensures ok { IfOk result (λ reply. (reply, world_of self.new) ≡ step_of (world_of self.old) event.now) }
-        ensures err { OnErr result (world_of self.new ≡ world_of self.old) }
-        ensures before { IsMarked self.old.pool → OnOk result (self.new.pool.before ≡ self.old.pool.entries) }
-    {
-        let Plan { reply, change } = self.plan(alloc, event, None)?;
-        let denial = self.commit(change);
-        Ok(reply.settled(denial))
-    }
-
-    /// The step of any event but the chain's, with copies of the reply, which are made between the plan and its commit.
-    /// `prepared` may stand for the event's submission.
-    fn plan_and_record(
-        &mut self,
-        alloc: Global,
-        event: &Event,
-        prepared: Option<&Prepared>,
-    ) -> Result<Replies, Memory>
-        requires planned { caller_of event.now ≢ TheChain }
-        requires prepared { StandsFor (option_copied prepared) (submission_of event.now) }
-        ensures ok { IfOk result (λ replies. (replies.reply, world_of self.new) ≡ step_of (world_of self.old) event.now) }
-        ensures copies { IfOk result AreCopies }
-        ensures err { OnErr result (world_of self.new ≡ world_of self.old) }
-    {
-        let Plan { reply, change } = self.plan(alloc, event, prepared)?;
-        let replies = Replies::of(alloc, reply)?;
-        let denial = self.commit(change);
-        Ok(replies.settled(denial))
-    }
-
     /// Makes the step of an event. What moves in the pool is what moves from now on.
     pub(crate) fn apply(&mut self, alloc: Global, event: &Event) -> Result<Reply, Memory>
         ensures ok { IfOk result (λ reply. (reply, world_of self.new) ≡ step_of (world_of self.old) event.now) }
@@ -57,15 +22,20 @@ impl<S: BuildHasher + Copy + Drop> StateParts<S> {
         ensures before { OnOk result (self.new.pool.before ≡ self.old.pool.entries) }
     {
         self.pool.mark();
-        if event.is_of(&Caller::Chain) {
-            let outcome = self.follow(alloc, event)?;
-            Ok(Reply::of_chain(outcome))
-        } else {
-            self.plan_and_commit(alloc, event)
+        match self.plan(alloc, event, None)? {
+            Step::Planned(Plan { reply, change }) => {
+                let denial = self.commit(change);
+                Ok(reply.settled(denial))
+            }
+            Step::Chain(event) => {
+                let outcome = self.follow(alloc, event)?;
+                Ok(Reply::of_chain(outcome))
+            }
         }
     }
 
-    /// Makes the step of an event, with copies of the reply. `prepared` may stand for the event's submission.
+    /// Makes the step of an event, with copies of the reply, which are made before a plan's commit. `prepared` may stand
+    /// for the event's submission.
     pub(crate) fn record(
         &mut self,
         alloc: Global,
@@ -78,11 +48,16 @@ impl<S: BuildHasher + Copy + Drop> StateParts<S> {
         ensures err { OnErr result (world_of self.new ≡ world_of self.old) }
     {
         self.pool.mark();
-        if event.is_of(&Caller::Chain) {
-            let outcome = self.follow(alloc, event)?;
-            Ok(Replies::of_chain(outcome))
-        } else {
-            self.plan_and_record(alloc, event, prepared)
+        match self.plan(alloc, event, prepared)? {
+            Step::Planned(Plan { reply, change }) => {
+                let replies = Replies::of(alloc, reply)?;
+                let denial = self.commit(change);
+                Ok(replies.settled(denial))
+            }
+            Step::Chain(event) => {
+                let outcome = self.follow(alloc, event)?;
+                Ok(Replies::of_chain(outcome))
+            }
         }
     }
 }

@@ -13,15 +13,17 @@ use Rattle.gate_lines.specs.Numbers.{number_of, max_number}
 use Rattle.gate_lines.specs.Words.{part_of}
 use Rattle.gate_lines.proofs.Decimals.{number_decimal, decimal_number}
 use Rattle.gate_chain.specs.Blocks.{Block}
+use Rattle.gate_message.specs.declared.chain_event.ChainEvent.{ChainEvent}
+use Rattle.gate_message.specs.declared.chain_event.ChainEvent.TheVariants.{MoveTip, LearnCoin, LearnVerdict, Forget}
 use Rattle.gate_message.specs.declared.event.Event.{Event}
-use Rattle.gate_message.specs.declared.event.Event.TheVariants.{Chain, LearnCoin, LearnVerdict, Forget}
+use Rattle.gate_message.specs.declared.event.Event.TheVariants.{Chain}
 use Rattle.gate_chain.specs.declared.opening.OpeningCoin.{OpeningCoin}
 use Rattle.gate_submission.specs.declared.verdict.VerdictRow.{VerdictRow}
 use Rattle.gate_words.specs.CoinWords.{coin_of, coin_text}
 use Rattle.gate_words.specs.VerdictWords.{row_of, row_text}
 use Rattle.gate_events.specs.ChainLines.{block_of, blocks_of, words_of, has_gap}
 use Rattle.gate_events.specs.EventLines.{numbered_of, with_blocks, timed_blocks_of, blocks_event_of, chain_event, chain_event_of}
-use Rattle.gate_events.specs.EventTexts.{block_word, block_words, text_of}
+use Rattle.gate_events.specs.EventTexts.{block_word, block_words, chain_event_text}
 use Rattle.gate_events.proofs.Again.{IsAgain, IsAgainIn, again_behind, either, option_map_is, same_word, some_is}
 use Rattle.gate_events.proofs.CoinTexts.{IsCoinRead, coin_again}
 use Rattle.gate_events.proofs.IdWords.{not_word}
@@ -175,22 +177,27 @@ timed_again text timed h = by (part_of text) refl h
 
 -- ---- the event
 
-abbrev chained : ℕ → ℕ × List (Option Block) → Option Event
-chained disconnect timed = Some (Chain disconnect timed.0 timed.1)
+-- the event that a form of the chain's events reads
+abbrev pub told : (List ℕ → Option ChainEvent) → List ℕ → Option Event
+told form text = option_map Chain (form text)
 
-abbrev behind : ℕ → List ℕ → Option Event
+abbrev chained : ℕ → ℕ × List (Option Block) → Option ChainEvent
+chained disconnect timed = Some (MoveTip disconnect timed.0 timed.1)
+
+abbrev behind : ℕ → List ℕ → Option ChainEvent
 behind disconnect text = option_and_then (chained disconnect) (timed_blocks_of text)
 
-chained_again : (disconnect : ℕ) (text : List ℕ) (timed : ℕ × List (Option Block)) → IsTimed text timed → IsAgain (behind disconnect) (Chain disconnect timed.0 timed.1) text (timed_text timed)
+chained_again : (disconnect : ℕ) (text : List ℕ) (timed : ℕ × List (Option Block)) → IsTimed text timed
+    → IsAgain (told (behind disconnect)) (Chain (MoveTip disconnect timed.0 timed.1)) text (timed_text timed)
 chained_again disconnect text timed (inl same) = inl same
 chained_again disconnect text timed (inr is) = inr (record {
-  read = ap (option_and_then (chained disconnect)) is.read;
+  read = ap (λ o. option_map Chain (option_and_then (chained disconnect) o)) is.read;
   letters = is.letters;
   short = inl is.short;
 })
 
 -- none of three words
-none_of_three : (a b c : Bool) (first second third last : Option Event) → a ≡ false → b ≡ false → c ≡ false
+none_of_three : (a b c : Bool) (first second third last : Option ChainEvent) → a ≡ false → b ≡ false → c ≡ false
     → (if a then first else if b then second else if c then third else last) ≡ last
 none_of_three a b c first second third last p q r = rw (p, q, r) refl
 
@@ -204,38 +211,38 @@ blocks_at disconnect rest small =
     (option_map LearnCoin (coin_of rest)) (option_map LearnVerdict (row_of rest)) (option_map Forget (number_of rest)) (blocks_event_of text)
     (not_word disconnect (codes "coin") fits refl) (not_word disconnect (codes "verdict") fits refl) (not_word disconnect (codes "forget") fits refl)
 
+-- what is printed for an event of the chain is what was read, or is read as the same
+abbrev Chained : List ℕ → ChainEvent → Type 0
+Chained text event = IsAgainIn (λ x. codes "chain " ++ x) (told chain_event_of) (Chain event) text
+
 numbered_again : (disconnect : ℕ) (rest : List ℕ) (timed : ℕ × List (Option Block)) → disconnect ≤ max_number → IsTimed rest timed
-    → IsAgainIn (λ x. codes "chain " ++ x) chain_event_of (Chain disconnect timed.0 timed.1) (decimal disconnect ++ 32 ∷ rest)
+    → Chained (decimal disconnect ++ 32 ∷ rest) (MoveTip disconnect timed.0 timed.1)
 numbered_again disconnect rest timed small is = (
   decimal disconnect ++ 32 ∷ timed_text timed,
   refl,
-  again_behind (decimal disconnect) (behind disconnect) chain_event_of (Chain disconnect timed.0 timed.1) rest (timed_text timed) (decimal_letters disconnect small)
-      (λ x. blocks_at disconnect x small ∙ ap (option_and_then (λ p. behind p.0 p.1)) (numbered_at disconnect x small)) (chained_again disconnect rest timed is),
+  again_behind (decimal disconnect) (told (behind disconnect)) (told chain_event_of) (Chain (MoveTip disconnect timed.0 timed.1)) rest (timed_text timed) (decimal_letters disconnect small)
+      (λ x. ap (option_map Chain) (blocks_at disconnect x small ∙ ap (option_and_then (λ p. behind p.0 p.1)) (numbered_at disconnect x small))) (chained_again disconnect rest timed is),
 )
 
--- what is printed for an event of the chain is what was read, or is read as the same
-abbrev Chained : List ℕ → Event → Type 0
-Chained text event = IsAgainIn (λ x. codes "chain " ++ x) chain_event_of event text
-
-extended_again : (text : List ℕ) (event : Event) → blocks_event_of text ≡ Some event → Chained text event
-extended_again text event h = option_and_then_some (λ p. behind p.0 p.1) (numbered_of text) event h by
+moved_again : (text : List ℕ) (event : ChainEvent) → blocks_event_of text ≡ Some event → Chained text event
+moved_again text event h = option_and_then_some (λ p. behind p.0 p.1) (numbered_of text) event h by
   where
     by : (p : ℕ × List ℕ) → numbered_of text ≡ Some p → behind p.0 p.1 ≡ Some event → Chained text event
     by p is read =
         option_and_then_some (chained p.0) (timed_blocks_of p.1) event read (λ timed found same.
         let number = numbered_joined text p is in
-        subst (Chained text) (some_is (Chain p.0 timed.0 timed.1) event same)
-        (subst (λ t. Chained t (Chain p.0 timed.0 timed.1)) (sym number.joined) (numbered_again p.0 p.1 timed number.small (timed_again p.1 timed found))))
+        subst (Chained text) (some_is (MoveTip p.0 timed.0 timed.1) event same)
+        (subst (λ t. Chained t (MoveTip p.0 timed.0 timed.1)) (sym number.joined) (numbered_again p.0 p.1 timed number.small (timed_again p.1 timed found))))
 
 -- ---- what is learnt and forgotten
 
 -- behind the word of the event
-worded_again : (word : List ℕ) (form : List ℕ → Option Event) (event : Event) (rest printed : List ℕ) → all_letters word ≡ true
-    → ((x : List ℕ) → chain_event_of (word ++ 32 ∷ x) ≡ form x) → text_of event ≡ codes "chain " ++ (word ++ 32 ∷ printed)
-    → IsAgain form event rest printed → Chained (word ++ 32 ∷ rest) event
-worded_again word form event rest printed letters read is again = (word ++ 32 ∷ printed, is, again_behind word form chain_event_of event rest printed letters read again)
+worded_again : (word : List ℕ) (form : List ℕ → Option ChainEvent) (event : ChainEvent) (rest printed : List ℕ) → all_letters word ≡ true
+    → ((x : List ℕ) → chain_event_of (word ++ 32 ∷ x) ≡ form x) → chain_event_text event ≡ codes "chain " ++ (word ++ 32 ∷ printed)
+    → IsAgain (told form) (Chain event) rest printed → Chained (word ++ 32 ∷ rest) event
+worded_again word form event rest printed letters read is again = (word ++ 32 ∷ printed, is, again_behind word (told form) (told chain_event_of) (Chain event) rest printed letters (λ x. ap (option_map Chain) (read x)) again)
 
-coin_learnt : (rest : List ℕ) (event : Event) → option_map LearnCoin (coin_of rest) ≡ Some event → Chained (codes "coin" ++ 32 ∷ rest) event
+coin_learnt : (rest : List ℕ) (event : ChainEvent) → option_map LearnCoin (coin_of rest) ≡ Some event → Chained (codes "coin" ++ 32 ∷ rest) event
 coin_learnt rest event h =
     let found = option_map_is LearnCoin (coin_of rest) event h in
     subst (Chained (codes "coin" ++ 32 ∷ rest)) found.2 (by found.0 (coin_again rest found.0 found.1))
@@ -244,9 +251,9 @@ coin_learnt rest event h =
     by coin is =
         worded_again (codes "coin") (λ x. option_map LearnCoin (coin_of x)) (LearnCoin coin) rest (coin_text coin) refl
         (λ x. ap (option_and_then (chain_event (codes "coin" ++ 32 ∷ x))) (part_at (codes "coin") x refl)) refl
-        (inr (record { read = ap (option_map LearnCoin) is.read; letters = is.letters; short = inl is.short }))
+        (inr (record { read = ap (λ o. option_map Chain (option_map LearnCoin o)) is.read; letters = is.letters; short = inl is.short }))
 
-verdict_learnt : (rest : List ℕ) (event : Event) → option_map LearnVerdict (row_of rest) ≡ Some event → Chained (codes "verdict" ++ 32 ∷ rest) event
+verdict_learnt : (rest : List ℕ) (event : ChainEvent) → option_map LearnVerdict (row_of rest) ≡ Some event → Chained (codes "verdict" ++ 32 ∷ rest) event
 verdict_learnt rest event h =
     let found = option_map_is LearnVerdict (row_of rest) event h in
     subst (Chained (codes "verdict" ++ 32 ∷ rest)) found.2 (by found.0 (row_again rest found.0 found.1))
@@ -255,29 +262,29 @@ verdict_learnt rest event h =
     by row is =
         worded_again (codes "verdict") (λ x. option_map LearnVerdict (row_of x)) (LearnVerdict row) rest (row_text row) refl
         (λ x. ap (option_and_then (chain_event (codes "verdict" ++ 32 ∷ x))) (part_at (codes "verdict") x refl)) refl
-        (inr (record { read = ap (option_map LearnVerdict) is.read; letters = is.letters; short = inl is.short }))
+        (inr (record { read = ap (λ o. option_map Chain (option_map LearnVerdict o)) is.read; letters = is.letters; short = inl is.short }))
 
-forgotten : (rest : List ℕ) (event : Event) → option_map Forget (number_of rest) ≡ Some event → Chained (codes "forget" ++ 32 ∷ rest) event
+forgotten : (rest : List ℕ) (event : ChainEvent) → option_map Forget (number_of rest) ≡ Some event → Chained (codes "forget" ++ 32 ∷ rest) event
 forgotten rest event h =
     let found = option_map_is Forget (number_of rest) event h in
     let number : rest ≡ decimal found.0 = (number_decimal rest found.0 found.1).0 in
     subst (Chained (codes "forget" ++ 32 ∷ rest)) found.2 (codes "forget " ++ decimal found.0, refl, inl (ap (λ r. codes "forget " ++ r) (sym number)))
 
-as_word : (word literal rest : List ℕ) (event : Event) → bytes_eq word literal ≡ true → Chained (literal ++ 32 ∷ rest) event → Chained (word ++ 32 ∷ rest) event
+as_word : (word literal rest : List ℕ) (event : ChainEvent) → bytes_eq word literal ≡ true → Chained (literal ++ 32 ∷ rest) event → Chained (word ++ 32 ∷ rest) event
 as_word word literal rest event is again = subst (λ w. Chained (w ++ 32 ∷ rest) event) (sym (same_word word literal is)) again
 
-first_word : (word rest : List ℕ) (event : Event) → chain_event (word ++ 32 ∷ rest) (word, rest) ≡ Some event → Chained (word ++ 32 ∷ rest) event
+first_word : (word rest : List ℕ) (event : ChainEvent) → chain_event (word ++ 32 ∷ rest) (word, rest) ≡ Some event → Chained (word ++ 32 ∷ rest) event
 first_word word rest event h = first (either (bytes_eq word (codes "coin")) (option_map LearnCoin (coin_of rest)) behind_coin event h)
   where
-    behind_verdict : Option Event
+    behind_verdict : Option ChainEvent
     behind_verdict = if bytes_eq word (codes "forget") then option_map Forget (number_of rest) else blocks_event_of (word ++ 32 ∷ rest)
 
-    behind_coin : Option Event
+    behind_coin : Option ChainEvent
     behind_coin = if bytes_eq word (codes "verdict") then option_map LearnVerdict (row_of rest) else behind_verdict
 
     third : ((bytes_eq word (codes "forget") ≡ true) × (option_map Forget (number_of rest) ≡ Some event)) ⊎ ((bytes_eq word (codes "forget") ≡ false) × (blocks_event_of (word ++ 32 ∷ rest) ≡ Some event)) → Chained (word ++ 32 ∷ rest) event
     third (inl is) = as_word word (codes "forget") rest event is.0 (forgotten rest event is.1)
-    third (inr other) = extended_again (word ++ 32 ∷ rest) event other.1
+    third (inr other) = moved_again (word ++ 32 ∷ rest) event other.1
 
     second : ((bytes_eq word (codes "verdict") ≡ true) × (option_map LearnVerdict (row_of rest) ≡ Some event)) ⊎ ((bytes_eq word (codes "verdict") ≡ false) × (behind_verdict ≡ Some event)) → Chained (word ++ 32 ∷ rest) event
     second (inl is) = as_word word (codes "verdict") rest event is.0 (verdict_learnt rest event is.1)
@@ -287,7 +294,7 @@ first_word word rest event h = first (either (bytes_eq word (codes "coin")) (opt
     first (inl is) = as_word word (codes "coin") rest event is.0 (coin_learnt rest event is.1)
     first (inr other) = second (either (bytes_eq word (codes "verdict")) (option_map LearnVerdict (row_of rest)) behind_verdict event other.1)
 
-pub chain_again : (text : List ℕ) (event : Event) → chain_event_of text ≡ Some event → IsAgainIn (λ x. codes "chain " ++ x) chain_event_of event text
+pub chain_again : (text : List ℕ) (event : ChainEvent) → chain_event_of text ≡ Some event → Chained text event
 chain_again text event h = option_and_then_some (chain_event text) (part_of text) event h by
   where
     by : (p : List ℕ × List ℕ) → part_of text ≡ Some p → chain_event text p ≡ Some event → Chained text event

@@ -5,12 +5,14 @@ use Rattle.std.specs.Str.{bytes_eq, is_utf8}
 use Rattle.std.proofs.lemmas.Option.{option_and_then_some}
 use Rattle.std.proofs.lemmas.Str.{IsUtf8-from_ascii, is_utf8-from_IsUtf8}
 use Rattle.gate_lines.specs.Words.{part_of}
+use Rattle.gate_message.specs.declared.chain_event.ChainEvent.{ChainEvent}
 use Rattle.gate_message.specs.declared.event.Event.{Event}
+use Rattle.gate_message.specs.declared.event.Event.TheVariants.{Chain}
 use Rattle.gate_events.specs.EventLines.{peer_event_of, user_event_of, chain_event_of, operator_event_of, called_event, event_of, line_event}
 use Rattle.gate_events.specs.EventTexts.{text_of}
 use Rattle.gate_events.specs.TextLaws.{TextsSpell}
-use Rattle.gate_events.proofs.Again.{IsAgain, again_behind, either, same_word}
-use Rattle.gate_events.proofs.ChainTexts.{chain_again}
+use Rattle.gate_events.proofs.Again.{IsAgain, IsAgainIn, again_behind, either, option_map_is, same_word}
+use Rattle.gate_events.proofs.ChainTexts.{chain_again, told}
 use Rattle.gate_events.proofs.Letters.{letters_ascii}
 use Rattle.gate_events.proofs.OtherTexts.{user_again, operator_again}
 use Rattle.gate_events.proofs.PeerTexts.{peer_again}
@@ -29,11 +31,15 @@ peer_called rest event h =
     subst (IsAgain event_of event (codes "peer" ++ 32 ∷ rest)) (sym again.1)
     (again_behind (codes "peer") peer_event_of event_of event rest again.0 refl (λ x. ap (option_and_then called_event) (part_at (codes "peer") x refl)) again.2)
 
-chain_called : (rest : List ℕ) (event : Event) → chain_event_of rest ≡ Some event → Called (codes "chain") rest event
+chain_called : (rest : List ℕ) (event : Event) → told chain_event_of rest ≡ Some event → Called (codes "chain") rest event
 chain_called rest event h =
-    let again = chain_again rest event h in
-    subst (IsAgain event_of event (codes "chain" ++ 32 ∷ rest)) (sym again.1)
-    (again_behind (codes "chain") chain_event_of event_of event rest again.0 refl (λ x. ap (option_and_then called_event) (part_at (codes "chain") x refl)) again.2)
+    let found = option_map_is Chain (chain_event_of rest) event h in
+    subst (Called (codes "chain") rest) found.2 (by found.0 (chain_again rest found.0 found.1))
+  where
+    by : (asked : ChainEvent) → IsAgainIn (λ x. codes "chain " ++ x) (told chain_event_of) (Chain asked) rest → Called (codes "chain") rest (Chain asked)
+    by asked again =
+        subst (IsAgain event_of (Chain asked) (codes "chain" ++ 32 ∷ rest)) (sym again.1)
+        (again_behind (codes "chain") (told chain_event_of) event_of (Chain asked) rest again.0 refl (λ x. ap (option_and_then called_event) (part_at (codes "chain") x refl)) again.2)
 
 called_again : (caller rest : List ℕ) (event : Event) → called_event (caller, rest) ≡ Some event → Called caller rest event
 called_again caller rest event h = first (either (bytes_eq caller (codes "peer")) (peer_event_of rest) behind_peer event h)
@@ -42,7 +48,7 @@ called_again caller rest event h = first (either (bytes_eq caller (codes "peer")
     behind_chain = if bytes_eq caller (codes "operator") then operator_event_of rest else None
 
     behind_user : Option Event
-    behind_user = if bytes_eq caller (codes "chain") then chain_event_of rest else behind_chain
+    behind_user = if bytes_eq caller (codes "chain") then told chain_event_of rest else behind_chain
 
     behind_peer : Option Event
     behind_peer = if bytes_eq caller (codes "user") then user_event_of rest else behind_user
@@ -51,13 +57,13 @@ called_again caller rest event h = first (either (bytes_eq caller (codes "peer")
     fourth (inl is) = as_caller caller (codes "operator") rest event is.0 (inl (operator_again rest event is.1))
     fourth (inr other) = absurd (let none = other.1 in cc)
 
-    third : ((bytes_eq caller (codes "chain") ≡ true) × (chain_event_of rest ≡ Some event)) ⊎ ((bytes_eq caller (codes "chain") ≡ false) × (behind_chain ≡ Some event)) → Called caller rest event
+    third : ((bytes_eq caller (codes "chain") ≡ true) × (told chain_event_of rest ≡ Some event)) ⊎ ((bytes_eq caller (codes "chain") ≡ false) × (behind_chain ≡ Some event)) → Called caller rest event
     third (inl is) = as_caller caller (codes "chain") rest event is.0 (chain_called rest event is.1)
     third (inr other) = fourth (either (bytes_eq caller (codes "operator")) (operator_event_of rest) None event other.1)
 
     second : ((bytes_eq caller (codes "user") ≡ true) × (user_event_of rest ≡ Some event)) ⊎ ((bytes_eq caller (codes "user") ≡ false) × (behind_user ≡ Some event)) → Called caller rest event
     second (inl is) = as_caller caller (codes "user") rest event is.0 (inl (user_again rest event is.1))
-    second (inr other) = third (either (bytes_eq caller (codes "chain")) (chain_event_of rest) behind_chain event other.1)
+    second (inr other) = third (either (bytes_eq caller (codes "chain")) (told chain_event_of rest) behind_chain event other.1)
 
     first : ((bytes_eq caller (codes "peer") ≡ true) × (peer_event_of rest ≡ Some event)) ⊎ ((bytes_eq caller (codes "peer") ≡ false) × (behind_peer ≡ Some event)) → Called caller rest event
     first (inl is) = as_caller caller (codes "peer") rest event is.0 (peer_called rest event is.1)

@@ -8,10 +8,12 @@ use Rattle.gate_lines.specs.Lines.{LacksNewline, is_skipped, line_limit}
 use Rattle.gate_lines.specs.Numbers.{max_number}
 use Rattle.gate_net.specs.Addresses.{Address, V4, V6, address_text}
 use Rattle.gate_net.specs.Spelling.{IsAddress}
+use Rattle.gate_message.specs.declared.chain_event.ChainEvent.{ChainEvent}
+use Rattle.gate_message.specs.declared.chain_event.ChainEvent.TheVariants.{MoveTip, LearnCoin, LearnVerdict, Forget}
 use Rattle.gate_message.specs.declared.event.Event.{Event}
-use Rattle.gate_message.specs.declared.event.Event.TheVariants.{Enter, Leave, Tx as Submit, Mempool, GetBlock, Headers, FeeFilter, Rpc, SetFloor, Set, Chain, LearnCoin, LearnVerdict, Forget}
+use Rattle.gate_message.specs.declared.event.Event.TheVariants.{Enter, Leave, Tx as Submit, Mempool, GetBlock, Headers, FeeFilter, Rpc, SetFloor, Set, Chain}
 use Rattle.gate_events.specs.EventLines.{event_of}
-use Rattle.gate_events.specs.EventTexts.{text_of}
+use Rattle.gate_events.specs.EventTexts.{chain_event_text, text_of}
 use Rattle.gate_events.specs.TextLaws.{TextsAreLines}
 use Rattle.gate_events.proofs.Again.{IsEntering, IsAgain}
 use Rattle.gate_events.proofs.Letters.{is_letter, all_letters}
@@ -79,12 +81,15 @@ entering_few (FeeFilter peer rate) is = absurd is
 entering_few (Rpc call) is = absurd is
 entering_few (SetFloor rate) is = absurd is
 entering_few (Set switch on) is = absurd is
-entering_few (Chain disconnect now blocks) is = absurd is
-entering_few (LearnCoin coin) is = absurd is
-entering_few (LearnVerdict row) is = absurd is
-entering_few (Forget blocks) is = absurd is
+entering_few (Chain event) is = absurd is
 
 -- ---- a text begins with the word of its caller
+
+chain_skipped : (event : ChainEvent) → is_skipped (chain_event_text event) ≡ false
+chain_skipped (MoveTip disconnect now blocks) = refl
+chain_skipped (LearnCoin coin) = refl
+chain_skipped (LearnVerdict row) = refl
+chain_skipped (Forget blocks) = refl
 
 never_skipped : (event : Event) → is_skipped (text_of event) ≡ false
 never_skipped (Enter peer address) = refl
@@ -97,10 +102,7 @@ never_skipped (FeeFilter peer rate) = refl
 never_skipped (Rpc call) = refl
 never_skipped (SetFloor rate) = refl
 never_skipped (Set switch on) = refl
-never_skipped (Chain disconnect now blocks) = refl
-never_skipped (LearnCoin coin) = refl
-never_skipped (LearnVerdict row) = refl
-never_skipped (Forget blocks) = refl
+never_skipped (Chain event) = chain_skipped event
 
 short : (line : List ℕ) (event : Event) → length line ≤ line_limit → (length (text_of event) ≤ length line) ⊎ IsEntering event → length (text_of event) ≤ line_limit
 short line event limit (inl few) = omega arith

@@ -8,6 +8,8 @@ use Rattle.gate_tx.specs.Tx.{Tx}
 use Rattle.gate_tx.specs.Reading.{decoded}
 use Rattle.gate_net.specs.Addresses.{address_of}
 use Rattle.gate_message.specs.UserCalls.{called}
+use Rattle.gate_message.specs.declared.chain_event.ChainEvent.{ChainEvent}
+use Rattle.gate_message.specs.declared.chain_event.ChainEvent.TheVariants as chain_events
 use Rattle.gate_message.specs.declared.event.Event.{Event}
 use Rattle.gate_message.specs.declared.event.Event.TheVariants as events
 use Rattle.gate_message.specs.declared.switch.Switch.{Switch}
@@ -124,29 +126,29 @@ abbrev pub timed_blocks_of : List ℕ → Option (ℕ × List (Option Block))
 timed_blocks_of text = with_blocks text (part_of text)
 
 -- `D NOW`, or `D NOW BLOCKHEX ..`
-abbrev pub blocks_event_of : List ℕ → Option Event
+abbrev pub blocks_event_of : List ℕ → Option ChainEvent
 blocks_event_of text = do
   p ← numbered_of text
   timed ← timed_blocks_of p.1
-  Some (events.Chain p.0 timed.0 timed.1)
+  Some (chain_events.MoveTip p.0 timed.0 timed.1)
 
 -- by the first word of the text and what stands behind it
-abbrev pub chain_event : List ℕ → List ℕ × List ℕ → Option Event
+abbrev pub chain_event : List ℕ → List ℕ × List ℕ → Option ChainEvent
 chain_event text p =
-    if bytes_eq p.0 (codes "coin") then option_map events.LearnCoin (coin_of p.1)
-    else if bytes_eq p.0 (codes "verdict") then option_map events.LearnVerdict (row_of p.1)
-    else if bytes_eq p.0 (codes "forget") then option_map events.Forget (number_of p.1)
+    if bytes_eq p.0 (codes "coin") then option_map chain_events.LearnCoin (coin_of p.1)
+    else if bytes_eq p.0 (codes "verdict") then option_map chain_events.LearnVerdict (row_of p.1)
+    else if bytes_eq p.0 (codes "forget") then option_map chain_events.Forget (number_of p.1)
     else blocks_event_of text
 
 -- `coin TXID INDEX VALUE HEIGHT plain|cb SCRIPT`, `verdict WTXID INPUT ok|soft|hard`, `forget N`, or blocks
-abbrev pub chain_event_of : List ℕ → Option Event
+abbrev pub chain_event_of : List ℕ → Option ChainEvent
 chain_event_of text = option_and_then (chain_event text) (part_of text)
 
 abbrev pub called_event : List ℕ × List ℕ → Option Event
 called_event p =
     if bytes_eq p.0 (codes "peer") then peer_event_of p.1
     else if bytes_eq p.0 (codes "user") then user_event_of p.1
-    else if bytes_eq p.0 (codes "chain") then chain_event_of p.1
+    else if bytes_eq p.0 (codes "chain") then option_map events.Chain (chain_event_of p.1)
     else if bytes_eq p.0 (codes "operator") then operator_event_of p.1
     else None
 

@@ -13,8 +13,10 @@ use Rattle.gate_block.specs.Text.{block_text}
 use Rattle.gate_message.specs.UserCalls.{UserCall}
 use Rattle.gate_words.specs.CoinWords.{coin_text}
 use Rattle.gate_words.specs.VerdictWords.{row_text}
+use Rattle.gate_message.specs.declared.chain_event.ChainEvent.{ChainEvent}
+use Rattle.gate_message.specs.declared.chain_event.ChainEvent.TheVariants.{MoveTip, LearnCoin, LearnVerdict, Forget}
 use Rattle.gate_message.specs.declared.event.Event.{Event}
-use Rattle.gate_message.specs.declared.event.Event.TheVariants.{Enter, Leave, Tx as Submit, Mempool, GetBlock, Headers, FeeFilter, Rpc, SetFloor, Set, Chain, LearnCoin, LearnVerdict, Forget}
+use Rattle.gate_message.specs.declared.event.Event.TheVariants.{Enter, Leave, Tx as Submit, Mempool, GetBlock, Headers, FeeFilter, Rpc, SetFloor, Set, Chain}
 use Rattle.gate_message.specs.declared.switch.Switch.{Switch}
 use Rattle.gate_message.specs.declared.switch.Switch.TheVariants.{Bloom, Upload, Historic, Download}
 
@@ -52,14 +54,20 @@ tx_text peer now transaction = codes "peer " ++ (decimal peer ++ (codes " tx " +
 abbrev pub call_text : UserCall → List ℕ
 call_text call = codes "user " ++ (call.user ++ (codes " rpc " ++ (decimal call.time ++ (codes " " ++ call.json))))
 
-abbrev pub chain_text : ℕ → ℕ → List (Option Block) → List ℕ
-chain_text disconnect now blocks = codes "chain " ++ (decimal disconnect ++ (codes " " ++ (decimal now ++ block_words blocks)))
+abbrev pub move_tip_text : ℕ → ℕ → List (Option Block) → List ℕ
+move_tip_text disconnect now blocks = codes "chain " ++ (decimal disconnect ++ (codes " " ++ (decimal now ++ block_words blocks)))
 
 abbrev pub learn_coin_text : OpeningCoin → List ℕ
 learn_coin_text coin = codes "chain coin " ++ coin_text coin
 
 abbrev pub learn_verdict_text : VerdictRow → List ℕ
 learn_verdict_text row = codes "chain verdict " ++ row_text row
+
+abbrev pub chain_event_text : ChainEvent → List ℕ
+chain_event_text (MoveTip disconnect now blocks) = move_tip_text disconnect now blocks
+chain_event_text (LearnCoin coin) = learn_coin_text coin
+chain_event_text (LearnVerdict row) = learn_verdict_text row
+chain_event_text (Forget blocks) = codes "chain forget " ++ decimal blocks
 
 abbrev pub switch_text : Switch → Bool → List ℕ
 switch_text switch on = codes "operator " ++ (switch_word switch ++ (codes " " ++ on_word on))
@@ -75,7 +83,4 @@ text_of (FeeFilter peer rate) = codes "peer " ++ (decimal peer ++ (codes " feefi
 text_of (Rpc call) = call_text call
 text_of (SetFloor rate) = codes "operator floor " ++ decimal rate
 text_of (Set switch on) = switch_text switch on
-text_of (Chain disconnect now blocks) = chain_text disconnect now blocks
-text_of (LearnCoin coin) = learn_coin_text coin
-text_of (LearnVerdict row) = learn_verdict_text row
-text_of (Forget blocks) = codes "chain forget " ++ decimal blocks
+text_of (Chain event) = chain_event_text event

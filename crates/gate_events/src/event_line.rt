@@ -7,7 +7,7 @@ use crate::hexadecimal::decode;
 use gate_bytes::{Counted, Kept, Memory};
 use gate_chain::Block;
 use gate_lines::{is_one_word, next_word, read_number, read_small_number};
-use gate_message::{Call, Event, Switch};
+use gate_message::{Call, ChainEvent, Event, Switch};
 use gate_net::Address;
 use gate_submission::Prepared;
 use gate_words::{read_coin, read_row};
@@ -33,7 +33,7 @@ pub fn read_event(alloc: Global, line: &str) -> Result<Option<Event>, Memory>
         } else if caller == "user" {
             user_event(alloc, rest)
         } else if caller == "chain" {
-            chain_event(alloc, rest)
+            Ok(chain_event(alloc, rest)?.map(Event::Chain))
         } else if caller == "operator" {
             Ok(operator_event(rest))
         } else {
@@ -85,33 +85,33 @@ fn worded_event(alloc: Global, peer: u64, word: &str, rest: &str) -> Result<Opti
 }
 
 /// `coin TXID INDEX VALUE HEIGHT plain|cb SCRIPT`, `verdict WTXID INPUT ok|soft|hard`, `forget N`, or blocks.
-fn chain_event(alloc: Global, rest: &str) -> Result<Option<Event>, Memory>
+fn chain_event(alloc: Global, rest: &str) -> Result<Option<ChainEvent>, Memory>
     ensures { IfOk result (λ event. event ≡ chain_event_of rest.now) }
 {
     let Some((word, behind)) = next_word(rest) else {
         return Ok(None);
     };
     if word == "coin" {
-        return Ok(read_coin(alloc, behind)?.map(Event::LearnCoin));
+        return Ok(read_coin(alloc, behind)?.map(ChainEvent::LearnCoin));
     }
     if word == "verdict" {
-        return Ok(read_row(behind).map(Event::LearnVerdict));
+        return Ok(read_row(behind).map(ChainEvent::LearnVerdict));
     }
     if word == "forget" {
-        return Ok(read_number(behind).map(|blocks| Event::Forget { blocks }));
+        return Ok(read_number(behind).map(|blocks| ChainEvent::Forget { blocks }));
     }
     blocks_event(alloc, rest)
 }
 
 /// `D NOW`, or `D NOW BLOCKHEX ..`: whatever the words of hex are, the line is an event.
-fn blocks_event(alloc: Global, rest: &str) -> Result<Option<Event>, Memory>
+fn blocks_event(alloc: Global, rest: &str) -> Result<Option<ChainEvent>, Memory>
     ensures { IfOk result (λ event. event ≡ blocks_event_of rest.now) }
 {
     let Some((disconnect, rest)) = numbered(rest) else {
         return Ok(None);
     };
     match timed_blocks(alloc, rest)? {
-        Some((now, blocks)) => Ok(Some(Event::Chain {
+        Some((now, blocks)) => Ok(Some(ChainEvent::MoveTip {
             disconnect,
             now,
             blocks: Counted::new(alloc, blocks)?,

@@ -2,7 +2,7 @@
 ghost use Rattle.std.specs.Prelude.{◌≡◌, IfOk, string_bytes};
 ghost use Rattle.gate_events.specs.EventTexts.{call_text, on_word, switch_text, switch_word, text_of, transaction_word, tx_text};
 
-use crate::chain_printing::{chain_text, learn_coin_text, learn_verdict_text};
+use crate::chain_printing::chain_event_text;
 use gate_bytes::Memory;
 use gate_message::{Call, Event, Switch};
 use gate_submission::Prepared;
@@ -28,14 +28,7 @@ pub fn event_text(alloc: Global, event: &Event) -> Result<String, Memory>
         Event::Rpc(call) => call_text(alloc, call.get()),
         Event::SetFloor { rate } => Ok(format!(in alloc; "operator floor {rate}")?),
         Event::Set { switch, on } => switch_text(alloc, *switch, *on),
-        Event::Chain {
-            disconnect,
-            now,
-            blocks,
-        } => chain_text(alloc, *disconnect, *now, blocks.get().as_slice()),
-        Event::LearnCoin(coin) => learn_coin_text(alloc, coin),
-        Event::LearnVerdict(row) => learn_verdict_text(alloc, row),
-        Event::Forget { blocks } => Ok(format!(in alloc; "chain forget {blocks}")?),
+        Event::Chain(event) => chain_event_text(alloc, event),
     }
 }
 

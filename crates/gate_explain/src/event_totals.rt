@@ -3,7 +3,7 @@ use crate::counted_noun::CountedNoun;
 use crate::denied::{RuleName, outcomes_in, rule_in};
 use gate_bytes::Memory;
 use gate_figures::Explained;
-use gate_message::{Event, Reply};
+use gate_message::{ChainEvent, Event, Reply};
 use gate_rpc::{Outcome, RpcReply, RpcResult};
 use gate_rules::rules;
 use std::alloc::Global;
@@ -36,8 +36,8 @@ impl Learning {
     /// Counts what an event of the chain taught or let forget, by its reply.
     fn count(&self, event: &Event, reply: &Reply) {
         match (event, reply) {
-            (Event::LearnCoin(_), Reply::Set) => add(&self.coins, 1),
-            (Event::LearnVerdict(_), Reply::Set) => add(&self.verdicts, 1),
+            (Event::Chain(ChainEvent::LearnCoin(_)), Reply::Set) => add(&self.coins, 1),
+            (Event::Chain(ChainEvent::LearnVerdict(_)), Reply::Set) => add(&self.verdicts, 1),
             (_, Reply::Forgotten { blocks, .. }) => add(&self.blocks, *blocks),
             _ => {}
         }

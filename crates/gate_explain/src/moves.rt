@@ -2,7 +2,7 @@
 use crate::sight::Sight;
 use gate_core::State;
 use gate_figures::Explained;
-use gate_message::Event;
+use gate_message::{ChainEvent, Event};
 use gate_tx::Txid;
 use std::hash::BuildHasher;
 
@@ -11,14 +11,14 @@ pub(crate) fn second_of(event: &Event) -> Option<u64> {
     match event {
         Event::Tx { now, .. } => Some(*now),
         Event::Rpc(call) => Some(call.get().time()),
-        Event::Chain { now, .. } => Some(*now),
+        Event::Chain(ChainEvent::MoveTip { now, .. }) => Some(*now),
         _ => None,
     }
 }
 
 /// Whether a block that an event connects has a transaction of this txid.
 fn is_confirmed(event: &Event, txid: &Txid) -> bool {
-    let Event::Chain { blocks, .. } = event else {
+    let Event::Chain(ChainEvent::MoveTip { blocks, .. }) = event else {
         return false;
     };
     for block in blocks.get().as_slice() {
@@ -75,9 +75,9 @@ pub(crate) fn reason_to_leave<S: BuildHasher + Copy + Drop>(
     earliest: Option<u64>,
 ) -> Option<&'static str> {
     match event {
-        Event::Chain { .. } if is_confirmed(event, txid) => Some("confirmed"),
-        Event::Chain { disconnect: 0, .. } => Some("conflict of a block"),
-        Event::Chain { .. } => Some("reorganisation"),
+        Event::Chain(_) if is_confirmed(event, txid) => Some("confirmed"),
+        Event::Chain(ChainEvent::MoveTip { disconnect: 0, .. }) => Some("conflict of a block"),
+        Event::Chain(ChainEvent::MoveTip { .. }) => Some("reorganisation"),
         _ => {
             let relatives = sight.relatives.as_ref()?;
             if relatives.replaced.as_slice().contains(txid) {
@@ -91,7 +91,7 @@ pub(crate) fn reason_to_leave<S: BuildHasher + Copy + Drop>(
 /// Why an entry came at an event.
 pub(crate) fn reason_to_enter(event: &Event) -> &'static str {
     match event {
-        Event::Chain { .. } => "returned",
+        Event::Chain(_) => "returned",
         _ => "admitted",
     }
 }

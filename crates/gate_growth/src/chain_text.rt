@@ -3,7 +3,7 @@ use crate::colliding::Colliding;
 use gate_bytes::Memory;
 use gate_chain::{Block, Chain, OpeningCoin};
 use gate_core::State;
-use gate_message::Event;
+use gate_message::{ChainEvent, Event};
 use gate_submission::{Verdict, VerdictRow};
 use gate_tx::{Coin, Identified, OutPoint, Txid};
 
@@ -123,9 +123,11 @@ pub(crate) fn push_named(
     event: &Event,
 ) -> Result<(), Memory> {
     match event {
-        Event::LearnCoin(coin) => push_learnt_coin(text, state.chain(), coin),
-        Event::LearnVerdict(row) => push_learnt_verdict(text, state, row),
-        Event::Chain { blocks, .. } => { push_blocks(text, state.chain(), blocks.get().as_slice()) }
+        Event::Chain(ChainEvent::LearnCoin(coin)) => push_learnt_coin(text, state.chain(), coin),
+        Event::Chain(ChainEvent::LearnVerdict(row)) => push_learnt_verdict(text, state, row),
+        Event::Chain(ChainEvent::MoveTip { blocks, .. }) => {
+            push_blocks(text, state.chain(), blocks.get().as_slice())
+        }
         _ => Ok(()),
     }
 }

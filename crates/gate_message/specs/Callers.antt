@@ -3,7 +3,7 @@ use Rattle.std.specs.Prelude.{ℕ, Option, Some, None}
 use Rattle.gate_message.specs.declared.caller.Caller.{Caller}
 use Rattle.gate_message.specs.declared.caller.Caller.TheVariants.{Chain, Operator, Peer, User}
 use Rattle.gate_message.specs.declared.event.Event.{Event}
-use Rattle.gate_message.specs.declared.event.Event.TheVariants.{Enter, Leave, Tx as Submit, Mempool, GetBlock, Headers, FeeFilter, Rpc, SetFloor, Set, Chain as Extend, LearnCoin, LearnVerdict, Forget}
+use Rattle.gate_message.specs.declared.event.Event.TheVariants.{Enter, Leave, Tx as Submit, Mempool, GetBlock, Headers, FeeFilter, Rpc, SetFloor, Set, Chain as OfChain}
 
 abbrev pub caller_of : Event → Caller
 caller_of (Enter peer address) = Peer peer
@@ -16,10 +16,7 @@ caller_of (FeeFilter peer rate) = Peer peer
 caller_of (Rpc call) = User call.user
 caller_of (SetFloor rate) = Operator
 caller_of (Set switch on) = Operator
-caller_of (Extend disconnect now blocks) = Chain
-caller_of (LearnCoin coin) = Chain
-caller_of (LearnVerdict row) = Chain
-caller_of (Forget blocks) = Chain
+caller_of (OfChain event) = Chain
 
 -- the number of the peer, if the caller is one
 abbrev pub peer_of : Caller → Option ℕ

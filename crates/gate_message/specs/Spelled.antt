@@ -10,8 +10,10 @@ use Rattle.gate_rpc.specs.declared.request.Command.TheVariants.{SendRawTransacti
 use Rattle.gate_rpc.specs.declared.request.Request.{Request}
 use Rattle.gate_rpc.specs.declared.fault.CallError.{CallError}
 use Rattle.gate_rpc.specs.Calls.{request_of}
+use Rattle.gate_message.specs.declared.chain_event.ChainEvent.{ChainEvent}
+use Rattle.gate_message.specs.declared.chain_event.ChainEvent.TheVariants.{MoveTip, LearnCoin, LearnVerdict, Forget}
 use Rattle.gate_message.specs.declared.event.Event.{Event}
-use Rattle.gate_message.specs.declared.event.Event.TheVariants.{Enter, Leave, Tx as Submit, Mempool, GetBlock, Headers, FeeFilter, Rpc, SetFloor, Set, Chain as Extend, LearnCoin, LearnVerdict, Forget}
+use Rattle.gate_message.specs.declared.event.Event.TheVariants.{Enter, Leave, Tx as Submit, Mempool, GetBlock, Headers, FeeFilter, Rpc, SetFloor, Set, Chain as OfChain}
 
 -- the transaction that a command offers to the pool
 abbrev pub offered_by : Command → Option Tx
@@ -31,6 +33,13 @@ abbrev pub offered : Result Request CallError → Option Tx
 offered (Ok request) = offered_by request.command
 offered (Err error) = None
 
+-- the transactions of the blocks that an event of the chain connects
+abbrev pub connected_by : ChainEvent → List Tx
+connected_by (MoveTip disconnect now blocks) = block_transactions (present blocks)
+connected_by (LearnCoin coin) = []
+connected_by (LearnVerdict row) = []
+connected_by (Forget blocks) = []
+
 -- the transactions that an event brings
 abbrev pub transactions_of : Event → List Tx
 transactions_of (Enter peer address) = []
@@ -43,10 +52,7 @@ transactions_of (FeeFilter peer rate) = []
 transactions_of (Rpc call) = option_to_list (offered (request_of call.json))
 transactions_of (SetFloor rate) = []
 transactions_of (Set switch on) = []
-transactions_of (Extend disconnect now blocks) = block_transactions (present blocks)
-transactions_of (LearnCoin coin) = []
-transactions_of (LearnVerdict row) = []
-transactions_of (Forget blocks) = []
+transactions_of (OfChain event) = connected_by event
 
 -- the event's transactions have a text, as each transaction that was read has
 abbrev pub IsSpelled : Event → Type 0
@@ -60,7 +66,4 @@ IsSpelled (FeeFilter peer rate) = Unit {0}
 IsSpelled (Rpc call) = IfSome (offered (request_of call.json)) IsTx
 IsSpelled (SetFloor rate) = Unit {0}
 IsSpelled (Set switch on) = Unit {0}
-IsSpelled (Extend disconnect now blocks) = (tx : Tx) → Contains (block_transactions (present blocks)) tx → IsTx tx
-IsSpelled (LearnCoin coin) = Unit {0}
-IsSpelled (LearnVerdict row) = Unit {0}
-IsSpelled (Forget blocks) = Unit {0}
+IsSpelled (OfChain event) = (tx : Tx) → Contains (connected_by event) tx → IsTx tx

@@ -3,11 +3,11 @@ ghost use Rattle.std.specs.Prelude.{◌≡◌, ◌↔◌, IsTrue, IfOk};
 
 use crate::call::Call;
 use crate::caller::Caller;
+use crate::chain_event::ChainEvent;
 use crate::switch::Switch;
-use gate_bytes::{Copied, Counted, Exact, Kept, Memory, Text};
-use gate_chain::{Block, OpeningCoin};
+use gate_bytes::{Copied, Counted, Exact, Memory, Text};
 use gate_net::Address;
-use gate_submission::{Prepared, VerdictRow, recall_spelled};
+use gate_submission::Prepared;
 use std::alloc::Global;
 
 /// One request to the gate. A peer is named by a number that its first `Enter` takes for good.
@@ -58,22 +58,8 @@ pub enum Event {
         switch: Switch,
         on: bool,
     },
-    /// This many blocks are disconnected, and these connected in their place, at this second. A block that could not be
-    /// read is `None`.
-    Chain {
-        disconnect: u64,
-        now: u64,
-        blocks: Counted<Kept<Option<Block>>>,
-    },
-    /// A coin of the chain is learnt: it is one of the opening's coins from now on.
-    LearnCoin(OpeningCoin),
-    /// The verdict on an input is learnt.
-    LearnVerdict(VerdictRow),
-    /// This many connected blocks, the lowest, become part of the opening, and the coins and verdicts that nothing needs
-    /// any more are forgotten.
-    Forget {
-        blocks: u64,
-    },
+    /// The chain's caller changes the chain, or what is known of it.
+    Chain(ChainEvent),
 }
 
 impl Event {
@@ -97,10 +83,7 @@ impl Event {
             }
             Event::SetFloor { .. } => Ok(Caller::Operator),
             Event::Set { .. } => Ok(Caller::Operator),
-            Event::Chain { .. } => Ok(Caller::Chain),
-            Event::LearnCoin(_) => Ok(Caller::Chain),
-            Event::LearnVerdict(_) => Ok(Caller::Chain),
-            Event::Forget { .. } => Ok(Caller::Chain),
+            Event::Chain(_) => Ok(Caller::Chain),
         }
     }
 }
@@ -123,10 +106,7 @@ impl Event {
             Event::Rpc(_) => None,
             Event::SetFloor { .. } => None,
             Event::Set { .. } => None,
-            Event::Chain { .. } => None,
-            Event::LearnCoin(_) => None,
-            Event::LearnVerdict(_) => None,
-            Event::Forget { .. } => None,
+            Event::Chain(_) => None,
         }
     }
 
@@ -146,10 +126,7 @@ impl Event {
                 _ => false,
             },
             Caller::Chain => match self {
-                Event::Chain { .. } => true,
-                Event::LearnCoin(_) => true,
-                Event::LearnVerdict(_) => true,
-                Event::Forget { .. } => true,
+                Event::Chain(_) => true,
                 _ => false,
             },
         }
@@ -166,7 +143,7 @@ impl Event {
         match self {
             Event::Tx { transaction, .. } => transaction.recall_spelled(),
             Event::Rpc(call) => call.get().recall_spelled(),
-            Event::Chain { blocks, .. } => recall_spelled(blocks.get().as_slice()),
+            Event::Chain(event) => event.recall_spelled(),
             _ => (),
         }
     }
@@ -208,18 +185,7 @@ impl Copied for Event {
                 switch: *switch,
                 on: *on,
             }),
-            Event::Chain {
-                disconnect,
-                now,
-                blocks,
-            } => Ok(Event::Chain {
-                disconnect: *disconnect,
-                now: *now,
-                blocks: blocks.copy(alloc)?,
-            }),
-            Event::LearnCoin(coin) => Ok(Event::LearnCoin(coin.copy(alloc)?)),
-            Event::LearnVerdict(row) => Ok(Event::LearnVerdict(*row)),
-            Event::Forget { blocks } => Ok(Event::Forget { blocks: *blocks }),
+            Event::Chain(event) => Ok(Event::Chain(event.copy(alloc)?)),
         }
     }
 }
@@ -227,17 +193,10 @@ impl Copied for Event {
 impl Exact for Event {
     ghost use Rattle.std.specs.Cmp.{booleans_Decides};
     ghost use Rattle.std.proofs.lemmas.Bool.Decides.{Decides-eqb};
-    ghost use Rattle.std.proofs.lemmas.Slice.Eq.{bytes_eq-Decides};
-    ghost use Rattle.gate_tx.specs.Equality.{coin_decides, out_point_decides};
-    ghost use Rattle.gate_chain.specs.contracts.block.BlockExact.TheImpl.Laws.{exact-law as block_decides};
-    ghost use Rattle.gate_chain.specs.contracts.opening.OpeningCoin.{the_type as opening_coins};
-    ghost use Rattle.gate_submission.specs.Equality.{option_decides};
     ghost use Rattle.gate_submission.specs.contracts.prepared.PreparedExact.TheImpl.Laws.{exact-law as prepared_decides};
-    ghost use Rattle.gate_submission.specs.contracts.verdict.Verdict.{enum as verdicts};
-    ghost use Rattle.gate_submission.specs.contracts.verdict.VerdictRow.{the_type as verdict_rows};
-    ghost use Rattle.gate_bytes.specs.Equality.{struct_decides, enum_decides, ◌or◌, ◌&◌, last_decides, bare_decides};
+    ghost use Rattle.gate_bytes.specs.Equality.{enum_decides, ◌or◌, ◌&◌, last_decides, bare_decides};
     ghost use Rattle.gate_message.specs.Equality.{address_decides, call_decides};
-    ghost use Rattle.gate_rpc.specs.Equality.{list_decides};
+    ghost use Rattle.gate_message.specs.contracts.chain_event.ChainEventExact.TheImpl.Laws.{exact-law as chain_event_decides};
     ghost use Rattle.gate_message.specs.contracts.switch.Switch.{enum as switches};
     ghost use Rattle.gate_message.specs.contracts.event.Event.{enum};
 
@@ -251,10 +210,6 @@ impl Exact for Event {
         or last_decides call_decides
         or last_decides Decides-eqb
         or bare_decides switches tt & last_decides booleans_Decides
-        or Decides-eqb & Decides-eqb
-        & last_decides (list_decides (option_decides block_decides))
-        or last_decides (struct_decides opening_coins (out_point_decides & last_decides coin_decides))
-        or last_decides (struct_decides verdict_rows (bytes_eq-Decides & Decides-eqb & last_decides (bare_decides verdicts tt)))
-        or last_decides Decides-eqb
+        or last_decides chain_event_decides
         or tt) };
 }

@@ -6,6 +6,7 @@
 
 mod call;
 mod caller;
+mod chain_event;
 mod denial;
 mod event;
 mod outcome;
@@ -16,6 +17,7 @@ mod switch;
 
 pub use call::Call;
 pub use caller::Caller;
+pub use chain_event::ChainEvent;
 pub use denial::{PeerDenial, Then};
 pub use event::Event;
 pub use outcome::ChainOutcome;
