@@ -71,12 +71,23 @@ uint32_t gate_reply(struct gate *gate, uint8_t *out, size_t room, size_t *size);
    not answered. This call changes nothing: after GATE_BUFFER_TOO_SMALL and GATE_OUT_OF_MEMORY it can be made again. */
 uint32_t gate_changes(struct gate *gate, uint8_t *out, size_t room, size_t *size);
 
+/* Lets a handle explain its lines from the next one on, which gets the number `line`, and each later one the next; 0 lets it
+   explain none, as a handle does that was opened just now. No reply depends on it; a line that is explained takes more time. */
+uint32_t gate_explain(struct gate *gate, uint64_t line);
+
+/* Gives what is said of the reply to the last line: the object that `gate run --explain=json` says of it, with a newline. There is
+   none, and `*size` is 0, where the handle didn't explain that line, for a line that was not answered, and for a reply that
+   names no rule, but for an error of a call. This call changes nothing. After GATE_OUT_OF_MEMORY the line is answered all the same;
+   memory ran out in what is said of it, which is lost. */
+uint32_t gate_explanation(struct gate *gate, uint8_t *out, size_t room, size_t *size);
+
 /* Closes a handle and frees what it holds. A closed one stays closed. */
 void gate_close(struct gate *gate);
 
 /* Opens a second handle, which is closed, with a copy of what the first one holds: the same state and the same last reply. Both answer
    alike from then on, and neither knows what the other is asked. It takes time and memory as the state is large; only
-   transactions, which never change, are shared. What the last line moved is told by the first one alone. */
+   transactions, which never change, are shared. What the last line moved, and what is said of it, is told by the first one alone;
+   the copy explains its lines if the first one does, by the same numbers. */
 uint32_t gate_copy(struct gate *gate, struct gate *copy);
 
 /* Reads a line, which is given without its newline, into an event, in the place of what that holds. A transaction is decoded

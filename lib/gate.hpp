@@ -449,6 +449,19 @@ public:
         return Changes::parse(text_of(call, call));
     }
 
+    // Lets the gate explain its lines from the next one on, which gets this number; 0 lets it explain none.
+    void explain(uint64_t line = 1) {
+        const uint32_t status = gate_explain(&handle, line);
+        if (status != GATE_DONE) detail::raise(status);
+    }
+
+    // What is said of the reply to the last line: a JSON object with a newline, or nothing. After std::bad_alloc the line is
+    // answered all the same, and what is said of it is lost.
+    std::string explanation() {
+        const auto call = [this](uint8_t *to, size_t room, size_t *size) { return gate_explanation(&handle, to, room, size); };
+        return text_of(call, call);
+    }
+
     bool is_answered() const { return answered; }
 
 private:

@@ -165,6 +165,7 @@ CTYPES = {
     "&[u8]": ["c_char_p", "c_ulong"],
     "&mut [u8]": ["c_char_p", "c_ulong"],
     "&mut usize": ["LP_c_ulong"],
+    "u64": ["c_ulong"],
 }
 
 
@@ -183,7 +184,7 @@ def test_the_table_in_python(gate):
     for line, (name, parameters, has_status) in zip(lines[2:], interface.calls()):
         types = [it for _, kind in parameters for it in CTYPES[kind]]
         same(name, line, "%s %s %s" % (name, types, "c_uint" if has_status else None))
-    same("how many calls", len(lines), 13)
+    same("how many calls", len(lines), 15)
 
 
 def test_faults_in_cpp(gate):

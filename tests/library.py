@@ -8,6 +8,7 @@ import contextlib
 import functools
 import glob
 import importlib
+import json
 import os
 import re
 import shutil
@@ -218,6 +219,27 @@ def tells_changes(gate, host, **more):
         rows(Watching(host, says_causes=False))
 
 
+def objects_of_replies(stderr):
+    """The objects that are said of replies, in their order."""
+    objects = [json.loads(line) for line in stderr.decode().splitlines()]
+    return [it for it in objects if "rule" in it or "error" in it]
+
+
+def says_why(gate, host, **more):
+    """What the host is told of each reply is what `gate run --explain=json` says of it; the replies are those without it."""
+    told = 0
+    for name in EXAMPLES:
+        with open(os.path.join(ROOT, "examples", name), "rb") as file:
+            text = file.read()
+        wanted = gate.run("run --explain=json", text)
+        asked = surroundings(gate, EXPLAIN="1", **more)
+        found = subprocess.run([host, "run"], input=text, capture_output=True, timeout=SECONDS, check=False, env=asked)
+        same(name, (found.returncode, found.stdout), (wanted.status, wanted.stdout))
+        same("what is said of " + name, objects_of_replies(found.stderr), objects_of_replies(wanted.stderr))
+        told += len(objects_of_replies(found.stderr))
+    true("only %d replies were explained" % told, told > 10)
+
+
 def test_rows_in_c(gate):
     """A host in C does the rows and the examples as the program does."""
     does_rows(gate, in_c())
@@ -298,14 +320,42 @@ def test_changes_in_python(gate):
     tells_changes(gate, in_python())
 
 
+def test_explanations_in_c(gate):
+    """A host in C is told of each reply what the program says of it."""
+    says_why(gate, in_c())
+
+
+def test_explanations_in_c_with_little_room(gate):
+    """The same where the buffer has five bytes, so that each object is asked for once more."""
+    says_why(gate, in_c(), ROOM="5")
+
+
+def test_explanations_in_cpp(gate):
+    """What is said of replies, in C++."""
+    says_why(gate, in_cpp())
+
+
+def test_explanations_in_rust(gate):
+    """What is said of replies, in Rust."""
+    says_why(gate, in_rust())
+
+
+def test_explanations_in_python(gate):
+    """What is said of replies, in Python."""
+    says_why(gate, in_python())
+
+
 def test_failing_allocations(gate):
-    """Each allocation of an opening, of lines and of what they moved fails in turn: nothing is lost, and no memory is left at the end."""
-    host, in_changes = with_c("failing", "failing_allocations.c", *WRAPPED), 0
+    """Each allocation of an opening, of lines, of what they moved and of what is said of them fails in turn: no reply is lost, and no
+    memory is left at the end."""
+    host, in_changes, in_sayings = with_c("failing", "failing_allocations.c", *WRAPPED), 0, 0
     for name in EXAMPLES:
         told = done_by([host, os.path.join(ROOT, "examples", name)])
         true("few allocations: " + told, int(told.split()[0]) > 20)
         in_changes += int(re.search(r"(\d+) in what a line moved", told)[1])
+        in_sayings += int(re.search(r"(\d+) in what is said", told)[1])
     true("%d allocations in what lines moved" % in_changes, in_changes > 10)
+    true("%d allocations in what is said of lines" % in_sayings, in_sayings > 10)
 
 
 def test_threads(gate):

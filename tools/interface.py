@@ -1,4 +1,4 @@
-"""Whether what embeds the library declares what crates/gate_c defines: the eleven calls with their parameters, and the statuses.
+"""Whether what embeds the library declares what crates/gate_c defines: the thirteen calls with their parameters, and the statuses.
 
 One table of both is read from crates/gate_c/src (`calls`, `statuses`): lib.rt has the calls, status.rt the statuses. The texts
 of lib/gate.h, lib/rust and lib/python are compared with it here, in each language's own types; tests/embedding.py has the
@@ -22,6 +22,7 @@ PARAMETERS = {
     "&[u8]": ("const uint8_t *{0}, size_t {0}_size", "{0}: *const u8, {0}_size: usize", "text, count"),
     "&mut [u8]": ("uint8_t *{0}, size_t room", "{0}: *mut u8, room: usize", "text, count"),
     "&mut usize": ("size_t *{0}", "{0}: *mut usize", "ctypes.POINTER(count)"),
+    "u64": ("uint64_t {0}", "{0}: u64", "ctypes.c_uint64"),
 }
 # what a call that gives no status is given in Python
 CLOSED = {"handle": "ctypes.POINTER(Handle)", "event": "ctypes.POINTER(EventHandle)"}
@@ -113,7 +114,7 @@ def in_python():
 def faults():
     """All that is amiss."""
     names = {name for name, _, _ in calls()}
-    if len(names) != 11 or not statuses():
+    if len(names) != 13 or not statuses():
         yield "%s has %d calls and %d statuses, which is not what tools/interface.py reads" % (SOURCES, len(names), len(statuses()))
         return
     yield from in_c()

@@ -42,6 +42,27 @@ def moves():
     assert raised(gate.NotOpen, one.changes).status == gate.Status.NOT_OPEN
 
 
+def explanations():
+    """What is said of a reply, once it is asked for; by a copy of its own lines alone."""
+    line = PAYMENT % (4 * "0000000000000001", "6e8601", 20 * "22")
+    with gate.Gate(OPENING + COIN) as one:
+        assert one.answer("peer 1 enter 192.0.2.1") == "entered none\n" and one.explanation() is None
+        assert one.ask(line).rule == "A35" and one.explanation() is None
+        one.explain()
+        assert one.explanation() is None and one.ask(line).rule == "A35"
+        said = one.explanation()
+        assert said == dict(line=1, rule="A35", token="min relay fee not met", pays=50, needs=82, least_fee=82) == one.explanation()
+        with one.copy() as copy:
+            assert copy.explanation() is None and copy.ask(gate.Event(line)).rule == "A35"
+            assert copy.explanation() == dict(said, line=2)
+        raised(gate.LineTooLong, one.answer, "x" * (LIMIT + 1))
+        assert one.explanation() is None and one.answer("peer 1 mempool") == "listing 0\n" and one.explanation() is None
+        assert one.answer("user a rpc 0 {").startswith("rpc ") and sorted(one.explanation()) == ["error", "line"]
+        one.explain(0)
+        assert one.ask(line).rule == "A35" and one.explanation() is None
+    assert raised(gate.NotOpen, one.explanation).status == raised(gate.NotOpen, one.explain).status == gate.Status.NOT_OPEN
+
+
 def raised(kind, call, *given):
     try:
         call(*given)
@@ -72,6 +93,7 @@ def main():
     assert isinstance(raised(gate.GateError, one.reply), gate.NotOpen)
     one.close()
     moves()
+    explanations()
     with gate.Gate(OPENING) as shared, ThreadPoolExecutor(8) as threads:
         replies = threads.map(lambda peer: shared.answer("peer %d enter 192.0.2.1" % peer), range(1000))
         assert list(replies) == ["entered none\n"] * 1000

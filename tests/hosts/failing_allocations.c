@@ -1,5 +1,6 @@
 /* Fails each allocation in turn, in the opening, in the lines of a file, of which each second one is read before it is answered, in what
    each line moved, and in a copy of the handle: the call says so, nothing is lost, and asked again it gives what it gives undisturbed.
+   Lines are explained: what is said of one is lost where an allocation fails in it, or lacks figures, and the reply is there all the same.
    Linked with --wrap of malloc, realloc and free. */
 #define _GNU_SOURCE
 #include "gate.h"
@@ -42,8 +43,8 @@ struct texts {
 };
 
 static uint8_t text[ROOM], out[ROOM];
-static struct texts replies, moves;
-static long opened, unread, unmade, kept, untold, uncopied;
+static struct texts replies, moves, sayings;
+static long opened, unread, unmade, kept, untold, unsaid, uncopied;
 
 /* Whether what was put into the buffer is the text of this line. The run in which nothing fails notes it. */
 static int is_undisturbed(struct texts *texts, long number, long line, size_t size) {
@@ -77,7 +78,7 @@ static int holds(long number, uint8_t *events, uint8_t *end) {
         HOLDS(!gate.is_open && blocks == 0 && size == 0);
         status = gate_open(&gate, &keys, text, (size_t)(events - text), out, sizeof out, &size);
     }
-    HOLDS(status == GATE_DONE && gate.is_open);
+    HOLDS(status == GATE_DONE && gate.is_open && gate_explain(&gate, 1) == GATE_DONE);
     for (uint8_t *at = events, *stop; at < end; at = stop + 1) {
         stop = memchr(at, '\n', (size_t)(end - at));
         if (stop == NULL) stop = end;
@@ -92,18 +93,31 @@ static int holds(long number, uint8_t *events, uint8_t *end) {
             }
             HOLDS(status == GATE_DONE && event.is_open);
         }
+        long left = until;
         status = answer(&gate, &event, is_read, at, (size_t)(stop - at), &size);
         if (status == GATE_OUT_OF_MEMORY) {
             unmade++;
             HOLDS(gate.is_open && size == 0 && (!is_read || event.is_open));
             HOLDS(gate_changes(&gate, out, sizeof out, &size) == GATE_DONE && size == 0);
+            HOLDS(gate_explanation(&gate, out, sizeof out, &size) == GATE_DONE && size == 0);
+            /* the line counted, and is asked again */
+            HOLDS(gate_explain(&gate, (uint64_t)line + 1) == GATE_DONE);
+            left = until;
             status = answer(&gate, &event, is_read, at, (size_t)(stop - at), &size);
         } else if (status == GATE_REPLY_KEPT) {
             kept++;
             HOLDS(gate.is_open && size == 0);
             status = gate_reply(&gate, out, sizeof out, &size);
         }
+        const bool has_failed = left > 0 && until == 0;
         HOLDS(status == GATE_DONE && is_undisturbed(&replies, number, line, size));
+        status = gate_explanation(&gate, out, sizeof out, &size);
+        if (status == GATE_OUT_OF_MEMORY) {
+            unsaid++;
+            HOLDS(has_failed && size == 0 && gate_explanation(&gate, out, sizeof out, &size) == GATE_OUT_OF_MEMORY);
+        } else {
+            HOLDS(status == GATE_DONE && (has_failed || is_undisturbed(&sayings, number, line, size)));
+        }
         status = gate_changes(&gate, out, sizeof out, &size);
         if (status == GATE_OUT_OF_MEMORY) {
             untold++;
@@ -143,7 +157,7 @@ int main(int count, char **words) {
     for (until = 0; until == 0; number++)
         if (!holds(number, events, end)) return 1;
     /* the last one was not met */
-    printf("%ld allocations: %ld in the opening, %ld in reading, %ld before a step, %ld behind one, %ld in what a line moved, %ld in a copy\n",
-           number - 2, opened, unread, unmade, kept, untold, uncopied);
+    printf("%ld allocations: %ld in the opening, %ld in reading, %ld before a step, %ld behind one, %ld in what a line moved, %ld in what is said, %ld in a copy\n",
+           number - 2, opened, unread, unmade, kept, untold, unsaid, uncopied);
     return opened > 0 && unread > 0 && unmade > 0 && uncopied > 0 ? 0 : 1;
 }

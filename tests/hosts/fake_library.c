@@ -2,10 +2,13 @@
 
    `end S` ends with status S, and nothing changes. `keep TEXT` is answered by TEXT, which only gate_reply gives. A line that is
    empty or begins with # asks for nothing. The opening `refuse` is refused, and `end S` ends with status S too. So does reading
-   `fail S` into an event, and copying a handle whose last reply is `fail S`, or asking it for changes. What a line moved is its reply,
-   with newlines for its semicolons: nothing in a copy, and after a line that ends with a status. */
+   `fail S` into an event, and copying a handle whose last reply is `fail S`, or asking it for changes or what is said. What a line
+   moved is its reply, with newlines for its semicolons: nothing in a copy, and after a line that ends with a status. What is said
+   of a line that begins with `denied` is its number and its size; of others nothing. */
 #include "gate.h"
 
+#include <inttypes.h>
+#include <stdio.h>
 #include <stdlib.h>
 #include <string.h>
 
@@ -13,6 +16,7 @@ struct session {
     uint8_t *reply;
     size_t size;
     bool has_moved;
+    uint64_t next, said; /* the number of the next line, and of the last one if something is said of it; or 0 */
 };
 
 static size_t open_handles;
@@ -79,6 +83,8 @@ uint32_t gate_answer(struct gate *gate, const uint8_t *line, size_t line_size, u
     if (!gate->is_open) return GATE_NOT_OPEN;
     struct session *session = gate->slot.session;
     session->has_moved = !begins(line, line_size, "end ");
+    session->said = begins(line, line_size, "denied") ? session->next : 0;
+    session->next += session->next > 0;
     if (!session->has_moved) return status_behind(line, line_size);
     const int is_kept = begins(line, line_size, "keep "), is_silent = line_size == 0 || line[0] == '#';
     const size_t from = is_kept ? strlen("keep ") : 0, length = is_silent ? 0 : line_size - from + 1;
@@ -90,6 +96,25 @@ uint32_t gate_answer(struct gate *gate, const uint8_t *line, size_t line_size, u
         session->reply[length - 1] = '\n';
     }
     return is_kept ? GATE_REPLY_KEPT : gate_reply(gate, out, room, size);
+}
+
+uint32_t gate_explain(struct gate *gate, uint64_t line) {
+    if (!gate->is_open) return GATE_NOT_OPEN;
+    struct session *session = gate->slot.session;
+    session->next = line;
+    session->said = 0;
+    return GATE_DONE;
+}
+
+uint32_t gate_explanation(struct gate *gate, uint8_t *out, size_t room, size_t *size) {
+    *size = 0;
+    if (!gate->is_open) return GATE_NOT_OPEN;
+    const struct session *session = gate->slot.session;
+    if (begins(session->reply, session->size, "fail ")) return status_behind(session->reply, session->size);
+    if (session->said == 0) return GATE_DONE;
+    char text[600];
+    snprintf(text, sizeof text, "{\"line\":%" PRIu64 ",\"size\":%zu,\"padding\":\"%0500d\"}\n", session->said, session->size, 0);
+    return put_text(GATE_DONE, text, out, room, size);
 }
 
 void gate_close(struct gate *gate) {
@@ -108,6 +133,7 @@ uint32_t gate_copy(struct gate *gate, struct gate *copy) {
     if (begins(session->reply, session->size, "fail ")) return status_behind(session->reply, session->size);
     struct session *made = calloc(1, sizeof *made);
     made->size = session->size;
+    made->next = session->next;
     made->reply = malloc(session->size + 1);
     if (session->size) memcpy(made->reply, session->reply, session->size);
     copy->slot.session = made;

@@ -143,6 +143,28 @@ static void changes() {
     HOLDS(fault_of([] { Gate().changes(); }) == GATE_NOT_OPEN);
 }
 
+static void explanations() {
+    Gate gate("");
+    const auto said = [&](std::string_view line) {
+        gate.answer(line);
+        return gate.explanation();
+    };
+    HOLDS(gate.explanation().empty() && said("denied A1 keep tx-decode").empty());
+    gate.explain();
+    HOLDS(gate.explanation().empty() && said("set").empty());
+    const std::string told = said("denied A1 keep tx-decode");
+    HOLDS(told.rfind("{\"line\":2,\"size\":25,", 0) == 0 && told.size() > 500 && gate.explanation() == told);
+    HOLDS(gate.copy().explanation().empty() && gate.explanation() == told);
+    HOLDS(fault_of([&] { gate.answer("end 7"); }) == GATE_LINE_TOO_LONG && gate.explanation().empty());
+    gate.explain(18446744073709551615u);
+    HOLDS(said("denied").rfind("{\"line\":18446744073709551615,", 0) == 0);
+    gate.explain(0);
+    HOLDS(gate.explanation().empty() && said("denied").empty());
+    gate.answer("fail 3");
+    HOLDS(fault_of([&] { gate.explanation(); }) == 99);
+    HOLDS(fault_of([] { Gate().explanation(); }) == GATE_NOT_OPEN && fault_of([] { Gate().explain(); }) == GATE_NOT_OPEN);
+}
+
 static void calls() {
     Gate gate("");
     const std::optional<gate_c::Reply> reply = gate.ask("denied A7 close bad-txns-txouttotal-toolarge");
@@ -159,6 +181,7 @@ int main() {
     faults();
     events();
     changes();
+    explanations();
     calls();
     HOLDS(fake_open_handles() == 0);
     return failed;

@@ -43,6 +43,32 @@ def moves():
     fault_of(gate.NotOpen, opened.changes)
 
 
+def explanations():
+    with gate.Gate("") as opened:
+        assert opened.explanation() is None and opened.answer("denied") == "denied\n" and opened.explanation() is None
+        opened.explain()
+        opened.answer("set")
+        assert opened.explanation() is None
+        opened.answer("denied A1 keep tx-decode")
+        said = opened.explanation()
+        assert (said["line"], said["size"], len(said["padding"])) == (2, 25, 500) and opened.explanation() == said
+        with opened.copy() as copy:
+            assert copy.explanation() is None
+            copy.answer(gate.Event("denied"))
+            assert copy.explanation()["line"] == 3
+        assert fault_of(gate.LineTooLong, opened.answer, "end 7") and opened.explanation() is None
+        opened.explain(2**64 - 1)
+        opened.answer("denied")
+        assert opened.explanation()["line"] == 2**64 - 1
+        opened.explain(0)
+        opened.answer("denied")
+        assert opened.explanation() is None
+        opened.answer("fail 3")
+        assert isinstance(fault_of(gate.OutOfMemory, opened.explanation), MemoryError)
+    fault_of(gate.NotOpen, opened.explanation)
+    fault_of(gate.NotOpen, opened.explain)
+
+
 def main():
     open_handles = ctypes.CDLL(os.environ["GATE_LIBRARY"]).fake_open_handles
     open_handles.restype = ctypes.c_size_t
@@ -83,6 +109,7 @@ def main():
     assert fault_of(gate.NotOpen, one.answer, "set").status == gate.Status.NOT_OPEN
     one.close()
     moves()
+    explanations()
     gate.Gate("")
     assert open_handles() == 0, "a gate that nobody names is closed"
     assert gate.check("00" + "x" * 1000) == gate.Check(True, "00" + "x" * 1000)

@@ -115,6 +115,31 @@ fn changes() {
     assert_eq!(gate.changes(), Err(Error::OutOfMemory));
 }
 
+fn explanations() {
+    let mut gate = open_gate();
+    assert_eq!(gate.answer("denied").as_deref(), Ok("denied\n"));
+    assert_eq!(gate.explanation().as_deref(), Ok(""));
+    gate.explain(7).expect("an open gate");
+    assert_eq!(gate.explanation().as_deref(), Ok(""));
+    gate.answer("set").expect("a reply");
+    assert_eq!(gate.explanation().as_deref(), Ok(""));
+    gate.answer("denied A1 keep tx-decode").expect("a reply");
+    let told = gate.explanation().expect("what is said");
+    assert!(told.starts_with("{\"line\":8,\"size\":25,") && told.len() > 500 && told.ends_with("}\n"), "{}", told);
+    assert_eq!(gate.explanation(), Ok(told));
+    let mut copy = gate.copy().expect("a copy");
+    assert_eq!(copy.explanation().as_deref(), Ok(""));
+    copy.answer("denied").expect("a reply");
+    assert!(copy.explanation().expect("what is said").starts_with("{\"line\":9,"));
+    assert_eq!(gate.answer("end 7"), Err(Error::LineTooLong));
+    assert_eq!(gate.explanation().as_deref(), Ok(""));
+    gate.explain(0).expect("an open gate");
+    gate.answer("denied").expect("a reply");
+    assert_eq!(gate.explanation().as_deref(), Ok(""));
+    gate.answer("fail 3").expect("a reply");
+    assert_eq!(gate.explanation(), Err(Error::OutOfMemory));
+}
+
 fn calls() {
     let reply = open_gate().ask("denied A7 close bad-txns-txouttotal-toolarge").expect("a reply").expect("a reply");
     let rule = Rule { letter: 'A', number: 7 };
@@ -131,6 +156,7 @@ fn main() {
     faults();
     events();
     changes();
+    explanations();
     calls();
     assert_eq!(open_handles(), 0);
 }

@@ -98,6 +98,62 @@ static void moves(const struct gate_keys *keys, const char *longest) {
     HOLDS(changes(&gate, ROOM) == GATE_NOT_OPEN && is_untouched() && size == 0);
 }
 
+static uint32_t explanation(struct gate *gate, size_t room) {
+    mark();
+    return gate_explanation(gate, out, room, &size);
+}
+
+/* What is said of a line: nothing unless it is asked for, by the number that the lines have then, told as often as it is asked, until
+   another line comes; not by a copy, which goes on with the number. Replies are the same with it. */
+static void explanations(const struct gate_keys *keys, const char *longest) {
+    const char *opening = "times 101 1000 600\nverdict * ok\n";
+    const char *denied = "denied P3 keep peer-known\n", *enter = "peer 1 enter 192.0.2.1";
+#define SAID(line) "{\"line\":" line ",\"rule\":\"P3\",\"token\":\"peer-known\",\"says\":\""
+#define IS_SAID(line) (size > strlen(SAID(line)) && memcmp(out, SAID(line), strlen(SAID(line))) == 0 && out[size - 1] == '\n')
+    struct gate gate = GATE_CLOSED, copy = GATE_CLOSED;
+    struct gate_event event = GATE_CLOSED;
+    HOLDS(gate_explain(&gate, 1) == GATE_NOT_OPEN && !gate.is_open);
+    HOLDS(explanation(&gate, ROOM) == GATE_NOT_OPEN && is_untouched() && size == 0);
+    HOLDS(gate_open(&gate, keys, bytes(opening), strlen(opening), out, ROOM, &size) == GATE_DONE);
+    HOLDS(answer(&gate, enter, ROOM) == GATE_DONE && answer(&gate, enter, ROOM) == GATE_DONE && is_text(denied));
+    HOLDS(explanation(&gate, ROOM) == GATE_DONE && is_untouched() && size == 0);
+
+    /* from here on, by a line and by an event; with too little room, too */
+    HOLDS(gate_explain(&gate, 7) == GATE_DONE && explanation(&gate, ROOM) == GATE_DONE && is_untouched() && size == 0);
+    mark();
+    HOLDS(gate_reply(&gate, out, ROOM, &size) == GATE_DONE && is_text(denied));
+    HOLDS(answer(&gate, enter, ROOM) == GATE_DONE && is_text(denied));
+    HOLDS(explanation(&gate, ROOM) == GATE_DONE && IS_SAID("7"));
+    const size_t whole = size;
+    HOLDS(explanation(&gate, whole - 1) == GATE_BUFFER_TOO_SMALL && is_untouched() && size == whole);
+    HOLDS(explanation(&gate, whole) == GATE_DONE && IS_SAID("7") && out[whole] == 0x55);
+    HOLDS(gate_read(&event, bytes(enter), strlen(enter)) == GATE_DONE);
+    HOLDS(gate_answer_event(&gate, &event, out, ROOM, &size) == GATE_DONE && is_text(denied));
+    HOLDS(explanation(&gate, ROOM) == GATE_DONE && IS_SAID("8"));
+    HOLDS(gate_copy(&gate, &copy) == GATE_DONE && explanation(&copy, ROOM) == GATE_DONE && is_untouched() && size == 0);
+    HOLDS(explanation(&gate, ROOM) == GATE_DONE && IS_SAID("8"));
+    HOLDS(answer(&copy, enter, ROOM) == GATE_DONE && explanation(&copy, ROOM) == GATE_DONE && IS_SAID("9"));
+
+    /* of these nothing is said, and they count */
+    const char *others[] = {"# a comment", "", "nonsense", longest, "peer 2 leave", "peer 2 enter 192.0.2.2"};
+    for (size_t at = 0; at < sizeof others / sizeof *others; at++) {
+        HOLDS(answer(&gate, others[at], ROOM) == (others[at] == longest ? GATE_LINE_TOO_LONG : GATE_DONE));
+        if (at == 4) HOLDS(explanation(&gate, ROOM) == GATE_DONE && size > 0 && memcmp(out, "{\"line\":13,\"rule\":\"P1\"", 22) == 0);
+        else HOLDS(explanation(&gate, ROOM) == GATE_DONE && is_untouched() && size == 0);
+    }
+    HOLDS(answer(&gate, enter, ROOM) == GATE_DONE && explanation(&gate, ROOM) == GATE_DONE && IS_SAID("15"));
+
+    /* no longer */
+    HOLDS(gate_explain(&gate, 0) == GATE_DONE && explanation(&gate, ROOM) == GATE_DONE && is_untouched() && size == 0);
+    HOLDS(answer(&gate, enter, ROOM) == GATE_DONE && explanation(&gate, ROOM) == GATE_DONE && is_untouched() && size == 0);
+    HOLDS(gate_explain(&gate, UINT64_MAX) == GATE_DONE);
+    for (int times = 0; times < 2; times++)
+        HOLDS(answer(&gate, enter, ROOM) == GATE_DONE && explanation(&gate, ROOM) == GATE_DONE && IS_SAID("18446744073709551615"));
+    gate_event_close(&event);
+    gate_close(&gate);
+    gate_close(&copy);
+}
+
 int main(void) {
     const struct gate_keys keys = {3, 4};
     const char *opening = "budget 100000\ntimes 101 1000 600\nverdict * ok\nbloom 1\n";
@@ -150,6 +206,7 @@ int main(void) {
     memset(longest, 'x', LIMIT + 1);
     longest[LIMIT + 1] = 0;
     moves(&keys, longest);
+    explanations(&keys, longest);
     HOLDS(answer(&gate, longest, ROOM) == GATE_LINE_TOO_LONG && is_untouched() && size == 0);
     mark();
     HOLDS(gate_reply(&gate, out, ROOM, &size) == GATE_DONE && is_text("denied P3 keep peer-known\n"));

@@ -1,7 +1,8 @@
 /* `gate run`, `gate check -` and `gate --version`, as `version`, by the library. Other words go to the program that the variable GATE names.
 
    The variable ROOM has the bytes of the buffer, from 1; every reply without room comes by gate_reply. If the variable CHANGES is set,
-   what stands behind the reply to a line is what the line moved, and a line `=`. */
+   what stands behind the reply to a line is what the line moved, and a line `=`. If EXPLAIN is set, what is said of each reply goes to
+   standard error, by the numbers of the lines in the input. */
 #include "gate.h"
 
 #include <stdio.h>
@@ -40,18 +41,34 @@ static uint8_t *behind_opening(uint8_t *text, uint8_t *end) {
 
 typedef uint32_t call(struct gate *gate, uint8_t *to, size_t has_room, size_t *size);
 
-/* Prints the text that a call put into the buffer, or, if that had no room, the text that another call gives. */
-static uint32_t print(struct gate *gate, uint32_t status, size_t size, call *again) {
+/* Writes the text that a call put into the buffer, or, if that had no room, the text that another call gives. */
+static uint32_t write_to(FILE *to, struct gate *gate, uint32_t status, size_t size, call *again) {
     if (status != GATE_BUFFER_TOO_SMALL) {
-        fwrite(out, 1, size, stdout);
+        fwrite(out, 1, size, to);
         return status;
     }
     uint8_t *greater = malloc(size);
     size_t told = 0;
     status = again(gate, greater, size, &told);
-    if (status == GATE_DONE && told == size) fwrite(greater, 1, size, stdout);
+    if (status == GATE_DONE && told == size) fwrite(greater, 1, size, to);
     free(greater);
     return told == size ? status : GATE_BUFFER_TOO_SMALL;
+}
+
+static uint32_t print(struct gate *gate, uint32_t status, size_t size, call *again) { return write_to(stdout, gate, status, size, again); }
+
+/* How many lines end before this place. */
+static uint64_t lines_before(const uint8_t *text, const uint8_t *end) {
+    uint64_t lines = 0;
+    for (; text < end; text++) lines += *text == '\n';
+    return lines;
+}
+
+/* Writes to standard error what is said of the last reply. */
+static uint32_t write_explanation(struct gate *gate) {
+    size_t size = 0;
+    const uint32_t status = gate_explanation(gate, out, room, &size);
+    return write_to(stderr, gate, status, size, gate_explanation);
 }
 
 /* Prints what the last line moved. */
@@ -76,6 +93,8 @@ static int run(void) {
         return 2;
     }
     if (status != GATE_DONE || written != 0) return 90;
+    const int explains = getenv("EXPLAIN") != NULL;
+    if (explains && gate_explain(&gate, lines_before(text, events) + 1) != GATE_DONE) return 92;
     long lines = 0;
     for (uint8_t *at = events, *stop; at < end; at = stop + 1) {
         stop = end_of_line(at, end);
@@ -90,6 +109,7 @@ static int run(void) {
         }
         status = print(&gate, status, written, gate_reply);
         if (status == GATE_DONE && getenv("CHANGES")) status = print_changes(&gate);
+        if (status == GATE_DONE && explains) status = write_explanation(&gate);
         if (status != GATE_DONE) return 91;
     }
     gate_close(&gate);

@@ -1,5 +1,6 @@
 // `gate run`, `gate check -` and `gate --version`, as `version`, by the class for C++. Other words go to the program that the variable GATE names.
-// If the variable CHANGES is set, what stands behind the reply to a line is what the line moved, and a line `=`.
+// If the variable CHANGES is set, what stands behind the reply to a line is what the line moved, and a line `=`. If EXPLAIN is set, what is
+// said of each reply goes to standard error, by the numbers of the lines in the input.
 #include "gate.hpp"
 
 #include <algorithm>
@@ -32,6 +33,8 @@ static int run() {
     }
     try {
         gate_c::Gate gate({0x9e3779b97f4a7c15, text.size()}, std::string_view(text).substr(0, at));
+        const bool explains = std::getenv("EXPLAIN") != nullptr;
+        if (explains) gate.explain(1 + static_cast<uint64_t>(std::count(text.begin(), text.begin() + static_cast<std::ptrdiff_t>(at), '\n')));
         for (long lines = 0; at < text.size(); lines++) {
             if (lines == LINES) {
                 std::cout << "refused L3 too-many-lines\n";
@@ -43,6 +46,7 @@ static int run() {
             if (!reply.empty()) gate_c::Reply::parse(reply);
             std::cout << reply;
             if (std::getenv("CHANGES")) print_changes(gate);
+            if (explains) std::cerr << gate.explanation();
             at = stop + 1;
         }
     } catch (const gate_c::OpeningRefused &fault) {

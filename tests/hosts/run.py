@@ -1,8 +1,10 @@
 #!/usr/bin/env python3
 """`gate run`, `gate check -` and `gate --version`, as `version`, by the package for Python. Other words go to the program that
 the variable GATE names. If the variable CHANGES is set, what stands behind the reply to a line is what the line moved, and a line `=`.
+If EXPLAIN is set, what is said of each reply goes to standard error, by the numbers of the lines in the input.
 """
 
+import json
 import os
 import sys
 
@@ -33,6 +35,8 @@ def run(out):
     opening, lines = parted(sys.stdin.buffer.read())
     try:
         with gate.Gate(opening) as opened:
+            if "EXPLAIN" in os.environ:
+                opened.explain(opening.count(b"\n") + 1)
             for number, line in enumerate(lines):
                 if number == LINES:
                     out.write(b"refused L3 too-many-lines\n")
@@ -43,6 +47,9 @@ def run(out):
                 out.write(reply.encode())
                 if "CHANGES" in os.environ:
                     out.write(changes_of(opened).encode())
+                said = opened.explanation()
+                if said is not None:
+                    print(json.dumps(said), file=sys.stderr)
         assert not opened.is_open
     except gate.OpeningRefused as refused:
         out.write(b"%s\n" % str(refused).encode())

@@ -1,6 +1,6 @@
 //! `gate run`, `gate check -` and `gate --version`, as `version`, by the crate for Rust. Other words go to the program that
 //! the variable GATE names. If the variable CHANGES is set, what stands behind the reply to a line is what the line moved, and a
-//! line `=`.
+//! line `=`. If EXPLAIN is set, what is said of each reply goes to standard error, by the numbers of the lines in the input.
 
 use gate::{Error, Gate, Keys, Reply};
 use std::io::{stdin, stdout, BufWriter, Read, Write};
@@ -31,7 +31,7 @@ fn run() -> i32 {
     let text = everything();
     let (opening, events) = parted(&text);
     let mut out = BufWriter::new(stdout());
-    let gate = match Gate::open(Keys { first: 5, second: text.len() as u64 }, opening) {
+    let mut gate = match Gate::open(Keys { first: 5, second: text.len() as u64 }, opening) {
         Ok(gate) => gate,
         Err(refused @ Error::OpeningRefused { .. }) => {
             writeln!(out, "{}", refused).expect("an output");
@@ -39,6 +39,10 @@ fn run() -> i32 {
         }
         Err(_) => return 90,
     };
+    if std::env::var_os("EXPLAIN").is_some() {
+        let lines = opening.iter().filter(|byte| **byte == b'\n').count() as u64;
+        gate.explain(lines + 1).expect("an open gate");
+    }
     // a gate may go to another thread
     std::thread::scope(|threads| threads.spawn(move || answer_all(gate, events, &mut out)).join().expect("no panic"))
 }
@@ -55,6 +59,7 @@ fn answer_all(mut gate: Gate, events: &[u8], out: &mut impl Write) -> i32 {
                 assert_eq!(gate.reply().as_ref(), Ok(&reply));
                 assert!(reply.is_empty() || reply.parse::<Reply>().map(|parts| parts.to_string() + "\n").as_ref() == Ok(&reply));
                 out.write_all(reply.as_bytes()).expect("an output");
+                eprint!("{}", gate.explanation().expect("what is said"));
                 if tells_changes {
                     writeln!(out, "{}=", gate.changes().expect("changes")).expect("an output");
                 }

@@ -1,5 +1,6 @@
 -- How a call ends: its status, what stands in the buffer, and what the handle then holds.
-use Rattle.std.specs.Prelude.{◌≡◌, ◌⊎◌, ℕ, ◌<◌, ◌≤◌, ◌++◌, ◌∷◌, List, [], length, Option, Some, None, Err}
+use Rattle.std.specs.Prelude.{◌≡◌, ◌⊎◌, ℕ, ◌<◌, ◌≤◌, ◌++◌, ◌∷◌, List, [], length, Option, Some, None, Err, string_bytes}
+use Rattle.std.specs.Option.{option_map}
 use Rattle.gate_lines.specs.Lines.{line_limit, unlines}
 use Rattle.gate_opening.specs.declared.OpeningFault.TheVariants as faults
 use Rattle.gate_opening.specs.declared.OpeningToken.{OpeningToken}
@@ -7,14 +8,16 @@ use Rattle.gate_opening.specs.Said.{spelled}
 use Rattle.gate_check.specs.Checks.{check_lines, check_status, input_spells}
 use Rattle.gate_run.specs.Refusals.{opening_line}
 use Rattle.gate_c.specs.declared.answer.Answer.{Answer}
+use Rattle.gate_c.specs.declared.explanation.Explanation.{Explanation}
 use Rattle.gate_c.specs.declared.reading.Reading.{Reading}
 use Rattle.gate_c.specs.declared.session.GateSession.{GateSession}
 use Rattle.gate_c.specs.declared.status.Status.TheVariants as statuses
 use Rattle.gate_c.specs.Answers.{answer_lines, Answered}
 use Rattle.gate_c.specs.Changes.{change_text}
+use Rattle.gate_c.specs.Explanations.{IsNumbered, IsSaid}
 use Rattle.gate_c.specs.Outputs.{NothingPut, OutOfMemory, TextPut}
 use Rattle.gate_c.specs.Readings.{IsRead, ReadingAnswered}
-use Rattle.gate_c.specs.Sessions.{AnswerKept, IsOpened, MovesKept, MovesSince, OpeningKept, Rests}
+use Rattle.gate_c.specs.Sessions.{AnswerKept, Counts, IsOpened, MovesKept, MovesSince, NothingSaid, OpeningKept, Rests, SaidKept, SwitchCopied}
 use Rattle.gate_c.specs.Statuses.{code_of, done}
 
 -- ---- a check
@@ -33,14 +36,19 @@ AnswerPut answer before after size status =
     TextPut done (unlines (answer_lines answer)) before after size status
     ⊎ NothingPut (code_of statuses.ReplyKept) before after size status
 
--- a line within the limits is answered, and its answer is kept; or nothing has changed; the opening is the same after every
--- call, and what has moved is what this line moved
+-- what is said of a line that is answered is of its own reply, to an event that met the state before it
+abbrev pub Explains : GateSession → GateSession → Type 0
+Explains old new = IsSaid old.tracked.world old.next_line new.answer new.explanation
+
+-- a line within the limits is answered, and its answer is kept; or nothing has changed, and nothing is said; the opening is the
+-- same after every call, and what has moved is what this line moved. Whether lines are explained decides on what is said alone
 abbrev pub LineCalled : GateSession → List ℕ → GateSession → List ℕ → List ℕ → ℕ → ℕ → Type 0
-LineCalled old line new before after size status = MovesSince old new × (
+LineCalled old line new before after size status = MovesSince old new × Counts old new × (
     ((length line ≤ line_limit) × Answered old.tracked.world line new.answer new.tracked.world × OpeningKept old new
-    × AnswerPut new.answer before after size status)
-    ⊎ (AnswerKept old new × OutOfMemory before after size status)
-    ⊎ (AnswerKept old new × (line_limit < length line) × NothingPut (code_of statuses.LineTooLong) before after size status))
+    × Explains old new × AnswerPut new.answer before after size status)
+    ⊎ (AnswerKept old new × NothingSaid new × OutOfMemory before after size status)
+    ⊎ (AnswerKept old new × NothingSaid new × (line_limit < length line)
+    × NothingPut (code_of statuses.LineTooLong) before after size status))
 
 -- a closed handle stays closed
 abbrev pub AnswerCalled : Option GateSession → List ℕ → Option GateSession → List ℕ → List ℕ → ℕ → ℕ → Type 0
@@ -50,7 +58,8 @@ AnswerCalled (Some old) line (Some new) before after size status = LineCalled ol
 
 -- the last answer is put once more, and nothing else changes
 abbrev pub AnswerRepeated : GateSession → GateSession → List ℕ → List ℕ → ℕ → ℕ → Type 0
-AnswerRepeated old new before after size status = AnswerKept old new × MovesKept old new × AnswerPut old.answer before after size status
+AnswerRepeated old new before after size status =
+    AnswerKept old new × MovesKept old new × SaidKept old new × AnswerPut old.answer before after size status
 
 abbrev pub ReplyCalled : Option GateSession → Option GateSession → List ℕ → List ℕ → ℕ → ℕ → Type 0
 ReplyCalled None new before after size status = (new ≡ None) × NothingPut (code_of statuses.NotOpen) before after size status
@@ -70,6 +79,33 @@ abbrev pub ChangesCalled : Option GateSession → Option GateSession → List �
 ChangesCalled None new before after size status = (new ≡ None) × NothingPut (code_of statuses.NotOpen) before after size status
 ChangesCalled (Some old) new before after size status = (new ≡ Some old) × ChangesPut old before after size status
 
+-- ---- what is said of a line
+
+-- the line of an object is put, or memory ran out in it when the line was answered
+abbrev pub ObjectPut : Option (List ℕ) → List ℕ → List ℕ → ℕ → ℕ → Type 0
+ObjectPut None before after size status = OutOfMemory before after size status
+ObjectPut (Some text) before after size status = TextPut done text before after size status
+
+-- what is said of the last line is put, if anything is
+abbrev pub SaidPut : Option Explanation → List ℕ → List ℕ → ℕ → ℕ → Type 0
+SaidPut None before after size status = TextPut done [] before after size status
+SaidPut (Some explanation) before after size status = ObjectPut (option_map string_bytes explanation.text) before after size status
+
+abbrev pub ExplanationPut : GateSession → List ℕ → List ℕ → ℕ → ℕ → Type 0
+ExplanationPut session before after size status = SaidPut session.explanation before after size status
+
+-- nothing changes behind the handle
+abbrev pub ExplanationCalled : Option GateSession → Option GateSession → List ℕ → List ℕ → ℕ → ℕ → Type 0
+ExplanationCalled None new before after size status = (new ≡ None) × NothingPut (code_of statuses.NotOpen) before after size status
+ExplanationCalled (Some old) new before after size status = (new ≡ Some old) × ExplanationPut old before after size status
+
+-- lines are explained from this number on, or no longer; state, last answer and what has moved are as before
+abbrev pub ExplainCalled : Option GateSession → ℕ → Option GateSession → ℕ → Type 0
+ExplainCalled None line new status = (new ≡ None) × (status ≡ code_of statuses.NotOpen)
+ExplainCalled (Some old) line None status = ⊥
+ExplainCalled (Some old) line (Some new) status =
+    (status ≡ done) × AnswerKept old new × MovesKept old new × IsNumbered line new.next_line × NothingSaid new
+
 -- ---- a line that is read before it is answered
 
 -- the line can't be read: memory ran out, or it is too long
@@ -85,12 +121,13 @@ HoldsLine line (Some reading) = IsRead line reading
 abbrev pub ReadCalled : Option Reading → List ℕ → Option Reading → ℕ → Type 0
 ReadCalled old line new status = ((status ≡ done) × HoldsLine line new) ⊎ ((new ≡ old) × Unread line status)
 
--- what a line asks for is answered, and its answer is kept; or nothing has changed; the opening is the same after every call,
--- and what has moved is what this line moved
+-- what a line asks for is answered, and its answer is kept; or nothing has changed, and nothing is said; the opening is the
+-- same after every call, and what has moved is what this line moved
 abbrev pub ReadingCalled : GateSession → Reading → GateSession → List ℕ → List ℕ → ℕ → ℕ → Type 0
-ReadingCalled old reading new before after size status = MovesSince old new × (
-    (ReadingAnswered old.tracked.world reading new.answer new.tracked.world × OpeningKept old new × AnswerPut new.answer before after size status)
-    ⊎ (AnswerKept old new × OutOfMemory before after size status))
+ReadingCalled old reading new before after size status = MovesSince old new × Counts old new × (
+    (ReadingAnswered old.tracked.world reading new.answer new.tracked.world × OpeningKept old new × Explains old new
+    × AnswerPut new.answer before after size status)
+    ⊎ (AnswerKept old new × NothingSaid new × OutOfMemory before after size status))
 
 -- what a line asks for is answered by a handle that is open
 abbrev pub OpenCalledBy : Option GateSession → Reading → Option GateSession → List ℕ → List ℕ → ℕ → ℕ → Type 0
@@ -106,10 +143,10 @@ EventCalled old (Some reading) new before after size status = OpenCalledBy old r
 -- ---- a copy
 
 -- the second handle holds a session with the same opening, the same state and the same last answer, in which nothing has
--- moved; or memory ran out
+-- moved, and which explains lines as the first one does; or memory ran out
 abbrev pub CopyMade : GateSession → Option GateSession → ℕ → Type 0
 CopyMade old None status = status ≡ code_of statuses.OutOfMemory
-CopyMade old (Some copy) status = (status ≡ done) × AnswerKept old copy × Rests copy
+CopyMade old (Some copy) status = (status ≡ done) × AnswerKept old copy × Rests copy × SwitchCopied old copy
 
 -- the first handle is as before; so is the second one, unless a copy is made
 abbrev pub CopyCalled : Option GateSession → Option GateSession → Option GateSession → Option GateSession → ℕ → Type 0

@@ -3,6 +3,7 @@ pub mod Answers
 pub mod Readings
 pub mod Reached
 pub mod Changes
+pub mod Explanations
 pub mod Sessions
 pub mod Slots
 pub mod EventSlots

@@ -1,8 +1,8 @@
 //! What a call does behind its handle.
 ghost use Rattle.std.specs.Prelude.{◌≡◌, ◌≤◌, List, ℕ, IfOk, MatchResult};
-ghost use Rattle.gate_c.specs.Calls.{AnswerRepeated, ChangesPut, CheckCalled, LineCalled, Opened, ReadingCalled, RefusalPut, Unopened, Unread};
+ghost use Rattle.gate_c.specs.Calls.{AnswerRepeated, ChangesPut, CheckCalled, ExplanationPut, LineCalled, Opened, ReadingCalled, RefusalPut, Unopened, Unread};
 ghost use Rattle.gate_c.specs.Readings.{IsRead};
-ghost use Rattle.gate_c.specs.Sessions.{AnswerKept, Rests};
+ghost use Rattle.gate_c.specs.Sessions.{AnswerKept, Rests, SwitchCopied};
 ghost use Rattle.gate_c.specs.Statuses.{code_of};
 
 use crate::keys::Keys;
@@ -78,6 +78,19 @@ pub fn tell_changes(
     }
 }
 
+/// Puts what is said of the reply to the last line into the buffer.
+pub fn tell_explanation(session: &GateSession, out: &mut [u8], size: &mut usize) -> Status
+    ensures { ExplanationPut session.now out.old out.new size.new (code_of result) }
+{
+    match &session.explanation {
+        None => put_text(Status::Done, "".as_bytes(), out, size),
+        Some(explanation) => match &explanation.text {
+            Some(text) => put_text(Status::Done, text.as_bytes(), out, size),
+            None => put_nothing(Status::OutOfMemory, size),
+        },
+    }
+}
+
 /// Reads a line, unless it is too long.
 pub fn read_line(alloc: Global, line: &[u8]) -> Result<Reading, Status>
     ensures { MatchResult result (λ reading. IsRead line.now reading) (λ status. Unread line.now (code_of status)) }
@@ -143,6 +156,7 @@ pub fn copy_session(
 ) -> Result<Box<GateSession, Global>, Status>
     ensures same { MatchResult result (λ copy. AnswerKept session.now copy.value) (λ status. status ≡ Status.OutOfMemory) }
     ensures rests { IfOk result (λ copy. Rests copy.value) }
+    ensures switch { IfOk result (λ copy. SwitchCopied session.now copy.value) }
 {
     match session.copy(alloc) {
         Ok(copy) => boxed(alloc, copy),

@@ -5,7 +5,7 @@
 #![tactic(auto)]
 
 ghost use Rattle.std.specs.Prelude.{◌≡◌, List, ℕ, None, codes};
-ghost use Rattle.gate_c.specs.Calls.{AnswerCalled, ChangesCalled, CheckCalled, CopyCalled, EventCalled, HoldsLine, OpenCalled, OpenCalledBy, ReadCalled, ReplyCalled};
+ghost use Rattle.gate_c.specs.Calls.{AnswerCalled, ChangesCalled, CheckCalled, CopyCalled, EventCalled, ExplainCalled, ExplanationCalled, HoldsLine, OpenCalled, OpenCalledBy, ReadCalled, ReplyCalled};
 ghost use Rattle.gate_c.specs.Outputs.{TextPut};
 ghost use Rattle.gate_c.specs.Readings.{IsRead};
 ghost use Rattle.gate_c.specs.Statuses.{code_of, done};
@@ -13,6 +13,7 @@ ghost use Rattle.gate_c.specs.Statuses.{code_of, done};
 mod answer;
 mod calls;
 mod changes;
+mod explanation;
 mod handle;
 mod keys;
 mod output;
@@ -23,7 +24,7 @@ mod status;
 
 use calls::{
     answer_line, answer_reading, check_input, copy_session, open_session, read_event,
-    repeat_answer, tell_changes,
+    repeat_answer, tell_changes, tell_explanation,
 };
 use gate_command::VERSION;
 use handle::{GateEvent, GateHandle};
@@ -121,6 +122,43 @@ pub extern "C" fn gate_changes(
     }
 }
 
+/// Lets a handle explain its lines from the next one on, which gets this number; 0 lets it explain none. No reply depends
+/// on it.
+#[unsafe(no_mangle)]
+pub extern "C" fn gate_explain(alloc: Global, gate: &mut GateHandle, line: u64) -> u32
+    ensures { ExplainCalled gate.old.slot.session line gate.new.slot.session result }
+{
+    match gate.take(alloc) {
+        Some(mut session) => {
+            session.explain_from(line);
+            gate.put(session);
+            Status::Done.code()
+        }
+        None => Status::NotOpen.code(),
+    }
+}
+
+/// Puts what is said of the reply to the last line into the buffer: a JSON object with a newline. There is none if the
+/// handle didn't explain that line, and of a reply that names no rule, but for an error of a call.
+#[unsafe(no_mangle)]
+pub extern "C" fn gate_explanation(
+    alloc: Global,
+    gate: &mut GateHandle,
+    out: &mut [u8],
+    size: &mut usize,
+) -> u32
+    ensures { ExplanationCalled gate.old.slot.session gate.new.slot.session out.old out.new size.new result }
+{
+    match gate.take(alloc) {
+        Some(session) => {
+            let status = tell_explanation(&session, out, size);
+            gate.put(session);
+            status.code()
+        }
+        None => put_nothing(Status::NotOpen, size).code(),
+    }
+}
+
 /// Closes a handle, and frees what it holds. A closed handle stays closed.
 #[unsafe(no_mangle)]
 pub extern "C" fn gate_close(alloc: Global, gate: &mut GateHandle)
@@ -130,7 +168,7 @@ pub extern "C" fn gate_close(alloc: Global, gate: &mut GateHandle)
 }
 
 /// Opens a second handle, which is closed, with a copy of what the first one holds: the same state and the same last reply. Only
-/// transactions, which never change, are shared.
+/// transactions, which never change, are shared. The copy explains its lines if the first one does, by the same numbers.
 #[unsafe(no_mangle)]
 pub extern "C" fn gate_copy(alloc: Global, gate: &mut GateHandle, copy: &mut GateHandle) -> u32
     ensures { CopyCalled gate.old.slot.session copy.old.slot.session gate.new.slot.session copy.new.slot.session result }

@@ -1,5 +1,5 @@
 //! What an open handle leads to: a state, the one that its opening gave, and the answer to the last line with what that
-//! moved.
+//! moved, and what is said of it.
 ghost use Rattle.std.specs.Prelude.{◌≡◌, ◌≢◌, IfOk, IfErr, OnOk, OnErr, Ok, Err, ℕ, string_bytes};
 ghost use Rattle.gate_core.specs.Good.{IsGoodWorld};
 ghost use Rattle.gate_lines.specs.Lines.{unlines};
@@ -9,8 +9,9 @@ ghost use Rattle.gate_c.specs.Reached.{IsReached};
 
 use crate::answer::Answer;
 use crate::changes::moved_text;
+use crate::explanation::{Explanation, begin_line, numbered};
 use crate::keys::Keys;
-use crate::reading::Reading;
+use crate::reading::{Given, Reading};
 use crate::remembered::Remembered;
 use gate_bytes::Memory;
 use gate_core::{State, Tracked};
@@ -29,6 +30,10 @@ pub struct GateSession {
     pub answer: Answer,
     /// The memory in which the text of the last answer is made.
     pub text: String,
+    /// The number of the next line, if lines are explained.
+    pub next_line: Option<u64>,
+    /// What is said of the last line, if it was explained, and asked for an event.
+    pub explanation: Option<Explanation>,
     // The state is the end of a run from the one that the opening gave, whatever lines were answered.
     ghost reached: { IsReached opened.value tracked.world },
 }
@@ -53,7 +58,8 @@ fn read_state(
 impl GateSession {
     ghost use Rattle.gate_c.specs.Readings.{ReadingAnswered};
     ghost use Rattle.gate_c.specs.Changes.{change_text};
-    ghost use Rattle.gate_c.specs.Sessions.{AnswerKept, IsOpened, MovesKept, MovesSince, OpeningKept, Rests};
+    ghost use Rattle.gate_c.specs.Explanations.{IsNumbered, IsSaid};
+    ghost use Rattle.gate_c.specs.Sessions.{AnswerKept, Counts, IsOpened, MovesKept, MovesSince, NothingSaid, OpeningKept, Rests, SaidKept, SwitchCopied};
 
     /// Opens the session of the state that an opening spells.
     pub fn open(alloc: Global, keys: &Keys, opening: &[u8]) -> Result<GateSession, OpeningFault>
@@ -72,20 +78,37 @@ impl GateSession {
             opened,
             answer: Answer::Nothing,
             text: String::new(alloc),
+            next_line: None,
+            explanation: None,
         })
     }
 
-    /// A session with the same state, the same opening and the same last answer. It has nothing to tell of what moved.
+    /// A session with the same state, the same opening and the same last answer, which explains lines by the same numbers. It
+    /// has nothing to tell of what moved, and nothing is said in it.
     pub fn copy(&self, alloc: Global) -> Result<GateSession, Memory>
         ensures same { IfOk result (AnswerKept self.now) }
         ensures rests { IfOk result Rests }
+        ensures switch { IfOk result (SwitchCopied self.now) }
     {
         Ok(GateSession {
             tracked: self.tracked.copy(alloc)?,
             opened: self.opened.copy(),
             answer: self.answer.copy(alloc)?,
             text: String::new(alloc),
+            next_line: self.next_line,
+            explanation: None,
         })
+    }
+
+    /// Lets lines be explained from the next one on, which gets this number; 0 lets none be explained.
+    pub fn explain_from(&mut self, line: u64)
+        ensures kept { AnswerKept self.old self.new }
+        ensures moves { MovesKept self.old self.new }
+        ensures numbered { IsNumbered line self.new.next_line }
+        ensures unsaid { NothingSaid self.new }
+    {
+        self.next_line = numbered(line);
+        self.explanation = None;
     }
 
     /// Answers what a line asks for. If memory runs out, nothing is changed. What has moved is then what this line moves.
@@ -94,9 +117,17 @@ impl GateSession {
         ensures opened { OpeningKept self.old self.new }
         ensures err { OnErr result (AnswerKept self.old self.new) }
         ensures moves { MovesSince self.old self.new }
+        ensures counted { Counts self.old self.new }
+        ensures said { OnOk result (IsSaid self.old.tracked.world self.old.next_line self.new.answer self.new.explanation) }
+        ensures unsaid { OnErr result (NothingSaid self.new) }
     {
-        let answer = reading.answer(alloc, &mut self.tracked)?;
+        let line = begin_line(&mut self.next_line, &mut self.explanation);
+        let Given {
+            answer,
+            explanation,
+        } = reading.answer(alloc, &mut self.tracked, line)?;
         self.answer = answer;
+        self.explanation = explanation;
         Ok(())
     }
 
@@ -104,16 +135,20 @@ impl GateSession {
     pub fn write(&mut self, alloc: Global) -> Result<(), Memory>
         ensures kept { AnswerKept self.old self.new }
         ensures moves { MovesKept self.old self.new }
+        ensures said { SaidKept self.old self.new }
         ensures text { OnOk result (string_bytes self.new.text ≡ unlines (answer_lines self.old.answer)) }
     {
         self.answer.write(alloc, &mut self.text)
     }
 
-    /// Lets a line that can't be read have moved nothing.
+    /// Lets a line that can't be read have moved nothing, and nothing be said of it.
     pub fn rest(&mut self)
         ensures kept { AnswerKept self.old self.new }
         ensures moves { MovesSince self.old self.new }
+        ensures counted { Counts self.old self.new }
+        ensures unsaid { NothingSaid self.new }
     {
+        begin_line(&mut self.next_line, &mut self.explanation);
         self.tracked.rest();
     }
 

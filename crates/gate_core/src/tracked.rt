@@ -66,6 +66,13 @@ impl<S: BuildHasher + Copy + Drop> Tracked<S> {
         self.parts.pool.mark();
     }
 
+    /// The state, to be read: both types have the same one field.
+    pub fn state(&self) -> &State<S>
+        ensures { result.now ≡ self.now.world }
+    {
+        unsafe { &*(self as *const Tracked<S> as *const State<S>) }
+    }
+
     /// The txids of the entries that the last event took out, in order of admission. One that left and came back within
     /// the event is not among them.
     pub fn departed(&self, alloc: Global) -> Result<Vec<Txid>, Memory>

@@ -9,6 +9,7 @@ mod counted_noun;
 mod denied;
 mod event_totals;
 mod explaining;
+mod explanation_of;
 mod figure_fields;
 mod listed;
 mod moves;
@@ -21,4 +22,5 @@ mod told;
 
 pub use auditing::AuditExplaining;
 pub use explaining::Explaining;
+pub use explanation_of::{Seen, explain_reply};
 pub use telling::Telling;

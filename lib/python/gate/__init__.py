@@ -12,6 +12,7 @@ of the prefix that this package is installed in, or where the system looks for l
 from __future__ import annotations
 
 import ctypes
+import json
 import secrets
 import threading
 from typing import Any, Callable, NamedTuple, Optional, Union
@@ -207,6 +208,23 @@ class Gate:
         with self._lock:
             status, lines = self._buffer.fill(self._library.gate_changes, ctypes.byref(self._handle))
         return Changes.parse(_text_of(status, lines, status == Status.DONE))
+
+    def explain(self, line: int = 1) -> None:
+        """Lets the gate explain its lines from the next one on, which gets this number; 0 lets it explain none. No reply depends
+        on it."""
+        with self._lock:
+            status = self._library.gate_explain(ctypes.byref(self._handle), line)
+        if status != Status.DONE:
+            raise _fault_of(status)
+
+    def explanation(self) -> Optional[dict[str, Any]]:
+        """What is said of the reply to the last line, an object of JSON; None where nothing is said. If memory ran out in it,
+        OutOfMemory is raised; the line is answered all the same."""
+        with self._lock:
+            status, text = self._buffer.fill(self._library.gate_explanation, ctypes.byref(self._handle))
+        told = _text_of(status, text, status == Status.DONE)
+        found: Optional[dict[str, Any]] = json.loads(told) if told else None
+        return found
 
     @property
     def is_open(self) -> bool:

@@ -56,6 +56,8 @@ def _parameters() -> list[tuple[str, list[Any]]]:
         ("gate_answer", [handle, text, count, *buffer]),
         ("gate_reply", [handle, *buffer]),
         ("gate_changes", [handle, *buffer]),
+        ("gate_explain", [handle, ctypes.c_uint64]),
+        ("gate_explanation", [handle, *buffer]),
         ("gate_copy", [handle, handle]),
         ("gate_read", [event, text, count]),
         ("gate_answer_event", [handle, event, *buffer]),

@@ -48,6 +48,8 @@ extern "C" {
     pub fn gate_answer(gate: *mut Handle, line: *const u8, line_size: usize, out: *mut u8, room: usize, size: *mut usize) -> u32;
     pub fn gate_reply(gate: *mut Handle, out: *mut u8, room: usize, size: *mut usize) -> u32;
     pub fn gate_changes(gate: *mut Handle, out: *mut u8, room: usize, size: *mut usize) -> u32;
+    pub fn gate_explain(gate: *mut Handle, line: u64) -> u32;
+    pub fn gate_explanation(gate: *mut Handle, out: *mut u8, room: usize, size: *mut usize) -> u32;
     pub fn gate_close(gate: *mut Handle);
     pub fn gate_copy(gate: *mut Handle, copy: *mut Handle) -> u32;
     pub fn gate_read(event: *mut EventHandle, line: *const u8, line_size: usize) -> u32;

@@ -22,7 +22,7 @@ pub use changes::Changes;
 pub use reply::{NotAReply, Reply, Rule, Then, Txid};
 
 use calls::{gate_answer, gate_answer_event, gate_changes, gate_check, gate_close, gate_copy};
-use calls::{gate_event_close, gate_open, gate_read, gate_reply, gate_version};
+use calls::{gate_event_close, gate_explain, gate_explanation, gate_open, gate_read, gate_reply, gate_version};
 use calls::{EventHandle, EventSlot, Handle, Slot, Status};
 use std::collections::hash_map::RandomState;
 use std::fmt;
@@ -251,6 +251,19 @@ impl Gate {
         let gate: *mut Handle = &mut self.0;
         let call = |out: &mut [u8], size: &mut usize| unsafe { gate_changes(gate, out.as_mut_ptr(), out.len(), size) };
         Ok(reply_of(text_of(call, call)?)?.parse()?)
+    }
+
+    /// Lets the gate explain its lines from the next one on, which gets this number; 0 lets it explain none. No reply depends on it.
+    pub fn explain(&mut self, line: u64) -> Result<(), Error> {
+        done(unsafe { gate_explain(&mut self.0, line) })
+    }
+
+    /// What is said of the reply to the last line: a JSON object, as a text with a newline; empty where nothing is said. After
+    /// [`Error::OutOfMemory`] the line is answered all the same, and what is said of it is lost.
+    pub fn explanation(&mut self) -> Result<String, Error> {
+        let gate: *mut Handle = &mut self.0;
+        let call = |out: &mut [u8], size: &mut usize| unsafe { gate_explanation(gate, out.as_mut_ptr(), out.len(), size) };
+        reply_of(text_of(call, call)?)
     }
 }
 
