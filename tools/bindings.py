@@ -35,7 +35,7 @@ assert importlib.util.find_spec("setuptools.command.bdist_wheel") or importlib.u
 
 def version():
     """The version that gate_version gives."""
-    with open(os.path.join(crates.folder("gate_command"), "src", "args.rt"), encoding="utf-8") as file:
+    with open(os.path.join(crates.folder("gate_print"), "src", "lib.rt"), encoding="utf-8") as file:
         return re.search(r'^pub const VERSION: &str = "(.*)";$', file.read(), re.MULTILINE)[1]
 
 

@@ -26,7 +26,7 @@ use calls::{
     answer_line, answer_reading, check_input, copy_session, open_session, read_event,
     repeat_answer, tell_changes, tell_explanation,
 };
-use gate_command::VERSION;
+use gate_print::VERSION;
 use handle::{GateEvent, GateHandle};
 use keys::Keys;
 use output::{put_nothing, put_text};

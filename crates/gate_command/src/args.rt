@@ -10,12 +10,10 @@ use clap::error::ErrorKind;
 use clap::{Arg, ArgAction, ArgMatches, Command};
 use gate_bytes::Text;
 use gate_lines::read_number;
+use gate_print::VERSION;
 use gate_verify::Workers;
 use std::alloc::{AllocError, Global};
 use thiserror::Error;
-
-/// The number that `gate --version` prints. It stands here and nowhere else.
-pub const VERSION: &str = "0.1.0";
 
 /// Why the words of the command line name no job.
 #[derive(Debug, Drop, Error)]

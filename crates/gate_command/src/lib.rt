@@ -7,6 +7,6 @@ mod args;
 mod help;
 mod job;
 
-pub use args::{ArgsFault, VERSION, read_args};
+pub use args::{ArgsFault, read_args};
 pub use gate_verify::Workers;
 pub use job::{Explain, Job};

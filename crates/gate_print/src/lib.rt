@@ -1,10 +1,13 @@
-//! Texts that are printed, whole or in part.
+//! Texts that are printed, whole or in part, and the number of the version.
 #![tactic(auto)]
 
 ghost use Rattle.std.specs.Prelude.{◌≡◌, ◌≢◌, ◌++◌, ◌∷◌, [], true, IfErr, string_bytes};
 ghost use Rattle.gate_print.specs.Printing.{Prints};
 
 use gate_lines::{LaneFault, Sink, end_line};
+
+/// The number that `gate --version` and `gate_version` print. It stands here and nowhere else.
+pub const VERSION: &str = "0.1.0";
 
 /// Writes a text as a line, behind a mark.
 pub fn print_marked<W: Sink>(writer: &mut W, mark: &[u8], text: String) -> Result<(), LaneFault>
