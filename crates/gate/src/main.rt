@@ -4,8 +4,8 @@
 #![tactic(auto)]
 
 use gate_causes::{
-    FirstWriteRecorder, InputKind, InputPosition, Limit, LineReporter, ReportForm, refusal_cause,
-    rule_near, transaction_cause,
+    Aside, Colours, FirstWriteRecorder, InputKind, InputPosition, Limit, LineReporter,
+    RepliesFirst, ReportForm, refusal_cause, rule_near, transaction_cause,
 };
 use gate_explain::{AuditExplaining, Explaining, Telling};
 use gate_prog::{
@@ -13,6 +13,7 @@ use gate_prog::{
     decode_psbt, read_args, read_psbt, read_trial, run_audit, run_gate, run_job, trial_job,
 };
 use std::alloc::{AllocError, AllocFailed, Global};
+use std::env::VarError;
 use std::fs::Files;
 use std::hash::RandomState;
 use std::io::{BufRead, BufReader, BufWriter, ErrorKind, IsTerminal};
@@ -65,11 +66,13 @@ impl<T: Drop> From<AllocFailed<T>> for Fault {
     }
 }
 
-/// Which of the standard streams are terminals.
+/// Which of the standard streams are terminals, and whether words on standard error have colours.
 #[derive(Clone, Copy)]
 struct Terminals {
     input: bool,
+    output: bool,
     error: bool,
+    colours: Colours,
 }
 
 /// The size of each buffer, in bytes.
@@ -78,7 +81,9 @@ const BUFFER: usize = 65_536;
 fn main(rt: HostRuntime) -> ExitCode {
     let terminals = Terminals {
         input: rt.stdin().is_terminal(),
+        output: rt.stdout().is_terminal(),
         error: rt.stderr().is_terminal(),
+        colours: colours(&rt, rt.stderr().is_terminal()),
     };
     match status(&rt, terminals) {
         Ok(status) => ExitCode::from(status),
@@ -87,6 +92,32 @@ fn main(rt: HostRuntime) -> ExitCode {
             let _written = eprintln!(rt; "gate: {fault}");
             ExitCode::from(fault.status())
         }
+    }
+}
+
+/// Whether words on standard error have colours, by whether it is a terminal: none with NO_COLOR, unless that is empty, nor on
+/// a terminal that says that it has none.
+fn colours(rt: &(impl Env + AllocGlobal), is_terminal: bool) -> Colours {
+    if !is_terminal || is_forbidden(env::var(rt, "NO_COLOR")) || is_dumb(env::var(rt, "TERM")) {
+        return Colours::Off;
+    }
+    Colours::On
+}
+
+/// Whether a variable is set that forbids something if it isn't empty.
+fn is_forbidden(value: Result<String, VarError>) -> bool {
+    match value {
+        Ok(text) => !text.is_empty(),
+        Err(VarError::NotPresent) => false,
+        Err(VarError::NotUnicode | VarError::OutOfMemory) => true,
+    }
+}
+
+/// Whether a terminal of this kind has no colours.
+fn is_dumb(kind: Result<String, VarError>) -> bool {
+    match kind {
+        Ok(text) => text.as_str() == "dumb",
+        Err(_) => false,
     }
 }
 
@@ -224,6 +255,17 @@ fn strict_status(job: &Job, status: u8) -> u8 {
     }
 }
 
+/// Standard error for what a job says of lines and of replies. It waits for replies where the job explains them one by one, and
+/// they go to a terminal too.
+fn aside_of<'a, R: AllocGlobal>(rt: &'a R, job: &Job, terminals: Terminals) -> Aside<'a, R> {
+    let has_replies = match job {
+        Job::Run { .. } | Job::Try(_) | Job::Audit { .. } => true,
+        _ => false,
+    };
+    let waits = has_replies && terminals.output && terminals.error;
+    Aside::new(rt, rt.alloc(), waits, terminals.colours)
+}
+
 /// Runs a job over a reader and standard output, and gives its status.
 fn run_over<
     R: AllocGlobal + Files + Clock + Print + Eprint + RandomSource + Threads + Wait + Sync,
@@ -239,27 +281,38 @@ fn run_over<
     };
     let position = InputPosition::new();
     let strict = is_strict(job);
-    let mut reporter = LineReporter::new(alloc, rt, reader, input.kind, input.explains, &position);
-    let mut recorder = FirstWriteRecorder::new(alloc, OutcomeRecorder::new(writer, strict));
+    let aside = aside_of(rt, job, source.terminals);
+    let mut reporter = LineReporter::new(
+        alloc,
+        &aside,
+        reader,
+        input.kind,
+        input.explains,
+        &position,
+    );
+    let writer = OutcomeRecorder::new(RepliesFirst::new(writer, &aside), strict);
+    let mut recorder = FirstWriteRecorder::new(alloc, writer);
     let ended = match (job, input.explains) {
         (Job::Run { .. } | Job::Try(_), Some(form)) => {
             let telling = Telling {
                 position: &position,
                 form,
+                colours: source.terminals.colours,
                 progress: source.terminals.error,
                 length: input_length(rt, source.path),
             };
-            let onlooker = Explaining::new(rt, alloc, telling);
+            let onlooker = Explaining::new(&aside, alloc, telling);
             run_gate(alloc, hasher, &onlooker, &mut reporter, &mut recorder)
         }
         (Job::Audit { .. }, Some(form)) => {
-            let onlooker = AuditExplaining::new(rt, alloc, &position, form);
+            let onlooker = AuditExplaining::new(&aside, alloc, &position, form);
             run_audit(alloc, hasher, &onlooker, &mut reporter, &mut recorder)
         }
         _ => run_job(rt, alloc, hasher, job, &mut reporter, &mut recorder),
     };
+    aside.release();
     if let (Some(refusal), Some(last)) = (recorder.first(), reporter.last()) {
-        tell_refusal(rt, refusal, &position, last);
+        tell_refusal(rt, refusal, &position, last, source.terminals.colours);
     }
     match ended {
         Ok(0) if strict => Ok(strict_status(job, recorder.writer.outcome().status())),
@@ -331,12 +384,13 @@ fn tell_refusal<R: AllocGlobal + Eprint>(
     refusal: &[u8],
     position: &InputPosition,
     last: &[u8],
+    colours: Colours,
 ) {
     let Ok(text) = std::str::from_utf8(refusal) else {
         return;
     };
     // Without memory for it, or if standard error takes nothing, only standard output says it.
-    if let Ok(Some(cause)) = refusal_cause(rt.alloc(), text.trim_end(), position, last) {
+    if let Ok(Some(cause)) = refusal_cause(rt.alloc(), text.trim_end(), position, last, colours) {
         let _written = eprintln!(rt; "gate: {cause}");
     }
 }

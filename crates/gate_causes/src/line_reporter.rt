@@ -1,6 +1,7 @@
 //! A reader that reports on the lines that pass.
 ghost use Rattle.std.specs.Prelude.{◌≡◌};
 
+use crate::aside::Aside;
 use crate::input_position::InputPosition;
 use crate::line_watch::{InputKind, LineWatch};
 use crate::report_form::ReportForm;
@@ -21,7 +22,7 @@ pub struct LineReporter<'a, R, T> {
 impl<'a, R, T: Eprint> LineReporter<'a, R, T> {
     pub fn new(
         alloc: Global,
-        rt: &'a T,
+        aside: &'a Aside<'a, T>,
         reader: R,
         kind: InputKind,
         reports: Option<ReportForm>,
@@ -31,7 +32,7 @@ impl<'a, R, T: Eprint> LineReporter<'a, R, T> {
     {
         LineReporter {
             reader,
-            watch: LineWatch::new(alloc, rt, kind, reports, position),
+            watch: LineWatch::new(alloc, aside, kind, reports, position),
         }
     }
 

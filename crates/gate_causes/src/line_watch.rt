@@ -1,7 +1,10 @@
 //! What is noted and reported of the lines that pass.
+use crate::aside::Aside;
 use crate::causes::event_cause;
+use crate::colour::{Colour, Painted};
 use crate::input_position::{InputPosition, Limit};
 use crate::journal::Entries;
+use crate::line_number::LineNumber;
 use crate::report_form::{Quoted, ReportForm};
 use crate::transaction::{submitted, transaction_cause};
 use gate_bytes::Memory;
@@ -34,7 +37,7 @@ const OTHER_CALLER: &str =
 /// What is known of the lines that passed. It keeps the last line of the opening and the position of the reader.
 #[derive(Drop)]
 pub(crate) struct LineWatch<'a, T> {
-    rt: &'a T,
+    aside: &'a Aside<'a, T>,
     alloc: Global,
     kind: InputKind,
     /// How lines behind the opening are reported on standard error, if they are.
@@ -54,13 +57,13 @@ pub(crate) struct LineWatch<'a, T> {
 impl<'a, T: Eprint> LineWatch<'a, T> {
     pub(crate) fn new(
         alloc: Global,
-        rt: &'a T,
+        aside: &'a Aside<'a, T>,
         kind: InputKind,
         reports: Option<ReportForm>,
         position: &'a InputPosition,
     ) -> LineWatch<'a, T> {
         LineWatch {
-            rt,
+            aside,
             alloc,
             kind,
             reports,
@@ -126,6 +129,8 @@ impl<'a, T: Eprint> LineWatch<'a, T> {
                 release.word()
             ) {
                 self.say(number, text.as_str());
+                // An opening has no reply that this could wait for.
+                self.aside.release();
             }
         }
     }
@@ -162,10 +167,10 @@ impl<'a, T: Eprint> LineWatch<'a, T> {
         if self.reports.is_some() && self.has_opened && self.kind == InputKind::Events {
             self.position.refuse();
             let _written = match self.reports {
-                Some(ReportForm::Json) => eprintln!(self.rt;
+                Some(ReportForm::Json) => eprintln!(self.aside;
                     "{{\"line\":{number},\"cause\":\"{limit}\"}}"
                 ),
-                _ => eprintln!(self.rt; "gate: line {number}: {limit}"),
+                _ => eprintln!(self.aside; "gate: {}: {limit}", self.place(number)),
             };
         }
     }
@@ -270,10 +275,17 @@ impl<'a, T: Eprint> LineWatch<'a, T> {
         let _written = match self.reports {
             Some(ReportForm::Json) => {
                 let cause = Quoted(text);
-                eprintln!(self.rt; "{{\"line\":{number},\"cause\":{cause}}}")
+                eprintln!(self.aside; "{{\"line\":{number},\"cause\":{cause}}}")
             }
-            _ => eprintln!(self.rt; "gate: line {number}: {text}"),
+            _ => eprintln!(self.aside; "gate: {}: {text}", self.place(number)),
         };
+    }
+
+    /// Where something is wrong.
+    fn place(&self, number: u64) -> Painted<LineNumber<u64>> {
+        self.aside
+            .colours()
+            .paint(Colour::Yellow, LineNumber(number))
     }
 }
 

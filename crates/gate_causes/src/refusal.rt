@@ -1,6 +1,8 @@
 //! What is said of an opening that is refused.
 use crate::causes::{opening_cause, permission_cause};
+use crate::colour::{Colour, Colours};
 use crate::input_position::InputPosition;
+use crate::line_number::LineNumber;
 use gate_bytes::Memory;
 use gate_lines::next_word;
 use gate_rules::rules_named;
@@ -22,25 +24,27 @@ fn refused(refusal: &str) -> Option<(&str, &str)> {
 }
 
 /// What is said of an opening's refusal, which is `opening LINE TOKEN`. The opening was read to this position, and `last`
-/// is its last line. Of any other text nothing is said.
+/// is its last line. Of any other text nothing is said. The line is yellow, if words have colours.
 pub fn refusal_cause(
     alloc: Global,
     refusal: &str,
     position: &InputPosition,
     last: &[u8],
+    colours: Colours,
 ) -> Result<Option<String>, Memory> {
     let Some((line, token)) = refused(refusal) else {
         return Ok(None);
     };
+    let place = colours.paint(Colour::Yellow, LineNumber(line));
     if token == "bad-line" {
         return Ok(Some(match position.limit() {
-            Some(limit) => format!(in alloc; "line {line}: {limit}")?,
-            None => format!(in alloc; "line {line}: {}", opening_cause(alloc, last)?)?,
+            Some(limit) => format!(in alloc; "{place}: {limit}")?,
+            None => format!(in alloc; "{place}: {}", opening_cause(alloc, last)?)?,
         }));
     }
     if token == "unknown-permission" {
         if let Some(cause) = permission_cause(alloc, last)? {
-            return Ok(Some(format!(in alloc; "line {line}: {token}: {cause}")?));
+            return Ok(Some(format!(in alloc; "{place}: {token}: {cause}")?));
         }
     }
     let Some(says) = meaning(alloc, token)? else {
@@ -50,6 +54,6 @@ pub fn refusal_cause(
     Ok(Some(if line == "0" {
         format!(in alloc; "the opening: {token}: {says}")?
     } else {
-        format!(in alloc; "line {line}: {token}: {says}")?
+        format!(in alloc; "{place}: {token}: {says}")?
     }))
 }

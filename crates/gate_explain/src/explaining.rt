@@ -9,7 +9,7 @@ use crate::sight::Sight;
 use crate::telling::Telling;
 use crate::told::{Told, reply_told};
 use gate_bytes::Memory;
-use gate_causes::ReportForm;
+use gate_causes::{Colour, ReportForm};
 use gate_core::State;
 use gate_message::{Event, Reply};
 use gate_rpc::Outcome;
@@ -87,11 +87,14 @@ impl<'a, T> Explaining<'a, T> {
 }
 
 impl<T: Eprint> Explaining<'_, T> {
-    /// Says a line for each of these txids, behind a sign.
-    fn tell_each(&self, sign: &str, txids: &[Txid]) {
+    /// Says a line for each of these txids, behind a sign in this colour.
+    fn tell_each(&self, sign: &str, colour: Colour, txids: &[Txid]) {
         let line = self.telling.position.line();
         for txid in txids {
-            let _written = eprintln!(self.rt; "gate: line {line}: {sign} {txid}");
+            let _written = eprintln!(self.rt;
+                "gate: line {line}: {} {txid}",
+                self.telling.colours.paint(colour, sign)
+            );
         }
     }
 
@@ -118,8 +121,8 @@ impl<T: Eprint> Explaining<'_, T> {
             if let Ok(arrived) = pool.arrived(self.alloc) {
                 match self.telling.form {
                     ReportForm::Words => {
-                        self.tell_each("-", departed.as_slice());
-                        self.tell_each("+", arrived.as_slice());
+                        self.tell_each("-", Colour::Red, departed.as_slice());
+                        self.tell_each("+", Colour::Green, arrived.as_slice());
                     }
                     ReportForm::Json => {
                         let earliest = self.earliest.get();
@@ -152,7 +155,7 @@ impl<T: Eprint> Explaining<'_, T> {
         let number = (place as u64).saturating_add(1);
         match self.telling.form {
             ReportForm::Words => {
-                let text = told.text(self.alloc, state)?;
+                let text = told.text(self.alloc, state, self.telling.colours)?;
                 let _written = eprintln!(self.rt;
                     "gate: line {line}: transaction {number} of {count}: {text}"
                 );
@@ -192,7 +195,10 @@ impl<T: Eprint> Explaining<'_, T> {
         let line = self.telling.position.line();
         match self.telling.form {
             ReportForm::Words => {
-                if let Ok(Some(text)) = reply_told(self.alloc, state, sight, event, reply) {
+                let colours = self.telling.colours;
+                if let Ok(Some(text)) = reply_told(
+                    self.alloc, state, sight, event, reply, colours,
+                ) {
                     let _written = eprintln!(self.rt; "gate: line {line}: {text}");
                 }
             }

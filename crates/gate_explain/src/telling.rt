@@ -1,4 +1,4 @@
-use gate_causes::{InputPosition, ReportForm};
+use gate_causes::{Colours, InputPosition, ReportForm};
 
 /// What the explanation of a run goes by.
 #[derive(Clone, Copy)]
@@ -6,6 +6,8 @@ pub struct Telling<'a> {
     /// Where the reader of the run stands.
     pub position: &'a InputPosition,
     pub form: ReportForm,
+    /// Whether words have colours. Objects never have any.
+    pub colours: Colours,
     /// Whether progress is reported while the run goes on.
     pub progress: bool,
     /// How many bytes the input has, if that is known.

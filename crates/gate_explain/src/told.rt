@@ -4,7 +4,7 @@ use crate::figure_fields::FigureFields;
 use crate::remedy::Remedy;
 use crate::sight::Sight;
 use gate_bytes::Memory;
-use gate_causes::Quoted;
+use gate_causes::{Colour, Colours, Quoted};
 use gate_core::State;
 use gate_figures::{Explained, Figures};
 use gate_message::{Event, Reply};
@@ -43,13 +43,14 @@ fn remedy_for(sight: &Sight, reply: &Reply) -> Remedy {
     }
 }
 
-/// A rule by its name, and its sentence.
-fn rule_text(alloc: Global, rule: RuleName) -> Result<String, Memory> {
+/// A rule by its name, in its colour, and its sentence.
+fn rule_text(alloc: Global, rule: RuleName, colours: Colours) -> Result<String, Memory> {
     let name = format!(in alloc; "{rule}")?;
+    let shown = colours.paint(Colour::Red, rule);
     let rules = rules_named(alloc, name.as_str())?;
     match rules.as_slice().first() {
-        Some(rule) => Ok(format!(in alloc; "{name} {}", rule.says)?),
-        None => Ok(name),
+        Some(rule) => Ok(format!(in alloc; "{shown} {}", rule.says)?),
+        None => Ok(format!(in alloc; "{shown}")?),
     }
 }
 
@@ -114,13 +115,15 @@ impl Told {
         })
     }
 
-    /// The name of the rule and its figures, or its sentence if it has no figures, and what helps.
+    /// The name of the rule, which denies and so is red, and its figures, or its sentence if it has no figures, and what helps.
     pub(crate) fn text<S: BuildHasher + Copy + Drop>(
         &self,
         alloc: Global,
         state: &State<S>,
+        colours: Colours,
     ) -> Result<String, Memory> {
-        let (rule, remedy) = (self.rule, self.remedy);
+        let rule = colours.paint(Colour::Red, self.rule);
+        let remedy = self.remedy;
         match self.figures {
             Some(figures) => Ok(format!(in alloc; "{rule} {figures}{remedy}")?),
             None if self.is_of_descendants => {
@@ -128,7 +131,7 @@ impl Told {
                 Ok(format!(in alloc; "{rule} {text}{remedy}")?)
             }
             None => {
-                let text = rule_text(alloc, rule)?;
+                let text = rule_text(alloc, self.rule, colours)?;
                 Ok(format!(in alloc; "{text}{remedy}")?)
             }
         }
@@ -172,9 +175,10 @@ pub(crate) fn reply_told<S: BuildHasher + Copy + Drop>(
     sight: &Sight,
     event: &Event,
     reply: &Reply,
+    colours: Colours,
 ) -> Result<Option<String>, Memory> {
     match Told::of_reply(sight, reply) {
-        Some(told) => Ok(Some(told.text(alloc, state)?)),
+        Some(told) => Ok(Some(told.text(alloc, state, colours)?)),
         None => call_fault(alloc, event, reply),
     }
 }
