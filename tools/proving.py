@@ -106,7 +106,7 @@ class Proving:
         return is_proved
 
     def kept(self):
-        """Whether all crates of the tree pass `rt ci`, which keeps on this machine what passes."""
+        """Whether all crates of the tree pass `rt ci`, which may keep on this machine what passes."""
         self.progress.done = 0
         is_proved = self.ran("rt", "ci", cwd=self.tree, RT_JOBS=str(places()), PYTHONUNBUFFERED="1")
         self.progress.done = None
