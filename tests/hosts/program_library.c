@@ -1,5 +1,6 @@
-/* The calls of gate.h that gated makes, answered by the program: each handle runs PROGRAM, which the compiler is told, as `gate run`.
-   So a host of the library can be tried before that is proved and built. The other calls are there, and end the host. */
+/* The calls of gate.h that gated makes, answered by the program: each handle runs PROGRAM as `gate run`, the installed one if the
+   compiler is told no other. So a host of the library can be tried before that is proved and built. The other calls are there,
+   and end the host. */
 #define _GNU_SOURCE
 #include "gate.h"
 
@@ -12,6 +13,10 @@
 #include <unistd.h>
 
 extern char **environ;
+
+#ifndef PROGRAM
+#define PROGRAM "/usr/local/bin/gate"
+#endif
 
 /* A line that is no event, and that is answered by the fault of the opening if that has one. */
 static const char IS_OPEN[] = "is it open", NO_EVENT[] = "refused L1 bad-line\n";
@@ -110,10 +115,13 @@ void gate_close(struct gate *gate) {
 
 void gate_event_close(struct gate_event *event) { (void)event; }
 
+#pragma GCC diagnostic ignored "-Wunused-parameter"
 #define ENDS(call, ...) \
     uint32_t call(__VA_ARGS__) { abort(); }
 
 ENDS(gate_changes, struct gate *gate, uint8_t *out, size_t room, size_t *size)
+ENDS(gate_explain, struct gate *gate, uint64_t line)
+ENDS(gate_explanation, struct gate *gate, uint8_t *out, size_t room, size_t *size)
 ENDS(gate_copy, struct gate *gate, struct gate *copy)
 ENDS(gate_read, struct gate_event *event, const uint8_t *line, size_t line_size)
 ENDS(gate_answer_event, struct gate *gate, struct gate_event *event, uint8_t *out, size_t room, size_t *size)
