@@ -178,8 +178,8 @@ def does_rows(gate, host, **more):
 
 
 def does_examples(gate, host, **more):
-    """What the host prints of each example is what the program prints."""
-    for name in sorted(os.listdir(os.path.join(ROOT, "examples"))):
+    """What the host prints of each example is what the program prints; a PSBT is read by `gate try` alone."""
+    for name in sorted(it for it in os.listdir(os.path.join(ROOT, "examples")) if not it.endswith(".psbt")):
         words = ["check", "-"] if name.endswith(".hex") else ["run"]
         with open(os.path.join(ROOT, "examples", name), "rb") as file:
             text = file.read()
