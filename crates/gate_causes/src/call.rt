@@ -4,7 +4,7 @@ ghost use Rattle.std.specs.Result.{is_ok};
 ghost use Rattle.gate_rpc.specs.Calls.{request_of};
 
 use crate::expected::fit_cause;
-use crate::forms::METHODS;
+use crate::forms::{Forms, METHODS};
 use gate_bytes::Memory;
 use gate_message::Call;
 use gate_rpc::CallError;
@@ -39,7 +39,7 @@ pub fn call_cause(alloc: Global, call: &Call) -> Result<Option<String>, Memory>
             "a call is an object with a method and a list of params",
         )?,
         CallError::MethodNotFound { method, .. } => {
-            let cause = fit_cause(alloc, method.as_str(), &METHODS)?;
+            let cause = fit_cause(alloc, method.as_str(), Forms::of(&METHODS))?;
             format!(in alloc; "there is no such method: {cause}")?
         }
         CallError::InvalidParams { method, .. } => {

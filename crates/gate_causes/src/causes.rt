@@ -4,7 +4,7 @@ ghost use Rattle.gate_events.specs.EventLines.{line_event};
 
 use crate::expected::fit_cause;
 use crate::fit::Fit;
-use crate::forms::{DIVIDERS, EVENTS, OPENINGS, PERMISSIONS};
+use crate::forms::{DIVIDERS, EVENTS, Forms, PERMISSIONS};
 use gate_bytes::Memory;
 use gate_events::event_on;
 use gate_net::Permissions;
@@ -24,15 +24,16 @@ fn line_text(line: &[u8]) -> Result<&str, &'static str> {
 }
 
 /// Whether the first word of a line begins one of these forms.
-fn begins_one(line: &str, forms: &'static [&'static str]) -> bool {
+fn begins_one(line: &str, forms: Forms) -> bool {
     Fit::furthest(line, forms).places != 0
 }
 
 /// The forms that say what is wrong with a line of the first forms, if its first word begins none of them: those of lines
 /// between lanes, if it begins one.
-fn forms_for(line: &str, forms: &'static [&'static str]) -> &'static [&'static str] {
-    if !begins_one(line, forms) && begins_one(line, &DIVIDERS) {
-        &DIVIDERS
+fn forms_for(line: &str, forms: Forms) -> Forms {
+    let dividers = Forms::of(&DIVIDERS);
+    if !begins_one(line, forms) && begins_one(line, dividers) {
+        dividers
     } else {
         forms
     }
@@ -42,7 +43,7 @@ fn forms_for(line: &str, forms: &'static [&'static str]) -> &'static [&'static s
 fn misplaced_event(line: &str) -> Option<&'static str> {
     if line.starts_with("coin ") || line.starts_with("verdict ") {
         Some("a line of an opening behind the line ---; the event begins with the word chain")
-    } else if begins_one(line, &OPENINGS) {
+    } else if begins_one(line, Forms::of_openings()) {
         Some("a line of an opening behind the line ---")
     } else if line == "---" || line == "===" {
         Some("begins a lane, or ends a round of lanes; gate lanes reads lanes")
@@ -64,7 +65,7 @@ pub fn event_cause(alloc: Global, line: &[u8]) -> Result<Option<String>, Memory>
     Ok(Some(match line_text(line) {
         Ok(text) => match misplaced_event(text) {
             Some(says) => String::from_str(alloc, says)?,
-            None => fit_cause(alloc, text, forms_for(text, &EVENTS))?,
+            None => fit_cause(alloc, text, forms_for(text, Forms::of(&EVENTS)))?,
         },
         Err(says) => String::from_str(alloc, says)?,
     }))
@@ -76,13 +77,13 @@ pub fn opening_cause(alloc: Global, line: &[u8]) -> Result<String, Memory> {
         Ok(text) => text,
         Err(says) => return Ok(String::from_str(alloc, says)?),
     };
-    if begins_one(text, &EVENTS) {
+    if begins_one(text, Forms::of(&EVENTS)) {
         return Ok(String::from_str(alloc, "an event in the opening; is the line --- missing?")?);
     }
-    if Fit::furthest(text, &OPENINGS).fault.is_ok() {
+    if Fit::furthest(text, Forms::of_openings()).fault.is_ok() {
         return Ok(String::from_str(alloc, "repeats a setting or a verdict of an earlier line")?);
     }
-    fit_cause(alloc, text, forms_for(text, &OPENINGS))
+    fit_cause(alloc, text, forms_for(text, Forms::of_openings()))
 }
 
 /// Why a whitelist's line has a word before its `@` that is no permission, or `None` if it has none.
@@ -98,7 +99,7 @@ pub(crate) fn permission_cause(alloc: Global, line: &[u8]) -> Result<Option<Stri
     };
     for word in words.split(',') {
         if Permissions::of_word(word).is_none() {
-            return Ok(Some(fit_cause(alloc, word, &PERMISSIONS)?));
+            return Ok(Some(fit_cause(alloc, word, Forms::of(&PERMISSIONS))?));
         }
     }
     Ok(None)

@@ -1,7 +1,7 @@
 //! What is expected where a line does not fit its form.
 use crate::cause::{Cause, Misfit};
 use crate::fit::Fit;
-use crate::forms::{DIVIDERS, OPTIONS, Place};
+use crate::forms::{DIVIDERS, Form, Forms, OPTIONS, Place};
 use crate::text::{Grouped, Shown, nearest};
 use gate_bytes::Memory;
 use std::alloc::Global;
@@ -14,38 +14,42 @@ struct Expected {
 }
 
 impl Expected {
-    fn behind(
-        alloc: Global,
-        line: &str,
-        forms: &'static [&'static str],
-        places: usize,
-    ) -> Result<Expected, Memory> {
-        let mut words = Vec::new(alloc);
-        let mut value = None;
-        for form in forms {
-            if Fit::of(line, form).places < places {
-                continue;
-            }
-            let Some(name) = form.split(' ').nth(places) else {
-                continue;
-            };
-            match Place::of(form, name) {
-                Place::OneOf(names) => for name in names.split('|') {
-                    if words.last() != Some(&name) {
-                        words.push(name)?;
-                    }
-                },
-                Place::Number { what, least, most } => {
-                    value = Some(format!(in alloc;
-                        "{what}, {} to {}",
-                        Grouped(least),
-                        Grouped(most)
-                    )?);
-                }
-                Place::Text { what, .. } => value = Some(String::from_str(alloc, what)?),
-            }
+    fn behind(alloc: Global, line: &str, forms: Forms, places: usize) -> Result<Expected, Memory> {
+        let mut expected = Expected {
+            words: Vec::new(alloc),
+            value: None,
+        };
+        for words in forms.words {
+            expected.add(alloc, line, Form::Words(words), places)?;
         }
-        Ok(Expected { words, value })
+        for setting in forms.settings {
+            expected.add(alloc, line, Form::Setting(*setting), places)?;
+        }
+        Ok(expected)
+    }
+
+    /// Adds what this form has there, if the line fits it this far.
+    fn add(&mut self, alloc: Global, line: &str, form: Form, places: usize) -> Result<(), Memory> {
+        if Fit::of(line, form).places < places {
+            return Ok(());
+        }
+        match form.place(places) {
+            Some(Place::OneOf(names)) => for name in names.split('|') {
+                if self.words.last() != Some(&name) {
+                    self.words.push(name)?;
+                }
+            },
+            Some(Place::Number { what, least, most }) => {
+                self.value = Some(format!(in alloc;
+                    "{what}, {} to {}",
+                    Grouped(least),
+                    Grouped(most)
+                )?);
+            }
+            Some(Place::Text { what, .. }) => self.value = Some(String::from_str(alloc, what)?),
+            None => {}
+        }
+        Ok(())
     }
 
     /// The words and the value with commas between them, and an `or` before the last.
@@ -93,11 +97,7 @@ impl Expected {
 }
 
 /// What is wrong with a line, by the form that it fits furthest of these.
-pub(crate) fn fit_cause(
-    alloc: Global,
-    line: &str,
-    forms: &'static [&'static str],
-) -> Result<String, Memory> {
+pub(crate) fn fit_cause(alloc: Global, line: &str, forms: Forms) -> Result<String, Memory> {
     let fit = Fit::furthest(line, forms);
     let Err(cause) = fit.fault else {
         return Ok(String::from_str(alloc, "matches one of the forms")?);

@@ -1,6 +1,6 @@
 //! How far a line fits a form, and what is wrong with it there.
 use crate::cause::{Cause, Misfit};
-use crate::forms::{Kind, Place};
+use crate::forms::{Form, Forms, Kind, Place};
 use gate_lines::{next_word, read_number};
 use gate_net::Address;
 
@@ -120,34 +120,44 @@ pub(crate) struct Fit<'a> {
 }
 
 impl<'a> Fit<'a> {
-    pub(crate) fn of(line: &'a str, form: &'static str) -> Fit<'a> {
+    pub(crate) fn of(line: &'a str, form: Form) -> Fit<'a> {
         let mut words = Words(Some(line));
-        for (places, name) in form.split(' ').enumerate() {
-            let fault = words.fill(Place::of(form, name));
-            if fault.is_err() {
-                return Fit { places, fault };
+        let count = form.len();
+        for places in 0..count {
+            if let Some(place) = form.place(places) {
+                let fault = words.fill(place);
+                if fault.is_err() {
+                    return Fit { places, fault };
+                }
             }
         }
         Fit {
-            places: form.split(' ').count(),
+            places: count,
             fault: words.end(),
         }
     }
 
     /// The fit of the form that a line fits furthest.
-    pub(crate) fn furthest(line: &'a str, forms: &'static [&'static str]) -> Fit<'a> {
-        let mut furthest: Option<Fit<'a>> = None;
-        for form in forms {
-            let fit = Fit::of(line, form);
-            furthest = match furthest {
-                Some(best) if best.rank() > fit.rank() => Some(best),
-                _ => Some(fit),
-            };
+    pub(crate) fn furthest(line: &'a str, forms: Forms) -> Fit<'a> {
+        let mut furthest = None;
+        for words in forms.words {
+            furthest = Some(Fit::of(line, Form::Words(words)).or_better(furthest));
+        }
+        for setting in forms.settings {
+            furthest = Some(Fit::of(line, Form::Setting(*setting)).or_better(furthest));
         }
         furthest.unwrap_or(Fit {
             places: 0,
             fault: Err(Cause::Line("matches none of the forms")),
         })
+    }
+
+    /// The other fit if it has a higher rank, and else this one.
+    fn or_better(self, other: Option<Fit<'a>>) -> Fit<'a> {
+        match other {
+            Some(other) if other.rank() > self.rank() => other,
+            _ => self,
+        }
     }
 
     /// Of two fits that of the higher rank says what is wrong. Words that are known are nearer to an unknown one than a

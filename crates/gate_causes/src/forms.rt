@@ -26,8 +26,8 @@ pub(crate) static EVENTS: [&str; 17] = [
     "operator ibd on|off",
 ];
 
-/// The lines of openings.
-pub(crate) static OPENINGS: [&str; 36] = [
+/// The lines of openings, but for those of settings, whose rows stand in gate_register.
+pub(crate) static OPENINGS: [&str; 9] = [
     "budget N",
     "policy core-22|core-25|core-26|core-27|core-28|core-29|core-30|knots-29",
     "from HEIGHT",
@@ -35,35 +35,8 @@ pub(crate) static OPENINGS: [&str; 36] = [
     "coin TXID INDEX VALUE HEIGHT plain|cb SCRIPT",
     "verdict * ok|soft|hard",
     "verdict WTXID INPUT ok|soft|hard",
-    "bloom 0|1",
     "whitelist TEXT",
-    "whitelistrelay 0|1",
-    "whitelistforcerelay 0|1",
     "rpcwhitelist TEXT",
-    "rpcwhitelistdefault 0|1",
-    "blocksonly 0|1",
-    "limitancestorcount N",
-    "limitancestorsize N",
-    "limitdescendantcount N",
-    "limitdescendantsize N",
-    "mempoolfullrbf 0|1",
-    "minrelaytxfee N",
-    "incrementalrelayfee N",
-    "mempoolexpiry N",
-    "bytespersigop N",
-    "dustrelayfee N",
-    "datacarriersize N",
-    "datacarrieroutputs N",
-    "mintxsize N",
-    "permitbaremultisig 0|1",
-    "feesroundup 0|1",
-    "relayfeefirst 0|1",
-    "replacedparents 0|1",
-    "keepinvalid 0|1",
-    "anchors 0|1",
-    "maxtxlegacysigops N",
-    "datacarriertotal N",
-    "truc 0|1",
 ];
 
 /// The lines that begin a lane, or end an opening, and that end a round of lanes.
@@ -175,31 +148,9 @@ pub(crate) enum Place {
     },
 }
 
-/// The setting whose number stands at a place of this name in this form.
-fn setting_at(form: &str, name: &str) -> Option<Setting> {
-    if name == "N" {
-        Setting::from_word(form.strip_suffix(" N")?)
-    } else {
-        None
-    }
-}
-
 impl Place {
     /// What a word of this form stands for.
-    pub(crate) fn of(form: &str, name: &'static str) -> Place {
-        if let Some(setting) = setting_at(form, name) {
-            let &Row {
-                unit,
-                least,
-                most,
-                ..
-            } = setting.row();
-            return Place::Number {
-                what: unit,
-                least,
-                most,
-            };
-        }
+    fn of(form: &str, name: &'static str) -> Place {
         for &(at, what, least, most) in &NUMBERS {
             if at == name || at == form && at.ends_with(name) {
                 return Place::Number { what, least, most };
@@ -213,11 +164,81 @@ impl Place {
         Place::OneOf(name)
     }
 
+    /// What the number of a setting is, behind its word.
+    fn of_setting(setting: Setting) -> Place {
+        let &Row {
+            unit,
+            least,
+            most,
+            ..
+        } = setting.row();
+        if least == 0 && most == 1 {
+            Place::OneOf("0|1")
+        } else {
+            Place::Number {
+                what: unit,
+                least,
+                most,
+            }
+        }
+    }
+
     /// Whether the place is for a text of this kind.
     pub(crate) fn is(self, wanted: Kind) -> bool {
         match self {
             Place::Text { kind, .. } => kind == wanted,
             _ => false,
+        }
+    }
+}
+
+/// The form of a line: its words with their places, or that of a setting, which has a word and a number.
+#[derive(Clone, Copy)]
+pub(crate) enum Form {
+    Words(&'static str),
+    Setting(Setting),
+}
+
+impl Form {
+    /// How many places it has.
+    pub(crate) fn len(self) -> usize {
+        match self {
+            Form::Words(words) => words.split(' ').count(),
+            Form::Setting(_) => 2,
+        }
+    }
+
+    /// The place with this number, from the left and from 0, if there is one.
+    pub(crate) fn place(self, number: usize) -> Option<Place> {
+        match (self, number) {
+            (Form::Words(words), _) => Some(Place::of(words, words.split(' ').nth(number)?)),
+            (Form::Setting(setting), 0) => Some(Place::OneOf(setting.row().word)),
+            (Form::Setting(setting), 1) => Some(Place::of_setting(setting)),
+            (Form::Setting(_), _) => None,
+        }
+    }
+}
+
+/// Forms that a line may have.
+#[derive(Clone, Copy)]
+pub(crate) struct Forms {
+    pub(crate) words: &'static [&'static str],
+    pub(crate) settings: &'static [Setting],
+}
+
+impl Forms {
+    pub(crate) fn of(words: &'static [&'static str]) -> Forms {
+        Forms {
+            words,
+            settings: &[],
+        }
+    }
+
+    /// The lines of openings.
+    pub(crate) fn of_openings() -> Forms {
+        Forms {
+            words: &OPENINGS,
+            settings: Setting::all(),
         }
     }
 }
