@@ -66,23 +66,11 @@ def quoted(text):
     return match and match[1]
 
 
-def by_number(path, letter):
-    """The tokens of denials, by their rules, as the contracts have them: in one table of both, or in two."""
-    table = re.findall(r'^row_of \w+ = row (\d+) \(codes "([^"]*)"\)$', text_of("crates", *path.split("/")), re.MULTILINE)
-    if table:
-        return {letter + number: token for number, token in table}
-    numbers = dict(equations(path, "rule_of"))
-    return {letter + numbers[variant]: quoted(text) for variant, text in equations(path, "token_of")}
-
-
 def test_contracts(gate):
     """Numbers and tokens are those that the contracts carry."""
-    wanted = by_number("gate_standard/specs/Denials.antt", "A")
-    wanted.update(by_number("gate_chain/specs/Denials.antt", "C"))
-    wanted.update(by_number("gate_net/specs/Denials.antt", "N"))
-    peers = "gate_message/specs/PeerDenials.antt"
-    tokens = dict(equations(peers, "denial_token"))
-    wanted.update({quoted(text): quoted(tokens[variant]) for variant, text in equations(peers, "rule_text") if variant != "Admission"})
+    wanted = {}
+    for file in ("Denials", "Peers", "Whitelist", "Chain"):
+        wanted.update(re.findall(r'^row_of \w+ = key \(codes "([^"]*)"\) \(codes "([^"]*)"\)', text_of("crates", "gate_rules", "specs", file + ".antt"), re.MULTILINE))
     for path in ("gate_rpc/specs/Replies.antt", "gate_lines/specs/Refused.antt"):
         for line in re.findall(r'codes "(?:denied|refused) ([UL]\d .*)"', text_of("crates", *path.split("/"))):
             name, token = line.split(" ")

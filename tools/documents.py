@@ -122,9 +122,10 @@ def token_faults():
     """Where docs/POLICY.md has other rules and tokens than the table that the program prints, or tells of other shared tokens."""
     text = text_of("docs", "POLICY.md")
     found = dict(re.findall(r"^\| ([APNC]\d+) \| `([^`]*)` \|", text, re.MULTILINE) + re.findall(r"\*\*(U\d+)\*\* `([^`]*)`", text))
-    keys = re.findall(r'\(codes "([APUNC]\d+)"\) \(codes "([^"]*)"\)', text_of("crates", "gate_rules", "specs", "Keys.antt"))
-    for rule, token in sorted(set(found.items()) ^ set(keys)):
-        yield "docs/POLICY.md and crates/gate_rules/specs/Keys.antt disagree on %s %s" % (rule, token)
+    sources = [text_of("crates", "gate_rules", "src", name + ".rt") for name in ("denial", "peer", "table", "whitelist", "chain")]
+    rows = [row for source in sources for row in re.findall(r'name: "([APUNC]\d+)",\s*token: "([^"]*)"', source)]
+    for rule, token in sorted(set(found.items()) ^ set(rows)):
+        yield "docs/POLICY.md and crates/gate_rules/src disagree on %s %s" % (rule, token)
     shared = {token: {it for it in found if found[it] == token} for token in found.values()}
     told = re.findall(r"`([^`]*)` is ((?:[A-Z]\d+(?:, | or )?)+)", text.partition("\n## Tokens")[2])
     listed = {token: set(re.findall(r"[A-Z]\d+", rules)) for token, rules in told}

@@ -52,7 +52,7 @@ def number(word: str) -> int:
 
 def rules_of_admission() -> int:
     """How many denials there are."""
-    body = re.search(r"pub enum Denial \{(.*?)^\}", text_of("crates/gate_standard/src/denial.rt"), re.DOTALL | re.MULTILINE)
+    body = re.search(r"pub enum Denial \{(.*?)^\}", text_of("crates/gate_rules/src/denial.rt"), re.DOTALL | re.MULTILINE)
     return len(re.findall(r"^    [A-Z]\w+,", body[1] if body else "", re.MULTILINE))
 
 

@@ -6,7 +6,7 @@ use Rattle.gate_tx.specs.declared.Coin.{Coin}
 use Rattle.gate_tx.specs.Tx.{Tx}
 use Rattle.gate_tx.specs.Ids.{txid_of, wtxid_of}
 use Rattle.gate_tx.specs.Sizes.{weight_of}
-use Rattle.gate_standard.specs.declared.Denial.TheVariants.{MempoolConflict, MinRelayFee, PrematureSpend, VerdictMissing}
+use Rattle.gate_rules.specs.declared.Denial.TheVariants.{MempoolConflict, MinRelayFee, PrematureSpend, VerdictMissing}
 use Rattle.gate_standard.specs.Amounts.{required_fee, rounded_down}
 use Rattle.gate_bytes.specs.Order.{first_failing}
 use Rattle.gate_chain.specs.History.{History}

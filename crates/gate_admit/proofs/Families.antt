@@ -9,7 +9,7 @@ use Rattle.gate_bytes.specs.Order.{first_failing}
 use Rattle.gate_tx.specs.Ids.{txid_of}
 use Rattle.gate_tx.specs.Tx.{Tx}
 use Rattle.gate_bytes.proofs.Members.{Contains-cons_cases, Contains-head, Contains-rest, not_in_none}
-use Rattle.gate_standard.specs.declared.Denial.TheVariants.{TooLongChain, SpendsConflicting, TrucViolation}
+use Rattle.gate_rules.specs.declared.Denial.TheVariants.{TooLongChain, SpendsConflicting, TrucViolation}
 use Rattle.gate_pool.specs.Pool.{Admitted, has_txid, size_of}
 use Rattle.gate_pool.specs.Family.{all_below, descendants_of, ancestors_above, conflicts_of, is_conflict, AreIdsOf}
 use Rattle.gate_pool.proofs.Adding.{length-ones}

@@ -3,7 +3,7 @@ use Rattle.std.proofs.Common.{List, Option, Some, None}
 use Rattle.gate_bytes.specs.Order.{Rule, IsFirstOf, first_failing}
 use Rattle.gate_bytes.proofs.OrderLemmas.{first_failing_is_first}
 use Rattle.gate_tx.specs.Tx.{Tx}
-use Rattle.gate_standard.specs.declared.Denial.{Denial}
+use Rattle.gate_rules.specs.declared.Denial.{Denial}
 use Rattle.gate_admit.specs.declared.attempt.Attempt.{Attempt}
 use Rattle.gate_admit.specs.declared.grant.Grant.{Grant}
 use Rattle.gate_admit.specs.Laws.{Follows}

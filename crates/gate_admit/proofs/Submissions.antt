@@ -8,8 +8,8 @@ use Rattle.gate_bytes.specs.Order.{first_failing}
 use Rattle.gate_tx.specs.Ids.{txid_of}
 use Rattle.gate_tx.specs.Text.{IsTx}
 use Rattle.gate_tx.specs.Tx.{Tx}
-use Rattle.gate_standard.specs.declared.Denial.{Denial}
-use Rattle.gate_standard.specs.declared.Denial.TheVariants.{MempoolFull}
+use Rattle.gate_rules.specs.declared.Denial.{Denial}
+use Rattle.gate_rules.specs.declared.Denial.TheVariants.{MempoolFull}
 use Rattle.gate_chain.specs.History.{History}
 use Rattle.gate_graph.specs.Family.{reaches}
 use Rattle.gate_pool.specs.Pool.{Admitted}

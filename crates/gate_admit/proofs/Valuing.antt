@@ -2,7 +2,7 @@
 use Rattle.std.proofs.Common.{◌≡◌, ◌<◌, ℕ, suc, ◌+◌, List, ◌∷◌, length, get_or, drop, Some, None, sym, ap, ◌∙◌, drop-cons, add-one}
 use Rattle.gate_tx.specs.declared.Coin.{Coin}
 use Rattle.gate_tx.specs.declared.TxIn.{TxIn}
-use Rattle.gate_standard.specs.declared.Denial.{Denial}
+use Rattle.gate_rules.specs.declared.Denial.{Denial}
 use Rattle.gate_tx.specs.Money.{amount_or_zero}
 use Rattle.gate_bytes.specs.Order.{first_failing}
 use Rattle.gate_bytes.proofs.OrderLemmas.{found_in_first, found_in_second}

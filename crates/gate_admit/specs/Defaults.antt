@@ -13,8 +13,8 @@ use Rattle.gate_standard.specs.Amounts.{down, required_fee, feerate}
 use Rattle.gate_inputs.specs.declared.Answers.{Answers}
 use Rattle.gate_standard.specs.Outputs.{is_standard_output, is_standard_template, carries_data, dust_threshold_of, is_dust, size_with_spend}
 use Rattle.gate_standard.specs.Rules.{left_behind, rules_of_output, rules_of_whole, version_rules}
-use Rattle.gate_standard.specs.declared.Denial.{Denial}
-use Rattle.gate_standard.specs.declared.Denial.TheVariants.{Version, ScriptPubKey, Dust, DataCarrier, MultiOpReturn, TxSizeSmall, NonstandardInputs, WitnessNonstandard, TooManySigops, MempoolMinFee, MinRelayFee, LowerFee, LowerDifference}
+use Rattle.gate_rules.specs.declared.Denial.{Denial}
+use Rattle.gate_rules.specs.declared.Denial.TheVariants.{Version, ScriptPubKey, Dust, DataCarrier, MultiOpReturn, TxSizeSmall, NonstandardInputs, WitnessNonstandard, TooManySigops, MempoolMinFee, MinRelayFee, LowerFee, LowerDifference}
 use Rattle.gate_pool.specs.Pool.{Admitted, size_of}
 use Rattle.gate_pool.specs.Family.{ancestors_of, descendants_of, conflicts_of}
 use Rattle.gate_graph.specs.declared.held.Sums.{Sums}

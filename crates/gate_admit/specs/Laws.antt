@@ -5,8 +5,8 @@ use Rattle.gate_bytes.specs.Order.{Rule, NoneFails, IsFirstFailing}
 use Rattle.gate_tx.specs.Tx.{Tx}
 use Rattle.gate_tx.specs.Ids.{txid_of}
 use Rattle.gate_standard.specs.Amounts.{required_fee}
-use Rattle.gate_standard.specs.declared.Denial.{Denial}
-use Rattle.gate_standard.specs.declared.Denial.TheVariants.{MempoolFull}
+use Rattle.gate_rules.specs.declared.Denial.{Denial}
+use Rattle.gate_rules.specs.declared.Denial.TheVariants.{MempoolFull}
 use Rattle.gate_chain.specs.History.{History}
 use Rattle.gate_pool.specs.Pool.{Admitted}
 use Rattle.gate_pool.specs.Counting.{is_counted, replaced_beside}

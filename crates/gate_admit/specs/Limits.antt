@@ -8,8 +8,8 @@ use Rattle.gate_tx.specs.Ids.{txid_of}
 use Rattle.gate_tx.specs.Tx.{Tx}
 use Rattle.gate_graph.specs.Family.{reaches}
 use Rattle.gate_standard.specs.Rules.{is_truc}
-use Rattle.gate_standard.specs.declared.Denial.{Denial}
-use Rattle.gate_standard.specs.declared.Denial.TheVariants.{TooLongChain, SpendsConflicting, TrucViolation}
+use Rattle.gate_rules.specs.declared.Denial.{Denial}
+use Rattle.gate_rules.specs.declared.Denial.TheVariants.{TooLongChain, SpendsConflicting, TrucViolation}
 use Rattle.gate_pool.specs.Pool.{Admitted, entry_by_txid, size_of}
 use Rattle.gate_admit.specs.declared.attempt.Attempt.{Attempt}
 use Rattle.gate_admit.specs.declared.attempt.Attempt.TheVariants.{First, Again}

@@ -1,7 +1,7 @@
 -- A re-admission: what the pool is after the decision on a transaction that is tried again.
 use Rattle.std.specs.Prelude.{ℕ, List, Option, Some, None, Result, Ok, Err}
 use Rattle.gate_tx.specs.Tx.{Tx}
-use Rattle.gate_standard.specs.declared.Denial.{Denial}
+use Rattle.gate_rules.specs.declared.Denial.{Denial}
 use Rattle.gate_pool.specs.Pool.{Admitted}
 use Rattle.gate_pool.specs.Family.{entered}
 use Rattle.gate_admit.specs.declared.grant.Grant.{Grant}

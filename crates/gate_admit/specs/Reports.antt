@@ -8,8 +8,8 @@ use Rattle.gate_tx.specs.declared.TxOut.{TxOut}
 use Rattle.gate_tx.specs.Sizes.{weight_of}
 use Rattle.gate_tx.specs.Tx.{Tx}
 use Rattle.gate_script.specs.Sigops.{sigops_of}
-use Rattle.gate_standard.specs.declared.Denial.{Denial}
-use Rattle.gate_standard.specs.declared.Denial.TheVariants.{NonstandardInputs, WitnessNonstandard, TooManySigops, VerdictMissing, SoftVerdict, HardVerdict}
+use Rattle.gate_rules.specs.declared.Denial.{Denial}
+use Rattle.gate_rules.specs.declared.Denial.TheVariants.{NonstandardInputs, WitnessNonstandard, TooManySigops, VerdictMissing, SoftVerdict, HardVerdict}
 use Rattle.gate_standard.specs.Standards.{is_past}
 use Rattle.gate_bytes.specs.Order.{Rule}
 use Rattle.gate_inputs.specs.declared.Answers.{Answers}

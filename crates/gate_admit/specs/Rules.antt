@@ -7,8 +7,8 @@ use Rattle.gate_tx.specs.declared.Coin.{Coin}
 use Rattle.gate_tx.specs.declared.TxOut.{TxOut}
 use Rattle.gate_tx.specs.Tx.{Tx}
 use Rattle.gate_tx.specs.Ids.{txid_of, wtxid_of}
-use Rattle.gate_standard.specs.declared.Denial.{Denial}
-use Rattle.gate_standard.specs.declared.Denial.TheVariants.{Decode, NonFinal, AlreadyInMempool, SameNonWitnessData, MempoolConflict, AlreadyKnown, MissingOrSpent, NonBip68Final, PrematureSpend, InputValues, InBelowOut, FeeOutOfRange, MempoolMinFee, MinRelayFee}
+use Rattle.gate_rules.specs.declared.Denial.{Denial}
+use Rattle.gate_rules.specs.declared.Denial.TheVariants.{Decode, NonFinal, AlreadyInMempool, SameNonWitnessData, MempoolConflict, AlreadyKnown, MissingOrSpent, NonBip68Final, PrematureSpend, InputValues, InBelowOut, FeeOutOfRange, MempoolMinFee, MinRelayFee}
 use Rattle.gate_standard.specs.Amounts.{required_fee}
 use Rattle.gate_standard.specs.Rules.{is_truc}
 use Rattle.gate_submission.specs.Alone.{alone_rules}

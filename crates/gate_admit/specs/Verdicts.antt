@@ -7,8 +7,8 @@ use Rattle.gate_bytes.specs.Order.{Rule}
 use Rattle.gate_tx.specs.Ids.{wtxid_of}
 use Rattle.gate_tx.specs.Tx.{Tx}
 use Rattle.gate_chain.specs.Blocks.{Block}
-use Rattle.gate_chain.specs.declared.ChainDenial.{ChainDenial}
-use Rattle.gate_chain.specs.declared.ChainDenial.TheVariants.{VerdictKnown}
+use Rattle.gate_rules.specs.declared.ChainDenial.{ChainDenial}
+use Rattle.gate_rules.specs.declared.ChainDenial.TheVariants.{VerdictKnown}
 use Rattle.gate_pool.specs.Pool.{Admitted, entry_by_wtxid}
 use Rattle.gate_submission.specs.declared.verdict.Verdict.{Verdict}
 use Rattle.gate_submission.specs.declared.verdict.VerdictRow.{VerdictRow}

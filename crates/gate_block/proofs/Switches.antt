@@ -5,7 +5,7 @@ use Rattle.std.proofs.lemmas.List.{take_all, drop_all, take-append-drop, drop_at
 use Rattle.gate_bytes.specs.Order.{first_failing}
 use Rattle.gate_bytes.proofs.OrderLemmas.{found_in_first, found_in_second}
 use Rattle.gate_chain.specs.Blocks.{Block}
-use Rattle.gate_chain.specs.declared.ChainDenial.{ChainDenial}
+use Rattle.gate_rules.specs.declared.ChainDenial.{ChainDenial}
 use Rattle.gate_chain.specs.declared.ChainFault.{ChainFault}
 use Rattle.gate_chain.specs.declared.ChainFault.TheVariants.{Memory, Denied}
 use Rattle.gate_chain.specs.Connecting.{grown, block_rules, undo_denial, Tells}

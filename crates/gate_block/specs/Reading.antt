@@ -7,7 +7,7 @@ use Rattle.gate_tx.specs.Reading.{vector_at, tx_at}
 use Rattle.gate_tx.specs.declared.TxFault.{TxFault}
 use Rattle.gate_tx.specs.declared.TxFault.TheVariants as tx
 use Rattle.gate_chain.specs.Blocks.{Block}
-use Rattle.gate_chain.specs.declared.ChainDenial.TheVariants.{BlockDecode}
+use Rattle.gate_rules.specs.declared.ChainDenial.TheVariants.{BlockDecode}
 use Rattle.gate_chain.specs.declared.ChainFault.{ChainFault}
 use Rattle.gate_chain.specs.declared.ChainFault.TheVariants.{Memory, Denied}
 

@@ -2,8 +2,8 @@
 use Rattle.std.specs.Prelude.{◌≡◌, ℕ, ◌-◌, ◌||◌, nat_lt, List, [], ◌∷◌, ◌++◌, length, take, drop, Option, Some, None}
 use Rattle.gate_bytes.specs.Order.{Rule}
 use Rattle.gate_chain.specs.Blocks.{Block}
-use Rattle.gate_chain.specs.declared.ChainDenial.{ChainDenial}
-use Rattle.gate_chain.specs.declared.ChainDenial.TheVariants.{NoUndo}
+use Rattle.gate_rules.specs.declared.ChainDenial.{ChainDenial}
+use Rattle.gate_rules.specs.declared.ChainDenial.TheVariants.{NoUndo}
 use Rattle.gate_chain.specs.Connecting.{grown, block_rules}
 use Rattle.gate_chain.specs.History.{History}
 use Rattle.gate_chain.specs.Lowering.{Top, above}

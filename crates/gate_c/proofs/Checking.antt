@@ -3,7 +3,7 @@ use Rattle.std.proofs.Common.{◌≡◌, ◌≤◌, ℕ, List, Option, Some, Non
 use Rattle.gate_bytes.specs.Order.{first_failing}
 use Rattle.gate_lines.specs.Lines.{unlines}
 use Rattle.gate_check.specs.Checks.{check_lines, check_status, input_spells, verdict_status}
-use Rattle.gate_standard.specs.declared.Denial.{Denial}
+use Rattle.gate_rules.specs.declared.Denial.{Denial}
 use Rattle.gate_standard.specs.Standards.{usual_standards}
 use Rattle.gate_submission.specs.Alone.{alone_rules}
 use Rattle.gate_tx.specs.Tx.{Tx}

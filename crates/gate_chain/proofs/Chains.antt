@@ -6,9 +6,9 @@ use Rattle.std.specs.List.{list_any}
 use Rattle.gate_tx.specs.declared.OutPoint.{OutPoint}
 use Rattle.gate_chain.specs.Blocks.{Block}
 use Rattle.gate_chain.specs.declared.connected.Connected.{Connected}
-use Rattle.gate_chain.specs.declared.denial.ChainDenial.{ChainDenial}
+use Rattle.gate_rules.specs.declared.ChainDenial.{ChainDenial}
 use Rattle.gate_chain.specs.declared.fault.ChainFault.{ChainFault}
-use Rattle.gate_chain.specs.declared.denial.ChainDenial.TheVariants.{ChainFull, NoUndo}
+use Rattle.gate_rules.specs.declared.ChainDenial.TheVariants.{ChainFull, NoUndo}
 use Rattle.gate_bytes.proofs.OrderLemmas.{found_in_first, found_in_second}
 use Rattle.gate_chain.specs.declared.opening.OpeningCoin.{OpeningCoin}
 use Rattle.gate_chain.specs.Coins.{has_txid}

@@ -16,7 +16,7 @@ use Rattle.gate_tx.specs.Equality.{out_point_decides}
 use Rattle.gate_tx.specs.Ids.{txid_of}
 use Rattle.gate_tx.specs.Tx.{Tx}
 use Rattle.gate_chain.specs.Blocks.{Block}
-use Rattle.gate_chain.specs.declared.denial.ChainDenial.TheVariants.{TxidRepeated}
+use Rattle.gate_rules.specs.declared.ChainDenial.TheVariants.{TxidRepeated}
 use Rattle.gate_chain.specs.declared.opening.OpeningCoin.{OpeningCoin}
 use Rattle.gate_chain.specs.Coins.{any_spends, coin_of, coin_of_blocks, opening_coin_of, has_txid, has_transaction, is_known_txid, is_spent_in}
 use Rattle.gate_chain.specs.Connecting.{with_part, transaction_rules, transaction_denial, transactions_denial}

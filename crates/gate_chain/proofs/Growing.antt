@@ -16,10 +16,10 @@ use Rattle.gate_tx.specs.Ids.{txid_of}
 use Rattle.gate_tx.specs.Text.{is_nonempty}
 use Rattle.gate_tx.specs.Tx.{Tx}
 use Rattle.gate_chain.specs.Blocks.{Block}
-use Rattle.gate_chain.specs.declared.denial.ChainDenial.{ChainDenial}
+use Rattle.gate_rules.specs.declared.ChainDenial.{ChainDenial}
 use Rattle.gate_chain.specs.declared.fault.ChainFault.{ChainFault}
 use Rattle.gate_chain.specs.declared.fault.ChainFault.TheVariants.{Memory, Denied}
-use Rattle.gate_chain.specs.declared.denial.ChainDenial.TheVariants.{TxidRepeated, BlockInputs}
+use Rattle.gate_rules.specs.declared.ChainDenial.TheVariants.{TxidRepeated, BlockInputs}
 use Rattle.gate_chain.specs.declared.marked.Marked.{Marked}
 use Rattle.gate_chain.specs.Coins.{coin_of, is_known_txid, any_spends}
 use Rattle.gate_chain.specs.Connecting.{grown, with_part, missing, transaction_rules, transactions_rules, transaction_denial, transactions_denial, Tells}

@@ -18,7 +18,7 @@ use Rattle.gate_tx.specs.Tx.{Tx}
 use Rattle.gate_chain.specs.declared.connected.Connected.{Connected}
 use Rattle.gate_chain.specs.declared.marked.Marked.{Marked}
 use Rattle.gate_chain.specs.declared.opening.OpeningCoin.{OpeningCoin}
-use Rattle.gate_chain.specs.declared.denial.ChainDenial.TheVariants.{CoinValue, CoinUnspendable, CoinAboveOpening, CoinKnown}
+use Rattle.gate_rules.specs.declared.ChainDenial.TheVariants.{CoinValue, CoinUnspendable, CoinAboveOpening, CoinKnown}
 use Rattle.gate_chain.specs.Coins.{coin_of, coin_of_blocks, opening_coin_of, has_outpoint, has_txid, has_transaction, is_known_txid}
 use Rattle.gate_chain.specs.Connecting.{with_part}
 use Rattle.gate_chain.specs.History.{History, first_connected}

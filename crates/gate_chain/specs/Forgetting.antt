@@ -2,8 +2,8 @@
 use Rattle.std.specs.Prelude.{ℕ, nat_lt, not, Bool, ◌&&◌, ◌||◌, List, ◌++◌, filter, map, length, take, drop, Option, Some, None, if◌then◌else◌}
 use Rattle.std.specs.List.{list_any}
 use Rattle.gate_tx.specs.declared.OutPoint.{OutPoint}
-use Rattle.gate_chain.specs.declared.denial.ChainDenial.{ChainDenial}
-use Rattle.gate_chain.specs.declared.denial.ChainDenial.TheVariants.{NoUndo}
+use Rattle.gate_rules.specs.declared.ChainDenial.{ChainDenial}
+use Rattle.gate_rules.specs.declared.ChainDenial.TheVariants.{NoUndo}
 use Rattle.gate_chain.specs.declared.opening.OpeningCoin.{OpeningCoin}
 use Rattle.gate_chain.specs.Blocks.{Block}
 use Rattle.gate_chain.specs.Coins.{has_transaction, is_spent_in}

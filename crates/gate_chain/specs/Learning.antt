@@ -6,8 +6,8 @@ use Rattle.gate_tx.specs.Coins.{is_unspendable}
 use Rattle.gate_tx.specs.Money.{is_money}
 use Rattle.gate_chain.specs.Coins.{has_outpoint, has_transaction}
 use Rattle.gate_chain.specs.History.{History, first_connected}
-use Rattle.gate_chain.specs.declared.denial.ChainDenial.{ChainDenial}
-use Rattle.gate_chain.specs.declared.denial.ChainDenial.TheVariants.{CoinValue, CoinUnspendable, CoinAboveOpening, CoinKnown}
+use Rattle.gate_rules.specs.declared.ChainDenial.{ChainDenial}
+use Rattle.gate_rules.specs.declared.ChainDenial.TheVariants.{CoinValue, CoinUnspendable, CoinAboveOpening, CoinKnown}
 use Rattle.gate_chain.specs.declared.opening.OpeningCoin.{OpeningCoin}
 
 -- a history with one more coin of its opening, behind the others

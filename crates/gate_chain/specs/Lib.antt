@@ -6,7 +6,6 @@ pub mod Times
 pub mod Coins
 pub mod Opening
 pub mod Keeping
-pub mod Denials
 pub mod Connecting
 pub mod Marking
 pub mod Linked

@@ -14,12 +14,12 @@ ghost use Rattle.gate_chain.specs.Linked.{IsConnected, AreMaps, SpentMade, Opens
 
 use crate::block::Block;
 use crate::connected::Connected;
-use crate::denial::ChainDenial;
 use crate::fault::ChainFault;
 use crate::making::make;
 use crate::marked::{spend, unspend};
 use crate::tables::CoinTables;
 use gate_bytes::{Counted, Memory};
+use gate_rules::ChainDenial;
 use gate_tx::{Identified, TxIn, Txid};
 use indexmap::IndexSet;
 use std::alloc::Global;

@@ -2,8 +2,8 @@ ghost use Rattle.std.specs.Prelude.{◌≡◌};
 ghost use Rattle.gate_chain.specs.declared.fault.OpenFault.TheVariants.{Memory as OutOfMemory};
 ghost use Rattle.gate_chain.specs.declared.fault.ChainFault.TheVariants.{Memory as NoMemory, Denied};
 
-use crate::denial::ChainDenial;
 use gate_bytes::Memory;
+use gate_rules::ChainDenial;
 use std::alloc::{AllocError, AllocFailed};
 use thiserror::Error;
 

@@ -9,7 +9,6 @@ mod block;
 mod chain;
 mod connected;
 mod copying;
-mod denial;
 mod entering;
 mod examples;
 mod fault;
@@ -27,8 +26,8 @@ mod tables;
 
 pub use block::{Block, Header};
 pub use chain::{Chain, ChainTop, CoinTest, Forgotten, there_and_back};
-pub use denial::ChainDenial;
 pub use fault::{ChainFault, OpenFault};
+pub use gate_rules::ChainDenial;
 pub use laws::{forgetting_keeps_what_counts, learning_is_opening};
 pub use median::stands_in_order;
 pub use opening::OpeningCoin;

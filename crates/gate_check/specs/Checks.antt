@@ -7,14 +7,14 @@ use Rattle.gate_tx.specs.Tx.{Tx}
 use Rattle.gate_tx.specs.Ids.{txid_of, wtxid_of, id_text}
 use Rattle.gate_tx.specs.Sizes.{weight_of}
 use Rattle.gate_standard.specs.Standards.{usual_standards}
-use Rattle.gate_standard.specs.Denials.{rule_of, token_of}
+use Rattle.gate_rules.specs.Denials.{name_of, token_of}
 use Rattle.gate_bytes.specs.Order.{first_failing}
 use Rattle.gate_submission.specs.Alone.{alone_rules}
 use Rattle.gate_events.specs.EventLines.{prepared_of}
 use Rattle.gate_lines.specs.Lines.{if_text}
 use Rattle.gate_check.specs.Inputs.{input_limit}
-use Rattle.gate_standard.specs.declared.Denial.{Denial}
-use Rattle.gate_standard.specs.declared.Denial.TheVariants.{Decode}
+use Rattle.gate_rules.specs.declared.Denial.{Denial}
+use Rattle.gate_rules.specs.declared.Denial.TheVariants.{Decode}
 
 -- `TXID WTXID WEIGHT`
 abbrev pub ids_line : List ℕ → List ℕ → ℕ → List ℕ
@@ -25,7 +25,7 @@ id_line tx = ids_line (txid_of tx) (wtxid_of tx) (weight_of tx)
 
 -- `denied RULE TOKEN`
 abbrev pub denied_line : Denial → List ℕ
-denied_line denial = codes "denied A" ++ (decimal (rule_of denial) ++ (codes " " ++ token_of denial))
+denied_line denial = codes "denied " ++ (name_of denial ++ (codes " " ++ token_of denial))
 
 abbrev pub verdict_line : Option Denial → List ℕ
 verdict_line None = codes "standard"

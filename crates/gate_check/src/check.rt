@@ -113,7 +113,6 @@ fn verdict_status(denial: Option<Denial>) -> u8
 fn denial_text(alloc: Global, denial: Denial) -> Result<String, Memory>
     ensures { IfOk result (λ text. string_bytes text ≡ denied_line denial) }
 {
-    let rule = denial.rule();
-    let token = denial.token();
-    Ok(format!(in alloc; "denied A{rule} {token}")?)
+    let (name, token) = (denial.row().name, denial.row().token);
+    Ok(format!(in alloc; "denied {name} {token}")?)
 }

@@ -2,16 +2,16 @@
 use Rattle.std.proofs.Common.{◌≡◌, ℕ, List, Option, Some, None, Result, Ok, Err, refl, ap, ◌∙◌}
 use Rattle.gate_bytes.specs.Order.{first_failing}
 use Rattle.gate_tx.specs.Tx.{Tx}
-use Rattle.gate_standard.specs.declared.Denial.{Denial}
+use Rattle.gate_rules.specs.declared.Denial.{Denial}
 use Rattle.gate_chain.specs.Forgetting.{forget_denial}
-use Rattle.gate_chain.specs.declared.ChainDenial.{ChainDenial}
+use Rattle.gate_rules.specs.declared.ChainDenial.{ChainDenial}
 use Rattle.gate_admit.specs.declared.Attempt.TheVariants.{First}
 use Rattle.gate_admit.specs.declared.Grant.{Grant}
 use Rattle.gate_admit.specs.Rules.{decision_of}
 use Rattle.gate_admit.specs.Submission.{Submitted, submit_of}
 use Rattle.gate_admit.specs.Verdicts.{row_rules}
-use Rattle.gate_message.specs.declared.denial.PeerDenial.{PeerDenial}
-use Rattle.gate_message.specs.declared.denial.PeerDenial.TheVariants.{Admission}
+use Rattle.gate_rules.specs.declared.PeerDenial.{PeerDenial}
+use Rattle.gate_rules.specs.declared.PeerDenial.TheVariants.{Admission}
 use Rattle.gate_message.specs.declared.event.Event.{Event}
 use Rattle.gate_message.specs.declared.event.Event.TheVariants.{Enter, Leave, Tx as Submit, Mempool, GetBlock, Headers, FeeFilter, Rpc, SetFloor, Set as Turn, Chain as OfChain}
 use Rattle.gate_message.specs.declared.reply.Reply.{Reply}

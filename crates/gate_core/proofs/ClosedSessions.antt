@@ -4,13 +4,13 @@ use Rattle.std.specs.List.{slice_get}
 use Rattle.std.specs.Option.{option_map_or}
 use Rattle.std.proofs.lemmas.Bool.Decides.{eqb_tells}
 use Rattle.gate_bytes.specs.Order.{Rule, first_failing}
-use Rattle.gate_standard.specs.declared.Denial.TheVariants.{Decode}
+use Rattle.gate_rules.specs.declared.Denial.TheVariants.{Decode}
 use Rattle.gate_message.specs.declared.caller.Caller.{Caller}
 use Rattle.gate_message.specs.declared.caller.Caller.TheVariants.{Chain, Operator, Peer, User}
 use Rattle.gate_message.specs.declared.event.Event.{Event}
 use Rattle.gate_message.specs.declared.event.Event.TheVariants.{Enter, Leave, Tx as Submit, Mempool, GetBlock, Headers, FeeFilter, Rpc, SetFloor, Set as Turn, Chain as OfChain}
-use Rattle.gate_message.specs.declared.denial.PeerDenial.{PeerDenial}
-use Rattle.gate_message.specs.declared.denial.PeerDenial.TheVariants.{PeerUnknown, PeerClosed, PeerKnown, BlocksOnly, AlreadyInMempool, MempoolNoBloom, MempoolUploadTarget, HeadersDuringDownload, UnknownBlock, HistoricalUploadTarget, Admission}
+use Rattle.gate_rules.specs.declared.PeerDenial.{PeerDenial}
+use Rattle.gate_rules.specs.declared.PeerDenial.TheVariants.{PeerUnknown, PeerClosed, PeerKnown, BlocksOnly, AlreadyInMempool, MempoolNoBloom, MempoolUploadTarget, HeadersDuringDownload, UnknownBlock, HistoricalUploadTarget, Admission}
 use Rattle.gate_message.specs.declared.reply.Reply.{Reply}
 use Rattle.gate_message.specs.Callers.{caller_of}
 use Rattle.gate_core.specs.Sessions.{Session, session_of, flags_in}

@@ -3,7 +3,7 @@ use Rattle.std.proofs.Common.{◌≡◌, ℕ, List, Option, Some, None, refl}
 use Rattle.gate_bytes.specs.Order.{first_failing}
 use Rattle.gate_chain.specs.Blocks.{Block}
 use Rattle.gate_chain.specs.Forgetting.{forget_denial}
-use Rattle.gate_chain.specs.declared.ChainDenial.{ChainDenial}
+use Rattle.gate_rules.specs.declared.ChainDenial.{ChainDenial}
 use Rattle.gate_chain.specs.declared.OpeningCoin.{OpeningCoin}
 use Rattle.gate_admit.specs.Verdicts.{row_rules}
 use Rattle.gate_reorg.specs.Events.{event_rules, event_of}

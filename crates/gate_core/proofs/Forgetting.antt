@@ -19,7 +19,7 @@ use Rattle.gate_tx.specs.Equality.{out_point_decides}
 use Rattle.gate_tx.specs.Ids.{txid_of}
 use Rattle.gate_tx.specs.Tx.{Tx}
 use Rattle.gate_chain.specs.Blocks.{Block}
-use Rattle.gate_chain.specs.declared.ChainDenial.{ChainDenial}
+use Rattle.gate_rules.specs.declared.ChainDenial.{ChainDenial}
 use Rattle.gate_chain.specs.declared.OpeningCoin.{OpeningCoin}
 use Rattle.gate_chain.specs.Coins.{coin_of, coin_of_blocks, coin_of_transactions, has_transaction, has_txid, is_known_txid, is_spent_in, opening_coin_of}
 use Rattle.gate_chain.specs.Forgetting.{dropped_coins, forget_denial, forgotten, opening_with, stays}

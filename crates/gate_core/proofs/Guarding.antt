@@ -3,15 +3,16 @@ use Rattle.std.proofs.Common.{◌≡◌, ◌≢◌, ℕ, Bool, true, false, not,
 use Rattle.std.specs.Prelude.{nat_lt}
 use Rattle.gate_bytes.specs.Order.{Rule, first_failing}
 use Rattle.gate_tx.specs.Tx.{Tx}
-use Rattle.gate_standard.specs.declared.Denial.TheVariants.{Decode, MempoolFull}
+use Rattle.gate_rules.specs.declared.Denial.TheVariants.{Decode, MempoolFull}
 use Rattle.gate_admit.specs.Policies.{usual_policy}
 use Rattle.gate_net.specs.Permissions.{Permissions}
 use Rattle.gate_message.specs.declared.event.Event.TheVariants.{Tx as Submit, Mempool, GetBlock, Headers}
-use Rattle.gate_message.specs.declared.denial.PeerDenial.{PeerDenial}
-use Rattle.gate_message.specs.declared.denial.PeerDenial.TheVariants.{PeerUnknown, PeerClosed, PeerKnown, BlocksOnly, AlreadyInMempool, MempoolNoBloom, MempoolUploadTarget, HeadersDuringDownload, UnknownBlock, HistoricalUploadTarget, Admission}
+use Rattle.gate_rules.specs.declared.PeerDenial.{PeerDenial}
+use Rattle.gate_rules.specs.declared.PeerDenial.TheVariants.{PeerUnknown, PeerClosed, BlocksOnly, AlreadyInMempool, MempoolNoBloom, MempoolUploadTarget, HeadersDuringDownload, UnknownBlock, HistoricalUploadTarget, Admission}
+use Rattle.gate_message.specs.declared.denial.Then.{Then}
 use Rattle.gate_message.specs.declared.denial.Then.TheVariants.{Keep, Close, Relay}
 use Rattle.gate_message.specs.declared.reply.Reply.{Reply}
-use Rattle.gate_message.specs.PeerDenials.{then_of}
+use Rattle.gate_message.specs.Following.{then_by, then_of}
 use Rattle.gate_core.specs.Access.{is_known, is_closed, is_historical, is_unknown_block, is_pooled, lacks_relay, lacks_bloom, lacks_upload, lacks_headers, lacks_history}
 use Rattle.gate_core.specs.AccessLaws.{FlagsGuard, InvalidIsKept, NobanIsKept}
 use Rattle.gate_core.specs.PeerSteps.{answered, submitted, listed, block_given, headers_given, then_under}
@@ -19,7 +20,10 @@ use Rattle.gate_core.specs.SessionLaws.{IsDenied}
 use Rattle.gate_core.specs.Sessions.{flags_in}
 use Rattle.gate_core.specs.Steps.{step_of}
 use Rattle.gate_core.specs.World.{World}
-use Rattle.gate_core.proofs.Closing.{kept_then}
+use Rattle.gate_rules.specs.Denials.{then_of as follows}
+use Rattle.gate_rules.specs.declared.Denial.{Denial}
+use Rattle.gate_rules.specs.declared.Consequence.{Consequence}
+use Rattle.gate_rules.specs.declared.Consequence.TheVariants as row
 
 -- a denial that is no denial by A46, where one is made
 abbrev IsOther : Option PeerDenial → Type 0
@@ -126,39 +130,41 @@ either : (b : Bool) → (if b then Relay else Keep) ≢ Close
 either true = relay_close
 either false = keep_close
 
-closing_kept : (b k c : Bool) → c ≡ true → (if b then (if k then Keep else (if c then Keep else Close)) else Keep) ≢ Close
-closing_kept true true c is = keep_close
-closing_kept true false c is = kept c is
-closing_kept false k c is = keep_close
+abbrev is_always : Consequence → Bool
+is_always row.CloseAlways = true
+is_always consequence = false
+
+-- no rule of admission closes every session
+never_always : (denial : Denial) → is_always (follows denial) ≡ false
+never_always Decode = refl
+never_always denial = refl
+
+kept_by : (keeps : Bool) (flags : Permissions) (c : Consequence) → flags.noban ≡ true → is_always c ≡ false → (if keeps then Keep else then_by flags c) ≢ Close
+kept_by true flags c is never = keep_close
+kept_by false flags row.Close is never = kept flags.noban is
+kept_by false flags row.CloseAlways is never = absurd (true≢false never)
+kept_by false flags row.Relay is never = either flags.forcerelay
+kept_by false flags consequence is never = keep_close
+
+keeping : (keeps : Bool) (otherwise : Then) → keeps ≡ true → (if keeps then Keep else otherwise) ≡ Keep
+keeping true otherwise is = refl
+keeping false otherwise is = absurd (true≢false (sym is))
 
 pub noban_is_kept : NobanIsKept
-noban_is_kept policy flags PeerUnknown is other = keep_close
-noban_is_kept policy flags PeerClosed is other = keep_close
-noban_is_kept policy flags PeerKnown is other = keep_close
 noban_is_kept policy flags BlocksOnly is other = absurd (other refl)
 noban_is_kept policy flags AlreadyInMempool is other = either flags.forcerelay
 noban_is_kept policy flags MempoolNoBloom is other = kept flags.noban is
 noban_is_kept policy flags MempoolUploadTarget is other = kept flags.noban is
-noban_is_kept policy flags HeadersDuringDownload is other = keep_close
-noban_is_kept policy flags UnknownBlock is other = keep_close
 noban_is_kept policy flags HistoricalUploadTarget is other = kept flags.noban is
-noban_is_kept policy flags (Admission denial) is other = closing_kept _ policy.keep_invalid flags.noban is
+noban_is_kept policy flags (Admission denial) is other = kept_by policy.keep_invalid flags (follows denial) is (never_always denial)
+noban_is_kept policy flags denial is other = keep_close
 
 usual_then : (flags : Permissions) (denial : PeerDenial) → then_under usual_policy flags denial ≡ then_of flags denial
-usual_then flags PeerUnknown = refl
-usual_then flags PeerClosed = refl
-usual_then flags PeerKnown = refl
-usual_then flags BlocksOnly = refl
-usual_then flags AlreadyInMempool = refl
-usual_then flags MempoolNoBloom = refl
-usual_then flags MempoolUploadTarget = refl
-usual_then flags HeadersDuringDownload = refl
-usual_then flags UnknownBlock = refl
-usual_then flags HistoricalUploadTarget = refl
 usual_then flags (Admission denial) = refl
+usual_then flags denial = refl
 
 pub invalid_is_kept : InvalidIsKept
 invalid_is_kept = record {
-  kept = λ policy flags denial keeps. sym (kept_then policy flags denial keeps);
+  kept = λ policy flags denial keeps. keeping policy.keep_invalid (then_of flags (Admission denial)) keeps;
   usual = usual_then;
 }

@@ -13,8 +13,8 @@ use Rattle.gate_bytes.proofs.OrderLemmas.{first_failing_append, none_fails, none
 use Rattle.gate_tx.specs.declared.OutPoint.{OutPoint}
 use Rattle.gate_tx.specs.Coins.{point_eq}
 use Rattle.gate_tx.specs.Ids.{txid_of}
-use Rattle.gate_chain.specs.declared.ChainDenial.{ChainDenial}
-use Rattle.gate_chain.specs.declared.ChainDenial.TheVariants.{CoinKnown}
+use Rattle.gate_rules.specs.declared.ChainDenial.{ChainDenial}
+use Rattle.gate_rules.specs.declared.ChainDenial.TheVariants.{CoinKnown}
 use Rattle.gate_chain.specs.declared.OpeningCoin.{OpeningCoin}
 use Rattle.gate_chain.specs.Coins.{coin_of, coin_of_blocks, has_transaction, has_txid, is_known_txid, is_spent_in, opening_coin_of}
 use Rattle.gate_chain.specs.History.{History, first_connected}

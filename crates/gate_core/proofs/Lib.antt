@@ -2,7 +2,6 @@ mod Barring
 mod ByChain
 mod Calls
 mod ClosedSessions
-mod Closing
 mod Denials
 mod Floors
 mod Following

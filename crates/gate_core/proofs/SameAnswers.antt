@@ -11,8 +11,8 @@ use Rattle.gate_tx.specs.declared.TxIn.{TxIn}
 use Rattle.gate_tx.specs.declared.TxOut.{TxOut}
 use Rattle.gate_tx.specs.Ids.{txid_of, wtxid_of}
 use Rattle.gate_tx.specs.Tx.{Tx}
-use Rattle.gate_standard.specs.declared.Denial.{Denial}
-use Rattle.gate_standard.specs.declared.Denial.TheVariants.{NonFinal, AlreadyKnown, MissingOrSpent, NonBip68Final}
+use Rattle.gate_rules.specs.declared.Denial.{Denial}
+use Rattle.gate_rules.specs.declared.Denial.TheVariants.{NonFinal, AlreadyKnown, MissingOrSpent, NonBip68Final}
 use Rattle.gate_chain.specs.Coins.{coin_of, opened_with_of}
 use Rattle.gate_chain.specs.History.{History}
 use Rattle.gate_chain.specs.Times.{times_of, tip_of, mtp_at, mtp_of}

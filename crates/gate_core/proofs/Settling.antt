@@ -1,6 +1,6 @@
 -- A plan, its change, and the reply that is settled after it; and an event of the chain, which is followed.
 use Rattle.std.proofs.Common.{◌≡◌, Option, ap, refl, sym, ◌∙◌}
-use Rattle.gate_standard.specs.declared.Denial.{Denial}
+use Rattle.gate_rules.specs.declared.Denial.{Denial}
 use Rattle.gate_message.specs.declared.chain_event.ChainEvent.{ChainEvent}
 use Rattle.gate_message.specs.declared.event.Event.{Event}
 use Rattle.gate_message.specs.declared.event.Event.TheVariants.{Chain as OfChain}

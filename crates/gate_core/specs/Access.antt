@@ -4,15 +4,15 @@ use Rattle.std.specs.Option.{option_map_or}
 use Rattle.gate_bytes.specs.Order.{Rule, first_failing, IsFirstOf}
 use Rattle.gate_tx.specs.Tx.{Tx}
 use Rattle.gate_tx.specs.Ids.{wtxid_of}
-use Rattle.gate_standard.specs.declared.Denial.TheVariants.{Decode}
+use Rattle.gate_rules.specs.declared.Denial.TheVariants.{Decode}
 use Rattle.gate_chain.specs.History.{History}
 use Rattle.gate_chain.specs.Times.{tip_of, time_of}
 use Rattle.gate_pool.specs.Pool.{Admitted, entry_by_wtxid}
 use Rattle.gate_net.specs.Permissions.{Permissions}
 use Rattle.gate_message.specs.declared.event.Event.{Event}
 use Rattle.gate_message.specs.declared.event.Event.TheVariants.{Enter, Leave, Tx as Submit, Mempool, GetBlock, Headers, FeeFilter, Rpc, SetFloor, Set, Chain as OfChain}
-use Rattle.gate_message.specs.declared.denial.PeerDenial.{PeerDenial}
-use Rattle.gate_message.specs.declared.denial.PeerDenial.TheVariants.{PeerUnknown, PeerClosed, PeerKnown, BlocksOnly, AlreadyInMempool, MempoolNoBloom, MempoolUploadTarget, HeadersDuringDownload, UnknownBlock, HistoricalUploadTarget, Admission}
+use Rattle.gate_rules.specs.declared.PeerDenial.{PeerDenial}
+use Rattle.gate_rules.specs.declared.PeerDenial.TheVariants.{PeerUnknown, PeerClosed, PeerKnown, BlocksOnly, AlreadyInMempool, MempoolNoBloom, MempoolUploadTarget, HeadersDuringDownload, UnknownBlock, HistoricalUploadTarget, Admission}
 use Rattle.gate_core.specs.Sessions.{Session, session_of, flags_in}
 use Rattle.gate_core.specs.World.{World}
 

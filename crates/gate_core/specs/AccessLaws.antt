@@ -1,7 +1,7 @@
 -- Laws of permissions and of lists of methods, in plain words.
 use Rattle.std.specs.Prelude.{◌≡◌, ◌≢◌, ℕ, true, false, Bool, List, Option, Some, Result, Ok, Err, codes}
 use Rattle.gate_tx.specs.Tx.{Tx}
-use Rattle.gate_standard.specs.declared.Denial.{Denial}
+use Rattle.gate_rules.specs.declared.Denial.{Denial}
 use Rattle.gate_admit.specs.Policies.{Policy, usual_policy}
 use Rattle.gate_net.specs.Permissions.{Permissions}
 use Rattle.gate_rpc.specs.Calls.{request_of}
@@ -14,13 +14,13 @@ use Rattle.gate_rpc.specs.declared.reply.RpcReply.TheVariants.{NotAllowed}
 use Rattle.gate_message.specs.declared.caller.Caller.TheVariants.{Peer}
 use Rattle.gate_message.specs.declared.event.Event.{Event}
 use Rattle.gate_message.specs.declared.event.Event.TheVariants.{Tx as Submit, Mempool, GetBlock, Headers, Rpc}
-use Rattle.gate_message.specs.declared.denial.PeerDenial.{PeerDenial}
-use Rattle.gate_message.specs.declared.denial.PeerDenial.TheVariants.{Admission, BlocksOnly}
+use Rattle.gate_rules.specs.declared.PeerDenial.{PeerDenial}
+use Rattle.gate_rules.specs.declared.PeerDenial.TheVariants.{Admission, BlocksOnly}
 use Rattle.gate_message.specs.declared.denial.Then.TheVariants.{Close, Keep}
 use Rattle.gate_message.specs.declared.reply.Reply.TheVariants.{Rpc as Answered}
 use Rattle.gate_core.specs.Access.{is_historical}
 use Rattle.gate_message.specs.Callers.{caller_of}
-use Rattle.gate_message.specs.PeerDenials.{then_of}
+use Rattle.gate_message.specs.Following.{then_of}
 use Rattle.gate_core.specs.PeerSteps.{then_under}
 use Rattle.gate_core.specs.SessionLaws.{IsDenied}
 use Rattle.gate_core.specs.Sessions.{Session, session_of, flags_in}

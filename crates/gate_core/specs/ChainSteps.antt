@@ -5,8 +5,8 @@ use Rattle.gate_tx.specs.declared.OutPoint.{OutPoint}
 use Rattle.gate_chain.specs.Blocks.{Block}
 use Rattle.gate_chain.specs.Forgetting.{forgotten, dropped_coins, forget_denial}
 use Rattle.gate_chain.specs.Learning.{learnt, learn_rules}
-use Rattle.gate_chain.specs.declared.ChainDenial.{ChainDenial}
-use Rattle.gate_chain.specs.declared.ChainDenial.TheVariants.{CoinKnown}
+use Rattle.gate_rules.specs.declared.ChainDenial.{ChainDenial}
+use Rattle.gate_rules.specs.declared.ChainDenial.TheVariants.{CoinKnown}
 use Rattle.gate_chain.specs.declared.OpeningCoin.{OpeningCoin}
 use Rattle.gate_pool.specs.Pool.{Admitted, entry_by_txid, spender_of}
 use Rattle.gate_admit.specs.Verdicts.{row_rules, rows_over, with_row}

@@ -1,13 +1,13 @@
 -- The step and what it rests on at small values, by computation.
 use Rattle.std.specs.Prelude.{◌≡◌, ℕ, ℤ, pos, Bool, true, false, List, [], ◌∷◌, None, Some, Result, Ok, Err, codes, replicate}
-use Rattle.gate_standard.specs.declared.Denial.TheVariants.{Decode, VinEmpty}
+use Rattle.gate_rules.specs.declared.Denial.TheVariants.{Decode, VinEmpty}
 use Rattle.gate_message.specs.declared.chain_event.ChainEvent.TheVariants.{LearnCoin, LearnVerdict, Forget}
 use Rattle.gate_message.specs.declared.event.Event.TheVariants.{Enter, Leave, Tx as Submit, Mempool, GetBlock, Headers as AskHeaders, FeeFilter, SetFloor, Set as Turn, Chain as OfChain}
 use Rattle.gate_message.specs.declared.switch.Switch.TheVariants.{Download}
 use Rattle.gate_message.specs.declared.denial.Then.TheVariants.{Keep, Close, Relay}
-use Rattle.gate_message.specs.declared.denial.PeerDenial.TheVariants.{PeerUnknown, PeerClosed, PeerKnown, BlocksOnly, AlreadyInMempool, MempoolNoBloom, MempoolUploadTarget, HeadersDuringDownload, UnknownBlock, HistoricalUploadTarget, Admission}
+use Rattle.gate_rules.specs.declared.PeerDenial.TheVariants.{PeerUnknown, PeerClosed, PeerKnown, BlocksOnly, AlreadyInMempool, MempoolNoBloom, MempoolUploadTarget, HeadersDuringDownload, UnknownBlock, HistoricalUploadTarget, Admission}
 use Rattle.gate_message.specs.declared.reply.Reply.TheVariants.{Entered, Left, Listing, Block, Headers, Filter, Rpc, Denied, Set, Forgotten, Refused}
-use Rattle.gate_chain.specs.declared.ChainDenial.TheVariants.{CoinValue, CoinUnspendable, CoinAboveOpening, CoinKnown, NoUndo, VerdictKnown}
+use Rattle.gate_rules.specs.declared.ChainDenial.TheVariants.{CoinValue, CoinUnspendable, CoinAboveOpening, CoinKnown, NoUndo, VerdictKnown}
 use Rattle.gate_chain.specs.declared.OpeningCoin.{OpeningCoin}
 use Rattle.gate_submission.specs.declared.Verdict.{Verdict}
 use Rattle.gate_submission.specs.declared.Verdict.TheVariants.{Good, Hard}

@@ -3,21 +3,20 @@ use Rattle.std.specs.Prelude.{ℕ, ◌+◌, ◌-◌, min, true, if◌then◌else
 use Rattle.gate_bytes.specs.Order.{Rule, first_failing}
 use Rattle.gate_tx.specs.Tx.{Tx}
 use Rattle.gate_tx.specs.Ids.{txid_of}
-use Rattle.gate_standard.specs.Denials.{rule_of}
-use Rattle.gate_standard.specs.declared.Denial.{Denial}
-use Rattle.gate_standard.specs.declared.Denial.TheVariants.{Decode}
+use Rattle.gate_rules.specs.declared.Denial.{Denial}
+use Rattle.gate_rules.specs.declared.Denial.TheVariants.{Decode}
 use Rattle.gate_admit.specs.declared.Grant.{Grant}
 use Rattle.gate_admit.specs.Submission.{Submitted, submit_of}
 use Rattle.gate_admit.specs.Policies.{Policy, feerate_by}
 use Rattle.gate_query.specs.Answers.{listing_at}
 use Rattle.gate_message.specs.declared.denial.Then.{Then}
 use Rattle.gate_message.specs.declared.denial.Then.TheVariants.{Keep, Close, Relay}
-use Rattle.gate_message.specs.declared.denial.PeerDenial.{PeerDenial}
-use Rattle.gate_message.specs.declared.denial.PeerDenial.TheVariants.{Admission}
+use Rattle.gate_rules.specs.declared.PeerDenial.{PeerDenial}
+use Rattle.gate_rules.specs.declared.PeerDenial.TheVariants.{Admission}
 use Rattle.gate_message.specs.declared.reply.Reply.{Reply}
 use Rattle.gate_message.specs.declared.reply.Reply.TheVariants.{Entered, Left, Admitted, Listing, Block, Headers, Filter, Denied}
 use Rattle.gate_net.specs.Permissions.{Permissions}
-use Rattle.gate_message.specs.PeerDenials.{closing, is_closing, then_of}
+use Rattle.gate_message.specs.Following.{then_of}
 use Rattle.gate_core.specs.Sessions.{Session, session, flags_in, rate_in, rate_after, closed, rated}
 use Rattle.gate_core.specs.World.{World, flags_at, standing_of}
 use Rattle.gate_core.specs.Access.{entering_rules, session_rules, submission_rules, listing_rules, block_rules, headers_rules, seconds_at}
@@ -35,7 +34,7 @@ denied_then w peer denial follows = (Denied denial follows, record w { sessions 
 
 -- what follows under a policy for the session of a peer with these flags: a rule of admission closes none if the policy keeps them
 abbrev pub then_under : Policy → Permissions → PeerDenial → Then
-then_under policy flags (Admission denial) = if is_closing (rule_of denial) then (if policy.keep_invalid then Keep else closing flags) else Keep
+then_under policy flags (Admission denial) = if policy.keep_invalid then Keep else then_of flags (Admission denial)
 then_under policy flags denial = then_of flags denial
 
 -- what follows for the session of a peer

@@ -2,11 +2,11 @@
 use Rattle.std.specs.Prelude.{◌≡◌, ◌≢◌, ◌<◌, ℕ, false, List, slice_get, Option, Some, None}
 use Rattle.std.specs.List.{All}
 use Rattle.gate_tx.specs.Money.{max_money}
-use Rattle.gate_standard.specs.declared.Denial.TheVariants.{MempoolFull}
+use Rattle.gate_rules.specs.declared.Denial.TheVariants.{MempoolFull}
 use Rattle.gate_message.specs.declared.caller.Caller.TheVariants.{Peer}
 use Rattle.gate_message.specs.declared.event.Event.{Event}
 use Rattle.gate_message.specs.declared.event.Event.TheVariants.{Enter, Leave, Tx as Submit, Mempool, GetBlock, Headers, FeeFilter, Rpc, SetFloor, Set as Turn, Chain as OfChain}
-use Rattle.gate_message.specs.declared.denial.PeerDenial.TheVariants.{PeerClosed, PeerKnown, Admission}
+use Rattle.gate_rules.specs.declared.PeerDenial.TheVariants.{PeerClosed, PeerKnown, Admission}
 use Rattle.gate_message.specs.declared.denial.Then.TheVariants.{Keep}
 use Rattle.gate_message.specs.declared.reply.Reply.{Reply}
 use Rattle.gate_message.specs.declared.reply.Reply.TheVariants.{Entered, Left, Admitted, Listing, Block, Headers, Filter, Rpc as Answered, Denied, Set, Moved, Forgotten, Refused}

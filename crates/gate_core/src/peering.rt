@@ -37,11 +37,10 @@ impl<S: BuildHasher + Copy + Drop> StateParts<S> {
     }
 
     /// What follows from a denial for the peer's session.
-    #[tactic(auto, using(crate::proofs::Closing::kept_then))]
     fn then_for(&self, peer: u64, denial: PeerDenial) -> Then
         ensures { result ≡ then_for (world_of self.now) peer denial }
     {
-        let then = denial.then(&self.sessions.flags(peer));
+        let then = Then::of(&denial, &self.sessions.flags(peer));
         match denial {
             PeerDenial::Admission(_) if self.policy.keep_invalid() => Then::Keep,
             _ => then,

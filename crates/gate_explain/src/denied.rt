@@ -1,47 +1,11 @@
 //! The rule that a reply says fails, and the fault of a call.
 use gate_bytes::Memory;
 use gate_causes::call_cause;
-use gate_lines::read_number;
 use gate_message::{Event, PeerDenial, Reply};
 use gate_rpc::{Outcome, RpcError, RpcReply, RpcResult};
+use gate_rules::{Rule, user_rule};
 use gate_standard::Denial;
 use std::alloc::Global;
-use std::fmt;
-
-/// The name of a rule: the letter of its layer, and its number.
-#[derive(Clone, Copy, PartialEq, Eq)]
-pub(crate) struct RuleName {
-    layer: &'static str,
-    number: u8,
-}
-
-impl RuleName {
-    fn new(layer: &'static str, number: u8) -> RuleName {
-        RuleName { layer, number }
-    }
-
-    /// The name of a rule of admission.
-    pub(crate) fn of_admission(denial: Denial) -> RuleName {
-        RuleName::new("A", denial.rule())
-    }
-
-    /// Whether this text is the name.
-    pub(crate) fn is(self, text: &str) -> bool {
-        let Some(number) = text.as_bytes().strip_prefix(self.layer.as_bytes()) else {
-            return false;
-        };
-        match std::str::from_utf8(number) {
-            Ok(number) => read_number(number) == Some(u64::from(self.number)),
-            Err(_) => false,
-        }
-    }
-}
-
-impl fmt::Display for RuleName {
-    fn fmt<W: fmt::Write>(&self, f: &mut fmt::Formatter<W>) -> fmt::Result {
-        write!(f, "{}{}", self.layer, self.number)
-    }
-}
 
 /// The rule of admission that an answer to a call names.
 fn denial_of_call(answer: &RpcReply) -> Option<Denial> {
@@ -70,36 +34,19 @@ pub(crate) fn denial_in(reply: &Reply) -> Option<Denial> {
     }
 }
 
-/// The rule that a denial names.
-fn denied_rule(denial: &PeerDenial) -> RuleName {
-    match denial {
-        PeerDenial::PeerUnknown => RuleName::new("P", 1),
-        PeerDenial::PeerClosed => RuleName::new("P", 2),
-        PeerDenial::PeerKnown => RuleName::new("P", 3),
-        PeerDenial::BlocksOnly => RuleName::new("P", 4),
-        PeerDenial::AlreadyInMempool => RuleName::new("P", 5),
-        PeerDenial::MempoolNoBloom => RuleName::new("P", 6),
-        PeerDenial::MempoolUploadTarget => RuleName::new("P", 7),
-        PeerDenial::HeadersDuringDownload => RuleName::new("P", 8),
-        PeerDenial::UnknownBlock => RuleName::new("P", 9),
-        PeerDenial::HistoricalUploadTarget => RuleName::new("P", 10),
-        PeerDenial::Admission(denial) => RuleName::of_admission(*denial),
-    }
-}
-
 /// The rule that an answer to a call names.
-fn answered_rule(answer: &RpcReply) -> Option<RuleName> {
+fn answered_rule(answer: &RpcReply) -> Option<&'static Rule> {
     match answer {
-        RpcReply::NotAllowed => Some(RuleName::new("U", 1)),
-        _ => Some(RuleName::of_admission(denial_of_call(answer)?)),
+        RpcReply::NotAllowed => Some(user_rule()),
+        _ => Some(denial_of_call(answer)?.row()),
     }
 }
 
 /// The rule that a reply says fails.
-pub(crate) fn rule_in(reply: &Reply) -> Option<RuleName> {
+pub(crate) fn rule_in(reply: &Reply) -> Option<&'static Rule> {
     match reply {
-        Reply::Denied { denial, .. } => Some(denied_rule(denial)),
-        Reply::Refused(denial) => Some(RuleName::new("C", denial.rule())),
+        Reply::Denied { denial, .. } => Some(denial.row()),
+        Reply::Refused(denial) => Some(denial.row()),
         Reply::Rpc(answer) => answered_rule(answer.get()),
         _ => None,
     }

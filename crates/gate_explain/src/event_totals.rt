@@ -1,11 +1,11 @@
 //! The totals of the events of a run, by their replies.
 use crate::counted_noun::CountedNoun;
-use crate::denied::{RuleName, outcomes_in, rule_in};
+use crate::denied::{outcomes_in, rule_in};
 use gate_bytes::Memory;
 use gate_figures::Explained;
 use gate_message::{ChainEvent, Event, Reply};
 use gate_rpc::{Outcome, RpcReply, RpcResult};
-use gate_rules::rules;
+use gate_rules::{Rule, rules};
 use std::alloc::Global;
 use std::cell::Cell;
 
@@ -152,7 +152,7 @@ impl EventTotals {
         }
         for outcome in outcomes_in(reply) {
             if let Outcome::Rejected { denial, .. } = outcome {
-                self.count_rule(RuleName::of_admission(*denial));
+                self.count_rule(denial.row());
             }
         }
     }
@@ -164,10 +164,10 @@ impl EventTotals {
     }
 
     /// Counts a denial by this rule.
-    fn count_rule(&self, rule: RuleName) {
+    fn count_rule(&self, rule: &Rule) {
         add(&self.denied, 1);
         for count in self.counts.as_slice() {
-            if rule.is(count.rule) {
+            if count.rule == rule.name {
                 add(&count.times, 1);
                 return;
             }

@@ -2,7 +2,6 @@
 //!
 //! Each of them is judged behind those before it that would enter. The figures are those of the state before the call, so they
 //! are given where the ones before change none of them.
-use crate::denied::RuleName;
 use crate::remedy::Remedy;
 use crate::told::Told;
 use gate_bytes::Memory;
@@ -36,7 +35,7 @@ impl Listed {
 
     /// What is known of the rule that denies the transaction.
     pub(crate) fn told(&self, denial: Denial) -> Told {
-        let rule = RuleName::of_admission(denial);
+        let rule = denial.row();
         match self.explanation {
             Some(explanation) if explanation.denial == denial => Told {
                 rule,

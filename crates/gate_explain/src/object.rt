@@ -43,7 +43,7 @@ pub(crate) fn reply_object<S: BuildHasher + Copy + Drop>(
         return Ok(Some(format!(in alloc; "{{\"line\":{line},\"error\":{error}}}")?));
     };
     let mut text = format!(in alloc; "{{\"line\":{line}")?;
-    told.push_fields(alloc, &mut text, state)?;
+    told.push_fields(&mut text, state)?;
     if let Some(relatives) = &sight.relatives {
         push_txids(&mut text, "conflicts", relatives.conflicts.as_slice())?;
         push_txids(&mut text, "parents", relatives.parents.as_slice())?;
@@ -65,7 +65,7 @@ pub(crate) fn listed_object<S: BuildHasher + Copy + Drop>(
     let mut text = format!(in alloc;
         "{{\"line\":{line},\"transaction\":{number},\"denied\":\"{txid}\""
     )?;
-    told.push_fields(alloc, &mut text, state)?;
+    told.push_fields(&mut text, state)?;
     text.push('}')?;
     Ok(text)
 }

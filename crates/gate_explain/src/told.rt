@@ -1,5 +1,5 @@
 //! What is told of a rule that denies.
-use crate::denied::{RuleName, call_fault, denial_in, rule_in};
+use crate::denied::{call_fault, denial_in, rule_in};
 use crate::figure_fields::FigureFields;
 use crate::remedy::Remedy;
 use crate::sight::Sight;
@@ -8,7 +8,7 @@ use gate_causes::{Colour, Colours, Quoted};
 use gate_core::State;
 use gate_figures::{Explained, Figures};
 use gate_message::{Event, Reply};
-use gate_rules::rules_named;
+use gate_rules::Rule;
 use gate_standard::Denial;
 use std::alloc::Global;
 use std::hash::BuildHasher;
@@ -16,7 +16,7 @@ use std::hash::BuildHasher;
 /// A rule that denies, with what is known of why.
 #[derive(Clone, Copy)]
 pub(crate) struct Told {
-    pub(crate) rule: RuleName,
+    pub(crate) rule: &'static Rule,
     /// The figures by which it denies.
     pub(crate) figures: Option<Figures>,
     /// Whether the limits of descendants deny (A36), which have no figures.
@@ -43,17 +43,6 @@ fn remedy_for(sight: &Sight, reply: &Reply) -> Remedy {
     }
 }
 
-/// A rule by its name, in its colour, and its sentence.
-fn rule_text(alloc: Global, rule: RuleName, colours: Colours) -> Result<String, Memory> {
-    let name = format!(in alloc; "{rule}")?;
-    let shown = colours.paint(Colour::Red, rule);
-    let rules = rules_named(alloc, name.as_str())?;
-    match rules.as_slice().first() {
-        Some(rule) => Ok(format!(in alloc; "{shown} {}", rule.says)?),
-        None => Ok(format!(in alloc; "{shown}")?),
-    }
-}
-
 /// What is said of the limits of descendants (A36), by the numbers of the opening.
 fn descendants_text<S: BuildHasher + Copy + Drop>(
     alloc: Global,
@@ -68,21 +57,12 @@ fn descendants_text<S: BuildHasher + Copy + Drop>(
 }
 
 /// Appends the token of a rule, and its sentence if it is asked for.
-fn push_rule(
-    alloc: Global,
-    text: &mut String,
-    rule: RuleName,
-    with_sentence: bool,
-) -> Result<(), Memory> {
-    let name = format!(in alloc; "{rule}")?;
-    let rules = rules_named(alloc, name.as_str())?;
-    if let Some(rule) = rules.as_slice().first() {
-        let token = Quoted(rule.token);
-        write!(text, ",\"token\":{token}")?;
-        if with_sentence {
-            let says = Quoted(rule.says);
-            write!(text, ",\"says\":{says}")?;
-        }
+fn push_rule(text: &mut String, rule: &Rule, with_sentence: bool) -> Result<(), Memory> {
+    let token = Quoted(rule.token);
+    write!(text, ",\"token\":{token}")?;
+    if with_sentence {
+        let says = Quoted(rule.says);
+        write!(text, ",\"says\":{says}")?;
     }
     Ok(())
 }
@@ -122,18 +102,15 @@ impl Told {
         state: &State<S>,
         colours: Colours,
     ) -> Result<String, Memory> {
-        let rule = colours.paint(Colour::Red, self.rule);
-        let remedy = self.remedy;
+        let name = colours.paint(Colour::Red, self.rule.name);
+        let (says, remedy) = (self.rule.says, self.remedy);
         match self.figures {
-            Some(figures) => Ok(format!(in alloc; "{rule} {figures}{remedy}")?),
+            Some(figures) => Ok(format!(in alloc; "{name} {figures}{remedy}")?),
             None if self.is_of_descendants => {
                 let text = descendants_text(alloc, state)?;
-                Ok(format!(in alloc; "{rule} {text}{remedy}")?)
+                Ok(format!(in alloc; "{name} {text}{remedy}")?)
             }
-            None => {
-                let text = rule_text(alloc, self.rule, colours)?;
-                Ok(format!(in alloc; "{text}{remedy}")?)
-            }
+            None => Ok(format!(in alloc; "{name} {says}{remedy}")?),
         }
     }
 
@@ -141,16 +118,14 @@ impl Told {
     /// sentence, and what helps.
     pub(crate) fn push_fields<S: BuildHasher + Copy + Drop>(
         &self,
-        alloc: Global,
         text: &mut String,
         state: &State<S>,
     ) -> Result<(), Memory> {
-        let rule = self.rule;
-        write!(text, ",\"rule\":\"{rule}\"")?;
+        let name = self.rule.name;
+        write!(text, ",\"rule\":\"{name}\"")?;
         push_rule(
-            alloc,
             text,
-            rule,
+            self.rule,
             self.figures.is_none() && !self.is_of_descendants,
         )?;
         match self.figures {

@@ -21,7 +21,7 @@ use Rattle.gate_standard.specs.Amounts.{required_fee, feerate}
 use Rattle.gate_standard.specs.declared.Feerate.{Feerate}
 use Rattle.gate_standard.specs.Outputs.{carries_data, dust_threshold_of, is_below, is_dust}
 use Rattle.gate_standard.specs.Rules.{left_behind, rules_of_input, rules_of_output, rules_of_outputs, output_value_rules, transaction_rules, version_rules, form_rules, output_rules}
-use Rattle.gate_standard.specs.declared.Denial.{Denial}
+use Rattle.gate_rules.specs.declared.Denial.{Denial}
 use Rattle.gate_submission.specs.Alone.{alone_rules}
 use Rattle.gate_chain.specs.Times.{tip_of, mtp_of}
 use Rattle.gate_locks.specs.Finality.{is_final_at, threshold_of}

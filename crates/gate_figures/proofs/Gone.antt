@@ -1,8 +1,8 @@
 -- The figures of the rules on what a transaction would replace, its sibling among it, from facts of the state's parts.
 use Rattle.std.proofs.Common.{◌≡◌, ◌∙◌, ℕ, List, Option, Some, sym, ap}
 use Rattle.gate_tx.specs.Tx.{Tx}
-use Rattle.gate_standard.specs.declared.Denial.{Denial}
-use Rattle.gate_standard.specs.declared.Denial.TheVariants.{LowerFee, LowerDifference, TooManyReplacements}
+use Rattle.gate_rules.specs.declared.Denial.{Denial}
+use Rattle.gate_rules.specs.declared.Denial.TheVariants.{LowerFee, LowerDifference, TooManyReplacements}
 use Rattle.gate_standard.specs.declared.Feerate.{Feerate}
 use Rattle.gate_chain.specs.History.{History}
 use Rattle.gate_pool.specs.Pool.{Admitted}

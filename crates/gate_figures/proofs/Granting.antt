@@ -5,7 +5,7 @@ use Rattle.std.proofs.lemmas.Bool.{and_from, leb-true, ltb-false}
 use Rattle.gate_bytes.specs.Order.{Rule, first_failing, NoneFails}
 use Rattle.gate_tx.specs.Money.{max_money}
 use Rattle.gate_tx.specs.Tx.{Tx}
-use Rattle.gate_standard.specs.declared.Denial.{Denial}
+use Rattle.gate_rules.specs.declared.Denial.{Denial}
 use Rattle.gate_rbf.specs.Replacing.{replacement_rules}
 use Rattle.gate_admit.specs.declared.attempt.Attempt.TheVariants.{First}
 use Rattle.gate_admit.specs.declared.grant.Grant.{Grant}

@@ -11,8 +11,8 @@ use Rattle.gate_tx.specs.Money.{max_money}
 use Rattle.gate_tx.specs.Tx.{Tx}
 use Rattle.gate_tx.specs.Ids.{txid_of}
 use Rattle.gate_standard.specs.Amounts.{feerate, required_fee}
-use Rattle.gate_standard.specs.declared.Denial.{Denial}
-use Rattle.gate_standard.specs.declared.Denial.TheVariants.{MempoolMinFee, MinRelayFee, LowerFeeRate, TooManyReplacements, AddsUnconfirmed, LowerFee, LowerDifference}
+use Rattle.gate_rules.specs.declared.Denial.{Denial}
+use Rattle.gate_rules.specs.declared.Denial.TheVariants.{MempoolMinFee, MinRelayFee, LowerFeeRate, TooManyReplacements, AddsUnconfirmed, LowerFee, LowerDifference}
 use Rattle.gate_standard.specs.declared.Feerate.{Feerate}
 use Rattle.gate_pool.specs.Pool.{Admitted}
 use Rattle.gate_pool.specs.Family.{AreIdsOf, fees_of}

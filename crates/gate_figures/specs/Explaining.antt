@@ -1,7 +1,7 @@
 -- The explanation of a submission: the grant, or the rule that decides and its figures.
 use Rattle.std.specs.Prelude.{Option, Some, None, Result, Ok, Err}
 use Rattle.gate_tx.specs.Tx.{Tx}
-use Rattle.gate_standard.specs.declared.Denial.{Denial}
+use Rattle.gate_rules.specs.declared.Denial.{Denial}
 use Rattle.gate_admit.specs.declared.attempt.Attempt.TheVariants.{First}
 use Rattle.gate_admit.specs.declared.grant.Grant.{Grant}
 use Rattle.gate_admit.specs.Rules.{decision_of}

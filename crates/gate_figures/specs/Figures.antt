@@ -15,9 +15,9 @@ use Rattle.gate_script.specs.Templates.{template_of}
 use Rattle.gate_inputs.specs.declared.Answers.{Answers}
 use Rattle.gate_standard.specs.Outputs.{carries_data, dust_threshold_of, is_dust}
 use Rattle.gate_standard.specs.declared.Standards.{Standards}
-use Rattle.gate_standard.specs.declared.Denial.{Denial}
+use Rattle.gate_rules.specs.declared.Denial.{Denial}
 use Rattle.gate_standard.specs.declared.Feerate.{Feerate}
-use Rattle.gate_standard.specs.declared.Denial.TheVariants.{Oversize, TxSize, ScriptPubKey, Dust as BelowDust, DataCarrier, MultiOpReturn, TxSizeSmall, NonFinal, MempoolConflict, MissingOrSpent, NonBip68Final, PrematureSpend, NonstandardInputs, WitnessNonstandard, InBelowOut, TooManySigops, MempoolMinFee, MinRelayFee, TooLongChain, LowerFeeRate, TooManyReplacements, LowerFee, LowerDifference, VerdictMissing, SoftVerdict, HardVerdict}
+use Rattle.gate_rules.specs.declared.Denial.TheVariants.{Oversize, TxSize, ScriptPubKey, Dust as BelowDust, DataCarrier, MultiOpReturn, TxSizeSmall, NonFinal, MempoolConflict, MissingOrSpent, NonBip68Final, PrematureSpend, NonstandardInputs, WitnessNonstandard, InBelowOut, TooManySigops, MempoolMinFee, MinRelayFee, TooLongChain, LowerFeeRate, TooManyReplacements, LowerFee, LowerDifference, VerdictMissing, SoftVerdict, HardVerdict}
 use Rattle.gate_chain.specs.History.{History}
 use Rattle.gate_chain.specs.Times.{tip_of, mtp_of}
 use Rattle.gate_locks.specs.Locks.{is_by_time, is_disabled, median_at, span_of}

@@ -2,7 +2,7 @@
 use Rattle.std.specs.Prelude.{◌≡◌, ◌<◌, ◌^◌, ◌++◌, ℕ, nat_le, Bool, false, is_none, List, Option, Some, None}
 use Rattle.gate_bytes.specs.Order.{Rule, first_failing}
 use Rattle.gate_tx.specs.Tx.{Tx}
-use Rattle.gate_standard.specs.declared.Denial.{Denial}
+use Rattle.gate_rules.specs.declared.Denial.{Denial}
 use Rattle.gate_pool.specs.Pool.{Admitted}
 use Rattle.gate_rbf.specs.Replacing.{replacement_rules}
 use Rattle.gate_admit.specs.declared.attempt.Attempt.TheVariants.{First}

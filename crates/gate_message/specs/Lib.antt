@@ -2,7 +2,7 @@ pub mod UserCalls
 pub mod Equality
 pub mod Callers
 pub mod Spelled
-pub mod PeerDenials
+pub mod Following
 pub mod Texts
 pub mod Replies
 pub mod Recording

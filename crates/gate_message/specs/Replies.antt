@@ -1,9 +1,9 @@
 -- The reply to an event of the chain's caller, and the denial that takes the place of a reply that was planned.
 use Rattle.std.specs.Prelude.{Option, Some, None}
-use Rattle.gate_standard.specs.declared.Denial.{Denial}
+use Rattle.gate_rules.specs.declared.Denial.{Denial}
 use Rattle.gate_rpc.specs.declared.error.RpcError.TheVariants as errors
 use Rattle.gate_rpc.specs.declared.reply.RpcReply.TheVariants.{NotAllowed, Answer, Failure}
-use Rattle.gate_message.specs.declared.denial.PeerDenial.TheVariants.{Admission}
+use Rattle.gate_rules.specs.declared.PeerDenial.TheVariants.{Admission}
 use Rattle.gate_message.specs.declared.denial.Then.TheVariants.{Keep}
 use Rattle.gate_message.specs.declared.outcome.ChainOutcome.{ChainOutcome}
 use Rattle.gate_message.specs.declared.outcome.ChainOutcome.TheVariants as outcomes

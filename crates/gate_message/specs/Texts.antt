@@ -3,16 +3,17 @@ use Rattle.std.specs.Prelude.{ℕ, List, ◌++◌, length, codes}
 use Rattle.std.specs.List.{flat_map}
 use Rattle.std.specs.Fmt.{decimal}
 use Rattle.gate_tx.specs.Ids.{id_text}
-use Rattle.gate_chain.specs.declared.ChainDenial.{ChainDenial}
-use Rattle.gate_chain.specs.Denials.{rule_of as chain_rule, token_of}
+use Rattle.gate_rules.specs.declared.ChainDenial.{ChainDenial}
+use Rattle.gate_rules.specs.Chain as chain
 use Rattle.gate_submission.specs.declared.Moved.{Moved as Change}
-use Rattle.gate_message.specs.declared.denial.PeerDenial.{PeerDenial}
+use Rattle.gate_rules.specs.declared.PeerDenial.{PeerDenial}
 use Rattle.gate_message.specs.declared.reply.Reply.{Reply}
 use Rattle.gate_message.specs.declared.reply.Reply.TheVariants.{Entered, Left, Admitted, Listing, Block, Headers, Filter, Rpc, Denied, Set, Moved, Forgotten, Refused}
 use Rattle.gate_rpc.specs.declared.reply.RpcReply.{RpcReply}
 use Rattle.gate_rpc.specs.Replies.{reply_status, reply_text as answer_text}
 use Rattle.gate_net.specs.Permissions.{Permissions, permissions_text}
-use Rattle.gate_message.specs.PeerDenials.{rule_text, denial_token, then_text}
+use Rattle.gate_rules.specs.Peers.{name_of, token_of}
+use Rattle.gate_message.specs.Following.{then_text}
 
 abbrev pub entered_text : Permissions → List ℕ
 entered_text flags = codes "entered " ++ permissions_text flags
@@ -41,7 +42,7 @@ abbrev pub rpc_text : RpcReply → List ℕ
 rpc_text answer = codes "rpc " ++ (decimal (reply_status answer) ++ codes " ") ++ answer_text answer
 
 abbrev pub denied_text : PeerDenial → List ℕ → List ℕ
-denied_text denial then = codes "denied " ++ (rule_text denial ++ (codes " " ++ (then ++ (codes " " ++ denial_token denial))))
+denied_text denial then = codes "denied " ++ (name_of denial ++ (codes " " ++ (then ++ (codes " " ++ token_of denial))))
 
 -- the height of the tip, and how many entries left and came
 abbrev pub moved_text : Change → List ℕ
@@ -53,7 +54,7 @@ forgotten_text blocks coins rows = codes "forgotten " ++ (decimal blocks ++ (cod
 
 -- the rule of the chain that fails, and its token
 abbrev pub refused_text : ChainDenial → List ℕ
-refused_text denial = codes "refused C" ++ (decimal (chain_rule denial) ++ (codes " " ++ token_of denial))
+refused_text denial = codes "refused " ++ (chain.name_of denial ++ (codes " " ++ chain.token_of denial))
 
 abbrev pub reply_text : Reply → List ℕ
 reply_text (Entered flags) = entered_text flags

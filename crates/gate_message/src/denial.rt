@@ -1,10 +1,9 @@
-//! Why an event is denied, and what follows for the session.
-ghost use Rattle.std.specs.Prelude.{◌≡◌, ◌++◌, OnOk, codes, string_bytes};
-ghost use Rattle.gate_message.specs.PeerDenials.{closing, rule_text, denial_token, then_of, then_text};
+//! What a denial does to a peer's session.
+ghost use Rattle.std.specs.Prelude.{◌≡◌, ◌++◌, codes};
+ghost use Rattle.gate_message.specs.Following.{then_of, then_text};
 
-use gate_bytes::{Exact, Memory};
 use gate_net::Permissions;
-use gate_standard::Denial;
+use gate_rules::{Consequence, PeerDenial};
 
 /// What a denial does to the peer's session.
 #[derive(Clone, Copy, PartialEq, Eq)]
@@ -18,14 +17,15 @@ pub enum Then {
 }
 
 impl Then {
-    /// What a denial that closes a session does to that of a peer with these flags.
-    fn closing(flags: &Permissions) -> Then
-        ensures { result ≡ closing flags.now }
+    /// What follows for the session of a peer with these flags.
+    pub fn of(denial: &PeerDenial, flags: &Permissions) -> Then
+        ensures { result ≡ then_of flags.now denial.now }
     {
-        if flags.noban() {
-            Then::Keep
-        } else {
-            Then::Close
+        match denial.row().then {
+            Consequence::Close if !flags.noban() => Then::Close,
+            Consequence::CloseAlways => Then::Close,
+            Consequence::Relay if flags.forcerelay() => Then::Relay,
+            _ => Then::Keep,
         }
     }
 
@@ -39,102 +39,4 @@ impl Then {
             Then::Relay => " relay ",
         }
     }
-}
-
-/// A rule that an event fails: one on its peer, or one of admission.
-#[derive(Clone, Copy, PartialEq, Eq)]
-pub enum PeerDenial {
-    /// P1: the peer never entered.
-    PeerUnknown,
-    /// P2: the peer's session is closed.
-    PeerClosed,
-    /// P3: the peer entered before.
-    PeerKnown,
-    /// P4: a transaction comes while the node takes blocks only.
-    BlocksOnly,
-    /// P5: the transaction's wtxid is in the pool.
-    AlreadyInMempool,
-    /// P6: a listing is asked for while bloom filters are off (BIP 35, BIP 111).
-    MempoolNoBloom,
-    /// P7: a listing is asked for while the upload target is reached.
-    MempoolUploadTarget,
-    /// P8: headers are asked for during the initial block download.
-    HeadersDuringDownload,
-    /// P9: there is no block of the height that is asked for.
-    UnknownBlock,
-    /// P10: a block that is more than a week older than the tip is asked for while the upload target for such blocks is
-    /// reached.
-    HistoricalUploadTarget,
-    /// A rule of admission.
-    Admission(Denial),
-}
-
-impl PeerDenial {
-    /// The reason as it is printed.
-    pub fn token(&self) -> &'static str
-        ensures { result.now ≡ denial_token self.now }
-    {
-        match self {
-            PeerDenial::PeerUnknown => "peer-unknown",
-            PeerDenial::PeerClosed => "peer-closed",
-            PeerDenial::PeerKnown => "peer-known",
-            PeerDenial::BlocksOnly => "blocks-only",
-            PeerDenial::AlreadyInMempool => "txn-already-in-mempool",
-            PeerDenial::MempoolNoBloom => "mempool-no-bloom",
-            PeerDenial::MempoolUploadTarget => "mempool-upload-target",
-            PeerDenial::HeadersDuringDownload => "headers-during-download",
-            PeerDenial::UnknownBlock => "unknown-block",
-            PeerDenial::HistoricalUploadTarget => "historical-upload-target",
-            PeerDenial::Admission(denial) => denial.token(),
-        }
-    }
-
-    /// Appends the first two words of the line of this denial, as in `denied P1` or `denied A17`. Most are one text, since
-    /// each piece of a line costs a look at the room that is left.
-    pub(crate) fn push_denied(&self, text: &mut String) -> Result<(), Memory>
-        ensures { OnOk result (string_bytes text.new ≡ string_bytes text.old ++ (codes "denied " ++ rule_text self.now)) }
-    {
-        let words = match self {
-            PeerDenial::PeerUnknown => "denied P1",
-            PeerDenial::PeerClosed => "denied P2",
-            PeerDenial::PeerKnown => "denied P3",
-            PeerDenial::BlocksOnly => "denied P4",
-            PeerDenial::AlreadyInMempool => "denied P5",
-            PeerDenial::MempoolNoBloom => "denied P6",
-            PeerDenial::MempoolUploadTarget => "denied P7",
-            PeerDenial::HeadersDuringDownload => "denied P8",
-            PeerDenial::UnknownBlock => "denied P9",
-            PeerDenial::HistoricalUploadTarget => "denied P10",
-            PeerDenial::Admission(denial) => return Ok(write!(text, "denied A{}", denial.rule())?),
-        };
-        Ok(text.push_str(words)?)
-    }
-
-    /// What follows for the session of a peer with these flags.
-    pub fn then(&self, flags: &Permissions) -> Then
-        ensures { result ≡ then_of flags.now self.now }
-    {
-        match self {
-            PeerDenial::BlocksOnly => Then::Close,
-            PeerDenial::AlreadyInMempool if flags.forcerelay() => Then::Relay,
-            PeerDenial::MempoolNoBloom => Then::closing(flags),
-            PeerDenial::MempoolUploadTarget => Then::closing(flags),
-            PeerDenial::HistoricalUploadTarget => Then::closing(flags),
-            PeerDenial::Admission(denial) => match denial.rule() {
-                2..=11 | 28..=30 | 37 | 45 => Then::closing(flags),
-                _ => Then::Keep,
-            },
-            _ => Then::Keep,
-        }
-    }
-}
-
-impl Exact for PeerDenial {
-    ghost use Rattle.gate_standard.specs.contracts.denial.Denial.{enum as denials};
-    ghost use Rattle.gate_bytes.specs.Equality.{enum_decides, ◌or◌, none_decides, last_decides, bare_decides};
-    ghost use Rattle.gate_message.specs.contracts.denial.PeerDenial.{enum};
-
-    ghost exact = { enum_decides enum _ (none_decides or none_decides or none_decides or none_decides or none_decides
-        or none_decides or none_decides or none_decides or none_decides or none_decides
-        or last_decides (bare_decides denials tt) or tt) };
 }

@@ -2,7 +2,7 @@
 use Rattle.std.proofs.Common.{◌≡◌, ◌≢◌, ℕ, ◌+◌, ◌<◌, ◌≤◌, Bool, List, [], ◌∷◌, ◌++◌, length, get_or, drop, Result, Ok, Err, refl, ap, sym, subst, ◌∙◌, append_assoc, append-nil, add-one, suc}
 use Rattle.std.proofs.Math.Seq.{drop-cons}
 use Rattle.std.proofs.lemmas.List.{drop_all}
-use Rattle.gate_net.specs.declared.denial.NetDenial.{NetDenial}
+use Rattle.gate_rules.specs.declared.NetDenial.{NetDenial}
 use Rattle.gate_net.specs.declared.fault.NetFault.{NetFault}
 use Rattle.gate_net.specs.declared.fault.NetFault.TheVariants.{Denied}
 use Rattle.gate_net.specs.declared.entry.WhitelistEntry.{WhitelistEntry}

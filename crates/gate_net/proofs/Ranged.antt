@@ -11,8 +11,8 @@ use Rattle.std.proofs.lemmas.List.Sums.{split_at_first, passes_at_first}
 use Rattle.std.proofs.lemmas.Bool.Decides.{nat_tests}
 use Rattle.std.proofs.Math.Seq.{take-append_seam, drop-append-add}
 use Rattle.std.proofs.lemmas.Bool.{true≢false, lt-ltb, ltb-true, eqb-true}
-use Rattle.gate_net.specs.declared.denial.NetDenial.{NetDenial}
-use Rattle.gate_net.specs.declared.denial.NetDenial.TheVariants.{BadSubnet, MappedSubnet}
+use Rattle.gate_rules.specs.declared.NetDenial.{NetDenial}
+use Rattle.gate_rules.specs.declared.NetDenial.TheVariants.{BadSubnet, MappedSubnet}
 use Rattle.gate_net.specs.Addresses.{Address, V4, V6, dotted_of, written_of, is_mapped, canonical, address_of}
 use Rattle.gate_net.specs.Spelling.{has_dot, Spells}
 use Rattle.gate_net.specs.Subnets.{Subnet, host, netmask, mask_below, mask_length, is_length, length_of, prefix_of, parted_at, slashed, subnet_at, subnet_of}

@@ -1,8 +1,8 @@
 -- The definitions at texts from outside, by computation.
 use Rattle.std.specs.Prelude.{◌≡◌, ℕ, Bool, true, false, List, [], ◌∷◌, map, Option, Some, None, Result, Ok, Err, codes}
 use Rattle.std.specs.Option.{option_map}
-use Rattle.gate_net.specs.declared.denial.NetDenial.{NetDenial}
-use Rattle.gate_net.specs.declared.denial.NetDenial.TheVariants.{UnknownPermission, BadSubnet, MappedSubnet}
+use Rattle.gate_rules.specs.declared.NetDenial.{NetDenial}
+use Rattle.gate_rules.specs.declared.NetDenial.TheVariants.{UnknownPermission, BadSubnet, MappedSubnet}
 use Rattle.gate_net.specs.declared.fault.NetFault.{NetFault}
 use Rattle.gate_net.specs.declared.fault.NetFault.TheVariants.{Denied}
 use Rattle.gate_net.specs.declared.whitelist.Whitelist.{Whitelist}

@@ -2,7 +2,6 @@ pub mod Addresses
 pub mod Spelling
 pub mod Subnets
 pub mod Permissions
-pub mod Denials
 pub mod Whitelists
 pub mod Laws
 pub mod Examples

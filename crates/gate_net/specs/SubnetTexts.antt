@@ -6,7 +6,7 @@ use Rattle.std.specs.Int.{w32, from_be_bytes}
 use Rattle.std.specs.Str.{all_ascii_digits}
 use Rattle.std.specs.Str.Parse.{digits_value}
 use Rattle.std.specs.Net.Grammar.{IsDotted}
-use Rattle.gate_net.specs.declared.denial.NetDenial.TheVariants.{MappedSubnet}
+use Rattle.gate_rules.specs.declared.NetDenial.TheVariants.{MappedSubnet}
 use Rattle.gate_net.specs.Addresses.{Address, V4, V6, is_mapped, canonical}
 use Rattle.gate_net.specs.Spelling.{Spells}
 use Rattle.gate_net.specs.Subnets.{Subnet, host, netmask, subnet_of}

@@ -6,8 +6,8 @@ use Rattle.std.specs.Int.{w32, w128, from_be_bytes}
 use Rattle.std.specs.Str.{all_ascii_digits}
 use Rattle.std.specs.Str.Parse.{digits_value}
 use Rattle.std.specs.Net.Addr.{octets_of}
-use Rattle.gate_net.specs.declared.denial.NetDenial.{NetDenial}
-use Rattle.gate_net.specs.declared.denial.NetDenial.TheVariants.{BadSubnet, MappedSubnet}
+use Rattle.gate_rules.specs.declared.NetDenial.{NetDenial}
+use Rattle.gate_rules.specs.declared.NetDenial.TheVariants.{BadSubnet, MappedSubnet}
 use Rattle.gate_net.specs.Addresses.{Address, V4, V6, dotted_of, written_of, is_mapped, address_of}
 
 pub record Subnet : Type 0 where

@@ -1,8 +1,8 @@
 -- Whitelists: which flags the addresses of which subnets have (Bitcoin Core 22.0, `-whitelist`).
 use Rattle.std.specs.Prelude.{ℕ, Bool, true, false, if◌then◌else◌, List, [], ◌∷◌, map, Option, Some, None, Result, Ok, Err}
 use Rattle.std.specs.List.{filter, list_any}
-use Rattle.gate_net.specs.declared.denial.NetDenial.{NetDenial}
-use Rattle.gate_net.specs.declared.denial.NetDenial.TheVariants.{UnknownPermission}
+use Rattle.gate_rules.specs.declared.NetDenial.{NetDenial}
+use Rattle.gate_rules.specs.declared.NetDenial.TheVariants.{UnknownPermission}
 use Rattle.gate_net.specs.declared.fault.NetFault.{NetFault}
 use Rattle.gate_net.specs.declared.fault.NetFault.TheVariants.{Denied}
 use Rattle.gate_net.specs.declared.entry.WhitelistEntry.{WhitelistEntry}

@@ -3,10 +3,10 @@ ghost use Rattle.std.specs.Prelude.{◌≡◌};
 ghost use Rattle.gate_net.specs.Subnets.{subnet_of};
 ghost use Rattle.gate_net.specs.Whitelists.{granting, entry_of};
 
-use crate::denial::NetDenial;
 use crate::permissions::Permissions;
 use crate::subnet::{Subnet, part};
 use gate_bytes::{Copied, Memory};
+use gate_rules::NetDenial;
 use std::alloc::Global;
 
 /// What the addresses of a subnet are permitted.

@@ -1,8 +1,8 @@
 ghost use Rattle.std.specs.Prelude.{◌≡◌};
 ghost use Rattle.gate_net.specs.declared.fault.NetFault.TheVariants.{Memory as OutOfMemory, Denied};
 
-use crate::denial::NetDenial;
 use gate_bytes::Memory;
+use gate_rules::NetDenial;
 use std::alloc::AllocFailed;
 use thiserror::Error;
 

@@ -4,7 +4,6 @@
 #![tactic(auto)]
 
 mod address;
-mod denial;
 mod entry;
 mod examples;
 mod fault;
@@ -14,9 +13,9 @@ mod subnet;
 mod whitelist;
 
 pub use address::Address;
-pub use denial::NetDenial;
 pub use entry::WhitelistEntry;
 pub use fault::NetFault;
+pub use gate_rules::NetDenial;
 pub use laws::{
     addresses_are_spelled, addresses_read_back, entries_take_nothing, flags_are_given,
     subnets_are_spelled,

@@ -6,7 +6,7 @@ ghost use Rattle.gate_net.specs.Addresses.{seen, is_mapped};
 ghost use Rattle.gate_net.specs.Subnets.{netmask, mask_length, length_of, prefix_of, parted_at, subnet_at, slashed, subnet_of, host, is_in, width};
 
 use crate::address::{Address, written};
-use crate::denial::NetDenial;
+use gate_rules::NetDenial;
 use std::marker::Model;
 use std::net::{IpAddr, Ipv4Addr};
 

@@ -5,7 +5,7 @@ use Rattle.gate_chain.specs.declared.OpenFault.{OpenFault}
 use Rattle.gate_chain.specs.declared.OpenFault.TheVariants as chain
 use Rattle.gate_lines.specs.declared.fault.LaneFault.{LaneFault}
 use Rattle.gate_lines.specs.declared.fault.LaneFault.TheVariants as lane
-use Rattle.gate_net.specs.Denials.{token_of}
+use Rattle.gate_rules.specs.Whitelist.{token_of}
 use Rattle.gate_opening.specs.declared.opening_fault.OpeningToken.{OpeningToken}
 use Rattle.gate_opening.specs.declared.opening_fault.OpeningToken.TheVariants as tokens
 use Rattle.gate_opening.specs.declared.opening_fault.OpeningFault.{OpeningFault}

@@ -10,7 +10,7 @@ use Rattle.gate_submission.specs.declared.verdict.Verdict.{Verdict}
 use Rattle.gate_submission.specs.declared.verdict.VerdictRow.{VerdictRow}
 use Rattle.gate_admit.specs.Policies.{policy_of}
 use Rattle.gate_admit.specs.Verdicts.{has_row_on}
-use Rattle.gate_net.specs.declared.denial.NetDenial.{NetDenial}
+use Rattle.gate_rules.specs.declared.NetDenial.{NetDenial}
 use Rattle.gate_net.specs.declared.entry.WhitelistEntry.{WhitelistEntry}
 use Rattle.gate_net.specs.declared.whitelist.Whitelist.{Whitelist}
 use Rattle.gate_rpc.specs.Lists.{Lists, entry_of, default_of}

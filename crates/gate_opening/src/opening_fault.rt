@@ -32,7 +32,7 @@ impl OpeningToken {
         match self {
             OpeningToken::BadLine => "bad-line",
             OpeningToken::TimesLimit => "times-limit",
-            OpeningToken::Whitelist(denial) => denial.token(),
+            OpeningToken::Whitelist(denial) => denial.row().token,
             OpeningToken::NoTimes => "no-times",
             OpeningToken::CoinValue => "coin-value",
             OpeningToken::CoinUnspendable => "coin-unspendable",

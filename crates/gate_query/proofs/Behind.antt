@@ -8,8 +8,8 @@ use Rattle.gate_bytes.proofs.Members.{list_any_of}
 use Rattle.gate_tx.specs.declared.TxIn.{TxIn}
 use Rattle.gate_tx.specs.Ids.{txid_of}
 use Rattle.gate_tx.specs.Tx.{Tx}
-use Rattle.gate_standard.specs.declared.Denial.{Denial}
-use Rattle.gate_standard.specs.declared.Denial.TheVariants.{MempoolConflict, TrucViolation}
+use Rattle.gate_rules.specs.declared.Denial.{Denial}
+use Rattle.gate_rules.specs.declared.Denial.TheVariants.{MempoolConflict, TrucViolation}
 use Rattle.gate_pool.specs.Keeping.{IsNew}
 use Rattle.gate_pool.specs.Pool.{Admitted, entry_by_txid, has_txid, spender_of}
 use Rattle.gate_admit.specs.Bounds.{FitsAnEntry}

@@ -6,8 +6,8 @@ use Rattle.gate_tx.specs.Ids.{txid_of, wtxid_of}
 use Rattle.gate_tx.specs.Sizes.{weight_of}
 use Rattle.gate_standard.specs.Amounts.{required_fee}
 use Rattle.gate_standard.specs.declared.Feerate.{Feerate}
-use Rattle.gate_standard.specs.declared.Denial.{Denial}
-use Rattle.gate_standard.specs.declared.Denial.TheVariants.{Decode}
+use Rattle.gate_rules.specs.declared.Denial.{Denial}
+use Rattle.gate_rules.specs.declared.Denial.TheVariants.{Decode}
 use Rattle.gate_pool.specs.Pool.{Admitted, entry_by_txid, has_txid, listing_of, size_of}
 use Rattle.gate_pool.specs.Family.{names, children_of, ancestors_of, descendants_of, fees_of}
 use Rattle.gate_rbf.specs.Replacing.{signals}

@@ -6,9 +6,9 @@ use Rattle.gate_tx.specs.declared.OutPoint.{OutPoint}
 use Rattle.gate_tx.specs.declared.TxIn.{TxIn}
 use Rattle.gate_tx.specs.Tx.{Tx}
 use Rattle.gate_tx.specs.Ids.{txid_of, wtxid_of}
-use Rattle.gate_standard.specs.declared.Denial.{Denial}
-use Rattle.gate_standard.specs.declared.Denial.TheVariants.{Decode, MempoolConflict, SpendsConflicting, TrucViolation}
-use Rattle.gate_standard.specs.Denials.{rule_of}
+use Rattle.gate_rules.specs.declared.Denial.{Denial}
+use Rattle.gate_rules.specs.declared.Denial.TheVariants.{Decode, MempoolConflict, SpendsConflicting, TrucViolation}
+use Rattle.gate_rules.specs.Denials.{rule_of}
 use Rattle.gate_pool.specs.Pool.{Admitted, entry_by_txid, spender_of}
 use Rattle.gate_admit.specs.declared.Attempt.TheVariants.{First}
 use Rattle.gate_admit.specs.declared.Grant.{Grant}

@@ -30,8 +30,8 @@ fn has_conflict<S: BuildHasher + Copy + Drop>(pool: &Pool<S>, transaction: &Tran
 fn is_from_conflict(denial: Denial) -> bool
     ensures { result ≡ is_from_conflict denial }
 {
-    let rule = denial.rule();
-    rule >= Denial::MempoolConflict.rule() && rule <= Denial::TrucViolation.rule()
+    let rule = denial as usize;
+    rule >= Denial::MempoolConflict as usize && rule <= Denial::TrucViolation as usize
 }
 
 /// A decision where nothing may be replaced.
@@ -55,8 +55,8 @@ fn unreplacing(has_conflict: bool, decision: Result<Grant, Denial>) -> Result<Gr
 fn is_from_sibling(denial: Denial) -> bool
     ensures { result ≡ is_from_sibling denial }
 {
-    let rule = denial.rule();
-    rule >= Denial::SpendsConflicting.rule() && rule <= Denial::TrucViolation.rule()
+    let rule = denial as usize;
+    rule >= Denial::SpendsConflicting as usize && rule <= Denial::TrucViolation as usize
 }
 
 /// A decision where no sibling is evicted.

@@ -10,7 +10,7 @@ use Rattle.gate_tx.specs.Ids.{txid_of}
 use Rattle.gate_tx.specs.Tx.{Tx}
 use Rattle.gate_standard.specs.Amounts.{feerate}
 use Rattle.gate_standard.specs.declared.Feerate.{Feerate}
-use Rattle.gate_standard.specs.declared.Denial.TheVariants.{LowerFeeRate, TooManyReplacements, AddsUnconfirmed}
+use Rattle.gate_rules.specs.declared.Denial.TheVariants.{LowerFeeRate, TooManyReplacements, AddsUnconfirmed}
 use Rattle.gate_pool.specs.Pool.{Admitted}
 use Rattle.gate_pool.specs.Family.{steps, is_below_some, fees_of}
 use Rattle.gate_pool.specs.Counting.{is_counted, counted_of, replaced_beside}

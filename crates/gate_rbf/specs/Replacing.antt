@@ -7,9 +7,9 @@ use Rattle.gate_tx.specs.declared.TxIn.{TxIn}
 use Rattle.gate_tx.specs.Ids.{txid_of}
 use Rattle.gate_tx.specs.Tx.{Tx}
 use Rattle.gate_standard.specs.Amounts.{required_fee, feerate}
-use Rattle.gate_standard.specs.declared.Denial.{Denial}
+use Rattle.gate_rules.specs.declared.Denial.{Denial}
 use Rattle.gate_standard.specs.declared.Feerate.{Feerate}
-use Rattle.gate_standard.specs.declared.Denial.TheVariants.{LowerFeeRate, TooManyReplacements, AddsUnconfirmed, LowerFee, LowerDifference}
+use Rattle.gate_rules.specs.declared.Denial.TheVariants.{LowerFeeRate, TooManyReplacements, AddsUnconfirmed, LowerFee, LowerDifference}
 use Rattle.gate_pool.specs.Pool.{Admitted, entry_by_txid}
 use Rattle.gate_pool.specs.Family.{names, descendants_of, is_conflict, fees_of}
 use Rattle.gate_standard.specs.Rules.{is_truc}

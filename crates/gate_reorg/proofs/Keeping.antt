@@ -15,7 +15,7 @@ use Rattle.gate_tx.specs.Ids.{txid_of}
 use Rattle.gate_tx.specs.Text.{IsTx}
 use Rattle.gate_tx.specs.Tx.{Tx}
 use Rattle.gate_chain.specs.Blocks.{Block}
-use Rattle.gate_chain.specs.declared.ChainDenial.TheVariants.{BlockDecode}
+use Rattle.gate_rules.specs.declared.ChainDenial.TheVariants.{BlockDecode}
 use Rattle.gate_chain.specs.declared.ChainFault.{ChainFault}
 use Rattle.gate_chain.specs.Coins.{has_transaction, has_txid, is_known_txid}
 use Rattle.gate_chain.specs.History.{History}

@@ -7,7 +7,7 @@ use Rattle.gate_graph.specs.Family.{reaches}
 use Rattle.gate_bytes.proofs.Members.{Contains-head, Contains-rest}
 use Rattle.gate_tx.specs.Ids.{txid_of}
 use Rattle.gate_tx.specs.Tx.{Tx}
-use Rattle.gate_standard.specs.declared.Denial.{Denial}
+use Rattle.gate_rules.specs.declared.Denial.{Denial}
 use Rattle.gate_chain.specs.Blocks.{Block}
 use Rattle.gate_chain.specs.History.{History}
 use Rattle.gate_block.specs.Switching.{left_of, last_blocks, switched}

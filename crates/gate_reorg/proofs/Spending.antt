@@ -5,7 +5,7 @@ use Rattle.std.specs.List.{AllPairs}
 use Rattle.gate_graph.specs.Family.{reaches}
 use Rattle.gate_tx.specs.Ids.{txid_of}
 use Rattle.gate_tx.specs.Tx.{Tx}
-use Rattle.gate_standard.specs.declared.Denial.{Denial}
+use Rattle.gate_rules.specs.declared.Denial.{Denial}
 use Rattle.gate_block.specs.Switching.{last_blocks}
 use Rattle.gate_pool.specs.Pool.{Admitted, has_txid, spends_of, spent_by, size_of}
 use Rattle.gate_pool.specs.Counting.{is_counted, entered_beside}

@@ -4,8 +4,8 @@ use Rattle.std.specs.List.{list_any}
 use Rattle.gate_bytes.specs.Order.{Rule}
 use Rattle.gate_tx.specs.Ids.{txid_of}
 use Rattle.gate_chain.specs.Blocks.{Block}
-use Rattle.gate_chain.specs.declared.ChainDenial.{ChainDenial}
-use Rattle.gate_chain.specs.declared.ChainDenial.TheVariants.{BlockDecode}
+use Rattle.gate_rules.specs.declared.ChainDenial.{ChainDenial}
+use Rattle.gate_rules.specs.declared.ChainDenial.TheVariants.{BlockDecode}
 use Rattle.gate_chain.specs.History.{History}
 use Rattle.gate_chain.specs.Times.{tip_of}
 use Rattle.gate_block.specs.Switching.{last_blocks, switched, switch_rules}

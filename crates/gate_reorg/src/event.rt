@@ -3,7 +3,7 @@ ghost use Rattle.std.specs.Prelude.{◌≡◌, None, Some, is_none, false, IfOk,
 ghost use Rattle.std.specs.List.{list_any};
 ghost use Rattle.gate_bytes.specs.Order.{first_failing};
 ghost use Rattle.gate_chain.specs.Connecting.{Tells};
-ghost use Rattle.gate_chain.specs.declared.ChainDenial.TheVariants.{BlockDecode as Unreadable};
+ghost use Rattle.gate_rules.specs.declared.ChainDenial.TheVariants.{BlockDecode as Unreadable};
 ghost use Rattle.gate_chain.specs.Times.{tip_of};
 ghost use Rattle.gate_block.specs.Switching.{switched, switch_rules};
 ghost use Rattle.gate_pool.specs.Moves.{IsMarked};

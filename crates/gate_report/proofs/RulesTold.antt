@@ -3,7 +3,7 @@ use Rattle.std.proofs.Common.{◌≡◌, ℕ, List, map, Option, Result, Ok, Err
 use Rattle.gate_lines.specs.declared.fault.LaneFault.{LaneFault}
 use Rattle.gate_lines.specs.declared.fault.LaneFault.TheVariants as lane
 use Rattle.gate_report.specs.Explaining.{RulesPrinted, RulesStopped, TheseRulesPrinted, TheseRulesStopped}
-use Rattle.gate_rules.specs.Keys.{Key}
+use Rattle.gate_rules.specs.Key.{Key}
 use Rattle.gate_rules.specs.Rules.{key_of}
 use Rattle.gate_rules.specs.declared.rule.Rule.{Rule}
 

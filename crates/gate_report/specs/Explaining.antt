@@ -4,7 +4,8 @@ use Rattle.std.specs.Io.KnownBytes.{Appends}
 use Rattle.gate_lines.specs.declared.fault.LaneFault.{LaneFault}
 use Rattle.gate_lines.specs.declared.fault.LaneFault.TheVariants as lane
 use Rattle.gate_print.specs.Printing.{PartSent}
-use Rattle.gate_rules.specs.Keys.{Key, table_keys}
+use Rattle.gate_rules.specs.Key.{Key}
+use Rattle.gate_rules.specs.Keys.{table_keys}
 use Rattle.gate_rules.specs.Rules.{is_named, key_of}
 use Rattle.gate_rules.specs.Texts.{rules_text}
 use Rattle.gate_rules.specs.declared.rule.Rule.{Rule}

@@ -12,13 +12,14 @@ use Rattle.hex.specs.Hex.{encode_lower, encode_with, lower_digits}
 use Rattle.json.specs.Print.{escape, escape_byte, escape_letter, quoted}
 use Rattle.serde_json.specs.Data.{Num, unsigned, negative, float, Data, null, boolean, number, string, array, object, Items, no_items, item, Members, no_members, member}
 use Rattle.serde_json.specs.Written.{comma_if, compact_text, items_text, members_text, number_text}
-use Rattle.gate_chain.specs.Denials.{rule_of as chain_rule, token_of as chain_token}
-use Rattle.gate_chain.specs.declared.ChainDenial.{ChainDenial}
-use Rattle.gate_chain.specs.declared.ChainDenial.TheVariants.{BlockDecode, BlockCoinbase, BlockInputs, TxidRepeated, TimeTooOld, NoUndo, ChainFull, CoinValue, CoinUnspendable, CoinAboveOpening, CoinKnown, VerdictKnown}
-use Rattle.gate_message.specs.PeerDenials.{denial_token, rule_text, then_text}
+use Rattle.gate_rules.specs.Chain.{name_of as chain_name, token_of as chain_token}
+use Rattle.gate_rules.specs.declared.ChainDenial.{ChainDenial}
+use Rattle.gate_rules.specs.declared.ChainDenial.TheVariants.{BlockDecode}
+use Rattle.gate_message.specs.Following.{then_text}
+use Rattle.gate_rules.specs.Peers.{name_of, token_of}
 use Rattle.gate_message.specs.Texts.{reply_text}
-use Rattle.gate_message.specs.declared.denial.PeerDenial.{PeerDenial}
-use Rattle.gate_message.specs.declared.denial.PeerDenial.TheVariants as peer
+use Rattle.gate_rules.specs.declared.PeerDenial.{PeerDenial}
+use Rattle.gate_rules.specs.declared.PeerDenial.TheVariants.{Admission}
 use Rattle.gate_message.specs.declared.denial.Then.{Then}
 use Rattle.gate_message.specs.declared.denial.Then.TheVariants.{Keep, Close, Relay}
 use Rattle.gate_message.specs.declared.reply.Reply.{Reply}
@@ -27,9 +28,9 @@ use Rattle.gate_net.specs.Permissions.{Permissions, joined, named, names_of, per
 use Rattle.gate_rpc.specs.Replies.{answer_json, error_json, id_json, result_json, reply_status, reply_text as answer_text}
 use Rattle.gate_rpc.specs.declared.reply.RpcReply.{RpcReply}
 use Rattle.gate_rpc.specs.declared.reply.RpcReply.TheVariants.{NotAllowed, Answer, Failure}
-use Rattle.gate_standard.specs.Denials.{rule_of, token_of}
-use Rattle.gate_standard.specs.declared.denial.Denial.{Denial}
-use Rattle.gate_standard.specs.declared.denial.Denial.TheVariants as denials
+use Rattle.gate_rules.specs.Denials.{name_of as admission_name, token_of as admission_token}
+use Rattle.gate_rules.specs.declared.Denial.{Denial}
+use Rattle.gate_rules.specs.declared.Denial.TheVariants.{Decode}
 use Rattle.gate_tx.specs.Ids.{id_text}
 
 -- ---- texts without a newline
@@ -170,95 +171,29 @@ answer_plain (Failure id error) = data_plain (answer_json (error_json error) (id
 
 -- ---- words
 
-token_plain : (denial : Denial) → plain (token_of denial) ≡ true
-token_plain denials.Decode = refl
-token_plain denials.VinEmpty = refl
-token_plain denials.VoutEmpty = refl
-token_plain denials.Oversize = refl
-token_plain denials.VoutNegative = refl
-token_plain denials.VoutTooLarge = refl
-token_plain denials.TotalTooLarge = refl
-token_plain denials.InputsDuplicate = refl
-token_plain denials.CoinbaseLength = refl
-token_plain denials.PrevoutNull = refl
-token_plain denials.Coinbase = refl
-token_plain denials.Version = refl
-token_plain denials.TxSize = refl
-token_plain denials.ScriptSigSize = refl
-token_plain denials.ScriptSigNotPushOnly = refl
-token_plain denials.ScriptPubKey = refl
-token_plain denials.Dust = refl
-token_plain denials.MultiOpReturn = refl
-token_plain denials.TxSizeSmall = refl
-token_plain denials.NonFinal = refl
-token_plain denials.AlreadyInMempool = refl
-token_plain denials.SameNonWitnessData = refl
-token_plain denials.MempoolConflict = refl
-token_plain denials.AlreadyKnown = refl
-token_plain denials.MissingOrSpent = refl
-token_plain denials.NonBip68Final = refl
-token_plain denials.PrematureSpend = refl
-token_plain denials.InputValues = refl
-token_plain denials.InBelowOut = refl
-token_plain denials.FeeOutOfRange = refl
-token_plain denials.NonstandardInputs = refl
-token_plain denials.WitnessNonstandard = refl
-token_plain denials.TooManySigops = refl
-token_plain denials.MempoolMinFee = refl
-token_plain denials.MinRelayFee = refl
-token_plain denials.TooLongChain = refl
-token_plain denials.SpendsConflicting = refl
-token_plain denials.LowerFeeRate = refl
-token_plain denials.TooManyReplacements = refl
-token_plain denials.AddsUnconfirmed = refl
-token_plain denials.LowerFee = refl
-token_plain denials.LowerDifference = refl
-token_plain denials.VerdictMissing = refl
-token_plain denials.SoftVerdict = refl
-token_plain denials.HardVerdict = refl
-token_plain denials.MempoolFull = refl
-token_plain denials.TrucViolation = refl
-token_plain denials.DataCarrier = refl
+admission_name_plain : (denial : Denial) → plain (admission_name denial) ≡ true
+admission_name_plain Decode = refl
+admission_name_plain denial = refl
+
+admission_token_plain : (denial : Denial) → plain (admission_token denial) ≡ true
+admission_token_plain Decode = refl
+admission_token_plain denial = refl
+
+name_plain : (denial : PeerDenial) → plain (name_of denial) ≡ true
+name_plain (Admission denial) = admission_name_plain denial
+name_plain denial = refl
+
+token_plain : (denial : PeerDenial) → plain (token_of denial) ≡ true
+token_plain (Admission denial) = admission_token_plain denial
+token_plain denial = refl
+
+chain_name_plain : (denial : ChainDenial) → plain (chain_name denial) ≡ true
+chain_name_plain BlockDecode = refl
+chain_name_plain denial = refl
 
 chain_token_plain : (denial : ChainDenial) → plain (chain_token denial) ≡ true
 chain_token_plain BlockDecode = refl
-chain_token_plain BlockCoinbase = refl
-chain_token_plain BlockInputs = refl
-chain_token_plain TxidRepeated = refl
-chain_token_plain TimeTooOld = refl
-chain_token_plain NoUndo = refl
-chain_token_plain ChainFull = refl
-chain_token_plain CoinValue = refl
-chain_token_plain CoinUnspendable = refl
-chain_token_plain CoinAboveOpening = refl
-chain_token_plain CoinKnown = refl
-chain_token_plain VerdictKnown = refl
-
-rule_plain : (denial : PeerDenial) → plain (rule_text denial) ≡ true
-rule_plain peer.PeerUnknown = refl
-rule_plain peer.PeerClosed = refl
-rule_plain peer.PeerKnown = refl
-rule_plain peer.BlocksOnly = refl
-rule_plain peer.AlreadyInMempool = refl
-rule_plain peer.MempoolNoBloom = refl
-rule_plain peer.MempoolUploadTarget = refl
-rule_plain peer.HeadersDuringDownload = refl
-rule_plain peer.UnknownBlock = refl
-rule_plain peer.HistoricalUploadTarget = refl
-rule_plain (peer.Admission denial) = number_plain (rule_of denial)
-
-denial_plain : (denial : PeerDenial) → plain (denial_token denial) ≡ true
-denial_plain peer.PeerUnknown = refl
-denial_plain peer.PeerClosed = refl
-denial_plain peer.PeerKnown = refl
-denial_plain peer.BlocksOnly = refl
-denial_plain peer.AlreadyInMempool = refl
-denial_plain peer.MempoolNoBloom = refl
-denial_plain peer.MempoolUploadTarget = refl
-denial_plain peer.HeadersDuringDownload = refl
-denial_plain peer.UnknownBlock = refl
-denial_plain peer.HistoricalUploadTarget = refl
-denial_plain (peer.Admission denial) = token_plain denial
+chain_token_plain denial = refl
 
 then_plain : (what : Then) → plain (then_text what) ≡ true
 then_plain Keep = refl
@@ -329,8 +264,8 @@ reply_plain (Filter rate) = number_plain rate
 reply_plain (Rpc answer) =
     both (decimal (reply_status answer) ++ codes " ") (answer_text answer) (both (decimal (reply_status answer)) (codes " ") (number_plain (reply_status answer)) refl) (answer_plain answer)
 reply_plain (Denied denial what) =
-    both (rule_text denial) (codes " " ++ (then_text what ++ (codes " " ++ denial_token denial))) (rule_plain denial)
-    (both (then_text what) (codes " " ++ denial_token denial) (then_plain what) (denial_plain denial))
+    both (name_of denial) (codes " " ++ (then_text what ++ (codes " " ++ token_of denial))) (name_plain denial)
+    (both (then_text what) (codes " " ++ token_of denial) (then_plain what) (token_plain denial))
 reply_plain Set = refl
 reply_plain (Moved moved) =
     both (decimal moved.tip) (codes " removed " ++ (decimal moved.removed ++ (codes " entered " ++ decimal moved.entered))) (number_plain moved.tip)
@@ -338,7 +273,7 @@ reply_plain (Moved moved) =
 reply_plain (Forgotten blocks coins rows) =
     both (decimal blocks) (codes " " ++ (decimal coins ++ (codes " " ++ decimal rows))) (number_plain blocks)
     (both (decimal coins) (codes " " ++ decimal rows) (number_plain coins) (number_plain rows))
-reply_plain (Refused denial) = both (decimal (chain_rule denial)) (codes " " ++ chain_token denial) (number_plain (chain_rule denial)) (chain_token_plain denial)
+reply_plain (Refused denial) = both (chain_name denial) (codes " " ++ chain_token denial) (chain_name_plain denial) (chain_token_plain denial)
 
 pub replies_lack_newlines : (reply : Reply) → LacksNewline (reply_text reply)
 replies_lack_newlines reply = lacks (reply_text reply) (reply_plain reply)

@@ -1,25 +1,23 @@
 -- Objects as they are printed are the compact texts of their values.
-use Rattle.std.proofs.Common.{◌≡◌, ℕ, Bool, List, ◌++◌, Option, Some, None, true, false, refl}
-use Rattle.std.specs.Prelude.{codes}
+use Rattle.std.proofs.Common.{◌≡◌, ℕ, Bool, List, Option, Some, None, true, false, refl}
 use Rattle.std.specs.Option.{option_map}
-use Rattle.std.specs.Fmt.{decimal}
 use Rattle.json.specs.Print.{quoted, token_text}
 use Rattle.json.specs.Token.{boolean}
 use Rattle.serde_json.specs.Written.{compact_text}
 use Rattle.serde_json.proofs.OnLiterals.{serde_json_on_literals}
 use Rattle.gate_tx.specs.Ids.{id_text}
-use Rattle.gate_standard.specs.declared.denial.Denial.{Denial}
-use Rattle.gate_standard.specs.Denials.{rule_of}
+use Rattle.gate_rules.specs.declared.Denial.{Denial}
+use Rattle.gate_rules.specs.Denials.{name_of}
 use Rattle.gate_rpc.specs.declared.items.Spending.{Spending}
 use Rattle.gate_rpc.specs.declared.result.EntryInfo.{EntryInfo}
 use Rattle.gate_rpc.specs.Replies.{rejected_json, entry_json, reject_reason, spending_json, txids_json}
 use Rattle.gate_rpc.specs.Texts.{rejected_text, entry_text, bool_text, spending_start, spending_end}
 
-rejected_is : (t w : List ℕ) (d : Denial) → rejected_text (quoted (reject_reason d)) (quoted (codes "A" ++ decimal (rule_of d))) (quoted (id_text t)) (quoted (id_text w)) ≡ compact_text (rejected_json t w d)
+rejected_is : (t w : List ℕ) (d : Denial) → rejected_text (quoted (reject_reason d)) (quoted (name_of d)) (quoted (id_text t)) (quoted (id_text w)) ≡ compact_text (rejected_json t w d)
 unfolding serde_json_on_literals
 rejected_is t w d = refl
 
-pub rejected_whole : (reason rule txid wtxid t w : List ℕ) (d : Denial) → reason ≡ quoted (reject_reason d) → rule ≡ quoted (codes "A" ++ decimal (rule_of d)) → txid ≡ quoted (id_text t) → wtxid ≡ quoted (id_text w)
+pub rejected_whole : (reason rule txid wtxid t w : List ℕ) (d : Denial) → reason ≡ quoted (reject_reason d) → rule ≡ quoted (name_of d) → txid ≡ quoted (id_text t) → wtxid ≡ quoted (id_text w)
     → rejected_text reason rule txid wtxid ≡ compact_text (rejected_json t w d)
 rejected_whole reason rule txid wtxid t w d a b e f = rw (a, b, e, f) (rejected_is t w d)
 

@@ -1,6 +1,5 @@
 -- Answers as values of JSON, and their texts.
-use Rattle.std.specs.Prelude.{ℕ, ℤ, pos, neg_ℤ, true, false, List, [], ◌∷◌, ◌++◌, codes, Option, Some, None}
-use Rattle.std.specs.Fmt.{decimal}
+use Rattle.std.specs.Prelude.{ℕ, ℤ, pos, neg_ℤ, true, false, List, [], ◌∷◌, codes, Option, Some, None}
 use Rattle.serde_json.specs.Data.{unsigned, Data, null, boolean, number, string, array, object, Items, no_items, item, Members, no_members, member}
 use Rattle.serde_json.specs.Find.{of_integer}
 use Rattle.serde_json.specs.Written.{compact_text}
@@ -8,9 +7,9 @@ use Rattle.hex.specs.Hex.{encode_lower}
 use Rattle.gate_tx.specs.Ids.{id_text}
 use Rattle.gate_tx.specs.Text.{text}
 use Rattle.gate_tx.specs.Tx.{Tx}
-use Rattle.gate_standard.specs.declared.denial.Denial.{Denial}
-use Rattle.gate_standard.specs.declared.denial.Denial.TheVariants.{Decode, MissingOrSpent}
-use Rattle.gate_standard.specs.Denials.{rule_of, token_of}
+use Rattle.gate_rules.specs.declared.Denial.{Denial}
+use Rattle.gate_rules.specs.declared.Denial.TheVariants.{Decode, MissingOrSpent}
+use Rattle.gate_rules.specs.Denials.{name_of, token_of}
 use Rattle.gate_rpc.specs.declared.id.Id.{Id}
 use Rattle.gate_rpc.specs.declared.id.Id.TheVariants as ids
 use Rattle.gate_rpc.specs.declared.error.RpcError.{RpcError}
@@ -68,7 +67,7 @@ integer n = number (unsigned n)
 
 -- the name of the rule that denies, such as `A17`
 abbrev pub rule_json : Denial → Data
-rule_json denial = string (codes "A" ++ decimal (rule_of denial))
+rule_json denial = string (name_of denial)
 
 abbrev pub rules_of : RpcError → Members
 rules_of (Denied denial) = member (codes "rule") (rule_json denial) no_members

@@ -54,13 +54,13 @@ impl RpcError {
             RpcError::MethodNotFound => "Method not found",
             RpcError::InvalidParams => "Invalid params",
             RpcError::NotInMempool => "Transaction not in mempool",
-            RpcError::Denied(denial) => denial.token(),
+            RpcError::Denied(denial) => denial.row().token,
         }
     }
 }
 
 impl Exact for RpcError {
-    ghost use Rattle.gate_standard.specs.contracts.denial.Denial.{enum as denials};
+    ghost use Rattle.gate_rules.specs.contracts.denial.Denial.{enum as denials};
     ghost use Rattle.gate_rpc.specs.contracts.error.RpcError.{enum};
     ghost use Rattle.gate_bytes.specs.Equality.{enum_decides, ◌or◌, none_decides, last_decides, bare_decides};
 

@@ -58,7 +58,7 @@ impl Exact for Spending {
 impl Exact for Outcome {
     ghost use Rattle.std.proofs.lemmas.Bool.Decides.{Decides-eqb};
     ghost use Rattle.std.proofs.lemmas.Slice.Eq.{bytes_eq-Decides};
-    ghost use Rattle.gate_standard.specs.contracts.denial.Denial.{enum as denials};
+    ghost use Rattle.gate_rules.specs.contracts.denial.Denial.{enum as denials};
     ghost use Rattle.gate_rpc.specs.contracts.items.Outcome.{enum};
     ghost use Rattle.gate_bytes.specs.Equality.{enum_decides, ◌or◌, ◌&◌, last_decides, bare_decides};
 

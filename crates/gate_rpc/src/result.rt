@@ -140,7 +140,7 @@ impl Exact for RpcResult {
     ghost use Rattle.gate_rpc.specs.contracts.items.SpendingExact.TheImpl.Laws.{exact-law as spending_decides};
     ghost use Rattle.gate_rpc.specs.contracts.items.OutcomeExact.TheImpl.Laws.{exact-law as outcome_decides};
     ghost use Rattle.gate_tx.specs.Equality.{items_decides};
-    ghost use Rattle.gate_standard.specs.contracts.denial.Denial.{enum as denials};
+    ghost use Rattle.gate_rules.specs.contracts.denial.Denial.{enum as denials};
     ghost use Rattle.gate_rpc.specs.contracts.result.EntryInfoExact.TheImpl.Laws.{exact-law as entry_decides};
     ghost use Rattle.gate_rpc.specs.contracts.result.RpcResult.{enum};
     ghost use Rattle.gate_rpc.specs.Equality.{list_decides};

@@ -1,11 +1,10 @@
 //! Values of JSON, written compactly.
-ghost use Rattle.std.specs.Prelude.{◌≡◌, [], ◌∷◌, ◌++◌, codes, IfOk, OnOk, Some, string_bytes};
+ghost use Rattle.std.specs.Prelude.{◌≡◌, [], ◌∷◌, ◌++◌, IfOk, OnOk, Some, string_bytes};
 ghost use Rattle.std.specs.Option.{option_map};
-ghost use Rattle.std.specs.Fmt.{decimal};
 ghost use Rattle.serde_json.specs.View.{view};
 ghost use Rattle.serde_json.specs.Written.{compact_text};
 ghost use Rattle.gate_rpc.specs.Replies.{error_json, id_json, txids_json, allowed_json, rejected_json, entry_json, info_json, outcome_json, outcomes_json, entries_json, transaction_json, spending_json, spendings_json, result_json, reject_reason};
-ghost use Rattle.gate_standard.specs.Denials.{rule_of};
+ghost use Rattle.gate_rules.specs.Denials.{name_of};
 ghost use Rattle.gate_tx.specs.Ids.{id_text};
 ghost use Rattle.gate_rpc.specs.Texts.{rejected_text, spending_start, spending_end, entry_text, entry_start, entry_middle, entry_end};
 ghost use Rattle.hex.specs.Hex.{IsBytes, encode_lower};
@@ -35,19 +34,11 @@ fn error_value(alloc: Global, error: &RpcError) -> Result<Value, AllocError>
     let message = error.message();
     match error {
         RpcError::Denied(denial) => {
-            let rule = rule_text(alloc, denial)?;
+            let rule = denial.row().name;
             json!(in alloc; {"code": code, "message": message, "rule": rule})
         }
         _ => json!(in alloc; {"code": code, "message": message}),
     }
-}
-
-/// The name of the rule that denies, such as `A17`.
-fn rule_text(alloc: Global, denial: &Denial) -> Result<String, AllocError>
-    ensures { IfOk result (λ text. string_bytes text ≡ codes "A" ++ decimal (rule_of denial.now)) }
-{
-    let rule = denial.rule();
-    format!(in alloc; "A{rule}")
 }
 
 fn quoted_text(alloc: Global, text: &str) -> Result<String, AllocError>
@@ -198,10 +189,9 @@ fn rejected_text(
 }
 
 fn rule_json(alloc: Global, denial: &Denial) -> Result<String, AllocError>
-    ensures { IfOk result (λ text. string_bytes text ≡ quoted (codes "A" ++ decimal (rule_of denial.now))) }
+    ensures { IfOk result (λ text. string_bytes text ≡ quoted (name_of denial.now)) }
 {
-    let rule = rule_text(alloc, denial)?;
-    quoted_text(alloc, rule.as_str())
+    quoted_text(alloc, denial.row().name)
 }
 
 /// Why a transaction would be denied, as Bitcoin Core's `testmempoolaccept` names it.
@@ -210,7 +200,7 @@ fn reject_reason(denial: &Denial) -> &'static str
 {
     match denial {
         Denial::MissingOrSpent => "missing-inputs",
-        _ => denial.token(),
+        _ => denial.row().token,
     }
 }
 

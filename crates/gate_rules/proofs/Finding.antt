@@ -1,6 +1,6 @@
 -- What is found among rules, by what they are compared by.
 use Rattle.std.proofs.Common.{◌≡◌, Bool, true, false, cond, List, [], ◌∷◌, map, filter, refl, sym, ap}
-use Rattle.gate_rules.specs.Keys.{Key}
+use Rattle.gate_rules.specs.Key.{Key}
 use Rattle.gate_rules.specs.Rules.{key_of}
 use Rattle.gate_rules.specs.declared.rule.Rule.{Rule}
 

@@ -2,7 +2,7 @@
 use Rattle.std.specs.Prelude.{ℕ, Bool, ◌||◌, List, filter, map}
 use Rattle.std.specs.Str.{bytes_eq}
 use Rattle.std.specs.Char.{to_ascii_lowercase}
-use Rattle.gate_rules.specs.Keys.{Key, key}
+use Rattle.gate_rules.specs.Key.{Key, key}
 use Rattle.gate_rules.specs.declared.rule.Rule.{Rule}
 
 abbrev pub key_of : Rule → Key
@@ -14,7 +14,7 @@ is_alike text other = bytes_eq (map to_ascii_lowercase text) (map to_ascii_lower
 
 -- the word is the name or the token, in either case
 abbrev pub is_named : List ℕ → Key → Bool
-is_named word k = is_alike k.0 word || is_alike k.1 word
+is_named word k = is_alike k.name word || is_alike k.token word
 
 -- the rules among these that the word names
 abbrev pub named_among : List ℕ → List Rule → List Rule

@@ -3,10 +3,10 @@ use Rattle.std.specs.Prelude.{ℕ, List, [], ◌∷◌, ◌++◌, codes, Option,
 use Rattle.std.specs.Borrow.{Bor}
 use Rattle.std.specs.List.{flat_map}
 use Rattle.gate_rules.specs.declared.rule.Rule.{Rule}
-use Rattle.gate_rules.specs.declared.rule.Then.{Then}
-use Rattle.gate_rules.specs.declared.rule.Then.TheVariants.{Keep, Close, CloseAlways, Relay, Nothing, EndsRun, EndsProgram}
+use Rattle.gate_rules.specs.declared.rule.Consequence.{Consequence}
+use Rattle.gate_rules.specs.declared.rule.Consequence.TheVariants.{Keep, Close, CloseAlways, Relay, Nothing, EndsRun, EndsProgram}
 
-abbrev pub then_text : Then → List ℕ
+abbrev pub then_text : Consequence → List ℕ
 then_text Keep = codes "The session is kept."
 then_text Close = codes "The session is closed, unless the peer has noban."
 then_text CloseAlways = codes "The session is closed, also with noban."

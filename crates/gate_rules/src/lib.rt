@@ -1,14 +1,21 @@
-//! The rules and words that the gate prints: what each one says, what follows, and its name in Bitcoin Core 22.0.
+//! The rules and words that the gate prints, a row each: the name and the token, what follows, its name in Bitcoin Core 22.0,
+//! and what it says.
 //!
-//! The main clauses are those of [`rules`] and [`rules_named`]: every rule stands in the table with its token and with what
-//! follows, in the order of the policy, and exactly those that a word names are found.
+//! Whatever denies is a type here, and its row is that of the definitions (`Denial::row`, `PeerDenial::row`,
+//! `ChainDenial::row`, `NetDenial::row`). [`rules`] is the whole table in the order of the policy, and [`rules_named`] finds
+//! exactly those that a word names.
 #![tactic(auto)]
 
-mod admission;
-mod callers;
-mod events;
+mod chain;
+mod denial;
+mod peer;
 mod rule;
 mod table;
+mod whitelist;
 
-pub use rule::{Rule, Then};
-pub use table::{rules, rules_named, rules_text};
+pub use chain::ChainDenial;
+pub use denial::Denial;
+pub use peer::PeerDenial;
+pub use rule::{Consequence, Rule};
+pub use table::{rules, rules_named, rules_text, user_rule};
+pub use whitelist::NetDenial;

@@ -7,7 +7,7 @@ use std::fmt;
 
 /// What follows if a rule fails.
 #[derive(Clone, Copy, PartialEq, Eq)]
-pub enum Then {
+pub enum Consequence {
     /// The session is kept.
     Keep,
     /// The session is closed, unless the peer has noban.
@@ -24,21 +24,21 @@ pub enum Then {
     EndsProgram,
 }
 
-impl Then {
+impl Consequence {
     /// What follows, in a sentence.
     pub fn as_str(&self) -> &'static str
         ensures { result.now ≡ then_text self.now }
     {
         match self {
-            Then::Keep => "The session is kept.",
-            Then::Close => "The session is closed, unless the peer has noban.",
-            Then::CloseAlways => "The session is closed, also with noban.",
-            Then::Relay => {
+            Consequence::Keep => "The session is kept.",
+            Consequence::Close => "The session is closed, unless the peer has noban.",
+            Consequence::CloseAlways => "The session is closed, also with noban.",
+            Consequence::Relay => {
                 "The session is kept, and for a peer with forcerelay the transaction is relayed once more."
             }
-            Then::Nothing => "Nothing changes.",
-            Then::EndsRun => "The run ends there.",
-            Then::EndsProgram => "The program ends with status 2.",
+            Consequence::Nothing => "Nothing changes.",
+            Consequence::EndsRun => "The run ends there.",
+            Consequence::EndsProgram => "The program ends with status 2.",
         }
     }
 }
@@ -49,7 +49,7 @@ pub struct Rule {
     /// What is printed before the token: a letter and a number, or `opening`, `fault` or `call`.
     pub name: &'static str,
     pub token: &'static str,
-    pub then: Then,
+    pub then: Consequence,
     /// The rule's name in Bitcoin Core 22.0, or that of the function or the option that has it; `None` for a rule of
     /// the gate's own.
     pub core: Option<&'static str>,

@@ -5,7 +5,7 @@ use Rattle.gate_bytes.proofs.OrderLemmas.{found_in_first}
 use Rattle.gate_tx.specs.declared.TxOut.{TxOut}
 use Rattle.gate_standard.specs.Outputs.{carries_data}
 use Rattle.gate_standard.specs.Rules.{left_behind, rules_of_output, rules_of_outputs}
-use Rattle.gate_standard.specs.declared.denial.Denial.{Denial}
+use Rattle.gate_rules.specs.declared.Denial.{Denial}
 use Rattle.gate_standard.specs.declared.standards.Standards.{Standards}
 
 pub output_fails : (standards : Standards) (left : Option ℕ) (outputs : List TxOut) (i : ℕ) (o : TxOut) (denial : Denial) → i < length outputs → o ≡ get_or outputs i o

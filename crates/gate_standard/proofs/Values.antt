@@ -7,8 +7,8 @@ use Rattle.std.proofs.lemmas.Bool.Decides.{nat_tests}
 use Rattle.gate_bytes.specs.Order.{first_failing}
 use Rattle.gate_tx.specs.declared.transaction.TxOut.{TxOut}
 use Rattle.gate_tx.specs.Money.{max_money, amount_or_zero}
-use Rattle.gate_standard.specs.declared.denial.Denial.{Denial}
-use Rattle.gate_standard.specs.declared.denial.Denial.TheVariants.{VoutNegative, VoutTooLarge, TotalTooLarge}
+use Rattle.gate_rules.specs.declared.Denial.{Denial}
+use Rattle.gate_rules.specs.declared.Denial.TheVariants.{VoutNegative, VoutTooLarge, TotalTooLarge}
 use Rattle.gate_standard.specs.Laws.{ValuesAreInRange}
 use Rattle.gate_standard.specs.Rules.{output_value_rules}
 

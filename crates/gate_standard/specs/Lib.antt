@@ -1,5 +1,4 @@
 pub mod Amounts
-pub mod Denials
 pub mod Examples
 pub mod Outputs
 pub mod Rules

@@ -4,8 +4,8 @@ ghost use Rattle.gate_bytes.specs.Order.{first_failing};
 ghost use Rattle.gate_tx.specs.Money.{max_money, amount_or_zero};
 ghost use Rattle.gate_standard.specs.Rules.{rules_of_value, output_value_rules, spends_twice, spends_null, is_coinbase, coinbase_rules, transaction_rules};
 
-use crate::Denial;
 use gate_bytes::Memory;
+use gate_rules::Denial;
 use gate_tx::{MAX_MONEY, Transaction, TxIn, TxOut};
 use std::alloc::Global;
 use std::collections::BTreeSet;

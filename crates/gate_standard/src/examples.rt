@@ -1,6 +1,6 @@
 //! The definitions at values that are known from outside.
 ghost use Rattle.std.specs.Prelude.{◌≡◌, ◌∷◌, [], None, Some};
-ghost use Rattle.gate_standard.specs.declared.denial.Denial.TheVariants as denials;
+ghost use Rattle.gate_rules.specs.declared.Denial.TheVariants as denials;
 ghost use Rattle.gate_standard.specs.Amounts.{down, feerate, required_fee, up};
 ghost use Rattle.gate_bytes.specs.Order.{first_failing};
 ghost use Rattle.gate_standard.specs.Outputs.{dust_threshold_of};

@@ -5,7 +5,6 @@
 
 mod amounts;
 mod check;
-mod denial;
 mod examples;
 mod law;
 mod order;
@@ -15,7 +14,7 @@ mod standards;
 
 pub use amounts::{Feerate, Rounding, rate_of};
 pub use check::check_transaction;
-pub use denial::Denial;
+pub use gate_rules::Denial;
 pub use gate_tx::MAX_MONEY;
 pub use law::{outpoints_are_spent_once, rates_are_rounded_down, values_are_in_range};
 pub use order::the_order;

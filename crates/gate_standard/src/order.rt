@@ -1,7 +1,7 @@
 //! What the written order of rules says.
 ghost use Rattle.std.specs.Prelude.{List};
 ghost use Rattle.gate_bytes.specs.Order.{Rule, first_failing, IsFirstOf};
-ghost use Rattle.gate_standard.specs.declared.denial.Denial.{Denial};
+ghost use Rattle.gate_rules.specs.declared.Denial.{Denial};
 
 /// Whatever the rules: a denial is that of a rule that fails, with none failing before it; and
 /// without a denial no rule fails.

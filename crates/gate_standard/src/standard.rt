@@ -6,9 +6,9 @@ ghost use Rattle.gate_standard.specs.Outputs.{carries_data};
 ghost use Rattle.gate_standard.specs.Rules.{is_truc, is_version, rules_of_input, rules_of_output, rules_of_outputs, left_behind, form_rules, output_rules, version_rules};
 ghost use Rattle.gate_standard.specs.Standards.{is_past};
 
-use crate::Denial;
 use crate::outputs::{is_below_dust, is_null_data, is_standard_template};
 use crate::standards::Standards;
+use gate_rules::Denial;
 use gate_script::{is_push_only, template};
 use gate_tx::{Transaction, TxIn, TxOut};
 

@@ -2,8 +2,8 @@
 use Rattle.std.specs.Prelude.{List, ◌++◌, Option, Some, None}
 use Rattle.gate_bytes.specs.Order.{Rule, first_failing}
 use Rattle.gate_tx.specs.Tx.{Tx}
-use Rattle.gate_standard.specs.declared.Denial.{Denial}
-use Rattle.gate_standard.specs.declared.Denial.TheVariants.{Decode}
+use Rattle.gate_rules.specs.declared.Denial.{Denial}
+use Rattle.gate_rules.specs.declared.Denial.TheVariants.{Decode}
 use Rattle.gate_standard.specs.Rules.{transaction_rules, version_rules, form_rules, output_rules}
 use Rattle.gate_standard.specs.declared.Standards.{Standards}
 

@@ -100,19 +100,22 @@ fn addresses_and_their_flags(rt: HostRuntime) -> Result<(), Fail> {
     Ok(())
 }
 
-/// An entry, and the token and the number of the rule that it breaks.
-const REFUSED: [(&str, &str, u8); 5] = [
-    ("nobans@::ffff:a00:0/104", "unknown-permission", 1),
-    ("noban@::ffff:a00:0/junk", "mapped-subnet", 3),
-    ("noban@10.0.0.0/33", "bad-subnet", 2),
-    ("noban@10.0.0.0/255.0.255.0", "bad-subnet", 2),
-    ("10.0.0.0/0008", "bad-subnet", 2),
+/// An entry, and the token and the name of the rule that it breaks.
+const REFUSED: [(&str, &str, &str); 5] = [
+    ("nobans@::ffff:a00:0/104", "unknown-permission", "N1"),
+    ("noban@::ffff:a00:0/junk", "mapped-subnet", "N3"),
+    ("noban@10.0.0.0/33", "bad-subnet", "N2"),
+    ("noban@10.0.0.0/255.0.255.0", "bad-subnet", "N2"),
+    ("10.0.0.0/0008", "bad-subnet", "N2"),
 ];
 
 #[test]
 fn entries_that_are_refused(rt: HostRuntime) -> Result<(), Fail> {
     for (text, token, rule) in &REFUSED {
-        let told = denial_of(rt.alloc(), text)?.map(|denial| (denial.token(), denial.rule()));
+        let told = denial_of(rt.alloc(), text)?.map(|denial| (
+            denial.row().token,
+            denial.row().name,
+        ));
         assert!(rt; told == Some((*token, *rule)), "{text}");
     }
     Ok(())

@@ -8,9 +8,9 @@ ghost use Rattle.gate_chain.specs.Times.{times_of};
 
 use super::Chain;
 use crate::connected::Place;
-use crate::denial::ChainDenial;
 use crate::fault::ChainFault;
 use crate::forgetting::{Parting, part, place_below, settle, take_out};
+use gate_rules::ChainDenial;
 use gate_tx::OutPoint;
 use std::alloc::Global;
 use std::hash::BuildHasher;

@@ -10,11 +10,11 @@ ghost use Rattle.gate_chain.specs.History.{first_connected};
 ghost use Rattle.gate_chain.specs.Learning.{learn_rules, learnt};
 
 use super::Chain;
-use crate::denial::ChainDenial;
 use crate::fault::ChainFault;
 use crate::keeping::is_money;
 use crate::learning::put;
 use crate::opening::OpeningCoin;
+use gate_rules::ChainDenial;
 use gate_tx::{OutPoint, Txid, is_unspendable};
 use std::hash::BuildHasher;
 

@@ -4,7 +4,7 @@ use Rattle.gate_script.specs.declared.Template.{Template}
 use Rattle.gate_script.specs.declared.Template.TheVariants.{ScriptHash, WitnessV0Key, WitnessV0Script, Taproot, WitnessUnknown, NullData, Key, KeyHash, Multisig, Nonstandard}
 use Rattle.gate_standard.specs.Outputs.{is_standard_template, dust_threshold_of}
 use Rattle.gate_standard.specs.Rules.{left_behind, version_rules}
-use Rattle.gate_standard.specs.declared.Denial.TheVariants.{Version}
+use Rattle.gate_rules.specs.declared.Denial.TheVariants.{Version}
 use Rattle.gate_rbf.specs.Replacing.{signals}
 use Rattle.gate_admit.specs.Defaults.{standard_by_default}
 use Rattle.gate_admit.specs.Policies.{usual_policy}

@@ -1,7 +1,7 @@
 use Rattle.std.proofs.Common.{rules, arith, ◌≡◌, ◌∙◌, ◌||◌, false, nat_lt, length, sym, ap, subst, IfErr, Some, if◌then◌else◌}
 use Rattle.std.proofs.lemmas.Bool.Decides.{nat_tests}
 use Rattle.gate_bytes.specs.Order.{first_failing}
-use Rattle.gate_chain.specs.declared.denial.ChainDenial.TheVariants.{NoUndo}
+use Rattle.gate_rules.specs.declared.ChainDenial.TheVariants.{NoUndo}
 use Rattle.gate_chain.specs.Connecting.{Tells}
 use Rattle.gate_block.specs.Switching.{blocks_rules, max_depth, without_last}
 use Rattle.gate_block.proofs.Switches.{none_gone}

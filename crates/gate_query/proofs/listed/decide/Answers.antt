@@ -1,6 +1,6 @@
 use Rattle.std.proofs.Common.{◌≡◌, Bool, ◌∙◌, Result, sym, ap, subst}
 use Rattle.std.specs.Prelude.{IfOk, is_some}
-use Rattle.gate_standard.specs.declared.Denial.{Denial}
+use Rattle.gate_rules.specs.declared.Denial.{Denial}
 use Rattle.gate_pool.specs.Keeping.{IsNew}
 use Rattle.gate_admit.specs.Bounds.{FitsAnEntry}
 use Rattle.gate_admit.specs.declared.Attempt.TheVariants.{First}

@@ -1,5 +1,5 @@
 use Rattle.std.proofs.Common.{◌≡◌, ◌∙◌, ap, List, filter, map}
-use Rattle.gate_rules.specs.Keys.{Key}
+use Rattle.gate_rules.specs.Key.{Key}
 use Rattle.gate_rules.specs.Rules.{is_named, key_of, named_among}
 use Rattle.gate_rules.specs.declared.rule.Rule.{Rule}
 use Rattle.gate_rules.proofs.Finding.{map_filter}

@@ -6,7 +6,7 @@ use Rattle.std.specs.List.{list_any}
 use Rattle.gate_tx.specs.declared.OutPoint.{OutPoint}
 use Rattle.gate_tx.specs.Coins.{point_eq}
 use Rattle.gate_chain.specs.declared.connected.Connected.{Connected}
-use Rattle.gate_chain.specs.declared.denial.ChainDenial.TheVariants.{NoUndo}
+use Rattle.gate_rules.specs.declared.ChainDenial.TheVariants.{NoUndo}
 use Rattle.gate_chain.specs.Coins.{coin_of, is_known_txid}
 use Rattle.gate_chain.specs.Forgetting.{dropped_coins, forgotten, is_spent_in_any}
 use Rattle.gate_chain.specs.Founding.{AreConnected}

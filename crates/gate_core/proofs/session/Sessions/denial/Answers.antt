@@ -1,6 +1,6 @@
 use Rattle.std.proofs.Common.{Bool, not, if◌then◌else◌, None, Some, sym, ap, ◌∙◌}
 use Rattle.std.specs.Option.{option_copied}
-use Rattle.gate_message.specs.declared.denial.PeerDenial.TheVariants.{PeerClosed}
+use Rattle.gate_rules.specs.declared.PeerDenial.TheVariants.{PeerClosed}
 use Rattle.gate_core.proofs.Peers.{rules-shown}
 use Rattle.gate_core.proofs.session.Sessions.denial.Goals as goal
 
