@@ -277,13 +277,14 @@ class Following:
 
     async def given(self, txids: Iterable[str]) -> bool:
         """Waits a little until the gate was given each of these transactions of the node's pool; whether it had to wait."""
-        wanted = set(txids)
+        lacking = set(txids) - self._pool.given
         until, has_waited = time.monotonic() + BEHIND_SECONDS, False
-        while not wanted <= self._pool.given:
+        while lacking:
             if time.monotonic() >= until:
                 raise NotThere("the gate is behind its node")
             has_waited = True
             await asyncio.sleep(0.02)
+            lacking = {it for it in lacking if it not in self._pool.given}
         return has_waited
 
     # what no message says

@@ -18,6 +18,7 @@ from .node import SCRIPT_REASONS, Refused, Transaction, Unusable, read_transacti
 from .node.answers import TrialInfo
 from .node.differences import Answer
 from .node.releases import SAID_OF_BURN
+from .once_for_all import OnceForAll
 from .opening import verdict_lines
 from .shadow import Shadow
 
@@ -37,6 +38,8 @@ OF_THE_PARAMETERS = (forms.MISC_ERROR, forms.TYPE_ERROR, forms.INVALID_PARAMETER
 FEW_INPUTS = 100
 # how often coins are asked for if the chain moves meanwhile
 ROUNDS = 8
+# seconds between two listings of the node's pool, at the least, and seconds that a caller waits for what one shows
+LISTED_PAUSE, LISTED_SECONDS = 1.0, 15.0
 # the pauses before a node whose answer got lost is asked again whether it takes a transaction
 PAUSES = (0.2, 0.5, 1.0)
 
@@ -44,13 +47,14 @@ PAUSES = (0.2, 0.5, 1.0)
 @dataclass
 class Judged:
     """What both sides say of transactions, none by the node if it was not asked; their coins; what the node says of scripts, as far
-    as the gate may not know it, and all of it."""
+    as the gate may not know it, and all of it; whether the node refuses what the gate wouldn't."""
 
     ours: list[GateTrial]
     theirs: list[TrialInfo]
     shown: CoinsShown
     verdicts: list[str] = field(default_factory=list)
     all_verdicts: list[str] = field(default_factory=list)
+    differ: bool = False
 
 
 def read(digits: str) -> Optional[Transaction]:
@@ -68,6 +72,7 @@ class Trying:
         self._keeper, self._following, self._client, self._shadow = keeper, following, client, shadow
         # what is sent reaches the node in the order in which the gate took it
         self._sending = asyncio.Lock()
+        self._all_given = OnceForAll(self._give_all, LISTED_PAUSE)
 
     # testmempoolaccept
 
@@ -80,6 +85,9 @@ class Trying:
             # the gate says which of them does not parse, and nothing of the others
             return list(await self._keeper.offered(ask))
         judged = await self._judged(transactions, rate, ask)
+        if judged.differ:
+            await self._has_been_given_all()
+            judged = await self._judged(transactions, rate, ask)
         told: list[GateTrial] = await self._over_coins(transactions, judged, ask) if judged.verdicts else judged.ours
         if self._shadow.is_on and len(told) == 1:
             await self._compare(listed[0], told[0], judged.theirs)
@@ -104,12 +112,22 @@ class Trying:
         if one is None:
             return str(await self._keeper.offered(functools.partial(asking.asked, user=user, method="sendrawtransaction", params=[digits])))
         await self._has_to_burn_no_more(one, rate, burn)
+        if not await self._is_sent(user, one, rate, burn, is_last=False):
+            # nobody else's payment waits meanwhile
+            await self._has_been_given_all()
+            await self._is_sent(user, one, rate, burn, is_last=True)
+        return one.txid
+
+    async def _is_sent(self, user: str, one: Transaction, rate: Any, burn: Any, is_last: bool) -> bool:
+        """Whether both sides have a payment; False if they differ on it, and it isn't the last try: then neither does."""
         async with self._sending:
             # it may have been closed while others were before this one
             self._keeper.has_to_be_open()
-            is_new = await self._taken(user, one, await self._judged([one], rate, functools.partial(_tried_by_gate, listed=[one])))
-            await self._handed_on(one, rate, burn, is_new)
-        return one.txid
+            judged = await self._judged([one], rate, functools.partial(_tried_by_gate, listed=[one]))
+            if judged.differ and not is_last:
+                return False
+            await self._handed_on(one, rate, burn, await self._taken(user, one, judged))
+            return True
 
     async def _has_to_burn_no_more(self, one: Transaction, rate: Any, burn: Any) -> None:
         """A Fault in the node's words if it says that a transaction burns more than its caller allows, or that a bound of the
@@ -184,20 +202,25 @@ class Trying:
     # what both say
 
     async def _judged(self, listed: list[Transaction], rate: Any, ask: Callable[[Turn], Any]) -> Judged:
-        """What both sides say of these transactions, once the gate knows their coins, and what the node's pool has that they may
-        depend on."""
+        """What both sides say of these transactions, once the gate knows their coins, and the parents that the node's pool has."""
         ours, shown = await self._by_gate(listed, ask)
         if await self._lack_what_the_node_has(listed, ours):
             ours, shown = await self._by_gate(listed, ask)
         theirs = await self._by_node(listed, ours, rate)
-        if any(map(_differ, listed, ours, theirs)):
-            # what the gate has not been given yet may be why
-            await self._following.given(await self._client.ask("getrawmempool"))
-            ours, shown = await self._by_gate(listed, ask)
-            theirs = await self._by_node(listed, ours, rate)
         lines = [_verdicts_of(one, told) for one, told in zip(listed, theirs)]
         unknown = [them for own, them in zip(ours, lines) if not own["allowed"]]
-        return Judged(ours, theirs, shown, sum(unknown, []), sum(lines, []))
+        return Judged(ours, theirs, shown, sum(unknown, []), sum(lines, []), any(map(_differ, listed, ours, theirs)))
+
+    async def _has_been_given_all(self) -> None:
+        """Waits a little until the gate has been given what the node's pool has by now, which may be why they differ. Whoever may
+        call can have them differ; so the node lists its pool seldom."""
+        try:
+            await asyncio.wait_for(self._all_given.done(), LISTED_SECONDS)
+        except asyncio.TimeoutError:
+            raise NotThere("the gate is behind its node") from None
+
+    async def _give_all(self) -> None:
+        await self._following.given(await self._client.ask("getrawmempool"))
 
     async def _by_gate(self, listed: Sequence[Transaction], ask: Callable[[Turn], Any]) -> tuple[list[GateTrial], CoinsShown]:
         """What the gate says with the coins that it lacks. If there are many, the node is asked for them only once nothing else

@@ -1,5 +1,6 @@
-"""Payments through gated beside a running node that is busy: none is lost."""
+"""Payments through gated beside a running node that is busy: none is lost. What costs a node much is asked of it seldom."""
 
+import asyncio
 import http.client
 import shutil
 import tempfile
@@ -10,6 +11,7 @@ from collections import Counter
 
 from bitcoin import Output, Transaction
 from gate import Differs, same, true
+from gated.once_for_all import OnceForAll
 from hosting import RpcFailed, until
 from kinds import long
 from live import NODES, Live, script_of
@@ -82,3 +84,40 @@ def is_sent(gated, tx, said):
         return False
     said["taken"] += 1
     return True
+
+
+def test_what_is_done_once_for_all(gate):
+    """A job is done once for all who wait for it, from a time after they came, and rests four times as long as it took; what it
+    raises, all of them get."""
+    times = []
+
+    async def job():
+        began = time.monotonic()
+        await asyncio.sleep(0.1)
+        times.append((began, time.monotonic()))
+        if len(times) == 3:
+            raise ValueError("no")
+
+    async def run():
+        shared = OnceForAll(job, 0.2)
+        await asyncio.gather(*(shared.done() for _ in range(5)))
+        same("once for all", len(times), 1)
+        first = asyncio.create_task(shared.done())
+        while len(times) < 2:
+            await asyncio.sleep(0.01)
+        came = time.monotonic()
+        found = await asyncio.gather(first, *(shared.done() for _ in range(5)), return_exceptions=True)
+        same("one that came before it began, and five that came since", [type(it) for it in found], [type(None), *[ValueError] * 5])
+        same("jobs", len(times), 3)
+        true("the third began after they came", times[2][0] >= came)
+        rests = [after[0] - before[1] for before, after in zip(times, times[1:])]
+        true("rests of %s seconds" % rests, min(rests) >= 0.4)
+        # whoever goes takes nobody's job away
+        gone = asyncio.create_task(shared.done())
+        stays = asyncio.create_task(shared.done())
+        await asyncio.sleep(0.01)
+        gone.cancel()
+        await stays
+        same("jobs", len(times), 4)
+
+    asyncio.run(run())

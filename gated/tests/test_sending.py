@@ -6,6 +6,7 @@ import json
 import os
 import threading
 import time
+from collections import Counter
 
 from bitcoin import Input, Output, Transaction
 from gate import same, true
@@ -200,6 +201,92 @@ def test_what_the_node_would_refuse(gate):
         same("nothing is anywhere", (it.node.asked.count("sendrawtransaction"), it.node.pool()), (0, {}))
         same("openings", it.gated.metric("gate_openings_total"), 1)
         same("differences", it.gated.differences(), {"node": 5})
+
+
+class Counted:
+    """How often the node's pool was listed for callers: what follows it asks for the number of its messages, too."""
+
+    def __init__(self, node):
+        self.usual, self.count = node.do_getrawmempool, 0
+        node.do_getrawmempool = self
+
+    def __call__(self, *given):
+        self.count += not given
+        return self.usual(*given)
+
+
+def said_at_last(run):
+    """A result, or the message of an error, once the gate doesn't wait for its node."""
+    while True:
+        try:
+            return run()
+        except RpcFailed as error:
+            if error.error["code"] != -28:
+                return error.error["message"]
+
+
+def test_callers_who_differ_again_and_again(gate):
+    """Callers try and send what the gate would take and the node refuses: each is answered, and the node lists its pool seldom,
+    however many they are."""
+    with Beside(gate, "--forward") as it:
+        it.open()
+        for _ in range(5):
+            it.pay()
+        them, answers, listed = [fresh(it) for _ in range(24)], Counter(), Counted(it.node)
+        it.node.model.alone = lambda tx: iter(["A17"])
+        began = time.monotonic()
+
+        def calls(own):
+            for one in own:
+                answers[said_at_last(lambda one=one: it.gated.rpc("testmempoolaccept", [one.hex()])[0]["reject-details"])] += 1
+                answers[said_at_last(lambda one=one: it.gated.rpc("sendrawtransaction", one.hex()))] += 1
+
+        threads = [threading.Thread(target=calls, args=(them[number::12],)) for number in range(12)]
+        for thread in threads:
+            thread.start()
+        for thread in threads:
+            thread.join()
+        seconds = time.monotonic() - began
+        # no script was judged, so both say no
+        same("answers", answers, {"verdict-missing, the node says: dust": 2 * len(them)})
+        true("%d listings in %.1f seconds" % (listed.count, seconds), 1 <= listed.count <= 2 + seconds)
+        same("openings", it.gated.metric("gate_openings_total"), 1)
+
+
+class Held:
+    """The next answer of a method is held back, and then it is that of a busy node, which is asked again."""
+
+    is_done, times = False, 1
+
+    def __init__(self):
+        self.may_go = threading.Event()
+
+    def answer(self):
+        self.may_go.wait(60)
+        return 503, b"Work queue depth exceeded"
+
+
+def test_nobody_waits_for_who_differs(gate):
+    """While a payment that the node refuses waits for the listing that may explain it, others are sent."""
+    with Beside(gate, "--forward", "--check", "3600") as it:
+        it.open()
+        one, other, usual = fresh(it), fresh(it), it.node.model.alone
+        same("tried", it.gated.rpc("testmempoolaccept", [one.hex()])[0]["allowed"], True)
+        it.node.model.alone = lambda tx: iter(["A17"]) if tx.txid() == one.txid() else usual(tx)
+        held = it.node.failures["getrawmempool"] = Held()
+        said = []
+        thread = threading.Thread(target=lambda: said.append(failed(lambda: it.gated.rpc("sendrawtransaction", one.hex()))))
+        thread.start()
+        try:
+            until("it waits for the listing", lambda: not held.times)
+            same("another one", it.gated.rpc("sendrawtransaction", other.hex()), other.txid())
+            same("the first one waits", said, [])
+        finally:
+            held.may_go.set()
+            thread.join()
+        # a busy machine may take longer than it waits
+        true("refused: %s" % said, said[0] in ((500, -26, "dust"), (500, -28, CLOSED), (500, -28, "The gate waits for its node: try again")))
+        it.is_alike()
 
 
 def test_what_others_are_told(gate):
