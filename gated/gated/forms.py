@@ -324,7 +324,7 @@ def entry(told: GateEntry, height: int) -> dict[str, Any]:
 def pool_info(told: GateInfo, by_node: dict[str, Any]) -> dict[str, Any]:
     """What the gate says of its pool as its node does, and what it can't say by the node's words."""
     rates = {"mempoolminfee": amount(told["mempoolminfee"]), "minrelaytxfee": amount(told["minrelaytxfee"])}
-    found = {"loaded": True, "size": told["size"], "bytes": told["bytes"], "maxmempool": told["maxmempool"], **rates}
+    found: dict[str, Any] = {"loaded": True, "size": told["size"], "bytes": told["bytes"], "maxmempool": told["maxmempool"], **rates}
     return {**{name: _plain(value) for name, value in by_node.items()}, **found}
 
 
