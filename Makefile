@@ -31,7 +31,8 @@ make demo      prints its replies to examples/first-path.txt, and why; without a
                without the proofs, in two to four minutes, and keeps it as $(PROGRAM)-unproved;
                make demo EXAMPLE=replacement takes another example
 make lib       proves and builds the library for C, and says in which folder it lies with its header
-               (docs/LIBRARY.md); it may prove once more what make gate or make prove has proved
+               (docs/LIBRARY.md); it may prove once more what make gate or make prove has proved;
+               tools/unproved --library FOLDER compiles one without the proofs, to try hosts with
 make check     what has to agree in the repository, and then the proofs of what changed since they last passed here: on
                a fresh clone of every crate, as make gate does
 make setup     installs what make test would leave parts out for, by apt-get: tools/setup --missing says what that is

@@ -38,10 +38,15 @@ def plain(text):
     return re.sub(r"\s+", " ", text).strip()
 
 
+def declared():
+    """Each call of the library as its sources have it: its name, its parameters with their types, and its result."""
+    for name, given, result in re.findall(r'pub extern "C" fn (\w+)\((.*?)\)(?: -> (\w+))?\s+ensures', text_of(SOURCES, "lib.rt"), re.DOTALL):
+        yield name, [it.split(": ", 1) for it in plain(given).rstrip(", ").split(", ")], result
+
+
 def calls():
     """Each call of the library: its name, its parameters with their types, and whether it gives a status."""
-    for name, given, result in re.findall(r'pub extern "C" fn (\w+)\((.*?)\)(?: -> (\w+))?\s+ensures', text_of(SOURCES, "lib.rt"), re.DOTALL):
-        parameters = [it.split(": ", 1) for it in plain(given).rstrip(", ").split(", ")]
+    for name, parameters, result in declared():
         yield name, [(it, kind) for it, kind in parameters if kind != "Global"], result == "u32"
 
 

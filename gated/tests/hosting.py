@@ -44,10 +44,10 @@ class RpcFailed(Exception):
 
 
 def library_in(folder):
-    """The library in a folder that `make lib` filled."""
+    """The library in a folder that `make lib` filled, or tools/unproved."""
     path = os.path.join(os.path.abspath(folder), "lib", "libgate_c.so.0")
     if not os.path.isfile(path):
-        sys.exit("%s is not there: make lib builds it" % path)
+        sys.exit("%s is not there: make lib builds it, and tools/unproved --library without its proofs" % path)
     return path
 
 

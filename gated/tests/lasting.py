@@ -10,9 +10,9 @@ again until gated answers it by its txid. Every twenty seconds the clients pause
 have to be alike. At the end each payment that was answered by its txid has to be in the node's chain, and each file of the
 journal has to be legal. Standard error says every minute how far it is.
 
-The gate is PROGRAM as a child; with --library it is the library that `make lib` put into that folder, in gated's own process,
-which is killed as gated is, and PROGRAM audits. What the run writes is kept if a FOLDER is named, which has to be new. On a machine
-that has other work, clients may pause before each call, and have more patience with a payment.
+The gate is PROGRAM as a child; with --library it is the library that `make lib` put into that folder, or tools/unproved without its
+proofs, in gated's own process, which is killed as gated is, and PROGRAM audits. What the run writes is kept if a FOLDER is named,
+which has to be new. On a machine that has other work, clients may pause before each call, and have more patience with a payment.
 """
 
 import argparse
