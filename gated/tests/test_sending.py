@@ -348,7 +348,8 @@ def test_a_node_that_hangs(gate):
             same(method, failed(lambda method=method, one=one: it.gated.rpc(method, one)), (500, -28, CLOSED))
         for thread in them:
             thread.join()
-        same("the last of those that waited", said[-1], (500, -28, CLOSED))
+        # all but those that the node was asked about before the gate closed; their answers come in any order
+        true("those that waited: %s" % said, said.count((500, -28, CLOSED)) >= len(paid) - 4)
         it.node.late = 0.0
         it.node.failures.clear()
         it.is_alike()
