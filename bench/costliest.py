@@ -82,6 +82,15 @@ def many_inputs_of_conflicts(conflicts, inputs, parents, last_inputs=None, limit
     return lambda events: (opened(lines, map(submission, every)), repeated(submission(digits), events))
 
 
+def dust_left(outputs, inputs):
+    """A49: a child that spends so many outputs of a wide parent, and leaves the one that is dust."""
+    shares = [*[1000] * (outputs - 1), 1]
+    parent = hash_of([1], shares)
+    lines = ["minrelaytxfee 0\n", "ephemeraldust 1\n", *coins(1, sum(shares))]
+    child = submission(transaction([(parent, index) for index in range(inputs)], [inputs * 1000], witness=False))
+    return lambda events: (opened(lines, [submission(transaction([1], shares, witness=False))]), repeated(child, events))
+
+
 def trimming_many(pool, padding):
     """A newcomer of many outputs to a pool at its budget, for which many small entries go."""
     small = 110
@@ -173,6 +182,8 @@ def streams():
         Stream("A40, then A41: 100 conflicts of 2,300 inputs, 23 parents", many_inputs_of_conflicts(100, 2300, 23), 1, 0, "denied A41"),
         Stream("A40, then A41: 100 conflicts of 2,300 inputs, 450 parents", many_inputs_of_conflicts(100, 2300, 450, 200, [LIMITS]), 1, 0, "denied A41"),
         Stream("A41: 50 conflicts of 7,000 outputs with a child each", beside_wide_conflicts(50, 7000), 1, 0, "denied A41"),
+        Stream("A49: one output of a parent of 3,000 is spent, its dust is not", dust_left(3000, 1), 2, 0, "denied A49"),
+        Stream("A49: 1,300 outputs of a parent of 1,500 are spent, its dust is not", dust_left(1500, 1300), 2, 0, "denied A49"),
         Stream("trim: a newcomer for which 600 of 2,000 entries go", trimming_many(2000, 2100), 1, 0, "admitted"),
         Stream("an empty block goes, over 10,000 entries", empty_block_that_goes(10000), 1, 0, "chain"),
         Stream("a block that pays to 1,600 entries goes", payout_that_goes(1600), 1, 0, "chain"),

@@ -24,8 +24,8 @@ LACKS = {
     "core-26": None,
     "core-27": None,
     "core-28": "packages of a parent and its child",
-    "core-29": "packages of a parent and its child, and dust that a child spends (A17)",
-    "core-30": "packages of a parent and its child, and dust that a child spends (A17)",
+    "core-29": "packages of a parent and its child",
+    "core-30": "packages of a parent and its child",
     "knots-29": "version 3 (A12), packages of a parent and its child, dust that a child spends (A17), and options of its own",
 }
 # what begins a line of an opening and is no setting

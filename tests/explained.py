@@ -32,6 +32,11 @@ SPENT = (
     "A23 An entry of the pool spends the same outpoint, and none of its inputs has a sequence of at most 0xfffffffd, so that it may not be replaced;"
     " with mempoolfullrbf it may be, and if it has version 3 and truc is 1"
 )
+PAID = "A48 ephemeraldust is 1, an output has less than its dust threshold, and the transaction pays a fee; tested behind A32 and before A33"
+UNSWEPT = (
+    "A49 ephemeraldust is 1, and an output of a parent in the pool has less than its dust threshold and is not spent by the transaction;"
+    " tested behind A37 and before A38; no fee helps"
+)
 FORGETTING = "C6 More blocks are to be disconnected than are connected, or than 100; or more are to be forgotten than are connected"
 
 
@@ -215,6 +220,25 @@ def test_no_fee_helps(gate):
     children = [spending((many, index), value=29000) for index in range(2)]
     explains(gate, OPENING + [coin(1), "limitdescendantcount 2"], [(ENTER, None), (sent(many), None)] + [(sent(tx), None) for tx in children] + [
         (sent(spending((many, 2), value=29999)), "A35 pays 1, needs 82; no fee helps"),
+    ])
+
+
+def test_dust_that_a_child_sweeps(gate):
+    """With it a transaction may pay no fee, so that none helps where one is asked; and of two outputs of dust the first is told."""
+    def paying(*values):
+        return Transaction([Input(number_hash(1))], [Output(it) for it in values])
+    parent, two, sweep = paying(99800, 200), paying(99600, 200, 200), "ephemeraldust 1"
+    explains(gate, OPENING + [coin(1), sweep], [
+        (ENTER, None),
+        (sent(parent), "A35 pays 0, needs 113; no fee helps"),
+        (sent(two), "A17 output 1: value 200, needs 294"),
+    ])
+    explains(gate, OPENING + [coin(1), sweep, "minrelaytxfee 0"], [
+        (ENTER, None),
+        (sent(paying(99799, 200)), PAID),
+        (sent(parent), None),
+        (sent(spending((parent, 0), value=99000)), UNSWEPT),
+        (sent(spending((parent, 0), (parent, 1), value=99000)), None),
     ])
 
 

@@ -335,12 +335,27 @@ class Model:
                 left -= len(output.script)
                 if left < 0:
                     yield "A51"
-            if output.value < dust(output, self.opening):
+            if not self.opening["ephemeraldust"] and output.value < dust(output, self.opening):
                 yield "A17"
+        if self.opening["ephemeraldust"] and self.dusty(tx) > 1:
+            yield "A17"
         if len([output for output in tx.outputs if carries_data(output)]) > self.opening["datacarrieroutputs"]:
             yield "A18"
         if len(tx.stripped()) < self.opening["mintxsize"]:
             yield "A19"
+
+    def dusty(self, tx):
+        """How many outputs are dust."""
+        return len([output for output in tx.outputs if output.value < dust(output, self.opening)])
+
+    def unswept(self, tx):
+        """Whether dust of a parent in the pool is left unspent."""
+        spent = {(one.hash, one.index) for one in tx.inputs}
+        return any(
+            output.value < dust(output, self.opening) and (entry.hash, index) not in spent
+            for entry in self.parents(tx)
+            for index, output in enumerate(entry.tx.outputs)
+        )
 
     def is_strange(self, output):
         """Whether an output is one that the operator doesn't take for standard."""
@@ -382,6 +397,8 @@ class Model:
             yield "A31"
         if any(script == ANCHOR and one.witness for script, one in zip(scripts, tx.inputs)):
             yield "A32"
+        if self.opening["ephemeraldust"] and self.dusty(tx) and self.fee(tx) > 0:
+            yield "A48"
         if cost_of(tx, self.opening.coins) > 16000:
             yield "A33"
         asked = [("A34", self.floor), ("A35", self.opening["minrelaytxfee"])]
@@ -431,6 +448,8 @@ class Model:
         direct = self.conflicts(tx)
         if any(entry in direct for entry in self.above(tx)):
             yield "A37"
+        if self.opening["ephemeraldust"] and self.unswept(tx):
+            yield "A49"
 
     def replacement(self, tx):
         return self.replacing(tx, self.counted(tx))

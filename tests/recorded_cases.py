@@ -27,12 +27,13 @@ CASES, FULL = "knots-29-cases", "knots-29-full"
 RELEASE = "core-29"
 OTHERWISE = {"permitbaremultisig": 0, "keepinvalid": 1}
 # what not every case says: the node's own number is the release's
-UNSAID = ("maxtxlegacysigops", "truc")
+UNSAID = ("maxtxlegacysigops", "truc", "ephemeraldust")
 # how the node names a refusal, where the policy has another name
 NAMES = {
     "bad-txns-input-sigops-toomany-overall": "bad-txns-nonstandard-inputs",
     "bad-txns-input-witness-unknown": "bad-txns-nonstandard-inputs",
     "bad-witness-anchor-not-empty": "bad-witness-nonstandard",
+    "bad-witness-stackitem-size": "bad-witness-nonstandard",
     "mempool-script-verify-flag-failed": "non-mandatory-script-verify-flag",
     "truc-ancestors-toomany": "TRUC-violation",
     "truc-child-toobig": "TRUC-violation",
@@ -41,19 +42,11 @@ NAMES = {
     "truc-spent-by-nontruc": "TRUC-violation",
     "truc-vsize-toobig": "TRUC-violation",
 }
-PACKAGE, LIST, DUST, BEHIND = "packages", "lists, which the node judges as packages", "dust that a child may spend", "behind these"
+PACKAGE, LIST, BEHIND = "packages", "lists, which the node judges as packages", "behind these"
 # how many answers were compared when this was written
-COMPARED = {CASES: 753, FULL: 10}
+COMPARED = {CASES: 794, FULL: 10}
 EXPIRY = 336 * 3600
 COINBASE = "00" * 32
-
-
-def dust_threshold(script):
-    """Of an output at a dust rate of 3,000 (GetDustThreshold): what it costs to make and to spend it."""
-    if script[:1] == b"\x6a":
-        return 0
-    is_program = 4 <= len(script) <= 42 and (script[0] == 0 or 0x51 <= script[0] <= 0x60) and script[1] == len(script) - 2
-    return 3 * (8 + 1 + len(script) + (67 if is_program else 148))
 
 
 def read(digits):
@@ -80,10 +73,6 @@ def in_block(digits):
         reader.take(4)
         found.append(node.read_transaction(reader.text[began : reader.at].hex()))
     return found
-
-
-def has_dust(transaction):
-    return any(it.value < dust_threshold(it.script) for it in transaction.paid)
 
 
 class Event:
@@ -118,11 +107,7 @@ class Event:
         """Why the gate can't be asked."""
         if self.kind == "submitpackage":
             return PACKAGE
-        if self.is_list:
-            return LIST
-        if any(map(has_dust, self.transactions)) and not self.refusal().startswith("dust"):
-            return DUST
-        return None
+        return LIST if self.is_list else None
 
     def is_taken(self):
         """Whether the node's pool got a transaction by it."""
@@ -167,7 +152,6 @@ class Case:
     foreign: set = field(default_factory=set)
     # whether whatever follows may depend on them
     is_lost: bool = False
-    chain: list = field(default_factory=list)
 
     def settings(self):
         """What the opening says of admission."""
@@ -190,8 +174,6 @@ class Case:
             for it in found:
                 self.joined.add(it)
             reason = event.reason()
-            if event.kind == "chain":
-                self.follow(event)
             named = [it.txid for it in event.transactions]
             if event.kind == "getmempoolentry":
                 named = event.call["params"]
@@ -203,13 +185,6 @@ class Case:
             is_full = any(it.startswith("budget") for it in self.opening) and (event.kind == "submitpackage" or event.is_taken())
             self.is_lost = self.is_lost or bool(reason) and (is_full or event.now > began + EXPIRY)
             yield event, reason, {it for it in self.joined.seen if self.is_unsure([it])}
-
-    def follow(self, event):
-        """What blocks that go give back to the node's pool alone."""
-        count = int(event.line.split(" ")[1])
-        gone = [self.chain.pop() for _ in range(min(count, len(self.chain)))]
-        self.foreign.update(it.txid for block in gone for it in block[1:] if has_dust(it))
-        self.chain += event.blocks
 
 
 def written(name):
@@ -294,7 +269,7 @@ def all_compared(gate, name):
         more, number, reasons = compared(gate, case, met)
         differ += more
         count, left_out, whole, cases = count + number, left_out + reasons, whole + (not reasons), cases + 1
-    told = ", ".join("%d %s" % (left_out[it], it) for it in (PACKAGE, LIST, DUST, BEHIND))
+    told = ", ".join("%d %s" % (left_out[it], it) for it in (PACKAGE, LIST, BEHIND))
     print("%s: %d answers in %d cases compared, %d cases whole; left out: %s" % (name, count, cases, whole, told), flush=True)
     same_lines(differ, [])
     true("at least %d answers compared, and not %d" % (COMPARED[name], count), count >= COMPARED[name])
@@ -302,8 +277,8 @@ def all_compared(gate, name):
 
 
 def test_a_node_of_today(gate):
-    """Each answer that a node with Bitcoin Core 29's policy gave, but for what needs packages, or dust that a child spends, and
-    for what hangs together with that."""
+    """Each answer that a node with Bitcoin Core 29's policy gave, but for what needs packages, and for what hangs together with
+    that."""
     met = all_compared(gate, CASES)
     same("names that the node doesn't use", [it for it in NAMES if not met[it]], [])
 

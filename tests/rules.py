@@ -177,6 +177,6 @@ def test_explain(gate):
 
 def test_explain_nothing(gate):
     """A word that names nothing prints nothing, standard error says so, and the status is 1."""
-    for word, near in (("A48", None), ("C13", None), ("A", None), ("A036", "A36"), ("fee", None), ("", None), ("insufficient  fee", "insufficient fee")):
+    for word, near in (("A50", None), ("C13", None), ("A", None), ("A036", "A36"), ("fee", None), ("", None), ("insufficient  fee", "insufficient fee")):
         told = 'gate: no rule and no token is named "%s"; %s\n' % (word, "is it %s?" % near if near else "gate rules lists them")
         same("explain %r" % word, explained(gate, word), ([], told, 1))

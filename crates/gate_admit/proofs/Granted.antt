@@ -219,7 +219,7 @@ sized standards tx h =
 
 cheap : (attempt : Attempt) (over : Standing) (tx : Tx) → Passes attempt over tx → sigop_cost (reported tx.inputs (coins_of over.chain over.entries tx.inputs)) tx.outputs ≤ 16000
 unfolding report_rules
-cheap attempt over tx p = ltb-false _ _ p.report.1.1.0
+cheap attempt over tx p = ltb-false _ _ p.report.1.1.1.0
 
 -- what its signature operations count for
 counts : (attempt : Attempt) (over : Standing) (tx : Tx) → IsPolicy over.policy → Passes attempt over tx → over.policy.sigop_size * sigop_cost (reported tx.inputs (coins_of over.chain over.entries tx.inputs)) tx.outputs ≤ 400000

@@ -33,4 +33,5 @@ pub mod OwnLimits
 pub mod Newcomer
 pub mod NewLimits
 pub mod Readmitted
+pub mod Sweepings
 mod Everyone

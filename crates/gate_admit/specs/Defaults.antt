@@ -14,7 +14,7 @@ use Rattle.gate_inputs.specs.declared.Answers.{Answers}
 use Rattle.gate_standard.specs.Outputs.{is_standard_output, is_standard_template, carries_data, dust_threshold_of, is_dust, size_with_spend}
 use Rattle.gate_standard.specs.Rules.{left_behind, rules_of_output, rules_of_whole, version_rules}
 use Rattle.gate_rules.specs.declared.Denial.{Denial}
-use Rattle.gate_rules.specs.declared.Denial.TheVariants.{Version, ScriptPubKey, Dust, DataCarrier, MultiOpReturn, TxSizeSmall, NonstandardInputs, WitnessNonstandard, TooManySigops, MempoolMinFee, MinRelayFee, LowerFee, LowerDifference}
+use Rattle.gate_rules.specs.declared.Denial.TheVariants.{Version, ScriptPubKey, Dust, DataCarrier, MultiOpReturn, TxSizeSmall, NonstandardInputs, WitnessNonstandard, DustWithFee, TooManySigops, UnsweptDust, MempoolMinFee, MinRelayFee, LowerFee, LowerDifference}
 use Rattle.gate_pool.specs.Pool.{Admitted, size_of}
 use Rattle.gate_pool.specs.Family.{ancestors_of, descendants_of, conflicts_of}
 use Rattle.gate_graph.specs.declared.held.Sums.{Sums}
@@ -29,6 +29,7 @@ use Rattle.gate_admit.specs.Policies.{incremental_feerate, usual_policy}
 use Rattle.gate_admit.specs.Reports.{report_rules, sigop_cost, vsize_of}
 use Rattle.gate_admit.specs.Rules.{fee_rules}
 use Rattle.gate_admit.specs.Truc.{breaks_truc, sibling_of}
+use Rattle.gate_admit.specs.Sweeping.{sweep_rules}
 
 -- the standard templates: at most 3 keys, and at most 83 bytes of data
 abbrev pub standard_by_default : Template → ℕ → Bool
@@ -45,10 +46,10 @@ carved_out_by_default = record { ancestors = 2; ancestors_size = 101000; descend
 
 -- with the defaults each definition that reads a setting is what it is with these numbers in its place
 pub record DefaultsChangeNothing : Type 0 where
-  -- A16 to A19, and A51, which doesn't fail
+  -- A16 to A19, and A51, which doesn't fail; no output may be dust
   pub template : (template : Template) (size : ℕ) → is_standard_template usual_policy.standards template size ≡ standard_by_default template size
   pub dust : (o : TxOut) → dust_threshold_of usual_policy.standards.dust_rate o ≡ (if is_unspendable o.script then 0 else required_fee (down 3000) (size_with_spend o))
-  pub whole : (tx : Tx) → rules_of_whole usual_policy.standards tx ≡ (MultiOpReturn, nat_lt 1 (count_by carries_data tx.outputs)) ∷ (TxSizeSmall, nat_lt (stripped_size_of tx) 82) ∷ []
+  pub whole : (tx : Tx) → rules_of_whole usual_policy.standards tx ≡ (Dust, false) ∷ (MultiOpReturn, nat_lt 1 (count_by carries_data tx.outputs)) ∷ (TxSizeSmall, nat_lt (stripped_size_of tx) 82) ∷ []
   pub carriers : (o : TxOut) → rules_of_output usual_policy.standards usual_policy.standards.data_total o ≡ (ScriptPubKey, not (is_standard_output usual_policy.standards o)) ∷ (DataCarrier, carries_data o && false) ∷ (Dust, is_dust (down 3000) o) ∷ []
   pub unbounded : (carries : Bool) (size : ℕ) → left_behind usual_policy.standards.data_total carries size ≡ None
   -- A12, A23 and A47: version 3 isn't standard, so it says nothing of a replacement, and no family is asked for it
@@ -56,10 +57,11 @@ pub record DefaultsChangeNothing : Type 0 where
   pub signal : (tx : Tx) → is_replaceable usual_policy.standards.truc tx ≡ signals tx
   pub kin : (entries : List Admitted) (tx : Tx) (vsize : ℕ) → breaks_truc First usual_policy entries tx vsize ≡ false
   pub sibling : (entries : List Admitted) (tx : Tx) → sibling_of First usual_policy entries tx ≡ None
-  -- A31 to A33
-  pub reports : (answers : List Answers) (tx : Tx)
-      → report_rules usual_policy answers tx
-      ≡ (NonstandardInputs, not (list_all (λ (a : Answers). a.standard) answers)) ∷ (WitnessNonstandard, not (list_all (λ (a : Answers). a.witness_standard) answers)) ∷ (TooManySigops, nat_lt 16000 (sigop_cost answers tx.outputs)) ∷ []
+  -- A31 to A33, and A48 and A49, which don't fail
+  pub reports : (answers : List Answers) (fee : ℕ) (tx : Tx)
+      → report_rules usual_policy answers fee tx
+      ≡ (NonstandardInputs, not (list_all (λ (a : Answers). a.standard) answers)) ∷ (WitnessNonstandard, not (list_all (λ (a : Answers). a.witness_standard) answers)) ∷ (DustWithFee, false) ∷ (TooManySigops, nat_lt 16000 (sigop_cost answers tx.outputs)) ∷ []
+  pub sweeping : (entries : List Admitted) (tx : Tx) → sweep_rules usual_policy.standards entries tx ≡ (UnsweptDust, false) ∷ []
   -- the virtual size, A35, A40 and A42
   pub size : (cost : ℕ) (tx : Tx) → vsize_of usual_policy.sigop_size cost tx ≡ (max (weight_of tx) (20 * cost) + 3) / 4
   pub relay : (tx : Tx) (floor fee vsize : ℕ) → fee_rules usual_policy tx floor fee vsize ≡ (MempoolMinFee, nat_lt fee (required_fee (down floor) vsize)) ∷ (MinRelayFee, nat_lt fee (required_fee (down 1000) vsize)) ∷ []

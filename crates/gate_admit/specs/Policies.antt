@@ -8,7 +8,7 @@ use Rattle.gate_standard.specs.declared.Standards.{Standards}
 use Rattle.gate_standard.specs.Standards.{usual_standards}
 use Rattle.gate_rbf.specs.declared.ParentsOf.{ParentsOf}
 use Rattle.gate_rbf.specs.declared.ParentsOf.TheVariants.{Conflicts, Replaced}
-use Rattle.gate_register.specs.declared.Setting.TheVariants.{AncestorCount, AncestorSize, DescendantCount, DescendantSize, RelayRate, IncrementalRate, ExpiryHours, SigopSize, DustRate, DataSize, DataOutputs, LeastSize, FullRbf, BareMultisig, FeesRoundUp, RelayFeeFirst, ReplacedParents, KeepInvalid, Anchors, LegacySigops, DataTotal, Truc}
+use Rattle.gate_register.specs.declared.Setting.TheVariants.{AncestorCount, AncestorSize, DescendantCount, DescendantSize, RelayRate, IncrementalRate, ExpiryHours, SigopSize, DustRate, DataSize, DataOutputs, LeastSize, FullRbf, BareMultisig, FeesRoundUp, RelayFeeFirst, ReplacedParents, KeepInvalid, Anchors, LegacySigops, DataTotal, Truc, EphemeralDust}
 use Rattle.gate_register.specs.Policies.{is_on, limit_of, number_of}
 
 -- how many ancestors and descendants a transaction may have at its first try, itself among each, and how many virtual bytes of
@@ -69,6 +69,7 @@ policy_of set = record {
     least_size = number_of set LeastSize;
     data_total = limit_of set DataTotal;
     truc = is_on set Truc;
+    ephemeral_dust = is_on set EphemeralDust;
   };
 }
 

@@ -1,5 +1,5 @@
--- The reports on the inputs of a transaction (A31 to A33), its size with the cost of its signature operations, and the
--- verdicts on its inputs (A43 to A45).
+-- The reports on the inputs of a transaction (A31 to A33) with A48 among them, its size with the cost of its signature operations,
+-- and the verdicts on its inputs (A43 to A45).
 use Rattle.std.specs.Prelude.{ℕ, ◌+◌, ◌-◌, ◌*◌, ◌/◌, ◌^◌, nat_lt, max, min, not, ◌&&◌, ◌||◌, Bool, true, false, map, zip, sum_by, List, [], ◌∷◌, ◌++◌, Option, Some, None}
 use Rattle.std.specs.List.{list_all}
 use Rattle.gate_tx.specs.declared.Coin.{Coin}
@@ -9,7 +9,8 @@ use Rattle.gate_tx.specs.Sizes.{weight_of}
 use Rattle.gate_tx.specs.Tx.{Tx}
 use Rattle.gate_script.specs.Sigops.{sigops_of}
 use Rattle.gate_rules.specs.declared.Denial.{Denial}
-use Rattle.gate_rules.specs.declared.Denial.TheVariants.{NonstandardInputs, WitnessNonstandard, TooManySigops, VerdictMissing, SoftVerdict, HardVerdict}
+use Rattle.gate_rules.specs.declared.Denial.TheVariants.{NonstandardInputs, WitnessNonstandard, DustWithFee, TooManySigops, VerdictMissing, SoftVerdict, HardVerdict}
+use Rattle.gate_standard.specs.Rules.{has_ephemeral_dust}
 use Rattle.gate_standard.specs.Standards.{is_past}
 use Rattle.gate_bytes.specs.Order.{Rule}
 use Rattle.gate_inputs.specs.declared.Answers.{Answers}
@@ -19,7 +20,7 @@ use Rattle.gate_submission.specs.declared.verdict.Verdict.TheVariants.{Soft, Har
 use Rattle.gate_admit.specs.Policies.{Policy}
 use Rattle.gate_admit.specs.Verdicts.{VerdictTable, verdict_of}
 
--- ---- A31 to A33
+-- ---- A31 to A33, and A48
 
 -- what is reported of each input with its coin
 abbrev pub reported : List TxIn → List Coin → List Answers
@@ -45,10 +46,12 @@ has_relayed_witness anchors a = not (anchors && (a.anchor && not a.bare)) && a.w
 abbrev pub legacy_sigops : List Answers → ℕ
 legacy_sigops answers = sum_by (λ (a : Answers). a.legacy_sigops) answers
 
-unfoldable pub report_rules : Policy → List Answers → Tx → List (Rule Denial)
-report_rules policy answers tx =
+-- a transaction with dust that a child may sweep pays no fee, so that nobody gains by mining it alone
+unfoldable pub report_rules : Policy → List Answers → ℕ → Tx → List (Rule Denial)
+report_rules policy answers fee tx =
     (NonstandardInputs, is_past policy.legacy_sigops (legacy_sigops answers) || not (list_all (is_relayed policy.anchors) answers))
     ∷ (WitnessNonstandard, not (list_all (has_relayed_witness policy.anchors) answers))
+    ∷ (DustWithFee, has_ephemeral_dust policy.standards tx && nat_lt 0 fee)
     ∷ (TooManySigops, nat_lt 16000 (sigop_cost answers tx.outputs))
     ∷ []
 

@@ -28,6 +28,7 @@ use Rattle.gate_admit.specs.Standing.{Standing}
 use Rattle.gate_admit.specs.Coins.{misses_coin, coins_of}
 use Rattle.gate_admit.specs.Limits.{limit_rules}
 use Rattle.gate_admit.specs.Truc.{sibling_of}
+use Rattle.gate_admit.specs.Sweeping.{sweep_rules}
 use Rattle.gate_admit.specs.Reports.{reported, sigop_cost, vsize_of, report_rules, verdict_rules}
 
 -- ---- A20: the locktime
@@ -143,11 +144,12 @@ admission_rules attempt over tx =
     ++ (lock_rules over.chain coins tx
     ++ (coin_value_rules (tip_of over.chain + 1) 0 coins
     ++ (balance_rules (coins_value coins) (outputs_value tx)
-    ++ (report_rules over.policy answers tx
+    ++ (report_rules over.policy answers fee tx
     ++ (payment_rules attempt over.policy tx over.floor fee vsize
     ++ (limit_rules attempt over.policy over.entries tx vsize
+    ++ (sweep_rules over.policy.standards over.entries tx
     ++ (replacement_rules (incremental_feerate over.policy) over.policy.parents over.entries (sibling_of attempt over.policy over.entries tx) tx fee vsize
-    ++ verdict_rules over.verdicts (wtxid_of tx) 0 tx.inputs))))))))))
+    ++ verdict_rules over.verdicts (wtxid_of tx) 0 tx.inputs)))))))))))
 
 -- what a grant says of a transaction at an attempt
 unfoldable pub grant_of : Attempt → Standing → Tx → Grant

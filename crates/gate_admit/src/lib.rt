@@ -22,6 +22,7 @@ mod readmission;
 mod reporting;
 mod standing;
 mod submission;
+mod sweeping;
 mod truc;
 mod verdicts;
 mod verifying;

@@ -196,6 +196,7 @@ impl Policy {
             least_size: self.set.get(Setting::LeastSize),
             data_total: self.set.limit(Setting::DataTotal),
             truc: self.truc(),
+            ephemeral_dust: self.set.is_on(Setting::EphemeralDust),
         }
     }
 

@@ -1,4 +1,4 @@
-//! The reports on the inputs: A31 to A33.
+//! The reports on the inputs, A31 to A33, and A48 among them.
 ghost use Rattle.std.specs.Prelude.{◌≡◌, ◌≤◌, ◌<◌, ◌+◌, ◌^◌, Some, None, IsTrue, IfOk, IfErr, OnOk, length};
 ghost use Rattle.std.specs.List.{list_all};
 ghost use Rattle.gate_bytes.specs.Order.{first_failing};
@@ -11,7 +11,7 @@ use crate::policy::Policy;
 use gate_bytes::{Memory, is_same};
 use gate_inputs::{Answers, InputReport, Piece, answers};
 use gate_script::sigops;
-use gate_standard::Denial;
+use gate_standard::{Denial, has_ephemeral_dust};
 use gate_tx::{Coin, Transaction, TxIn, TxOut};
 use std::alloc::Global;
 
@@ -158,18 +158,20 @@ fn has_many_legacy_sigops(limit: Option<u64>, answers: &[Answers]) -> bool
     }
 }
 
-/// The cost of the signature operations, or the first of A31 to A33 that fails.
+/// The cost of the signature operations, or the first of A31, A32, A48 and A33 that fails for a transaction that pays this
+/// fee, in satoshi.
 #[tactic(auto, unfolding(crate::specs::Reports::report_rules))]
 pub(crate) fn check_reports(
     policy: &Policy,
     tx: &Transaction,
+    fee: u64,
     answers: &[Answers],
 ) -> Result<u64, Denial>
     requires { length answers.now ≡ length tx.now.inputs }
     ensures ok { IfOk result (λ cost. cost ≡ sigop_cost answers.now tx.now.outputs) }
     ensures small { IfOk result (λ cost. cost ≤ 16000) }
-    ensures passes { OnOk result (first_failing (report_rules policy.now answers.now tx.now) ≡ None) }
-    ensures err { IfErr result (λ denial. first_failing (report_rules policy.now answers.now tx.now) ≡ Some denial) }
+    ensures passes { OnOk result (first_failing (report_rules policy.now answers.now fee tx.now) ≡ None) }
+    ensures err { IfErr result (λ denial. first_failing (report_rules policy.now answers.now fee tx.now) ≡ Some denial) }
 {
     if has_many_legacy_sigops(policy.legacy_sigops(), answers)
         || !are_relayed(policy.anchors(), answers)
@@ -178,6 +180,9 @@ pub(crate) fn check_reports(
     }
     if !have_relayed_witnesses(policy.anchors(), answers) {
         return Err(Denial::WitnessNonstandard);
+    }
+    if fee > 0 && has_ephemeral_dust(&policy.standards(), tx) {
+        return Err(Denial::DustWithFee);
     }
     let cost = sigop_cost(tx, answers);
     if cost > MAX_SIGOP_COST {

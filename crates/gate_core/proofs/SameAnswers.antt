@@ -32,6 +32,7 @@ use Rattle.gate_admit.specs.Reports.{report_rules, reported, rules_of_verdict, s
 use Rattle.gate_admit.specs.Rules.{admission_rules, balance_rules, coin_rules, coin_value_rules, coins_value, decision_of, denied_or, final_rules, grant_of, heights_of, is_chain_coin_from, lock_rules, outputs_value, payment_rules, pool_rules}
 use Rattle.gate_admit.specs.Standing.{Standing, standing}
 use Rattle.gate_admit.specs.Submission.{submit_of, submitted_by}
+use Rattle.gate_admit.specs.Sweeping.{sweep_rules}
 use Rattle.gate_admit.specs.Truc.{sibling_of}
 use Rattle.gate_admit.specs.Verdicts.{VerdictTable, verdict_of}
 
@@ -144,11 +145,12 @@ module _ (c d : History) (entries : List Admitted) (floor : ℕ) (a b : VerdictT
       ++ (lock_rules_same i
       ++ (coin_value_rules (tip_same c d first times i + 1) 0 coins
       ++ (balance_rules (coins_value coins) (outputs_value tx)
-      ++ (report_rules policy answers tx
+      ++ (report_rules policy answers fee tx
       ++ (payment_rules attempt policy tx floor fee vsize
       ++ (limit_rules attempt policy entries tx vsize
+      ++ (sweep_rules policy.standards entries tx
       ++ (replacement_rules (incremental_feerate policy) policy.parents entries (sibling_of attempt policy entries tx) tx fee vsize
-      ++ verdicts_same a b (wtxid_of tx) 0 tx.inputs verdicts i))))))))))
+      ++ verdicts_same a b (wtxid_of tx) 0 tx.inputs verdicts i)))))))))))
 
   grant_same : (attempt : Attempt) → grant_of attempt (standing d entries floor b policy) tx ≡ grant_of attempt (standing c entries floor a policy) tx
   unfolding grant_of

@@ -3,7 +3,7 @@ use gate_bytes::Memory;
 use gate_core::{State, submission};
 use gate_figures::{Explained, least_fee_for};
 use gate_message::Event;
-use gate_standard::Denial;
+use gate_standard::{Denial, has_ephemeral_dust};
 use gate_submission::Prepared;
 use std::alloc::Global;
 use std::fmt;
@@ -14,7 +14,7 @@ use std::hash::BuildHasher;
 pub(crate) enum Remedy {
     /// The least fee, in satoshi, with which the same submission passes A34 to A42.
     Fee(u128),
-    /// No fee lets it pass A34 to A42.
+    /// No fee lets it pass A34 to A42, and A48.
     NoFee,
     /// Verdicts that are given.
     Verdicts,
@@ -34,17 +34,33 @@ impl Remedy {
             | Denial::MinRelayFee
             | Denial::LowerFeeRate
             | Denial::LowerFee
-            | Denial::LowerDifference => match least_fee_for(alloc, state, prepared)? {
-                Some(fee) => Ok(Remedy::Fee(fee)),
-                None => Ok(Remedy::NoFee),
-            },
+            | Denial::LowerDifference => Remedy::by_fee(alloc, state, prepared),
             Denial::TooLongChain
             | Denial::TrucViolation
             | Denial::SpendsConflicting
+            | Denial::UnsweptDust
             | Denial::TooManyReplacements
             | Denial::AddsUnconfirmed => Ok(Remedy::NoFee),
             Denial::VerdictMissing => Ok(Remedy::Verdicts),
             _ => Ok(Remedy::Unknown),
+        }
+    }
+
+    /// What helps a submission that pays too little. With dust that a child may sweep it may pay no fee (A48).
+    fn by_fee<S: BuildHasher + Copy + Drop>(
+        alloc: Global,
+        state: &State<S>,
+        prepared: &Prepared,
+    ) -> Result<Remedy, Memory> {
+        let Some(tx) = prepared.transaction() else {
+            return Ok(Remedy::Unknown);
+        };
+        if has_ephemeral_dust(&state.policy().standards(), tx) {
+            return Ok(Remedy::NoFee);
+        }
+        match least_fee_for(alloc, state, prepared)? {
+            Some(fee) => Ok(Remedy::Fee(fee)),
+            None => Ok(Remedy::NoFee),
         }
     }
 

@@ -38,6 +38,7 @@ use Rattle.gate_admit.specs.Policies.{Policy, feerate_by, incremental_feerate, m
 use Rattle.gate_admit.specs.Reports.{has_relayed_witness, is_relayed, legacy_sigops, reported, report_rules, vsize_of, verdict_rules, rules_of_verdict}
 use Rattle.gate_admit.specs.Rules.{final_rules, pool_rules, coin_rules, lock_rules, coin_value_rules, balance_rules, fee_rules, floor_rule, is_relay_fee_first, payment_rules, relay_rule, admission_rules, coins_value, outputs_value, grant_of, denied_or, decision_of, is_immature}
 use Rattle.gate_admit.specs.Standing.{Standing}
+use Rattle.gate_admit.specs.Sweeping.{sweep_rules}
 use Rattle.gate_admit.specs.Verdicts.{verdict_of}
 use Rattle.gate_figures.specs.declared.figures.Figures.{Figures}
 use Rattle.gate_figures.specs.declared.figures.Figures.TheVariants.{Ancestors, AncestorsSized, BareMultisig, DataLeft, DataScript, Dust, HeightLocked, Input, LegacySigops, NoCoin, NonstandardSpend, NonstandardWitness, Outpaid, Script, Spent, TimeLocked, Young}
@@ -382,8 +383,10 @@ version_shows over tx = (λ _. tt, tt)
 outputs_show : (over : Standing) (tx : Tx) → AllShow over tx (output_rules over.policy.standards tx)
 unfolding figures_of paying_figures output_rules
 outputs_show over tx =
-    both_show over tx (rules_of_outputs over.policy.standards over.policy.standards.data_total tx.outputs) _ (each_output_shows over tx over.policy.standards.data_total tx.outputs)
-    (λ h. (le_refl over.policy.standards.data_outputs, lt_from over.policy.standards.data_outputs _ h), (λ h. (omega arith, lt_from _ over.policy.standards.least_size h), tt))
+    both_show over tx (rules_of_outputs over.policy.standards over.policy.standards.data_total tx.outputs) _ (each_output_shows over tx over.policy.standards.data_total tx.outputs) (
+      λ _. dust_decides over over.policy.standards.dust_rate 0 tx.outputs,
+      (λ h. (le_refl over.policy.standards.data_outputs, lt_from over.policy.standards.data_outputs _ h), (λ h. (omega arith, lt_from _ over.policy.standards.least_size h), tt)),
+    )
 
 alone_shows : (over : Standing) (tx : Tx) → AllShow over tx (alone_rules over.policy.standards tx)
 unfolding alone_rules
@@ -427,11 +430,11 @@ balance_shows : (over : Standing) (tx : Tx) → AllShow over tx (balance_rules (
 unfolding figures_of paying_figures balance_rules
 balance_shows over tx = (λ h. lt_from _ _ h, (λ _. tt, tt))
 
-reports_show : (over : Standing) (tx : Tx) → AllShow over tx (report_rules over.policy (reported tx.inputs (coins_of over.chain over.entries tx.inputs)) tx)
+reports_show : (over : Standing) (tx : Tx) (fee : ℕ) → AllShow over tx (report_rules over.policy (reported tx.inputs (coins_of over.chain over.entries tx.inputs)) fee tx)
 unfolding figures_of paying_figures report_rules
-reports_show over tx =
+reports_show over tx fee =
     let answers = reported tx.inputs (coins_of over.chain over.entries tx.inputs) in
-    (λ _. inputs_decide over answers, (λ _. witness_decides over over.policy.anchors 0 answers, (λ h. lt_from 16000 _ h, tt)))
+    (λ _. inputs_decide over answers, (λ _. witness_decides over over.policy.anchors 0 answers, (λ _. tt, (λ h. lt_from 16000 _ h, tt))))
 
 payment_shows : (over : Standing) (tx : Tx)
     → AllShow over tx (payment_rules First over.policy tx over.floor (fee_at over.chain over.entries tx) (vsize_of over.policy.sigop_size (cost_at over.chain over.entries tx) tx))
@@ -457,6 +460,10 @@ payment_shows over tx = go (is_relay_fee_first over.policy tx)
 limits_show : (over : Standing) (tx : Tx) (vsize : ℕ) → AllShow over tx (limit_rules First over.policy over.entries tx vsize)
 unfolding figures_of paying_figures limit_rules
 limits_show over tx vsize = (λ _. crowded_decides over tx (ancestors_above over.entries tx.inputs) (vsize_at over.policy.sigop_size over.chain over.entries tx), (λ _. tt, (λ _. tt, tt)))
+
+sweep_shows : (over : Standing) (tx : Tx) → AllShow over tx (sweep_rules over.policy.standards over.entries tx)
+unfolding figures_of paying_figures sweep_rules
+sweep_shows over tx = (λ _. tt, tt)
 
 beside_shows : (over : Standing) (tx : Tx)
     → AllShow over tx (rules_beside (incremental_feerate over.policy) over.entries (counted_of over.entries (sibling_in over tx) tx) (sharers over.policy.parents over.entries (sibling_in over tx) tx) (fees_of (replaced_beside over.entries (sibling_in over tx) tx)) tx (fee_at over.chain over.entries tx) (vsize_of over.policy.sigop_size (cost_at over.chain over.entries tx) tx))
@@ -508,11 +515,12 @@ all_show over tx =
     (both_show over tx (lock_rules over.chain coins tx) _ (lock_shows over tx coins)
     (both_show over tx (coin_value_rules (tip_of over.chain + 1) 0 coins) _ (coin_values_show over tx (tip_of over.chain + 1) 0 coins)
     (both_show over tx (balance_rules (coins_value coins) (outputs_value tx)) _ (balance_shows over tx)
-    (both_show over tx (report_rules over.policy (reported tx.inputs coins) tx) _ (reports_show over tx)
+    (both_show over tx (report_rules over.policy (reported tx.inputs coins) (coins_value coins - outputs_value tx) tx) _ (reports_show over tx (coins_value coins - outputs_value tx))
     (both_show over tx (payment_rules First over.policy tx over.floor (fee_at over.chain over.entries tx) (vsize_of over.policy.sigop_size (cost_at over.chain over.entries tx) tx)) _ (payment_shows over tx)
     (both_show over tx (limit_rules First over.policy over.entries tx (vsize_of over.policy.sigop_size (cost_at over.chain over.entries tx) tx)) _ (limits_show over tx _)
+    (both_show over tx (sweep_rules over.policy.standards over.entries tx) _ (sweep_shows over tx)
     (both_show over tx (replacement_rules (incremental_feerate over.policy) over.policy.parents over.entries (sibling_in over tx) tx (fee_at over.chain over.entries tx) (vsize_of over.policy.sigop_size (cost_at over.chain over.entries tx) tx)) _ (replacement_shows over tx)
-    (verdict_shows over tx 0 tx.inputs)))))))))))
+    (verdict_shows over tx 0 tx.inputs))))))))))))
 
 denied : (found : Option Denial) (grant : Grant) (denial : Denial) → denied_or found grant ≡ Err denial → found ≡ Some denial
 denied None grant denial h = absurd (true≢false (ap is_granted h))

@@ -40,7 +40,7 @@ unfolding balance_rules report_rules grant_of
 grant_reaches over tx found p least =
     let vsize = vsize_of over.policy.sigop_size (cost_at over.chain over.entries tx) tx in
     let fee = fee_at over.chain over.entries tx in
-    let sized = subst (λ (b : Bool). IsLeastFee over.policy over.floor over.entries tx (if b then None else Some vsize) found) p.report.1.1.0 least in
+    let sized = subst (λ (b : Bool). IsLeastFee over.policy over.floor over.entries tx (if b then None else Some vsize) found) p.report.1.1.1.0 least in
     let passed : passes (fee_side over.policy over.floor over.entries tx vsize fee) ≡ true =
     three_pass (fee_rules over.policy tx over.floor fee vsize) (limit_rules First over.policy over.entries tx vsize) (replacement_rules (incremental_feerate over.policy) over.policy.parents over.entries (sibling_of First over.policy over.entries tx) tx fee vsize)
     p.payment p.limits p.replacement in

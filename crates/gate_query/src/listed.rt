@@ -26,12 +26,12 @@ fn has_conflict<S: BuildHasher + Copy + Drop>(pool: &Pool<S>, transaction: &Tran
         .any(|input| pool.spender(&input.prevout).is_some())
 }
 
-/// Whether a rule is A23, or is tested behind it: those with the numbers from A23 to A47.
+/// Whether a rule is A23, or is tested behind it: those with the numbers from A23 to A49.
 fn is_from_conflict(denial: Denial) -> bool
     ensures { result ≡ is_from_conflict denial }
 {
     let rule = denial as usize;
-    rule >= Denial::MempoolConflict as usize && rule <= Denial::TrucViolation as usize
+    rule >= Denial::MempoolConflict as usize && rule <= Denial::UnsweptDust as usize
 }
 
 /// A decision where nothing may be replaced.
@@ -51,12 +51,13 @@ fn unreplacing(has_conflict: bool, decision: Result<Grant, Denial>) -> Result<Gr
     }
 }
 
-/// Whether a rule is A47, or is tested behind it: those with the numbers from A37 to A47.
+/// Whether a rule is A47, or is tested behind it: those with the numbers from A37 to A47, and A49.
 fn is_from_sibling(denial: Denial) -> bool
     ensures { result ≡ is_from_sibling denial }
 {
     let rule = denial as usize;
     rule >= Denial::SpendsConflicting as usize && rule <= Denial::TrucViolation as usize
+        || rule == Denial::UnsweptDust as usize
 }
 
 /// A decision where no sibling is evicted.

@@ -63,6 +63,8 @@ pub enum Setting {
     DataTotal,
     /// Version 3 is standard, and its transactions keep to small families (TRUC, BIP 431; Bitcoin Core 28.0 and later).
     Truc,
+    /// An output of a transaction without a fee may be dust if its child spends it (Bitcoin Core 29.0 and later).
+    EphemeralDust,
 }
 
 /// What is said of a setting.
@@ -79,7 +81,7 @@ pub struct Row {
 }
 
 /// How many settings there are.
-pub const COUNT: usize = 27;
+pub const COUNT: usize = 28;
 
 /// The row of each setting, in their order.
 static ROWS: [Row; COUNT] = [
@@ -272,6 +274,13 @@ static ROWS: [Row; COUNT] = [
         most: 1,
         usual: 0,
     },
+    Row {
+        word: "ephemeraldust",
+        unit: "0 or 1",
+        least: 0,
+        most: 1,
+        usual: 0,
+    },
 ];
 
 /// All settings, in their order.
@@ -303,6 +312,7 @@ static SETTINGS: [Setting; COUNT] = [
     Setting::LegacySigops,
     Setting::DataTotal,
     Setting::Truc,
+    Setting::EphemeralDust,
 ];
 
 impl Setting {

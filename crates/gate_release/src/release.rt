@@ -52,7 +52,7 @@ pub struct Choice {
 }
 
 /// What releases have otherwise than Bitcoin Core 22.0. Beside each stands where that can be read.
-static CHOICES: [Choice; 15] = [
+static CHOICES: [Choice; 16] = [
     // release notes of 25.0 (MIN_STANDARD_TX_NONWITNESS_SIZE)
     Choice {
         setting: Setting::LeastSize,
@@ -112,6 +112,13 @@ static CHOICES: [Choice; 15] = [
     Choice {
         setting: Setting::IncrementalRate,
         number: 100,
+        first: Release::Core29,
+        last: Release::Core30,
+    },
+    // release notes of 29.0 (ephemeral dust); Bitcoin Knots has an option for it
+    Choice {
+        setting: Setting::EphemeralDust,
+        number: 1,
         first: Release::Core29,
         last: Release::Core30,
     },
@@ -185,9 +192,8 @@ impl Release {
     pub fn lacks(self) -> Option<&'static str> {
         match self {
             Release::Core22 | Release::Core25 | Release::Core26 | Release::Core27 => None,
-            Release::Core28 => Some("packages of a parent and its child"),
-            Release::Core29 | Release::Core30 => {
-                Some("packages of a parent and its child, and dust that a child spends (A17)")
+            Release::Core28 | Release::Core29 | Release::Core30 => {
+                Some("packages of a parent and its child")
             }
             Release::Knots29 => Some(
                 "version 3 (A12), packages of a parent and its child, dust that a child spends (A17), and options of its own",

@@ -58,11 +58,13 @@ pub enum Denial {
     HardVerdict, // A45
     MempoolFull, // A46
     TrucViolation, // A47
+    DustWithFee, // A48
+    UnsweptDust, // A49
     DataCarrier, // A51
 }
 
 /// The row of each rule of admission, in their order.
-static ROWS: [Rule; 48] = [
+static ROWS: [Rule; 50] = [
     Rule {
         name: "A1",
         token: "tx-decode",
@@ -180,7 +182,7 @@ static ROWS: [Rule; 48] = [
         token: "dust",
         then: Consequence::Keep,
         core: Some("IsDust"),
-        says: "An output has less than its dust threshold, which is what spending it costs at the rate that dustrelayfee says (3,000 satoshi per 1,000 virtual bytes)",
+        says: "An output has less than its dust threshold, which is what spending it costs at the rate that dustrelayfee says (3,000 satoshi per 1,000 virtual bytes); if ephemeraldust is 1, more than one output has",
     },
     Rule {
         name: "A18",
@@ -391,6 +393,20 @@ static ROWS: [Rule; 48] = [
         then: Consequence::Keep,
         core: Some("SingleTRUCChecks"),
         says: "truc is 1, and the transaction or an ancestor of it in the pool has version 3 and the other hasn't; or it has version 3 and more than 10,000 virtual bytes, more than one ancestor, more than 1,000 virtual bytes beside an ancestor, or an ancestor with another descendant that neither conflicts with it nor makes room; tested behind A36 and before A37",
+    },
+    Rule {
+        name: "A48",
+        token: "dust",
+        then: Consequence::Keep,
+        core: Some("PreCheckEphemeralTx (29.0)"),
+        says: "ephemeraldust is 1, an output has less than its dust threshold, and the transaction pays a fee; tested behind A32 and before A33",
+    },
+    Rule {
+        name: "A49",
+        token: "missing-ephemeral-spends",
+        then: Consequence::Keep,
+        core: Some("CheckEphemeralSpends (29.0)"),
+        says: "ephemeraldust is 1, and an output of a parent in the pool has less than its dust threshold and is not spent by the transaction; tested behind A37 and before A38",
     },
     Rule {
         name: "A51",

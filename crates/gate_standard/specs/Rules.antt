@@ -73,12 +73,13 @@ rules_of_input input =
     ∷ (ScriptSigNotPushOnly, not (is_push_only input.script))
     ∷ []
 
--- the rules on an output, if the outputs before it left this many bytes for scripts that carry data
+-- the rules on an output, if the outputs before it left this many bytes for scripts that carry data; dust that a child may sweep is
+-- counted behind all outputs
 abbrev pub rules_of_output : Standards → Option ℕ → TxOut → List (Rule Denial)
 rules_of_output standards left output =
     (ScriptPubKey, not (is_standard_output standards output))
     ∷ (DataCarrier, carries_data output && is_past left (length output.script))
-    ∷ (Dust, is_dust standards.dust_rate output)
+    ∷ (Dust, not standards.ephemeral_dust && is_dust standards.dust_rate output)
     ∷ []
 
 -- what is left behind a script of this size, which carries data or doesn't
@@ -103,10 +104,19 @@ is_version truc tx = int_eq tx.version (pos 1) || (int_eq tx.version (pos 2) || 
 unfoldable pub version_rules : Bool → Tx → List (Rule Denial)
 version_rules truc tx = (Version, not (is_version truc tx)) ∷ []
 
--- the rules on the outputs together, and on the size
+-- how many outputs are dust
+abbrev pub dust_count : Standards → List TxOut → ℕ
+dust_count standards outputs = count_by (is_dust standards.dust_rate) outputs
+
+-- an output is dust that a child may sweep
+abbrev pub has_ephemeral_dust : Standards → Tx → Bool
+has_ephemeral_dust standards tx = standards.ephemeral_dust && nat_lt 0 (dust_count standards tx.outputs)
+
+-- the rules on the outputs together, and on the size: one of them may be dust where a child may sweep it
 abbrev pub rules_of_whole : Standards → Tx → List (Rule Denial)
 rules_of_whole standards tx =
-    (MultiOpReturn, nat_lt standards.data_outputs (count_by carries_data tx.outputs))
+    (Dust, standards.ephemeral_dust && nat_lt 1 (dust_count standards tx.outputs))
+    ∷ (MultiOpReturn, nat_lt standards.data_outputs (count_by carries_data tx.outputs))
     ∷ (TxSizeSmall, nat_lt (stripped_size_of tx) standards.least_size)
     ∷ []
 

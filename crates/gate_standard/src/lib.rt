@@ -18,6 +18,6 @@ pub use gate_rules::Denial;
 pub use gate_tx::MAX_MONEY;
 pub use law::{outpoints_are_spent_once, rates_are_rounded_down, values_are_in_range};
 pub use order::the_order;
-pub use outputs::dust_threshold;
+pub use outputs::{dust_count, dust_threshold, has_ephemeral_dust, is_dust};
 pub use standard::{check_form, check_outputs, check_version, is_truc};
 pub use standards::Standards;

@@ -1,12 +1,14 @@
 //! Which outputs are standard, and what is dust.
 ghost use Rattle.std.specs.Prelude.{◌≡◌};
-ghost use Rattle.gate_standard.specs.Outputs.{dust_threshold_of, is_standard_template, is_null_data, is_below, size_with_spend};
+ghost use Rattle.std.specs.List.{count_by};
+ghost use Rattle.gate_standard.specs.Outputs.{dust_threshold_of, is_dust, is_standard_template, is_null_data, is_below, size_with_spend};
+ghost use Rattle.gate_standard.specs.Rules.{dust_count, has_ephemeral_dust};
 
 use crate::amounts::Feerate;
 use crate::standards::Standards;
 use gate_bytes::compact_size;
-use gate_script::{Template, witness_program};
-use gate_tx::{TxOut, is_unspendable};
+use gate_script::{Template, template, witness_program};
+use gate_tx::{Transaction, TxOut, is_unspendable};
 
 /// The size in bytes of an output and of the input that spends it, which is smaller if the script is a witness program.
 fn size_with_spend(output: &TxOut) -> usize
@@ -56,4 +58,32 @@ pub(crate) fn is_below_dust(rate: Feerate, output: &TxOut) -> bool
     ensures { result ≡ is_below output.now.value (dust_threshold_of rate output.now) }
 {
     output.value < 0 || (output.value as u128) < dust_threshold(rate, output)
+}
+
+/// Whether the output is dust: its value is below its dust threshold at this rate, and it does not carry data.
+#[tactic(auto, unfolding(crate::specs::Outputs::is_dust, crate::specs::Outputs::carries_data))]
+pub fn is_dust(rate: Feerate, output: &TxOut) -> bool
+    ensures { result ≡ is_dust rate output.now }
+{
+    !is_null_data(&template(output.script.as_slice())) && is_below_dust(rate, output)
+}
+
+/// How many outputs are dust, by what an operator takes for standard.
+pub fn dust_count(standards: &Standards, outputs: &[TxOut]) -> usize
+    ensures { result ≡ dust_count standards.now outputs.now }
+{
+    let mut count = 0;
+    for output in outputs {
+        if is_dust(standards.dust_rate, output) {
+            count += 1;
+        }
+    }
+    count
+}
+
+/// Whether an output is dust that a child may sweep.
+pub fn has_ephemeral_dust(standards: &Standards, tx: &Transaction) -> bool
+    ensures { result ≡ has_ephemeral_dust standards.now tx.now }
+{
+    standards.ephemeral_dust && dust_count(standards, tx.outputs()) > 0
 }

@@ -6,7 +6,7 @@ ghost use Rattle.gate_standard.specs.Outputs.{carries_data};
 ghost use Rattle.gate_standard.specs.Rules.{is_truc, is_version, rules_of_input, rules_of_output, rules_of_outputs, left_behind, form_rules, output_rules, version_rules};
 ghost use Rattle.gate_standard.specs.Standards.{is_past};
 
-use crate::outputs::{is_below_dust, is_null_data, is_standard_template};
+use crate::outputs::{dust_count, is_below_dust, is_null_data, is_standard_template};
 use crate::standards::Standards;
 use gate_rules::Denial;
 use gate_script::{is_push_only, template};
@@ -64,7 +64,7 @@ fn check_output(standards: &Standards, left: Option<u64>, output: &TxOut) -> Res
     if carries && is_past(left, output.script.len() as u64) {
         return Err(Denial::DataCarrier);
     }
-    if !carries && is_below_dust(standards.dust_rate, output) {
+    if !standards.ephemeral_dust && !carries && is_below_dust(standards.dust_rate, output) {
         return Err(Denial::Dust);
     }
     Ok(carries)
@@ -135,12 +135,15 @@ pub fn check_form(tx: &Transaction) -> Option<Denial>
 pub fn check_outputs(standards: &Standards, tx: &Transaction) -> Option<Denial>
     ensures { result ≡ first_failing (output_rules standards.now tx.now) }
 {
-    match count_carriers(standards, tx.outputs()) {
+    let carriers = match count_carriers(standards, tx.outputs()) {
+        Ok(carriers) => carriers,
         Err(denial) => return Some(denial),
-        Ok(carriers) if carriers as u64 > standards.data_outputs => {
-            return Some(Denial::MultiOpReturn);
-        }
-        Ok(_) => {}
+    };
+    if standards.ephemeral_dust && dust_count(standards, tx.outputs()) > 1 {
+        return Some(Denial::Dust);
+    }
+    if carriers as u64 > standards.data_outputs {
+        return Some(Denial::MultiOpReturn);
     }
     if (tx.stripped_size() as u64) < standards.least_size {
         return Some(Denial::TxSizeSmall);

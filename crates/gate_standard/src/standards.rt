@@ -19,6 +19,9 @@ pub struct Standards {
     pub data_total: Option<u64>,
     /// Whether version 3 is standard (BIP 431).
     pub truc: bool,
+    /// Whether one output may be dust, of a transaction that pays no fee, for a child to spend (Bitcoin Core 29.0 and
+    /// later).
+    pub ephemeral_dust: bool,
 }
 
 /// Bitcoin Core 22.0's: a dust rate of 3,000, one output of at most 83 bytes of data, multisig scripts, 82 bytes,
@@ -41,6 +44,7 @@ impl Default for Standards {
             least_size: 82,
             data_total: None,
             truc: false,
+            ephemeral_dust: false,
         }
     }
 }

@@ -10,6 +10,7 @@ use Rattle.gate_admit.specs.Defaults.{standard_by_default}
 use Rattle.gate_admit.specs.Policies.{usual_policy}
 use Rattle.gate_admit.specs.Reports.{report_rules}
 use Rattle.gate_admit.specs.Rules.{fee_rules}
+use Rattle.gate_admit.specs.Sweeping.{sweep_rules}
 use Rattle.gate_admit.proofs.law.default_settings_change_nothing.Goals as goal
 
 same_template : (template : Template) (size : ℕ) → is_standard_template usual_policy.standards template size ≡ standard_by_default template size
@@ -33,7 +34,7 @@ or_false true = refl
 or_false false = refl
 
 pub returns : goal.returns
-unfolding dust_threshold_of fee_rules report_rules version_rules
+unfolding dust_threshold_of fee_rules report_rules version_rules sweep_rules
 returns c = record {
   template = same_template;
   dust = λ o. refl;
@@ -44,7 +45,8 @@ returns c = record {
   signal = λ tx. or_false (signals tx);
   kin = λ entries tx vsize. refl;
   sibling = λ entries tx. refl;
-  reports = λ answers tx. refl;
+  reports = λ answers fee tx. refl;
+  sweeping = λ entries tx. refl;
   size = λ cost tx. refl;
   relay = λ tx floor fee vsize. refl;
   parents = λ entries tx. refl;
