@@ -32,11 +32,6 @@ SPENT = (
     "A23 An entry of the pool spends the same outpoint, and none of its inputs has a sequence of at most 0xfffffffd, so that it may not be replaced;"
     " with mempoolfullrbf it may be, and if it has version 3 and truc is 1"
 )
-PAID = "A48 ephemeraldust is 1, an output has less than its dust threshold, and the transaction pays a fee; tested behind A32 and before A33"
-UNSWEPT = (
-    "A49 ephemeraldust is 1, and an output of a parent in the pool has less than its dust threshold and is not spent by the transaction;"
-    " tested behind A37 and before A38; no fee helps"
-)
 FORGETTING = "C6 More blocks are to be disconnected than are connected, or than 100; or more are to be forgotten than are connected"
 
 
@@ -224,7 +219,8 @@ def test_no_fee_helps(gate):
 
 
 def test_dust_that_a_child_sweeps(gate):
-    """With it a transaction may pay no fee, so that none helps where one is asked; and of two outputs of dust the first is told."""
+    """With it a transaction may pay no fee, so that none helps where one is asked; of two outputs of dust the first is told; and so is
+    dust of a parent that a child leaves."""
     def paying(*values):
         return Transaction([Input(number_hash(1))], [Output(it) for it in values])
     parent, two, sweep = paying(99800, 200), paying(99600, 200, 200), "ephemeraldust 1"
@@ -235,9 +231,9 @@ def test_dust_that_a_child_sweeps(gate):
     ])
     explains(gate, OPENING + [coin(1), sweep, "minrelaytxfee 0"], [
         (ENTER, None),
-        (sent(paying(99799, 200)), PAID),
+        (sent(paying(99799, 200)), "A48 output 1 is dust, pays 1, 0 allowed"),
         (sent(parent), None),
-        (sent(spending((parent, 0), value=99000)), UNSWEPT),
+        (sent(spending((parent, 0), value=99000)), "A49 dust %s:1 of a parent is not spent; no fee helps" % parent.txid()),
         (sent(spending((parent, 0), (parent, 1), value=99000)), None),
     ])
 

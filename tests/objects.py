@@ -96,6 +96,19 @@ def test_figures(gate):
     ])
 
 
+def test_dust_that_a_child_sweeps(gate):
+    """The output and the fee that may not stand beside it, and the dust that a child leaves, which no fee makes up for."""
+    def paying(value):
+        return Transaction([Input(number_hash(1))], [Output(value), Output(200)])
+    parent = paying(99800)
+    said, _ = objects(gate, OPENING + [coin(1), "ephemeraldust 1", "minrelaytxfee 0"], [ENTER, sent(paying(99000)), sent(parent), sent(spending((parent, 0), value=99000))])
+    same("objects", said, [
+        denied(2, "A48", "dust", output=1, pays=800, most=0),
+        entered(3, parent),
+        denied(4, "A49", "missing-ephemeral-spends", txid=parent.txid(), vout=1, least_fee=None, parents=[parent.txid()]),
+    ])
+
+
 def test_families(gate):
     """Parents, and what no fee helps."""
     parent = payment(1, 99000)

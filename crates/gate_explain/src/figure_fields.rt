@@ -39,6 +39,13 @@ impl fmt::Display for FigureFields {
                 f,
                 ",\"output\":{output},\"value\":{value},\"least\":{needs}"
             ),
+            Figures::DustPays { output, fee } => {
+                write!(f, ",\"output\":{output},\"pays\":{fee},\"most\":0")
+            }
+            Figures::Unswept { outpoint } => {
+                let OutPoint { txid, index } = outpoint;
+                write!(f, ",\"txid\":\"{txid}\",\"vout\":{index}")
+            }
             Figures::Final {
                 locktime,
                 height,

@@ -10,6 +10,7 @@ use Rattle.gate_bytes.specs.Order.{Rule, first_failing}
 use Rattle.gate_tx.specs.declared.Coin.{Coin}
 use Rattle.gate_tx.specs.declared.TxIn.{TxIn}
 use Rattle.gate_tx.specs.declared.TxOut.{TxOut}
+use Rattle.gate_tx.specs.Coins.{spends}
 use Rattle.gate_tx.specs.Ids.{txid_of, wtxid_of}
 use Rattle.gate_tx.specs.Money.{amount_or_zero}
 use Rattle.gate_tx.specs.Tx.{Tx}
@@ -20,7 +21,7 @@ use Rattle.gate_inputs.specs.declared.Answers.{Answers}
 use Rattle.gate_standard.specs.Amounts.{required_fee, feerate}
 use Rattle.gate_standard.specs.declared.Feerate.{Feerate}
 use Rattle.gate_standard.specs.Outputs.{carries_data, dust_threshold_of, is_below, is_dust}
-use Rattle.gate_standard.specs.Rules.{left_behind, rules_of_input, rules_of_output, rules_of_outputs, output_value_rules, transaction_rules, version_rules, form_rules, output_rules}
+use Rattle.gate_standard.specs.Rules.{has_ephemeral_dust, left_behind, rules_of_input, rules_of_output, rules_of_outputs, output_value_rules, transaction_rules, version_rules, form_rules, output_rules}
 use Rattle.gate_rules.specs.declared.Denial.{Denial}
 use Rattle.gate_submission.specs.Alone.{alone_rules}
 use Rattle.gate_chain.specs.Times.{tip_of, mtp_of}
@@ -41,8 +42,8 @@ use Rattle.gate_admit.specs.Standing.{Standing}
 use Rattle.gate_admit.specs.Sweeping.{sweep_rules}
 use Rattle.gate_admit.specs.Verdicts.{verdict_of}
 use Rattle.gate_figures.specs.declared.figures.Figures.{Figures}
-use Rattle.gate_figures.specs.declared.figures.Figures.TheVariants.{Ancestors, AncestorsSized, BareMultisig, DataLeft, DataScript, Dust, HeightLocked, Input, LegacySigops, NoCoin, NonstandardSpend, NonstandardWitness, Outpaid, Script, Spent, TimeLocked, Young}
-use Rattle.gate_figures.specs.Figures.{allowed_ancestors, coinless, crowded, data_past, data_past_total, doubted, dust, fee_at, figures_of, height_locked, locked, locked_by, locked_coin, many_legacy, nonstandard, nonstandard_inputs, nonstandard_spend, nonstandard_witness, script_figures, time_locked, non_signalling, non_signalling_by, is_good, outpaid, outpaid_at, outpaid_by, outpaid_sibling, paying_figures, pays, pays_above, sibling_in, sized, vsize_at, cost_at, young, young_by}
+use Rattle.gate_figures.specs.declared.figures.Figures.TheVariants.{Ancestors, AncestorsSized, BareMultisig, DataLeft, DataScript, Dust, DustPays, HeightLocked, Input, LegacySigops, NoCoin, NonstandardSpend, NonstandardWitness, Outpaid, Script, Spent, TimeLocked, Unswept, Young}
+use Rattle.gate_figures.specs.Figures.{allowed_ancestors, coinless, crowded, data_past, data_past_total, doubted, dust, dust_paying, fee_at, figures_of, height_locked, locked, locked_by, locked_coin, many_legacy, nonstandard, nonstandard_inputs, nonstandard_spend, nonstandard_witness, script_figures, time_locked, non_signalling, non_signalling_by, is_good, outpaid, outpaid_at, outpaid_by, outpaid_sibling, paying_figures, pays, pays_above, sibling_in, sized, unswept, unswept_of, unswept_output, vsize_at, cost_at, young, young_by}
 use Rattle.gate_figures.specs.Laws.{Decide, FiguresDecide}
 
 lt_from : (m n : ℕ) → nat_lt m n ≡ true → m < n
@@ -86,13 +87,13 @@ one_or : (over : Standing) (one rest : Option Figures) → IfSome one (Decide ov
 one_or over None rest a b = b
 one_or over (Some figures) rest a b = a
 
+second : (a b : Bool) → (a && b) ≡ true → b ≡ true
+second true b h = h
+second false b h = absurd (false≢true h)
+
 below : (rate : Feerate) (o : TxOut) → is_dust rate o ≡ true → is_below o.value (dust_threshold_of rate o) ≡ true
 unfolding is_dust
 below rate o h = second (not (carries_data o)) (is_below o.value (dust_threshold_of rate o)) h
-  where
-    second : (a b : Bool) → (a && b) ≡ true → b ≡ true
-    second true b k = k
-    second false b k = absurd (false≢true k)
 
 dust_decides : (over : Standing) (rate : Feerate) (index : ℕ) (outputs : List TxOut) → IfSome (dust rate index outputs) (Decide over)
 dust_decides over rate index [] = tt
@@ -101,6 +102,33 @@ dust_decides over rate index (o ∷ outputs) = go (dust_decides over rate (index
     go : IfSome (dust rate (index + 1) outputs) (Decide over) → (b : Bool) → is_dust rate o ≡ b → IfSome (if b then Some (Dust index o.value (dust_threshold_of rate o)) else dust rate (index + 1) outputs) (Decide over)
     go later true e = below rate o e
     go later false e = later
+
+paying_decides : (over : Standing) (rate : Feerate) (fee index : ℕ) (outputs : List TxOut) → 0 < fee → IfSome (dust_paying rate fee index outputs) (Decide over)
+paying_decides over rate fee index [] paid = tt
+paying_decides over rate fee index (o ∷ outputs) paid = go (paying_decides over rate fee (index + 1) outputs paid) (is_dust rate o)
+  where
+    go : IfSome (dust_paying rate fee (index + 1) outputs) (Decide over) → (b : Bool) → IfSome (if b then Some (DustPays index fee) else dust_paying rate fee (index + 1) outputs) (Decide over)
+    go later true = paid
+    go later false = later
+
+output_decides : (over : Standing) (rate : Feerate) (inputs : List TxIn) (txid : List ℕ) (index : ℕ) (outputs : List TxOut) → IfSome (unswept_output rate inputs txid index outputs) (Decide over)
+output_decides over rate inputs txid index [] = tt
+output_decides over rate inputs txid index (o ∷ outputs) = go (output_decides over rate inputs txid (index + 1) outputs) (is_dust rate o && not (spends inputs (record { txid = txid; index = index })))
+  where
+    go : IfSome (unswept_output rate inputs txid (index + 1) outputs) (Decide over) → (b : Bool)
+        → IfSome (if b then Some (Unswept (record { txid = txid; index = index })) else unswept_output rate inputs txid (index + 1) outputs) (Decide over)
+    go later true = tt
+    go later false = later
+
+parent_decides : (over : Standing) (rate : Feerate) (inputs : List TxIn) (txid : List ℕ) (parent : Option Admitted) → IfSome (unswept_of rate inputs txid parent) (Decide over)
+parent_decides over rate inputs txid None = tt
+parent_decides over rate inputs txid (Some e) = output_decides over rate inputs txid 0 e.tx.outputs
+
+unswept_decides : (over : Standing) (rate : Feerate) (all inputs : List TxIn) → IfSome (unswept rate over.entries all inputs) (Decide over)
+unswept_decides over rate all [] = tt
+unswept_decides over rate all (i ∷ inputs) =
+    one_or over (unswept_of rate all i.prevout.txid (entry_by_txid over.entries i.prevout.txid)) (unswept rate over.entries all inputs)
+    (parent_decides over rate all i.prevout.txid (entry_by_txid over.entries i.prevout.txid)) (unswept_decides over rate all inputs)
 
 gt_from : (m n : ℕ) → nat_le m n ≡ false → n < m
 gt_from m n h = grind (arith, nat_tests)
@@ -141,10 +169,6 @@ coinless_decides over index (i ∷ inputs) = go (coinless_decides over (index + 
 
 soon : (next_height : ℕ) (coin : Coin) → is_immature next_height coin ≡ true → next_height - coin.height < 100
 soon next_height coin h = lt_from (next_height - coin.height) 100 (second coin.coinbase (nat_lt (next_height - coin.height) 100) h)
-  where
-    second : (a b : Bool) → (a && b) ≡ true → b ≡ true
-    second true b k = k
-    second false b k = absurd (false≢true k)
 
 young_by_decides : (over : Standing) (next_height index : ℕ) (o : Option Coin) → IfSome (young_by next_height index o) (Decide over)
 young_by_decides over next_height index None = tt
@@ -430,11 +454,20 @@ balance_shows : (over : Standing) (tx : Tx) → AllShow over tx (balance_rules (
 unfolding figures_of paying_figures balance_rules
 balance_shows over tx = (λ h. lt_from _ _ h, (λ _. tt, tt))
 
-reports_show : (over : Standing) (tx : Tx) (fee : ℕ) → AllShow over tx (report_rules over.policy (reported tx.inputs (coins_of over.chain over.entries tx.inputs)) fee tx)
+reports_show : (over : Standing) (tx : Tx) → AllShow over tx (report_rules over.policy (reported tx.inputs (coins_of over.chain over.entries tx.inputs)) (fee_at over.chain over.entries tx) tx)
 unfolding figures_of paying_figures report_rules
-reports_show over tx fee =
+reports_show over tx =
     let answers = reported tx.inputs (coins_of over.chain over.entries tx.inputs) in
-    (λ _. inputs_decide over answers, (λ _. witness_decides over over.policy.anchors 0 answers, (λ _. tt, (λ h. lt_from 16000 _ h, tt))))
+    let fee = fee_at over.chain over.entries tx in (
+      λ _. inputs_decide over answers,
+      (
+        λ _. witness_decides over over.policy.anchors 0 answers,
+        (
+          λ h. paying_decides over over.policy.standards.dust_rate fee 0 tx.outputs (lt_from 0 fee (second (has_ephemeral_dust over.policy.standards tx) (nat_lt 0 fee) h)),
+          (λ h. lt_from 16000 _ h, tt),
+        ),
+      ),
+    )
 
 payment_shows : (over : Standing) (tx : Tx)
     → AllShow over tx (payment_rules First over.policy tx over.floor (fee_at over.chain over.entries tx) (vsize_of over.policy.sigop_size (cost_at over.chain over.entries tx) tx))
@@ -463,7 +496,7 @@ limits_show over tx vsize = (λ _. crowded_decides over tx (ancestors_above over
 
 sweep_shows : (over : Standing) (tx : Tx) → AllShow over tx (sweep_rules over.policy.standards over.entries tx)
 unfolding figures_of paying_figures sweep_rules
-sweep_shows over tx = (λ _. tt, tt)
+sweep_shows over tx = (λ _. unswept_decides over over.policy.standards.dust_rate tx.inputs tx.inputs, tt)
 
 beside_shows : (over : Standing) (tx : Tx)
     → AllShow over tx (rules_beside (incremental_feerate over.policy) over.entries (counted_of over.entries (sibling_in over tx) tx) (sharers over.policy.parents over.entries (sibling_in over tx) tx) (fees_of (replaced_beside over.entries (sibling_in over tx) tx)) tx (fee_at over.chain over.entries tx) (vsize_of over.policy.sigop_size (cost_at over.chain over.entries tx) tx))
@@ -515,7 +548,7 @@ all_show over tx =
     (both_show over tx (lock_rules over.chain coins tx) _ (lock_shows over tx coins)
     (both_show over tx (coin_value_rules (tip_of over.chain + 1) 0 coins) _ (coin_values_show over tx (tip_of over.chain + 1) 0 coins)
     (both_show over tx (balance_rules (coins_value coins) (outputs_value tx)) _ (balance_shows over tx)
-    (both_show over tx (report_rules over.policy (reported tx.inputs coins) (coins_value coins - outputs_value tx) tx) _ (reports_show over tx (coins_value coins - outputs_value tx))
+    (both_show over tx (report_rules over.policy (reported tx.inputs coins) (coins_value coins - outputs_value tx) tx) _ (reports_show over tx)
     (both_show over tx (payment_rules First over.policy tx over.floor (fee_at over.chain over.entries tx) (vsize_of over.policy.sigop_size (cost_at over.chain over.entries tx) tx)) _ (payment_shows over tx)
     (both_show over tx (limit_rules First over.policy over.entries tx (vsize_of over.policy.sigop_size (cost_at over.chain over.entries tx) tx)) _ (limits_show over tx _)
     (both_show over tx (sweep_rules over.policy.standards over.entries tx) _ (sweep_shows over tx)

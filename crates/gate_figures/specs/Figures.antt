@@ -1,10 +1,11 @@
 -- What decides that a transaction is denied, in numbers.
-use Rattle.std.specs.Prelude.{ℕ, ◌+◌, ◌-◌, ◌*◌, ◌^◌, ◌&&◌, nat_le, nat_lt, Bool, true, false, if◌then◌else◌, List, [], ◌∷◌, length, is_none, Option, Some, None}
+use Rattle.std.specs.Prelude.{ℕ, ◌+◌, ◌-◌, ◌*◌, ◌^◌, not, ◌&&◌, nat_le, nat_lt, Bool, true, false, if◌then◌else◌, List, [], ◌∷◌, length, is_none, Option, Some, None}
 use Rattle.std.specs.List.{count_by}
 use Rattle.std.specs.Option.{option_or}
 use Rattle.gate_tx.specs.declared.Coin.{Coin}
 use Rattle.gate_tx.specs.declared.TxIn.{TxIn}
 use Rattle.gate_tx.specs.declared.TxOut.{TxOut}
+use Rattle.gate_tx.specs.Coins.{spends}
 use Rattle.gate_tx.specs.Ids.{txid_of, wtxid_of}
 use Rattle.gate_tx.specs.Sizes.{stripped_size_of, weight_of}
 use Rattle.gate_tx.specs.Tx.{Tx}
@@ -17,7 +18,7 @@ use Rattle.gate_standard.specs.Outputs.{carries_data, dust_threshold_of, is_dust
 use Rattle.gate_standard.specs.declared.Standards.{Standards}
 use Rattle.gate_rules.specs.declared.Denial.{Denial}
 use Rattle.gate_standard.specs.declared.Feerate.{Feerate}
-use Rattle.gate_rules.specs.declared.Denial.TheVariants.{Oversize, TxSize, ScriptPubKey, Dust as BelowDust, DataCarrier, MultiOpReturn, TxSizeSmall, NonFinal, MempoolConflict, MissingOrSpent, NonBip68Final, PrematureSpend, NonstandardInputs, WitnessNonstandard, InBelowOut, TooManySigops, MempoolMinFee, MinRelayFee, TooLongChain, LowerFeeRate, TooManyReplacements, LowerFee, LowerDifference, VerdictMissing, SoftVerdict, HardVerdict}
+use Rattle.gate_rules.specs.declared.Denial.TheVariants.{Oversize, TxSize, ScriptPubKey, Dust as BelowDust, DataCarrier, MultiOpReturn, TxSizeSmall, NonFinal, MempoolConflict, MissingOrSpent, NonBip68Final, PrematureSpend, NonstandardInputs, WitnessNonstandard, InBelowOut, DustWithFee, UnsweptDust, TooManySigops, MempoolMinFee, MinRelayFee, TooLongChain, LowerFeeRate, TooManyReplacements, LowerFee, LowerDifference, VerdictMissing, SoftVerdict, HardVerdict}
 use Rattle.gate_chain.specs.History.{History}
 use Rattle.gate_chain.specs.Times.{tip_of, mtp_of}
 use Rattle.gate_locks.specs.Locks.{is_by_time, is_disabled, median_at, span_of}
@@ -37,7 +38,7 @@ use Rattle.gate_admit.specs.Rules.{coins_value, is_immature, outputs_value}
 use Rattle.gate_admit.specs.Standing.{Standing}
 use Rattle.gate_admit.specs.Verdicts.{VerdictTable, verdict_of}
 use Rattle.gate_figures.specs.declared.figures.Figures.{Figures}
-use Rattle.gate_figures.specs.declared.figures.Figures.TheVariants.{Large, Small, Weighs, Script, BareMultisig, DataScript, DataOutputs, DataLeft, Dust, Final, Spent, NoCoin, Young, HeightLocked, TimeLocked, UntimedLocked, NonstandardSpend, LegacySigops, NonstandardWitness, Balance, Costs, Pays, Ancestors, AncestorsSized, Outpaid, Descendants, Above, Input}
+use Rattle.gate_figures.specs.declared.figures.Figures.TheVariants.{Large, Small, Weighs, Script, BareMultisig, DataScript, DataOutputs, DataLeft, Dust, DustPays, Unswept, Final, Spent, NoCoin, Young, HeightLocked, TimeLocked, UntimedLocked, NonstandardSpend, LegacySigops, NonstandardWitness, Balance, Costs, Pays, Ancestors, AncestorsSized, Outpaid, Descendants, Above, Input}
 
 -- ---- outputs
 
@@ -46,6 +47,11 @@ abbrev pub dust : Feerate → ℕ → List TxOut → Option Figures
 dust rate index [] = None
 dust rate index (output ∷ outputs) =
     if is_dust rate output then Some (Dust index output.value (dust_threshold_of rate output)) else dust rate (index + 1) outputs
+
+-- the first output that is dust at this rate, among outputs from this index on, with the fee that is paid beside it
+abbrev pub dust_paying : Feerate → ℕ → ℕ → List TxOut → Option Figures
+dust_paying rate fee index [] = None
+dust_paying rate fee index (output ∷ outputs) = if is_dust rate output then Some (DustPays index fee) else dust_paying rate fee (index + 1) outputs
 
 -- what is wrong with an output's script of this template and this size, at this index
 abbrev pub script_figures : Standards → ℕ → Template → ℕ → Option Figures
@@ -90,6 +96,26 @@ abbrev pub young : History → List Admitted → ℕ → List TxIn → Option Fi
 young chain entries index [] = None
 young chain entries index (input ∷ inputs) =
     option_or (young_by (tip_of chain + 1) index (view_coin chain entries input.prevout)) (young chain entries (index + 1) inputs)
+
+-- ---- dust of parents
+
+-- the first of these outputs of the transaction of an id, the first at this index, that is dust and that none of the inputs spends
+abbrev pub unswept_output : Feerate → List TxIn → List ℕ → ℕ → List TxOut → Option Figures
+unswept_output rate inputs txid index [] = None
+unswept_output rate inputs txid index (output ∷ outputs) =
+    if is_dust rate output && not (spends inputs (record { txid = txid; index = index })) then Some (Unswept (record { txid = txid; index = index }))
+    else unswept_output rate inputs txid (index + 1) outputs
+
+-- the first such output of a parent of this id; a parent in a block is not asked
+abbrev pub unswept_of : Feerate → List TxIn → List ℕ → Option Admitted → Option Figures
+unswept_of rate inputs txid None = None
+unswept_of rate inputs txid (Some e) = unswept_output rate inputs txid 0 e.tx.outputs
+
+-- the first such output of a parent in the pool, by these inputs in turn, of all that the transaction has
+abbrev pub unswept : Feerate → List Admitted → List TxIn → List TxIn → Option Figures
+unswept rate entries all [] = None
+unswept rate entries all (input ∷ inputs) =
+    option_or (unswept_of rate all input.prevout.txid (entry_by_txid entries input.prevout.txid)) (unswept rate entries all inputs)
 
 -- ---- relative locks
 
@@ -252,6 +278,7 @@ sibling_in over tx = sibling_of First over.policy over.entries tx
 -- the figures of the rules on what a transaction pays and for what size
 unfoldable pub paying_figures : Standing → Tx → Denial → Option Figures
 paying_figures over tx InBelowOut = Some (Balance (coins_at over.chain over.entries tx) (outputs_value tx))
+paying_figures over tx DustWithFee = dust_paying over.policy.standards.dust_rate (fee_at over.chain over.entries tx) 0 tx.outputs
 paying_figures over tx TooManySigops = Some (Costs (cost_at over.chain over.entries tx))
 paying_figures over tx MempoolMinFee = pays (feerate_by over.policy over.floor) (fee_at over.chain over.entries tx) (vsize_at over.policy.sigop_size over.chain over.entries tx)
 paying_figures over tx MinRelayFee = pays (relay_feerate over.policy) (fee_at over.chain over.entries tx) (vsize_at over.policy.sigop_size over.chain over.entries tx)
@@ -278,6 +305,7 @@ figures_of over tx NonstandardInputs = nonstandard_inputs over.policy (reported 
 figures_of over tx WitnessNonstandard = nonstandard_witness over.policy.anchors 0 (reported tx.inputs (coins_of over.chain over.entries tx.inputs))
 figures_of over tx PrematureSpend = young over.chain over.entries 0 tx.inputs
 figures_of over tx TooManyReplacements = Some (Descendants (descendant_count over.entries (counted_of over.entries (sibling_in over tx) tx)))
+figures_of over tx UnsweptDust = unswept over.policy.standards.dust_rate over.entries tx.inputs tx.inputs
 figures_of over tx VerdictMissing = doubted over.verdicts (wtxid_of tx) 0 tx.inputs
 figures_of over tx SoftVerdict = doubted over.verdicts (wtxid_of tx) 0 tx.inputs
 figures_of over tx HardVerdict = doubted over.verdicts (wtxid_of tx) 0 tx.inputs

@@ -11,7 +11,7 @@ use Rattle.gate_admit.specs.Rules.{decision_of}
 use Rattle.gate_admit.specs.Standing.{Standing}
 use Rattle.gate_admit.specs.Verdicts.{verdict_of}
 use Rattle.gate_figures.specs.declared.figures.Figures.{Figures}
-use Rattle.gate_figures.specs.declared.figures.Figures.TheVariants.{Large, Small, Weighs, Script, BareMultisig, DataScript, DataOutputs, DataLeft, Dust, Final, Spent, NoCoin, Young, HeightLocked, TimeLocked, UntimedLocked, NonstandardSpend, LegacySigops, NonstandardWitness, Balance, Costs, Pays, Ancestors, AncestorsSized, Outpaid, Descendants, Above, Input}
+use Rattle.gate_figures.specs.declared.figures.Figures.TheVariants.{Large, Small, Weighs, Script, BareMultisig, DataScript, DataOutputs, DataLeft, Dust, DustPays, Unswept, Final, Spent, NoCoin, Young, HeightLocked, TimeLocked, UntimedLocked, NonstandardSpend, LegacySigops, NonstandardWitness, Balance, Costs, Pays, Ancestors, AncestorsSized, Outpaid, Descendants, Above, Input}
 use Rattle.gate_figures.specs.Figures.{figures_of, is_good}
 use Rattle.gate_figures.specs.Least.{IsLeastFor}
 
@@ -27,6 +27,8 @@ Decide over (DataScript output size most) = (over.policy.standards.data_size ≤
 Decide over (DataOutputs count most) = (over.policy.standards.data_outputs ≤ most) × (most < count)
 Decide over (DataLeft output size left) = left < size
 Decide over (Dust output value needs) = is_below value needs ≡ true
+Decide over (DustPays output fee) = 0 < fee
+Decide over (Unswept outpoint) = Unit {0}
 Decide over (Final locktime height median) = threshold_of locktime height median ≤ locktime
 Decide over (Spent input by) = over.policy.full_rbf ≡ false
 Decide over (NoCoin input outpoint) = view_coin over.chain over.entries outpoint ≡ None

@@ -49,6 +49,15 @@ pub enum Figures {
         value: i64,
         needs: u128,
     },
+    /// An output that is dust, and the fee that the transaction pays beside it, in satoshi.
+    DustPays {
+        output: usize,
+        fee: u128,
+    },
+    /// An output of a parent that is dust, and that the transaction doesn't spend.
+    Unswept {
+        outpoint: OutPoint,
+    },
     /// The transaction's locktime, the height of the next block, and the median time past of the tip.
     Final {
         locktime: u32,
@@ -180,6 +189,13 @@ impl fmt::Display for Figures {
                 value,
                 needs,
             } => write!(f, "output {output}: value {value}, needs {needs}"),
+            Figures::DustPays { output, fee } => {
+                write!(f, "output {output} is dust, pays {fee}, 0 allowed")
+            }
+            Figures::Unswept { outpoint } => {
+                let OutPoint { txid, index } = outpoint;
+                write!(f, "dust {txid}:{index} of a parent is not spent")
+            }
             Figures::Final {
                 locktime,
                 height,

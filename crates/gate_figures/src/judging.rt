@@ -13,9 +13,10 @@ use crate::families::{crowded, descendants_replaced, fees_replaced};
 use crate::fees::{Price, pays, pays_above};
 use crate::figures::Figures;
 use crate::locks::locked;
-use crate::outputs::{carriers, data_past, dust, nonstandard};
+use crate::outputs::{carriers, data_past, dust, dust_paying, nonstandard};
 use crate::reports::{nonstandard_inputs, nonstandard_witness};
 use crate::rivals::{non_signalling, outpaid_at, rate_at};
+use crate::sweeping::unswept;
 use crate::verdicts::doubted;
 use gate_admit::{Prepared, judge, sibling, tip_median};
 use gate_bytes::Memory;
@@ -45,6 +46,10 @@ fn paying_figures<S: BuildHasher + Copy + Drop>(
             coins: price.coins,
             outputs: price.outputs,
         })),
+        Denial::DustWithFee => {
+            let rate = policy.standards().dust_rate;
+            Ok(dust_paying(rate, price.fee, transaction.outputs()))
+        }
         Denial::TooManySigops => Ok(Some(Figures::Costs { cost: price.cost })),
         Denial::MempoolMinFee => Ok(pays(
             policy.feerate(state.floor().rate()),
@@ -122,6 +127,7 @@ fn figures_of<S: BuildHasher + Copy + Drop>(
         Denial::PrematureSpend => Ok(young(chain, pool, inputs)),
         Denial::NonstandardInputs => nonstandard_inputs(alloc, policy, chain, pool, inputs),
         Denial::WitnessNonstandard => nonstandard_witness(alloc, policy, chain, pool, inputs),
+        Denial::UnsweptDust => Ok(unswept(standards.dust_rate, pool, inputs)),
         Denial::TooManyReplacements => Ok(Some(Figures::Descendants {
             count: descendants_replaced(alloc, policy, pool, transaction)?,
         })),

@@ -17,6 +17,7 @@ mod relating;
 mod reports;
 mod rivals;
 mod room;
+mod sweeping;
 mod verdicts;
 
 pub use explanation::{Explained, Explanation};

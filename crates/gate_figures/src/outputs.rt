@@ -1,12 +1,12 @@
 //! The output that is not standard, the one whose data don't fit, and the one that is dust.
 ghost use Rattle.std.specs.Prelude.{◌≡◌};
 ghost use Rattle.std.specs.List.{count_by};
-ghost use Rattle.gate_standard.specs.Outputs.{carries_data, is_dust};
-ghost use Rattle.gate_figures.specs.Figures.{data_past, dust, nonstandard, script_figures};
+ghost use Rattle.gate_standard.specs.Outputs.{carries_data};
+ghost use Rattle.gate_figures.specs.Figures.{data_past, dust, dust_paying, nonstandard, script_figures};
 
 use crate::figures::Figures;
 use gate_script::{Template, template};
-use gate_standard::{Feerate, Standards, dust_threshold};
+use gate_standard::{Feerate, Standards, dust_threshold, is_dust};
 use gate_tx::TxOut;
 
 #[tactic(auto, unfolding(gate_standard::specs::Outputs::carries_data))]
@@ -14,17 +14,6 @@ fn carries_data(output: &TxOut) -> bool
     ensures { result ≡ carries_data output.now }
 {
     matches!(template(output.script.as_slice()), Template::NullData)
-}
-
-/// Whether an output is worth less than it has to be at this rate.
-#[tactic(auto, unfolding(gate_standard::specs::Outputs::is_dust))]
-fn is_dust(rate: Feerate, output: &TxOut) -> bool
-    ensures { result ≡ is_dust rate output.now }
-{
-    if carries_data(output) {
-        return false;
-    }
-    output.value < 0 || (output.value as u128) < dust_threshold(rate, output)
 }
 
 /// The first output that is dust at this rate for 1,000 bytes.
@@ -39,6 +28,18 @@ pub(crate) fn dust(rate: Feerate, outputs: &[TxOut]) -> Option<Figures>
                 value: found.value,
                 needs: dust_threshold(rate, found),
             });
+        }
+    }
+    None
+}
+
+/// The first output that is dust at this rate for 1,000 bytes, with the fee that is paid beside it.
+pub(crate) fn dust_paying(rate: Feerate, fee: u128, outputs: &[TxOut]) -> Option<Figures>
+    ensures { result ≡ dust_paying rate fee 0 outputs.now }
+{
+    for output in 0..outputs.len() {
+        if is_dust(rate, &outputs[output]) {
+            return Some(Figures::DustPays { output, fee });
         }
     }
     None
