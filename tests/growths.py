@@ -90,6 +90,16 @@ def test_a_submission_that_trims(gate):
     refused(gate, "trim-and-floor", 3, 3)
 
 
+def test_a_package(gate):
+    """Its members stand in the pool itself, and what they push out is trimmed."""
+    refused(gate, "trim-behind-a-package", 3, 20)
+
+
+def test_a_package_that_replaces(gate):
+    """Its members stand in a copy of the pool."""
+    refused(gate, "replaced-by-two-members", 5, 40)
+
+
 def test_a_reorganisation(gate):
     """A disconnected parent comes back above its children."""
     refused(gate, "reorganisation-returns-a-parent", 5, 40)

@@ -23,9 +23,10 @@ from gated.node.transactions import Reader
 
 # cases over a pool with room, and over a full one
 CASES, FULL = "knots-29-cases", "knots-29-full"
-# the release whose policy the node had, and what it had otherwise
+# the release whose policy the node had, what it had otherwise, and what that release has and its name doesn't say yet
 RELEASE = "core-29"
 OTHERWISE = {"permitbaremultisig": 0, "keepinvalid": 1}
+UNNAMED = ["packages 1", "packageallparents 1"]
 # what not every case says: the node's own number is the release's
 UNSAID = ("maxtxlegacysigops", "truc", "ephemeraldust")
 # how the node names a refusal, where the policy has another name
@@ -38,13 +39,22 @@ NAMES = {
     "truc-ancestors-toomany": "TRUC-violation",
     "truc-child-toobig": "TRUC-violation",
     "truc-descendants-toomany": "TRUC-violation",
+    "truc-parent-and-child-both": "TRUC-violation",
     "truc-spends-nontruc": "TRUC-violation",
     "truc-spent-by-nontruc": "TRUC-violation",
     "truc-vsize-toobig": "TRUC-violation",
+    "Transaction outputs already in utxo set": "txn-already-known",
+    "Unspendable output exceeds maximum configured by user": "max-burn-exceeded",
+    "package topology disallowed. not child-with-parents or parents depend on each other.": "package-not-child-with-parents",
 }
-PACKAGE, LIST, BEHIND = "packages", "lists, which the node judges as packages", "behind these"
+# how the node's message on a package begins that would replace entries, and the one that the gate has for each of them; and the
+# message that comes behind the rules on that
+REPLACES, REFUSES, UNSWEPT = "package RBF failed: ", "package RBF failed: package must be 1-parent-1-child", "unspent-dust"
+# the codes of calls: the node has several for parameters that are none
+DENIED, UNDECODABLE, INVALID = -25, -22, -32602
+REPLACEMENT, LIST, BEHIND = "packages that replace together", "lists, which the node judges as packages", "behind these"
 # how many answers were compared when this was written
-COMPARED = {CASES: 794, FULL: 10}
+COMPARED = {CASES: 962, FULL: 35}
 EXPIRY = 336 * 3600
 COINBASE = "00" * 32
 
@@ -75,6 +85,15 @@ def in_block(digits):
     return found
 
 
+def replaces_together(told, has_conflict):
+    """Whether a package that was judged together replaces entries, or failed by a rule on that or by one behind those, which the gate doesn't allow."""
+    message = told.get("package_msg", "")
+    if message.startswith(REPLACES) or message == UNSWEPT and has_conflict:
+        return message != REFUSES
+    together = [it for it in told.get("tx-results", {}).values() if len(it.get("fees", {}).get("effective-includes", [])) > 1]
+    return bool(together and told["replaced-transactions"])
+
+
 class Event:
     """An event, the node's answer to it (None if it wasn't asked), and what it carries."""
 
@@ -103,11 +122,12 @@ class Event:
         told = self.told() or {}
         return told.get("message", told.get("reject-reason", ""))
 
-    def reason(self):
-        """Why the gate can't be asked."""
-        if self.kind == "submitpackage":
-            return PACKAGE
-        return LIST if self.is_list else None
+    def reason(self, spent):
+        """Why the gate can't be asked, where transactions that the node took have spent these."""
+        if self.is_list:
+            return LIST
+        has_conflict = any(spent.get((it.txid, it.index), one.txid) != one.txid for one in self.transactions for it in one.spent)
+        return REPLACEMENT if self.kind == "submitpackage" and replaces_together(self.told(), has_conflict) else None
 
     def is_taken(self):
         """Whether the node's pool got a transaction by it."""
@@ -150,6 +170,8 @@ class Case:
     joined: Joined = field(default_factory=Joined)
     # the transactions that the node took and the gate wasn't given
     foreign: set = field(default_factory=set)
+    # what transactions spent that the node took, and which of them did
+    spent: dict = field(default_factory=dict)
     # whether whatever follows may depend on them
     is_lost: bool = False
 
@@ -160,7 +182,7 @@ class Case:
     def lines(self):
         """The opening's lines with the release's name in place of what the release has."""
         usual = {**USUAL, **releases()[RELEASE]}
-        return [it for it in self.opening if it.split()[0] not in USUAL] + ["policy " + RELEASE] + ["%s %d" % it for it in self.settings().items() if it[1] != usual[it[0]]]
+        return [it for it in self.opening if it.split()[0] not in USUAL] + ["policy " + RELEASE] + UNNAMED + ["%s %d" % it for it in self.settings().items() if it[1] != usual[it[0]]]
 
     def is_unsure(self, txids):
         roots = {self.joined.root(it) for it in self.foreign}
@@ -173,14 +195,15 @@ class Case:
             found = event.transactions + [it for block in event.blocks for it in block]
             for it in found:
                 self.joined.add(it)
-            reason = event.reason()
+            reason = event.reason(self.spent)
             named = [it.txid for it in event.transactions]
             if event.kind == "getmempoolentry":
                 named = event.call["params"]
             if not reason and (self.is_unsure(named) or event.kind in ("chain", "getmempoolinfo") and self.foreign):
                 reason = BEHIND
-            if reason and event.is_taken():
-                self.foreign.update(it.txid for it in event.transactions)
+            if event.is_taken():
+                self.spent.update(((it.txid, it.index), one.txid) for one in event.transactions for it in one.spent)
+                self.foreign.update(it.txid for it in event.transactions if reason)
             # what leaves a full pool, and what has expired, is all entries' matter
             is_full = any(it.startswith("budget") for it in self.opening) and (event.kind == "submitpackage" or event.is_taken())
             self.is_lost = self.is_lost or bool(reason) and (is_full or event.now > began + EXPIRY)
@@ -210,11 +233,35 @@ def in_order(found):
     return {name: sorted(it) if isinstance(it, list) else it for name, it in found.items()}
 
 
+def of_member(told, name_of, unit):
+    """What became of a member, amounts in satoshi of which a unit of the answer has so many."""
+    if "error" in told:
+        return "denied", name_of(told["error"])
+    if "other-wtxid" in told:
+        return "other", told["other-wtxid"]
+    amounts = {name: round(it * unit) for name, it in told["fees"].items() if name != "effective-includes"}
+    return "held", told["vsize"], amounts, told["fees"].get("effective-includes")
+
+
+def of_package(told, name_of, unit):
+    """What became of a package: the message, each member by its wtxid, and what was replaced."""
+    members = {wtxid: of_member(it, name_of, unit) for wtxid, it in told["tx-results"].items()}
+    return name_of(told["package_msg"]), members, sorted(told["replaced-transactions"])
+
+
+def of_refused_call(error, met):
+    """The code of the policy for the node's error, and the name of the rule, if it is one."""
+    code = error["code"] if error["code"] in (DENIED, UNDECODABLE) else INVALID
+    return (code, policy_name(error["message"], met)) if code == DENIED else code
+
+
 def wanted_of(event, unsure, met):
     """What the gate has to say, from the node's answer."""
     told = event.told()
     if event.kind == "tx":
         return ("denied", policy_name(told["message"], met)) if event.refusal() else ("admitted", [event.transactions[0].txid], len(told["left"]))
+    if event.kind == "submitpackage":
+        return of_refused_call(told["error"], met) if "error" in told else of_package(told, lambda it: policy_name(it, met), 1e8)
     if event.kind == "testmempoolaccept":
         found = {name: told[name] for name in ("allowed", "txid", "wtxid")}
         if told["allowed"]:
@@ -233,9 +280,13 @@ def found_of(event, reply, unsure):
     if event.kind == "chain":
         return dict(zip(("tip", "removed", "entered"), map(int, words[1::2])))
     body = json.loads(reply.split(" ", 2)[2])
-    if body["error"]:
-        return body["error"]
-    result = body["result"]
+    error, result = body["error"], body["result"]
+    if event.kind == "submitpackage" and error:
+        return (error["code"], error["message"]) if error["code"] == DENIED else error["code"]
+    if error:
+        return error
+    if event.kind == "submitpackage":
+        return of_package(result, str, 1)
     if event.kind == "testmempoolaccept":
         (it,) = result
         told = {"vsize": it["vsize"], "fee": it["fees"]["base"]} if it["allowed"] else {"reason": it["reject-reason"]}
@@ -269,7 +320,7 @@ def all_compared(gate, name):
         more, number, reasons = compared(gate, case, met)
         differ += more
         count, left_out, whole, cases = count + number, left_out + reasons, whole + (not reasons), cases + 1
-    told = ", ".join("%d %s" % (left_out[it], it) for it in (PACKAGE, LIST, BEHIND))
+    told = ", ".join("%d %s" % (left_out[it], it) for it in (LIST, REPLACEMENT, BEHIND))
     print("%s: %d answers in %d cases compared, %d cases whole; left out: %s" % (name, count, cases, whole, told), flush=True)
     same_lines(differ, [])
     true("at least %d answers compared, and not %d" % (COMPARED[name], count), count >= COMPARED[name])
@@ -277,8 +328,8 @@ def all_compared(gate, name):
 
 
 def test_a_node_of_today(gate):
-    """Each answer that a node with Bitcoin Core 29's policy gave, but for what needs packages, and for what hangs together with
-    that."""
+    """Each answer that a node with Bitcoin Core 29's policy gave, but for what needs lists, or packages that replace together, and
+    for what hangs together with that."""
     met = all_compared(gate, CASES)
     same("names that the node doesn't use", [it for it in NAMES if not met[it]], [])
 

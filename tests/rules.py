@@ -13,11 +13,13 @@ ALWAYS_CLOSED = "The session is closed, also with noban."
 RELAYED = "The session is kept, and for a peer with forcerelay the transaction is relayed once more."
 UNCHANGED, RUN_ENDS, PROGRAM_ENDS = "Nothing changes.", "The run ends there.", "The program ends with status 2."
 THENS = (KEPT, CLOSED, ALWAYS_CLOSED, RELAYED, UNCHANGED, RUN_ENDS, PROGRAM_ENDS)
-LINE = re.compile(r"(\S+) ([^:]+): (.+)\. (%s)(?: Core: (.+)\.)?" % "|".join(map(re.escape, THENS)))
+# the one beginning of tokens that has a colon itself
+PREFIX = "package RBF failed: "
+LINE = re.compile(r"(\S+) ((?:%s)?[^:]+): (.+)\. (%s)(?: Core: (.+)\.)?" % (PREFIX, "|".join(map(re.escape, THENS))))
 
 POLICY, FORMATS = text_of("docs", "POLICY.md"), text_of("docs", "FORMATS.md")
-LETTERS = "APUNCL"
-NUMBERED = set(re.findall(r"^\| \**([APUNC]\d+)\W", POLICY, re.MULTILINE) + re.findall(r"^\| `refused (L\d+) ", FORMATS, re.MULTILINE))
+LETTERS = "APJUNCL"
+NUMBERED = set(re.findall(r"^\| \**([APJUNC]\d+)\W", POLICY, re.MULTILINE) + re.findall(r"^\| `refused (L\d+) ", FORMATS, re.MULTILINE))
 ORDER = sorted(NUMBERED, key=lambda it: (LETTERS.index(it[0]), int(it[1:])))
 OPENINGS = re.findall(r"^(?:\| |If no line fails, )`([\w-]+)` ", FORMATS.partition("\n### Faults of an opening\n")[2].partition("\n## ")[0], re.MULTILINE)
 FAULTS = re.findall(r"^\| `fault ([\w-]+)` \|", FORMATS, re.MULTILINE)
@@ -69,7 +71,7 @@ def quoted(text):
 def test_contracts(gate):
     """Numbers and tokens are those that the contracts carry."""
     wanted = {}
-    for file in ("Denials", "Peers", "Whitelist", "Chain"):
+    for file in ("Denials", "Peers", "Packages", "Whitelist", "Chain"):
         wanted.update(re.findall(r'^row_of \w+ = key \(codes "([^"]*)"\) \(codes "([^"]*)"\)', text_of("crates", "gate_rules", "specs", file + ".antt"), re.MULTILINE))
     for path in ("gate_rpc/specs/Replies.antt", "gate_lines/specs/Refused.antt"):
         for line in re.findall(r'codes "(?:denied|refused) ([UL]\d .*)"', text_of("crates", *path.split("/"))):
@@ -102,8 +104,8 @@ def numbers(text):
 def test_policy(gate):
     """The tables of docs/POLICY.md have the same tokens, and what follows; a rule's sentence has the numbers of its row."""
     found = numbered(gate)
-    table = rows("POLICY.md", r"[APNC]\d+")
-    same("rules", sorted(table), sorted(name for name in ORDER if name[0] in "APNC"))
+    table = rows("POLICY.md", r"[APJNC]\d+")
+    same("rules", sorted(table), sorted(name for name in ORDER if name[0] in "APJNC"))
     for name, cells in table.items():
         same("token of " + name, "`%s`" % found[name].token, cells[0])
         missing = numbers(cells[1]) - numbers(found[name].says)
@@ -121,6 +123,8 @@ def test_what_follows(gate):
         letter = rule.name[0]
         if letter == "A":
             wanted = CLOSED if rule.name in CLOSING else KEPT
+        elif letter == "J":
+            wanted = KEPT
         elif rule.name in ("L2", "L3"):
             wanted = RUN_ENDS
         elif letter == "N" or rule.name == "opening":
@@ -177,6 +181,6 @@ def test_explain(gate):
 
 def test_explain_nothing(gate):
     """A word that names nothing prints nothing, standard error says so, and the status is 1."""
-    for word, near in (("A50", None), ("C13", None), ("A", None), ("A036", "A36"), ("fee", None), ("", None), ("insufficient  fee", "insufficient fee")):
+    for word, near in (("A52", None), ("C13", None), ("A", None), ("A036", "A36"), ("fee", None), ("", None), ("insufficient  fee", "insufficient fee")):
         told = 'gate: no rule and no token is named "%s"; %s\n' % (word, "is it %s?" % near if near else "gate rules lists them")
         same("explain %r" % word, explained(gate, word), ([], told, 1))

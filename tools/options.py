@@ -101,7 +101,7 @@ def table_faults(known: dict[str, Option]) -> Iterator[str]:
                 wanted, is_right = "{:,}".format(value), re.fullmatch(r"[\d,]+", row[title]) and number(row[title]) == value
             if not is_right:
                 yield "%s: %s of %s is %s, and not %s" % (page, title.lower(), word, wanted, row[title])
-        if not re.search(r"\b[APU]\d", row["Read by"]):
+        if not re.search(r"\b[AJPU]\d", row["Read by"]):
             yield "%s: no rule reads %s" % (page, word)
     for word in known:
         if seen.count(word) != 1:

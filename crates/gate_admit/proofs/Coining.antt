@@ -26,7 +26,7 @@ use Rattle.gate_admit.proofs.Filtering.{find-filter_same}
 
 -- ---- the chain knows the transaction of each of its coins
 
-some_either : {X : Type 0} (a b : Option X) → is_some (option_or a b) ≡ true → (is_some a ≡ true) ⊎ (is_some b ≡ true)
+pub some_either : {X : Type 0} (a b : Option X) → is_some (option_or a b) ≡ true → (is_some a ≡ true) ⊎ (is_some b ≡ true)
 some_either None b h = inr h
 some_either (Some x) b h = inl refl
 

@@ -46,19 +46,29 @@ use Rattle.gate_admit.proofs.SmallFamilies.{entered_small, keeps_truc}
 use Rattle.gate_admit.proofs.Staying.{is_below}
 use Rattle.gate_admit.proofs.Unconnected.{unconnected}
 
-spent_by-push : (entries : List Admitted) (e : Admitted) → spent_by (entries ++ e ∷ []) ≡ spent_by entries ++ spends_of e.tx
+pub spent_by-push : (entries : List Admitted) (e : Admitted) → spent_by (entries ++ e ∷ []) ≡ spent_by entries ++ spends_of e.tx
 spent_by-push entries e = flat_map-append (λ (e : Admitted). spends_of e.tx) entries (e ∷ []) ∙ ap (λ l. spent_by entries ++ l) (append-nil (spends_of e.tx))
 
-neither : (a b : Bool) → a ≡ false → b ≡ false → (a || b) ≡ false
+pub neither : (a b : Bool) → a ≡ false → b ≡ false → (a || b) ≡ false
 neither a b h k = rw (h, k) refl
 
-unknown : (chain : History) (txid : List ℕ) → opened_with_of chain txid ≡ false → list_any (has_transaction txid) chain.blocks ≡ false → is_known_txid chain txid ≡ false
+pub unknown : (chain : History) (txid : List ℕ) → opened_with_of chain txid ≡ false → list_any (has_transaction txid) chain.blocks ≡ false → is_known_txid chain txid ≡ false
 unfolding opened_with_of is_known_txid
 unknown chain txid h k = neither (has_txid txid chain.coins) (list_any (has_transaction txid) chain.blocks) h k
 
--- ---- what is granted has no children, and its coins stay
+-- ---- what enters has no children, and its coins stay
 
-module _ (over : Standing) (sibling : Option (List ℕ)) (e : Admitted) (good : IsSound over.policy over.chain over.entries) (k : IsGrantable over e.tx) (fresh : is_known_txid over.chain (txid_of e.tx) ≡ false)
+-- what enters is new, spends no outpoint twice, and has a coin at each
+pub record MayEnter (over : Standing) (tx : Tx) : Type 0 where
+  pub txid : All (λ (e : Admitted). txid_of e.tx ≢ txid_of tx) over.entries
+  pub wtxid : All (λ (e : Admitted). wtxid_of e.tx ≢ wtxid_of tx) over.entries
+  pub single : AllPairs (λ (p : OutPoint) (q : OutPoint). p ≢ q) (spends_of tx)
+  pub coins : All (λ (p : OutPoint). IsSome (view_coin over.chain over.entries p)) (spends_of tx)
+
+may_enter : (over : Standing) (tx : Tx) → IsGrantable over tx → MayEnter over tx
+may_enter over tx k = record { txid = k.txid; wtxid = k.wtxid; single = k.single; coins = k.coins }
+
+module _ (over : Standing) (sibling : Option (List ℕ)) (e : Admitted) (good : IsSound over.policy over.chain over.entries) (k : MayEnter over e.tx) (fresh : is_known_txid over.chain (txid_of e.tx) ≡ false)
     (beside : All (λ (a : Admitted). is_counted sibling e.tx a ≡ false) (ancestors_above over.entries e.tx.inputs)) where
   new : (a : Admitted) → Contains over.entries a → txid_of a.tx ≢ txid_of e.tx
   new a m = All-contains (λ (x : Admitted). txid_of x.tx ≢ txid_of e.tx) over.entries a k.txid m
@@ -123,11 +133,10 @@ module _ (over : Standing) (sibling : Option (List ℕ)) (e : Admitted) (good : 
       room_at over.policy over.entries sibling e room parents a above (λ narrow. evicted a above)))
       (All-one (λ (a : Admitted). IsLimited over.policy (entered_beside over.entries sibling e) (txid_of a.tx)) e (limited_new sibling (omega (arith, small, good.bounds.descendants_size)) childless_grant (room_above over.policy over.entries e good.bounds small room)))
 
-  -- the entries after it entered
-  pub granted_sound : e.vsize ≤ 100000 → NoneFails (limit_rules First over.policy over.entries e.tx e.vsize) → (list_any (is_counted sibling e.tx) over.entries ≡ true → adds_unconfirmed over.policy.parents over.entries sibling e.tx ≡ false)
-      → ((a : Admitted) → Contains (ancestors_above over.entries e.tx.inputs) a → HasRoomBeside over.policy over.entries sibling e a)
+  -- the entries after it entered, where all families are within their limits
+  pub joined_sound : e.vsize ≤ 100000 → All (λ (a : Admitted). IsLimited over.policy (entered_beside over.entries sibling e) (txid_of a.tx)) (entered_beside over.entries sibling e)
       → IsSound over.policy over.chain (entered_beside over.entries sibling e)
-  granted_sound small room parents evicted =
+  joined_sound small limited =
       let kept = left_by over.entries sibling e in
       let chain = over.chain in
       let stays : Admitted → Bool = λ a. not (is_below_some (is_counted sibling e.tx) over.entries a) in
@@ -143,8 +152,13 @@ module _ (over : Standing) (sibling : Option (List ℕ)) (e : Admitted) (good : 
             (All-append (λ (p : OutPoint). IsSome (view_coin chain (entered_beside over.entries sibling e) p)) (spent_by kept) (spends_of e.tx) (old_coins h.coins) new_coins);
         fresh = All-append (λ (a : Admitted). is_known_txid chain (txid_of a.tx) ≡ false) kept (e ∷ []) h.fresh (All-one (λ (a : Admitted). is_known_txid chain (txid_of a.tx) ≡ false) e fresh);
         light = All-append (λ (a : Admitted). a.vsize ≤ 100000) kept (e ∷ []) h.light (All-one (λ (a : Admitted). a.vsize ≤ 100000) e small);
-        limited = families small room parents evicted;
+        limited = limited;
       }
+
+  granted_sound : e.vsize ≤ 100000 → NoneFails (limit_rules First over.policy over.entries e.tx e.vsize) → (list_any (is_counted sibling e.tx) over.entries ≡ true → adds_unconfirmed over.policy.parents over.entries sibling e.tx ≡ false)
+      → ((a : Admitted) → Contains (ancestors_above over.entries e.tx.inputs) a → HasRoomBeside over.policy over.entries sibling e a)
+      → IsSound over.policy over.chain (entered_beside over.entries sibling e)
+  granted_sound small room parents evicted = joined_sound small (families small room parents evicted)
 
 -- ---- submissions
 
@@ -175,7 +189,7 @@ entered_sound : (over : Standing) (tx : Tx) (now : ℕ) → (IsGrantable over tx
     → IsSound over.policy over.chain (entered_beside over.entries (sibling_of First over.policy over.entries tx) (admitted tx (grant_of First over tx) now))
 entered_sound over tx now all h =
     let e = admitted tx (grant_of First over tx) now in
-    granted_sound over (sibling_of First over.policy over.entries tx) e h all.0 (unknown over.chain (txid_of tx) all.0.fresh all.2) (beside_granted over tx all.0)
+    granted_sound over (sibling_of First over.policy over.entries tx) e h (may_enter over tx all.0) (unknown over.chain (txid_of tx) all.0.fresh all.2) (beside_granted over tx all.0)
     (small First over tx h.bounds all.1) (room_granted over tx all.1) (parents_granted over tx all.1)
     (λ a m. evicted_room over.policy over.chain over.entries e h (room_granted over tx all.1) a m)
 
@@ -189,7 +203,7 @@ entered_truc : (over : Standing) (tx : Tx) (now : ℕ) → (IsGrantable over tx 
 entered_truc over tx now all h on kin =
     let e = admitted tx (grant_of First over tx) now in
     entered_small over.policy over.entries e h.txids
-    (childless_grant over (sibling_of First over.policy over.entries tx) e h all.0 (unknown over.chain (txid_of tx) all.0.fresh all.2) (beside_granted over tx all.0)) kin on
+    (childless_grant over (sibling_of First over.policy over.entries tx) e h (may_enter over tx all.0) (unknown over.chain (txid_of tx) all.0.fresh all.2) (beside_granted over tx all.0)) kin on
     (keeps_truc over.policy over.entries tx (grant_of First over tx).vsize (room_granted over tx all.1))
 
 -- where version 3 is standard, families of version 3 stay small

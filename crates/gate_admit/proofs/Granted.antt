@@ -60,11 +60,11 @@ points_differ p q h = λ e. true≢false (sym ((out_point_decides p q).1 e) ∙ 
 points_differ_back : (p q : OutPoint) → point_eq q p ≡ false → p ≢ q
 points_differ_back p q h = λ e. points_differ q p h (sym e)
 
-ids_differ : (a b : List ℕ) → bytes_eq a b ≡ false → a ≢ b
+pub ids_differ : (a b : List ℕ) → bytes_eq a b ≡ false → a ≢ b
 ids_differ a b h = λ e. true≢false (sym ((bytes_eq-Decides a b).1 e) ∙ h)
 
 -- inputs of which no two spend one outpoint
-spends_once : (inputs : List TxIn) → spends_twice inputs ≡ false → AllPairs Differ (map (λ (i : TxIn). i.prevout) inputs)
+pub spends_once : (inputs : List TxIn) → spends_twice inputs ≡ false → AllPairs Differ (map (λ (i : TxIn). i.prevout) inputs)
 spends_once [] h = AllPairs-nil Differ
 spends_once (i ∷ inputs) h =
     let parts = or_parts (spends inputs i.prevout) (spends_twice inputs) h in
@@ -84,7 +84,7 @@ no_conflict tx e h =
     (none_pass (λ (j : TxIn). point_eq j.prevout (get_or tx.inputs n c).prevout) e.tx.inputs
     (none_pass (λ (i : TxIn). spends e.tx.inputs i.prevout) tx.inputs h n c m) k d l)))
 
-no_conflicts : (tx : Tx) (entries : List Admitted) → All (λ (e : Admitted). is_conflict tx e ≡ false) entries → All (λ (p : OutPoint). All (λ (q : OutPoint). p ≢ q) (spends_of tx)) (spent_by entries)
+pub no_conflicts : (tx : Tx) (entries : List Admitted) → All (λ (e : Admitted). is_conflict tx e ≡ false) entries → All (λ (p : OutPoint). All (λ (q : OutPoint). p ≢ q) (spends_of tx)) (spent_by entries)
 no_conflicts tx [] h = All-nil (λ (p : OutPoint). All (λ (q : OutPoint). p ≢ q) (spends_of tx))
 no_conflicts tx (e ∷ entries) h =
     All-append (λ (p : OutPoint). All (λ (q : OutPoint). p ≢ q) (spends_of tx)) (spends_of e.tx) (spent_by entries)
@@ -110,7 +110,7 @@ all_signal truc tx entries h = λ k d l.
 
 -- ---- live inputs
 
-some_from_not_none : {X : Type 0} (o : Option X) → is_none o ≡ false → is_some o ≡ true
+pub some_from_not_none : {X : Type 0} (o : Option X) → is_none o ≡ false → is_some o ≡ true
 some_from_not_none None h = sym h
 some_from_not_none (Some x) h = refl
 
@@ -118,7 +118,7 @@ true_from_not : (b : Bool) → not b ≡ false → b ≡ true
 true_from_not true h = refl
 true_from_not false h = sym h
 
-each_once : (standards : Standards) (tx : Tx) → NoneFails (alone_rules standards tx) → spends_twice tx.inputs ≡ false
+pub each_once : (standards : Standards) (tx : Tx) → NoneFails (alone_rules standards tx) → spends_twice tx.inputs ≡ false
 unfolding alone_rules transaction_rules
 each_once standards tx h =
     let every = (none_fails-append (transaction_rules tx) _ h).0 in
@@ -207,7 +207,7 @@ pays over tx p = let both = paid over.policy tx over.floor _ _ p.payment in reco
 quarter : (weight counts : ℕ) → 1 ≤ weight → weight ≤ 400000 → counts ≤ 400000 → (1 ≤ (max weight counts + 3) / 4) × ((max weight counts + 3) / 4 ≤ 10000000)
 quarter weight counts some few low = (omega arith, omega arith)
 
-hundred : (weight counts : ℕ) → weight ≤ 400000 → counts ≤ 400000 → (max weight counts + 3) / 4 ≤ 100000
+pub hundred : (weight counts : ℕ) → weight ≤ 400000 → counts ≤ 400000 → (max weight counts + 3) / 4 ≤ 100000
 hundred weight counts few low = omega arith
 
 pub sized : (standards : Standards) (tx : Tx) → NoneFails (alone_rules standards tx) → (1 ≤ weight_of tx) × (weight_of tx ≤ 400000)
@@ -282,7 +282,7 @@ pub found_fit : (attempt : Attempt) (over : Standing) (tx : Option Tx) → IsPol
 found_fit attempt over tx bounds decision h = subst FitsAnEntry (sym h) (decided_fit attempt over tx bounds)
 
 -- no entry has one of the ids of what is granted
-none_found : {X : Type 0} (o : Option X) → is_some o ≡ false → o ≡ None
+pub none_found : {X : Type 0} (o : Option X) → is_some o ≡ false → o ≡ None
 none_found None h = refl
 none_found (Some x) h = cc
 

@@ -1,10 +1,11 @@
 -- What is granted is in no connected block, where transactions are told apart by their ids.
-use Rattle.std.proofs.Common.{◌≡◌, ◌+◌, ◌||◌, ℕ, Bool, Option, true, false, List, [], ◌∷◌, ◌++◌, length, drop, Some, None, refl, sym, ap, ◌∙◌, subst, arith, append_assoc, ⊎_elim}
+use Rattle.std.proofs.Common.{◌≡◌, ◌+◌, ◌||◌, ℕ, Bool, Option, true, false, List, [], ◌∷◌, ◌++◌, length, drop, Some, None, refl, sym, ap, ◌∙◌, subst, append_assoc, ⊎_elim}
 use Rattle.std.specs.Prelude.{◌==◌, map, is_some, IsSome, Contains, option_and_then, slice_get}
 use Rattle.std.specs.Option.{option_or}
 use Rattle.std.specs.Str.{bytes_eq}
 use Rattle.std.specs.List.{All, list_any, flat_map}
 use Rattle.std.proofs.lemmas.Bool.{true≢false, false_from_ne_true, or_cases, or_left, or_right}
+use Rattle.std.proofs.lemmas.List.Elements.{All-contains}
 use Rattle.std.proofs.lemmas.Slice.Eq.{bytes_eq-Decides}
 use Rattle.gate_bytes.specs.Order.{NoneFails, first_failing}
 use Rattle.gate_bytes.proofs.OrderLemmas.{none_fails-append}
@@ -27,6 +28,7 @@ use Rattle.gate_admit.specs.declared.attempt.Attempt.{Attempt}
 use Rattle.gate_admit.specs.Good.{AreApart, IsSettled, IsUnconnected, begins_with_coinbase, chain_up_to, connected_transactions}
 use Rattle.gate_chain.specs.Times.{tip_of}
 use Rattle.gate_pool.specs.Pool.{Admitted, has_txid, entry_by_txid, spends_of}
+use Rattle.gate_pool.proofs.Entries.{Contains-map}
 use Rattle.gate_admit.specs.Coins.{view_coin}
 use Rattle.gate_admit.specs.Rules.{admission_rules}
 use Rattle.gate_submission.specs.Alone.{alone_rules}
@@ -110,12 +112,6 @@ some_inputs : (standards : Standards) (tx : Tx) → NoneFails (alone_rules stand
 unfolding alone_rules transaction_rules
 some_inputs standards tx h = (none_fails-append (transaction_rules tx) _ h).0.0
 
--- the outpoint of the first input has a coin
-first_coin : (chain : History) (entries : List Admitted) (tx : Tx) (i : TxIn) (rest : List TxIn) → tx.inputs ≡ i ∷ rest → All (λ (p : OutPoint). IsSome (view_coin chain entries p)) (spends_of tx)
-    → is_some (view_coin chain entries i.prevout) ≡ true
-first_coin chain entries tx i rest inputs h =
-    subst (λ (is : List TxIn). All (λ (p : OutPoint). IsSome (view_coin chain entries p)) (map (λ (j : TxIn). j.prevout) is)) inputs h 0 i.prevout (omega arith)
-
 -- a coin that the chain doesn't have is an output of an entry
 entry_gives : (chain : History) (entries : List Admitted) (p : OutPoint) → is_some (view_coin chain entries p) ≡ true → is_some (coin_of chain p) ≡ false → is_some (entry_by_txid entries p.txid) ≡ true
 entry_gives chain entries p = go (entry_by_txid entries p.txid) (coin_of chain p)
@@ -179,21 +175,34 @@ known_first chain tx t b i rest settled at behind inputs same = go t.inputs refl
         let one : j.prevout ≡ i.prevout = cc in
         subst (λ (p : OutPoint). is_known_txid chain p.txid ≡ true) one (founded chain settled b at t behind j (subst (λ (is : List TxIn). Contains is j) (sym e) (Contains-head j js)))
 
+-- where it was, its first coin is spent for good, and what else gives a coin the chain doesn't know
+pub unconnected_by : (standards : Standards) (chain : History) (tx : Tx) → IsSettled chain → IsTx tx → AreApart (tx ∷ connected_transactions chain) → NoneFails (alone_rules standards tx)
+    → ((i : TxIn) → Contains tx.inputs i → is_some (coin_of chain i.prevout) ≡ false → is_known_txid chain i.prevout.txid ≡ false) → IsUnconnected chain (Some tx)
+unconnected_by standards chain tx settled is_tx apart alone given = go tx.inputs refl
+  where
+    go : (inputs : List TxIn) → tx.inputs ≡ inputs → list_any (has_transaction (txid_of tx)) chain.blocks ≡ false
+    go [] e = absurd (true≢false (ap (λ (is : List TxIn). length is == 0) (sym e) ∙ some_inputs standards tx alone))
+    go (i ∷ rest) e = false_from_ne_true _ (λ h.
+        let block = any_is (has_transaction (txid_of tx)) chain.blocks h in
+        let member = any_is (λ (t : Tx). bytes_eq (txid_of t) (txid_of tx)) block.0.transactions block.2 in
+        let inside : Contains (connected_transactions chain) member.0 = Contains-flat_map (λ (b : Block). b.transactions) chain.blocks block.0 member.0 block.1 member.1 in
+        let one_form : stripped member.0 ≡ stripped tx = apart member.0 tx (Contains-rest tx (connected_transactions chain) member.0 inside) (Contains-head tx (connected_transactions chain)) ((bytes_eq-Decides (txid_of member.0) (txid_of tx)).0 member.2) in
+        let same : prevouts member.0 ≡ prevouts tx = stripped_forms_spend_the_same member.0 tx (settled.spelled member.0 inside) is_tx one_form in
+        let behind = alike chain tx member.0 block.0 block.0.transactions settled block.1 refl member.1 same (not_coinbase standards tx alone) in
+        let spent : spends member.0.inputs i.prevout ≡ true = spends_alike member.0 tx i.prevout same ∙ ap (λ (is : List TxIn). spends is i.prevout) e ∙ spends_first i rest in
+        let gone = spent_behind chain block.0 member.0 i.prevout block.1 behind spent in
+        let first : Contains tx.inputs i = subst (λ (is : List TxIn). Contains is i) (sym e) (Contains-head i rest) in
+        true≢false (sym (known_first chain tx member.0 block.0 i rest settled block.1 behind e same) ∙ given i first gone))
+
+-- a coin of the view that the chain doesn't have is of an entry, whose transaction the chain doesn't know
+pub unknown_if_gone : (chain : History) (entries : List Admitted) (p : OutPoint) → All (λ (e : Admitted). is_known_txid chain (txid_of e.tx) ≡ false) entries → is_some (view_coin chain entries p) ≡ true
+    → is_some (coin_of chain p) ≡ false → is_known_txid chain p.txid ≡ false
+unknown_if_gone chain entries p fresh has gone = unknown_entry chain entries p.txid fresh (entry_gives chain entries p has gone)
+
 -- where it was, its first coin is spent for good, and no entry gives it
 pub unconnected : (attempt : Attempt) (over : Standing) (tx : Tx) → IsSettled over.chain → All (λ (e : Admitted). is_known_txid over.chain (txid_of e.tx) ≡ false) over.entries → IsTx tx
     → AreApart (tx ∷ connected_transactions over.chain) → first_failing (admission_rules attempt over tx) ≡ None → IsUnconnected over.chain (Some tx)
-unconnected attempt over tx settled fresh is_tx apart granted = go tx.inputs refl
-  where
-    go : (inputs : List TxIn) → tx.inputs ≡ inputs → list_any (has_transaction (txid_of tx)) over.chain.blocks ≡ false
-    go [] e = absurd (true≢false (ap (λ (is : List TxIn). length is == 0) (sym e) ∙ some_inputs over.policy.standards tx (passes attempt over tx granted).alone))
-    go (i ∷ rest) e = false_from_ne_true _ (λ h.
-        let block = any_is (has_transaction (txid_of tx)) over.chain.blocks h in
-        let member = any_is (λ (t : Tx). bytes_eq (txid_of t) (txid_of tx)) block.0.transactions block.2 in
-        let inside : Contains (connected_transactions over.chain) member.0 = Contains-flat_map (λ (b : Block). b.transactions) over.chain.blocks block.0 member.0 block.1 member.1 in
-        let one_form : stripped member.0 ≡ stripped tx = apart member.0 tx (Contains-rest tx (connected_transactions over.chain) member.0 inside) (Contains-head tx (connected_transactions over.chain)) ((bytes_eq-Decides (txid_of member.0) (txid_of tx)).0 member.2) in
-        let same : prevouts member.0 ≡ prevouts tx = stripped_forms_spend_the_same member.0 tx (settled.spelled member.0 inside) is_tx one_form in
-        let behind = alike over.chain tx member.0 block.0 block.0.transactions settled block.1 refl member.1 same (not_coinbase over.policy.standards tx (passes attempt over tx granted).alone) in
-        let spent : spends member.0.inputs i.prevout ≡ true = spends_alike member.0 tx i.prevout same ∙ ap (λ (is : List TxIn). spends is i.prevout) e ∙ spends_first i rest in
-        let gone = spent_behind over.chain block.0 member.0 i.prevout block.1 behind spent in
-        let given = entry_gives over.chain over.entries i.prevout (first_coin over.chain over.entries tx i rest e (rules_grant attempt over tx granted).coins) gone in
-        true≢false (sym (known_first over.chain tx member.0 block.0 i rest settled block.1 behind e same) ∙ unknown_entry over.chain over.entries i.prevout.txid fresh given))
+unconnected attempt over tx settled fresh is_tx apart granted =
+    unconnected_by over.policy.standards over.chain tx settled is_tx apart (passes attempt over tx granted).alone
+    (λ i c gone. unknown_if_gone over.chain over.entries i.prevout fresh
+    (All-contains (λ (p : OutPoint). IsSome (view_coin over.chain over.entries p)) (spends_of tx) i.prevout (rules_grant attempt over tx granted).coins (Contains-map (λ (j : TxIn). j.prevout) tx.inputs i c)) gone)

@@ -8,14 +8,15 @@ use Rattle.gate_standard.specs.declared.Standards.{Standards}
 use Rattle.gate_standard.specs.Standards.{usual_standards}
 use Rattle.gate_rbf.specs.declared.ParentsOf.{ParentsOf}
 use Rattle.gate_rbf.specs.declared.ParentsOf.TheVariants.{Conflicts, Replaced}
-use Rattle.gate_register.specs.declared.Setting.TheVariants.{AncestorCount, AncestorSize, DescendantCount, DescendantSize, RelayRate, IncrementalRate, ExpiryHours, SigopSize, DustRate, DataSize, DataOutputs, LeastSize, FullRbf, BareMultisig, FeesRoundUp, RelayFeeFirst, ReplacedParents, KeepInvalid, Anchors, LegacySigops, DataTotal, Truc, EphemeralDust}
+use Rattle.gate_register.specs.declared.Setting.TheVariants.{AncestorCount, AncestorSize, DescendantCount, DescendantSize, RelayRate, IncrementalRate, ExpiryHours, SigopSize, DustRate, DataSize, DataOutputs, LeastSize, FullRbf, BareMultisig, FeesRoundUp, RelayFeeFirst, ReplacedParents, KeepInvalid, Anchors, LegacySigops, DataTotal, Truc, Packages, PackageAllParents, EphemeralDust}
 use Rattle.gate_register.specs.Policies.{is_on, limit_of, number_of}
 
 -- how many ancestors and descendants a transaction may have at its first try, itself among each, and how many virtual bytes of
 -- each; whether it may replace an entry that doesn't signal; the feerates that every transaction pays, and a replacement for its
 -- own relay, in satoshi per 1,000 virtual bytes; whose parents a replacement may have; whether no rule of admission closes a
 -- session; how many seconds an entry stays; how many bytes a signature operation counts for;
--- whether it may spend anchors, and how many legacy signature operations it may have; and what is standard
+-- whether it may spend anchors, and how many legacy signature operations it may have; what is standard; whether packages are taken,
+-- and whether their child may have no other unconfirmed parent
 pub record Policy : Type 0 where
   pub ancestors : ℕ
   pub ancestors_size : ℕ
@@ -33,6 +34,8 @@ pub record Policy : Type 0 where
   pub anchors : Bool
   pub legacy_sigops : Option ℕ
   pub standards : Standards
+  pub packages : Bool
+  pub all_parents : Bool
 
 abbrev pub rounding_by : Bool → Rounding
 rounding_by false = Down
@@ -71,6 +74,8 @@ policy_of set = record {
     truc = is_on set Truc;
     ephemeral_dust = is_on set EphemeralDust;
   };
+  packages = is_on set Packages;
+  all_parents = is_on set PackageAllParents;
 }
 
 abbrev pub with_full_rbf : Policy → Bool → Policy
@@ -138,6 +143,8 @@ usual_policy = record {
   anchors = false;
   legacy_sigops = None;
   standards = usual_standards;
+  packages = false;
+  all_parents = false;
 }
 
 -- ---- the most that an entry may have, itself among each: a second try lets in a transaction with one parent, as one descendant

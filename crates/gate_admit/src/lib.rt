@@ -28,8 +28,9 @@ mod verdicts;
 mod verifying;
 
 pub use attempt::Attempt;
-pub use coins::{LentCoin, view_coin};
+pub use coins::{LentCoin, is_chain_coin, view_coin};
 pub use confirmed::Confirmed;
+pub use conflicts::check_pool;
 pub use gate_chain::{Chain, OpenFault, OpeningCoin};
 pub use gate_inputs::{InputReport, Piece, report};
 pub use gate_pool::{Entry, Pool};
@@ -42,12 +43,21 @@ pub use law::{
     grants_are_sound, grants_stand, pools_stay_good, readmissions_ask_of_all, replacements_pay,
     siblings_pay, truc_is_kept,
 };
-pub use locking::tip_median;
-pub use paying::{is_immature, outputs_value, vsize_of};
+pub use limits::{FamilyLimits, is_within, usual_limits};
+pub use locking::{check_final, check_locks, tip_median};
+pub use paying::{
+    check_balance, check_coins_paid, check_payment, is_immature, outputs_value, vsize_of,
+};
 pub use policy::{CARVE_OUT_VSIZE, Policy};
 pub use readmission::readmit;
-pub use reporting::{has_relayed_witness, is_relayed, legacy_sigops, sigop_cost};
+pub use reporting::{
+    check_reports, has_relayed_witness, is_relayed, legacy_sigops, reported, sigop_cost,
+};
 pub use standing::Conditions;
 pub use submission::{PlannedEntry, commit_submission, plan_submission, submit};
-pub use truc::{TRUC_CHILD_VSIZE, TRUC_VSIZE, is_truc_violation, sibling};
+pub use sweeping::{check_sweep, leaves_dust_from};
+pub use truc::{
+    TRUC_CHILD_VSIZE, TRUC_VSIZE, breaks_truc, is_truc_violation, sibling, sibling_beside,
+};
 pub use verdicts::Verdicts;
+pub use verifying::check_verdicts;

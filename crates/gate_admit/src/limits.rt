@@ -23,15 +23,15 @@ use std::hash::BuildHasher;
 /// The most ancestors and the most descendants that there may be, the transaction itself among each, and the most
 /// virtual bytes that each may have.
 #[derive(Clone, Copy)]
-pub(crate) struct FamilyLimits {
-    pub(crate) ancestors: usize,
-    pub(crate) ancestors_size: u128,
-    pub(crate) descendants: usize,
-    pub(crate) descendants_size: u128,
+pub struct FamilyLimits {
+    pub ancestors: usize,
+    pub ancestors_size: u128,
+    pub descendants: usize,
+    pub descendants_size: u128,
 }
 
 /// The limits of the first try, before they grow for a replacement.
-fn usual_limits(policy: &Policy) -> FamilyLimits
+pub fn usual_limits(policy: &Policy) -> FamilyLimits
     ensures { result ≡ usual_limits policy.now }
 {
     FamilyLimits {
@@ -102,7 +102,7 @@ fn each_has_room<S: BuildHasher + Copy + Drop>(
 }
 
 /// Whether a transaction of this size, with these ancestors, is within the limits.
-fn is_within<S: BuildHasher + Copy + Drop>(
+pub fn is_within<S: BuildHasher + Copy + Drop>(
     pool: &Pool<S>,
     above: &Above,
     vsize: u64,

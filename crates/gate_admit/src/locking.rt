@@ -23,7 +23,7 @@ pub fn tip_median<S: BuildHasher + Copy + Drop>(chain: &Chain<S>) -> u32
 
 /// The denial of A20 if it fails: the locktime at the next height and the tip's median time past.
 #[tactic(auto, unfolding(crate::specs::Rules::final_rules))]
-pub(crate) fn check_final<S: BuildHasher + Copy + Drop>(
+pub fn check_final<S: BuildHasher + Copy + Drop>(
     chain: &Chain<S>,
     tx: &Transaction,
 ) -> Option<Denial>
@@ -48,7 +48,7 @@ fn heights_of(alloc: Global, coins: &[LentCoin<'_>]) -> Result<Vec<u32>, Memory>
 
 /// The denial of A26 if it fails: the relative timelocks of BIP 68 over these coins, one for each input.
 #[tactic(auto, unfolding(crate::specs::Rules::lock_rules))]
-pub(crate) fn check_locks<S: BuildHasher + Copy + Drop>(
+pub fn check_locks<S: BuildHasher + Copy + Drop>(
     alloc: Global,
     chain: &Chain<S>,
     coins: &[LentCoin<'_>],

@@ -200,6 +200,20 @@ impl Policy {
         }
     }
 
+    /// Whether packages may be submitted.
+    pub fn packages(&self) -> bool
+        ensures { result ≡ self.now.packages }
+    {
+        self.set.is_on(Setting::Packages)
+    }
+
+    /// Whether the child of a package may have no unconfirmed parent that is not of the package.
+    pub fn all_parents(&self) -> bool
+        ensures { result ≡ self.now.all_parents }
+    {
+        self.set.is_on(Setting::PackageAllParents)
+    }
+
     /// The most ancestors that an entry may have, itself among them: a second try allows one parent under every policy.
     pub(crate) fn most_ancestors(&self) -> usize
         ensures { result ≡ most_ancestors self.now }

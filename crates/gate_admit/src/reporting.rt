@@ -65,7 +65,7 @@ fn from_input(reports: &[InputReport], place: usize) -> &[InputReport] {
 
 /// The answers on each input. A report belongs to the input that its piece names: reports stand in the order of the
 /// inputs, some of which may have none.
-pub(crate) fn reported(
+pub fn reported(
     alloc: Global,
     reports: &[InputReport],
     inputs: &[TxIn],
@@ -161,7 +161,7 @@ fn has_many_legacy_sigops(limit: Option<u64>, answers: &[Answers]) -> bool
 /// The cost of the signature operations, or the first of A31, A32, A48 and A33 that fails for a transaction that pays this
 /// fee, in satoshi.
 #[tactic(auto, unfolding(crate::specs::Reports::report_rules))]
-pub(crate) fn check_reports(
+pub fn check_reports(
     policy: &Policy,
     tx: &Transaction,
     fee: u64,

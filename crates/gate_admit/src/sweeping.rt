@@ -20,7 +20,7 @@ fn spends(inputs: &[TxIn], outpoint: &OutPoint) -> bool
 }
 
 /// Whether the transaction, named by this id, has dust that none of the inputs spends.
-fn leaves_dust_from(rate: Feerate, inputs: &[TxIn], txid: &Txid, parent: &Transaction) -> bool
+pub fn leaves_dust_from(rate: Feerate, inputs: &[TxIn], txid: &Txid, parent: &Transaction) -> bool
     ensures { result ≡ leaves_dust_from rate inputs.now txid.now 0 parent.now.outputs }
 {
     parent.recall_invariant();
@@ -79,7 +79,7 @@ fn leaves_dust<S: BuildHasher + Copy + Drop>(
 
 /// The denial of A49 if it fails: a transaction spends all dust of each of its parents in the pool.
 #[tactic(auto, unfolding(crate::specs::Sweeping::sweep_rules))]
-pub(crate) fn check_sweep<S: BuildHasher + Copy + Drop>(
+pub fn check_sweep<S: BuildHasher + Copy + Drop>(
     alloc: Global,
     standards: &Standards,
     pool: &Pool<S>,

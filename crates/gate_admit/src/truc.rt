@@ -160,7 +160,7 @@ fn is_taken<S: BuildHasher + Copy + Drop>(
 
 /// A47: whether a transaction of this size, with these ancestors in the pool, is above or below another version, or is of
 /// version 3 and too large, or its family is too large.
-pub(crate) fn breaks_truc<S: BuildHasher + Copy + Drop>(
+pub fn breaks_truc<S: BuildHasher + Copy + Drop>(
     alloc: Global,
     policy: &Policy,
     direct: &DirectConflicts<'_, S>,
@@ -227,7 +227,7 @@ fn find_sibling<S: BuildHasher + Copy + Drop>(
 
 /// The id of the entry that the transaction evicts at an attempt, if no rule denies it: only one of version 3 does, where
 /// that is standard.
-pub(crate) fn sibling_beside<S: BuildHasher + Copy + Drop>(
+pub fn sibling_beside<S: BuildHasher + Copy + Drop>(
     alloc: Global,
     policy: &Policy,
     attempt: Attempt,

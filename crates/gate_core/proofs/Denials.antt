@@ -86,7 +86,7 @@ step_denied w (GetBlock peer height) h = answered_denied w peer (block_given w h
 step_denied w (Headers peer height) h = answered_denied w peer (headers_given w height) (first_failing (headers_rules w peer height)) (λ k. absurd k) h
 step_denied w (FeeFilter peer rate) h = answered_denied w peer (filter_set w peer rate) (first_failing (session_rules w.sessions peer)) (λ k. absurd k) h
 step_denied w (Rpc call) h =
-    call_gives (λ p. IsDenied p.0 → IsAsIn w p.1) w call.time call.user (request_of call.json) (λ answer k. (refl, refl, refl)) (λ id transaction is k. sent_denied w id call.time transaction k) h
+    call_gives (λ p. IsDenied p.0 → IsAsIn w p.1) w call.time call.user (request_of call.json) (λ answer k. (refl, refl, refl)) (λ id transaction is k. sent_denied w id call.time transaction k) (λ id offer is k. absurd k) h
 step_denied w (SetFloor rate) h = absurd h
 step_denied w (Turn switch on) h = absurd h
 step_denied w (OfChain event) h =

@@ -16,6 +16,8 @@ use Rattle.gate_admit.specs.declared.Grant.{Grant}
 use Rattle.gate_admit.specs.Submission.{admitted, entry_of, submitted_by, submit_of}
 use Rattle.gate_admit.specs.Truc.{sibling_of}
 use Rattle.gate_admit.proofs.Submissions.{AreYoung, granted_young, submission_floor}
+use Rattle.gate_package.specs.Shapes.{members_of}
+use Rattle.gate_package.proofs.Landing.{package_rises, package_within}
 use Rattle.gate_submission.specs.Blocks.{present}
 use Rattle.gate_reorg.proofs.Origins.{floors_never_fall}
 use Rattle.gate_reorg.proofs.Spending.{events_keep_the_budget}
@@ -77,7 +79,9 @@ step_within w (Mempool peer) h = answered_within w peer (listed w peer) (first_f
 step_within w (GetBlock peer height) h = answered_within w peer (block_given w height) (first_failing (block_rules w peer height)) h h
 step_within w (Headers peer height) h = answered_within w peer (headers_given w height) (first_failing (headers_rules w peer height)) h h
 step_within w (FeeFilter peer rate) h = answered_within w peer (filter_set w peer rate) (first_failing (session_rules w.sessions peer)) h h
-step_within w (Rpc call) h = call_gives (λ p. IsWithin p.1) w call.time call.user (request_of call.json) (λ answer. h) (λ id transaction is. after_within w call.time transaction h)
+step_within w (Rpc call) h =
+    call_gives (λ p. IsWithin p.1) w call.time call.user (request_of call.json) (λ answer. h) (λ id transaction is. after_within w call.time transaction h)
+    (λ id offer is. package_within offer.max_rate (standing_of w) (members_of offer.members) call.time w.budget h)
 step_within w (SetFloor rate) h = h
 step_within w (Turn switch on) h = h
 step_within w (OfChain event) h =
@@ -117,6 +121,7 @@ step_floor w (Headers peer height) h = answered_floor w peer (headers_given w he
 step_floor w (FeeFilter peer rate) h = answered_floor w peer (filter_set w peer rate) (first_failing (session_rules w.sessions peer)) (omega arith)
 step_floor w (Rpc call) h =
     call_gives (λ p. w.floor ≤ p.1.floor) w call.time call.user (request_of call.json) (λ answer. omega arith) (λ id transaction is. submission_floor (standing_of w) transaction call.time w.budget)
+    (λ id offer is. package_rises offer.max_rate (standing_of w) (members_of offer.members) call.time w.budget)
 step_floor w (SetFloor rate) h = absurd (h refl)
 step_floor w (Turn switch on) h = absurd (h refl)
 step_floor w (OfChain event) h =

@@ -12,7 +12,7 @@ use Rattle.gate_rules.specs.declared.Denial.{Denial}
 use Rattle.gate_chain.specs.Blocks.{Block}
 use Rattle.gate_rules.specs.declared.ChainDenial.TheVariants.{BlockDecode}
 use Rattle.gate_chain.specs.History.{History}
-use Rattle.gate_bytes.proofs.Members.{Contains-cons_cases, not_in_none}
+use Rattle.gate_bytes.proofs.Members.{Contains-cons_cases, Contains-head, not_in_none}
 use Rattle.gate_block.specs.Switching.{switch_rules}
 use Rattle.gate_pool.specs.Pool.{Admitted}
 use Rattle.gate_pool.specs.Counting.{is_counted, entered_beside}
@@ -29,6 +29,12 @@ use Rattle.gate_admit.specs.Submission.{admitted, entry_of, submitted_by, submit
 use Rattle.gate_admit.specs.Truc.{sibling_of}
 use Rattle.gate_admit.proofs.Entering.{StaysUnconnected, stays_if_apart, stays_if_unconnected}
 use Rattle.gate_admit.proofs.Submissions.{empty_good, entry_within, submission_good}
+use Rattle.gate_package.specs.Packages.{packaged_of}
+use Rattle.gate_package.specs.Shapes.{members_of}
+use Rattle.gate_package.proofs.Keeping.{package_sound}
+use Rattle.gate_package.proofs.Landing.{package_within}
+use Rattle.gate_package.proofs.Newness.{IsNew, new_if_apart}
+use Rattle.gate_package.proofs.Origins.{package_from}
 use Rattle.gate_reorg.specs.Events.{event_rules, event_of}
 use Rattle.gate_submission.specs.Blocks.{present}
 use Rattle.gate_submission.specs.Blocks.{transactions_of as block_transactions}
@@ -50,6 +56,7 @@ use Rattle.gate_core.specs.Steps.{step_of}
 use Rattle.gate_message.specs.Spelled.{IsSpelled, connected_by, offered, transactions_of}
 use Rattle.gate_core.specs.Good.{IsApartFrom, IsGoodWorld, StepGives, limits_of, transactions_in}
 use Rattle.gate_rpc.specs.Calls.{request_of}
+use Rattle.gate_rpc.specs.declared.request.PackageCall.{PackageCall}
 use Rattle.gate_core.proofs.Calls.{call_gives}
 use Rattle.gate_core.proofs.Following.{chain_gives}
 use Rattle.gate_core.proofs.Forgetting.{forgetting_from, forgetting_good}
@@ -72,7 +79,7 @@ StaysApart w (Mempool peer) = Unit {0}
 StaysApart w (GetBlock peer height) = Unit {0}
 StaysApart w (Headers peer height) = Unit {0}
 StaysApart w (FeeFilter peer rate) = Unit {0}
-StaysApart w (Rpc call) = StaysUnconnected (standing_of w) (offered (request_of call.json))
+StaysApart w (Rpc call) = (tx : Tx) → Contains (offered (request_of call.json)) tx → IsNew (standing_of w) tx
 StaysApart w (SetFloor rate) = Unit {0}
 StaysApart w (Turn switch on) = Unit {0}
 StaysApart w (OfChain event) = IsApartFrom w (OfChain event)
@@ -122,6 +129,17 @@ after_from w now transaction tx h =
     behind (connected_transactions w.chain) (map (λ (e : Admitted). e.tx) s.entries) (map (λ (e : Admitted). e.tx) w.pool) (option_to_list transaction) tx
     (submission_from (standing_of w) transaction now w.budget tx) h
 
+-- whatever becomes of a package
+package_leaves_from : (w : World) (now : ℕ) (call : PackageCall) (tx : Tx)
+    → (let p = packaged_of call.max_rate (standing_of w) (members_of call.members) now w.budget in Contains (transactions_in (record w { pool = p.entries; floor = p.floor })) tx)
+    → Contains (transactions_in w ++ members_of call.members) tx
+package_leaves_from w now call tx h =
+    let txs = members_of call.members in
+    let p = packaged_of call.max_rate (standing_of w) txs now w.budget in
+    let entries = map (λ (e : Admitted). e.tx) w.pool in
+    behind (connected_transactions w.chain) (map (λ (e : Admitted). e.tx) p.entries) entries txs tx
+    (λ k. let m = Contains-from_map (λ (e : Admitted). e.tx) p.entries tx k in subst (λ (t : Tx). Contains (entries ++ txs) t) m.is (package_from call.max_rate (standing_of w) txs now w.budget m.item m.among)) h
+
 submitted_from : (w : World) (peer now : ℕ) (transaction : Option Tx) (tx : Tx) → Contains (transactions_in (submitted w peer now transaction).1) tx → Contains (transactions_in w ++ option_to_list transaction) tx
 submitted_from w peer now transaction tx h =
     let s = submit_of (standing_of w) transaction now w.budget in
@@ -157,6 +175,30 @@ after_good w now transaction told new good = record {
       (Contains-append_cases (map (λ (a : Admitted). a.tx) w.pool) (option_to_list transaction) e.tx
       (submission_from (standing_of w) transaction now w.budget e.tx (Contains-map (λ (a : Admitted). a.tx) (submit_of (standing_of w) transaction now w.budget).entries e m)));
 }
+
+told_of : (transaction : Option Tx) → ((tx : Tx) → Contains (option_to_list transaction) tx → IsTx tx) → IfSome transaction IsTx
+told_of None told = tt
+told_of (Some tx) told = told tx (Contains-head tx [])
+
+new_of : (w : World) (transaction : Option Tx) → ((tx : Tx) → Contains (option_to_list transaction) tx → IsNew (standing_of w) tx) → StaysUnconnected (standing_of w) transaction
+new_of w None new = tt
+new_of w (Some tx) new = (new tx (Contains-head tx [])).alone w.pool
+
+-- whatever becomes of a package
+package_leaves_good : (w : World) (now : ℕ) (call : PackageCall) → ((tx : Tx) → Contains (members_of call.members) tx → IsTx tx) → ((tx : Tx) → Contains (members_of call.members) tx → IsNew (standing_of w) tx) → IsGoodWorld w
+    → let p = packaged_of call.max_rate (standing_of w) (members_of call.members) now w.budget in IsGoodWorld (record w { pool = p.entries; floor = p.floor })
+package_leaves_good w now call told new good =
+    let txs = members_of call.members in
+    record {
+      chain = good.chain;
+      spends = good.spends;
+      pool = record {
+        sound = package_sound call.max_rate (standing_of w) txs now w.budget new good.pool.sound;
+        size = package_within call.max_rate (standing_of w) txs now w.budget good.pool.size;
+      };
+      spelled = λ e m. ⊎_elim (λ k. entry_spelled w.pool good.spelled e.tx k) (λ k. told e.tx k)
+          (Contains-append_cases (map (λ (a : Admitted). a.tx) w.pool) txs e.tx (package_from call.max_rate (standing_of w) txs now w.budget e m));
+    }
 
 submitted_good : (w : World) (peer now : ℕ) (transaction : Option Tx) → IfSome transaction IsTx → StaysUnconnected (standing_of w) transaction → IsGoodWorld w → IsGoodWorld (submitted w peer now transaction).1
 submitted_good w peer now transaction told new good =
@@ -222,7 +264,12 @@ step_good w (Headers peer height) told new good = answered_good w peer (headers_
 step_good w (FeeFilter peer rate) told new good = answered_good w peer (filter_set w peer rate) (first_failing (session_rules w.sessions peer)) good (same_good w _ refl refl refl good)
 step_good w (Rpc call) told new good =
     call_gives (λ p. IsGoodWorld p.1) w call.time call.user (request_of call.json) (λ answer. good)
-    (λ id transaction is. after_good w call.time transaction (subst (λ (o : Option Tx). IfSome o IsTx) (sym is) told) (subst (StaysUnconnected (standing_of w)) (sym is) new) good)
+    (λ id transaction is.
+    after_good w call.time transaction (told_of transaction (subst (λ (txs : List Tx). (tx : Tx) → Contains txs tx → IsTx tx) (sym is) told))
+    (new_of w transaction (subst (λ (txs : List Tx). (tx : Tx) → Contains txs tx → IsNew (standing_of w) tx) (sym is) new)) good)
+    (λ id given is.
+    package_leaves_good w call.time given (subst (λ (txs : List Tx). (tx : Tx) → Contains txs tx → IsTx tx) (sym is) told)
+    (subst (λ (txs : List Tx). (tx : Tx) → Contains txs tx → IsNew (standing_of w) tx) (sym is) new) good)
 step_good w (SetFloor rate) told new good = same_good w _ refl refl refl good
 step_good w (Turn switch on) told new good = same_good w _ refl refl refl good
 step_good w (OfChain event) told new good =
@@ -245,6 +292,17 @@ offered_stays w transaction settled spelled apart =
     (λ tx h. ⊎_elim (λ k. Contains-append_right (blocks ++ entries) more tx k) (λ k. Contains-append_left (blocks ++ entries) more tx (Contains-append_left blocks entries tx k)) (Contains-append_cases more blocks tx h))
     apart)
 
+-- so is each of those that a call offers
+offered_new : (w : World) (more : List Tx) → IsSettled w.chain → ((tx : Tx) → Contains more tx → IsTx tx) → AreApart (transactions_in w ++ more) → (tx : Tx) → Contains more tx → IsNew (standing_of w) tx
+offered_new w more settled spelled apart tx c =
+    let blocks = connected_transactions w.chain in
+    let entries = map (λ (e : Admitted). e.tx) w.pool in
+    new_if_apart (standing_of w) tx settled (spelled tx c)
+    (apart_part (tx ∷ blocks) ((blocks ++ entries) ++ more)
+    (λ t h. ⊎_elim (λ (same : tx ≡ t). subst (λ (u : Tx). Contains ((blocks ++ entries) ++ more) u) same (Contains-append_right (blocks ++ entries) more tx c))
+    (λ (k : Contains blocks t). Contains-append_left (blocks ++ entries) more t (Contains-append_left blocks entries t k)) (Contains-cons_cases tx blocks t h))
+    apart)
+
 -- where transactions are told apart by their ids
 pub apart_stays : (w : World) (event : Event) → IsSettled w.chain → IsSpelled event → IsApartFrom w event → StaysApart w event
 apart_stays w (Enter peer address) settled spelled apart = tt
@@ -254,7 +312,7 @@ apart_stays w (Mempool peer) settled spelled apart = tt
 apart_stays w (GetBlock peer height) settled spelled apart = tt
 apart_stays w (Headers peer height) settled spelled apart = tt
 apart_stays w (FeeFilter peer rate) settled spelled apart = tt
-apart_stays w (Rpc call) settled spelled apart = offered_stays w (offered (request_of call.json)) settled spelled apart
+apart_stays w (Rpc call) settled spelled apart = offered_new w (offered (request_of call.json)) settled spelled apart
 apart_stays w (SetFloor rate) settled spelled apart = tt
 apart_stays w (Turn switch on) settled spelled apart = tt
 apart_stays w (OfChain event) settled spelled apart = apart
@@ -280,7 +338,7 @@ step_limits w (Mempool peer) = answered_limits w peer (listed w peer) (first_fai
 step_limits w (GetBlock peer height) = answered_limits w peer (block_given w height) (first_failing (block_rules w peer height)) refl
 step_limits w (Headers peer height) = answered_limits w peer (headers_given w height) (first_failing (headers_rules w peer height)) refl
 step_limits w (FeeFilter peer rate) = answered_limits w peer (filter_set w peer rate) (first_failing (session_rules w.sessions peer)) refl
-step_limits w (Rpc call) = call_gives (λ p. limits_of p.1 ≡ limits_of w) w call.time call.user (request_of call.json) (λ answer. refl) (λ id transaction is. refl)
+step_limits w (Rpc call) = call_gives (λ p. limits_of p.1 ≡ limits_of w) w call.time call.user (request_of call.json) (λ answer. refl) (λ id transaction is. refl) (λ id call is. refl)
 step_limits w (SetFloor rate) = refl
 step_limits w (Turn switch on) = refl
 step_limits w (OfChain event) = chain_gives (λ p. limits_of p.1 ≡ limits_of w) w event (λ denial. refl) (λ disconnect now blocks is passes. refl) (λ coin passes. refl) (λ row. refl) (λ blocks. refl)
@@ -297,8 +355,9 @@ step_from w (Headers peer height) tx h = answered_from w peer (headers_given w h
 step_from w (FeeFilter peer rate) tx h = answered_from w peer (filter_set w peer rate) (first_failing (session_rules w.sessions peer)) [] tx (λ k. Contains-append_left _ _ tx k) h
 step_from w (Rpc call) tx h =
     let request = request_of call.json in
-    call_gives (λ p. Contains (transactions_in p.1) tx → Contains (transactions_in w ++ option_to_list (offered request)) tx) w call.time call.user request (λ answer k. Contains-append_left _ _ tx k)
-    (λ id transaction is k. subst (λ (o : Option Tx). Contains (transactions_in w ++ option_to_list o) tx) is (after_from w call.time transaction tx k)) h
+    call_gives (λ p. Contains (transactions_in p.1) tx → Contains (transactions_in w ++ offered request) tx) w call.time call.user request (λ answer k. Contains-append_left _ _ tx k)
+    (λ id transaction is k. subst (λ (txs : List Tx). Contains (transactions_in w ++ txs) tx) is (after_from w call.time transaction tx k))
+    (λ id given is k. subst (λ (txs : List Tx). Contains (transactions_in w ++ txs) tx) is (package_leaves_from w call.time given tx k)) h
 step_from w (SetFloor rate) tx h = Contains-append_left _ _ tx h
 step_from w (Turn switch on) tx h = Contains-append_left _ _ tx h
 step_from w (OfChain event) tx h =

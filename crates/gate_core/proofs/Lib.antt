@@ -1,5 +1,6 @@
 mod Barring
 mod ByChain
+mod Called
 mod Calls
 mod ClosedSessions
 mod Denials
@@ -10,6 +11,7 @@ pub mod Keeping
 mod Guarding
 mod Learning
 mod Listings
+mod Packages
 mod Peers
 mod Rates
 mod Settling

@@ -71,7 +71,7 @@ step_lists w (Headers peer height) txids h = answered_lists w peer (headers_give
 step_lists w (FeeFilter peer rate) txids h = answered_lists w peer (filter_set w peer rate) (first_failing (session_rules w.sessions peer)) txids (λ k. cc) h
 step_lists w (Rpc call) txids h =
     call_gives (λ p. p.0 ≡ Listing txids → Told w (Rpc call) txids) w call.time call.user (request_of call.json) (λ answer k. no_answer answer txids k)
-    (λ id transaction is k. no_answer _ txids k) h
+    (λ id transaction is k. no_answer _ txids k) (λ id offer is k. no_answer _ txids k) h
 step_lists w (SetFloor rate) txids h = cc
 step_lists w (Turn switch on) txids h = cc
 step_lists w (OfChain event) txids h =

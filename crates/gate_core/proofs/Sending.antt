@@ -6,6 +6,13 @@ use Rattle.gate_tx.specs.Ids.{txid_of}
 use Rattle.gate_tx.specs.Tx.{Tx}
 use Rattle.gate_rules.specs.declared.Denial.{Denial}
 use Rattle.gate_rules.specs.declared.Denial.TheVariants.{Decode}
+use Rattle.gate_bytes.specs.Order.{first_failing}
+use Rattle.gate_rules.specs.declared.PackageDenial.{PackageDenial}
+use Rattle.gate_rules.specs.declared.PackageDenial.TheVariants.{BurntAmount, NotChildWithParents, TooLarge, Duplicates, Conflicting, LacksParents, TrucViolation, FamilyLimits, Replaces, UnspentDust}
+use Rattle.gate_submission.specs.declared.PackageOutcome.{PackageOutcome}
+use Rattle.gate_submission.specs.PackageOutcomes.{unjudged}
+use Rattle.gate_package.specs.declared.Unfit.{Unfit}
+use Rattle.gate_package.specs.Shapes.{members_of, shape_rules, text_rules}
 use Rattle.gate_admit.specs.Standing.{Standing}
 use Rattle.gate_admit.specs.declared.Attempt.TheVariants.{First}
 use Rattle.gate_admit.specs.declared.Grant.{Grant}
@@ -17,7 +24,8 @@ use Rattle.gate_query.specs.Queries.{outcomes_of}
 use Rattle.gate_rpc.specs.Calls.{request_of}
 use Rattle.gate_rpc.specs.declared.id.Id.{Id}
 use Rattle.gate_rpc.specs.declared.request.Command.{Command}
-use Rattle.gate_rpc.specs.declared.request.Command.TheVariants.{SendRawTransaction, TestMempoolAccept, TestList, GetRawMempool, GetRawMempoolVerbose, GetMempoolEntry, GetMempoolAncestors, GetMempoolDescendants, GetMempoolInfo, GetRawTransaction, GetTxSpendingPrevout}
+use Rattle.gate_rpc.specs.declared.request.Command.TheVariants.{SendRawTransaction, TestMempoolAccept, TestList, GetRawMempool, GetRawMempoolVerbose, GetMempoolEntry, GetMempoolAncestors, GetMempoolDescendants, GetMempoolInfo, GetRawTransaction, GetTxSpendingPrevout, SubmitPackage}
+use Rattle.gate_rpc.specs.declared.request.PackageCall.{PackageCall}
 use Rattle.gate_rpc.specs.declared.request.Request.{Request}
 use Rattle.gate_rpc.specs.declared.error.RpcError.{RpcError}
 use Rattle.gate_rpc.specs.declared.error.RpcError.TheVariants.{Denied}
@@ -26,17 +34,19 @@ use Rattle.gate_rpc.specs.declared.fault.CallError.TheVariants.{ParseError, Inva
 use Rattle.gate_rpc.specs.declared.reply.RpcReply.{RpcReply}
 use Rattle.gate_rpc.specs.declared.reply.RpcReply.TheVariants.{NotAllowed, Answer, Failure}
 use Rattle.gate_rpc.specs.declared.result.RpcResult.{RpcResult}
-use Rattle.gate_rpc.specs.declared.result.RpcResult.TheVariants.{Sent, Allowed, Rejected, Txids, Entry, Info, Outcomes, Entries, Transaction, Spendings}
+use Rattle.gate_rpc.specs.declared.result.RpcResult.TheVariants.{Sent, Allowed, Rejected, Txids, Entry, Info, Outcomes, Entries, Transaction, Spendings, Package}
 use Rattle.gate_rpc.specs.declared.items.KnownEntry.{KnownEntry}
 use Rattle.gate_rpc.specs.declared.items.Outcome.{Outcome}
 use Rattle.gate_rpc.specs.declared.items.Spending.{Spending}
 use Rattle.gate_rpc.specs.Faults.{reply_of}
 use Rattle.gate_message.specs.declared.event.Event.TheVariants.{Rpc as Calls}
 use Rattle.gate_message.specs.declared.reply.Reply.TheVariants.{Rpc}
-use Rattle.gate_core.specs.RpcSteps.{is_barred, replied, of_entry, sent, sent_as, commanded, called_by, rpc_step}
+use Rattle.gate_core.specs.Packaging.{answer_of, error_of, packaged_by, served, unless_denied, unless_unread}
+use Rattle.gate_core.specs.RpcSteps.{is_barred, packaged, replied, of_entry, sent, sent_as, commanded, called_by, rpc_step}
 use Rattle.gate_core.specs.Runs.{CallsLeaveNothingStale}
 use Rattle.gate_core.specs.Steps.{step_of}
 use Rattle.gate_core.specs.World.{World, standing_of}
+use Rattle.gate_core.proofs.Calls.{left_behind}
 
 -- the answer that a transaction was sent is none of these
 module _ {X : Type 0} (id other : Id) (txid : List ℕ) where
@@ -85,6 +95,34 @@ module _ {X : Type 0} (id other : Id) (txid : List ℕ) where
   known_or_not None h = not_failed _ h
   known_or_not (Some entry) h = not_known entry h
 
+-- nor is the answer to a package
+module _ {X : Type 0} (id other : Id) (txid : List ℕ) where
+  not_packaged : (outcome : PackageOutcome) → Rpc (Answer id (Package outcome)) ≡ Rpc (Answer other (Sent txid)) → X
+  not_packaged outcome h = cc
+
+  not_unjudged : (denial : PackageDenial) → Rpc (replied id (answer_of denial)) ≡ Rpc (Answer other (Sent txid)) → X
+  not_unjudged BurntAmount h = not_packaged (unjudged BurntAmount) h
+  not_unjudged NotChildWithParents h = not_failed id other txid _ h
+  not_unjudged TooLarge h = not_packaged (unjudged TooLarge) h
+  not_unjudged Duplicates h = not_packaged (unjudged Duplicates) h
+  not_unjudged Conflicting h = not_packaged (unjudged Conflicting) h
+  not_unjudged LacksParents h = not_packaged (unjudged LacksParents) h
+  not_unjudged TrucViolation h = not_packaged (unjudged TrucViolation) h
+  not_unjudged FamilyLimits h = not_packaged (unjudged FamilyLimits) h
+  not_unjudged Replaces h = not_packaged (unjudged Replaces) h
+  not_unjudged UnspentDust h = not_packaged (unjudged UnspentDust) h
+
+  not_submitted : (w : World) (now : ℕ) (call : PackageCall) → (packaged id (packaged_by w now call)).0 ≡ Rpc (Answer other (Sent txid)) → X
+  not_submitted w now call h = read (first_failing (text_rules call.max_burn call.members)) h
+    where
+      fit : (found : Option PackageDenial) → (packaged id (unless_denied w found (left_behind w now call))).0 ≡ Rpc (Answer other (Sent txid)) → X
+      fit (Some denial) k = not_unjudged denial k
+      fit None k = not_packaged _ k
+
+      read : (found : Option Unfit) → (packaged id (unless_unread w found (unless_denied w (first_failing (shape_rules w.chain w.policy (members_of call.members))) (left_behind w now call)))).0 ≡ Rpc (Answer other (Sent txid)) → X
+      read (Some unfit) k = not_failed id other txid (error_of unfit) k
+      read None k = fit (first_failing (shape_rules w.chain w.policy (members_of call.members))) k
+
 sent_young : (w : World) (now : ℕ) (id other : Id) (transaction : Option Tx) (txid : List ℕ)
     → (sent w id transaction (submit_of (standing_of w) transaction now w.budget)).0 ≡ Rpc (Answer other (Sent txid))
     → AreYoung w.policy.stay now (submit_of (standing_of w) transaction now w.budget).entries
@@ -110,6 +148,7 @@ module _ (w : World) (now : ℕ) (other : Id) (txid : List ℕ) where
   command_young id GetMempoolInfo h = not_told id other txid _ _ _ _ _ h
   command_young id (GetRawTransaction asked) h = transaction_or_not id other txid _ h
   command_young id (GetTxSpendingPrevout points) h = not_spendings id other txid _ h
+  command_young id (SubmitPackage call) h = not_submitted id other txid w now call h
 
   not_faulted : {X : Type 0} (error : CallError) → Rpc (reply_of error) ≡ Rpc (Answer other (Sent txid)) → X
   not_faulted ParseError h = cc
@@ -127,9 +166,9 @@ module _ (w : World) (now : ℕ) (other : Id) (txid : List ℕ) where
       barred : {X : Type 0} → Rpc NotAllowed ≡ Rpc (Answer other (Sent txid)) → X
       barred k = cc
 
-      by : (b : Bool) → (if b then (Rpc NotAllowed, w) else called_by w now request).0 ≡ Rpc (Answer other (Sent txid)) → AreYoung w.policy.stay now (if b then (Rpc NotAllowed, w) else called_by w now request).1.pool
+      by : (b : Bool) → (if b then (Rpc NotAllowed, w) else called_by w now (served w request)).0 ≡ Rpc (Answer other (Sent txid)) → AreYoung w.policy.stay now (if b then (Rpc NotAllowed, w) else called_by w now (served w request)).1.pool
       by true k = barred k
-      by false k = request_young request k
+      by false k = request_young (served w request) k
 
 pub calls_leave_nothing_stale : CallsLeaveNothingStale
 unfolding step_of

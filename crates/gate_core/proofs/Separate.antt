@@ -101,7 +101,7 @@ step_leaves w (FeeFilter peer rate) other h =
     let apart = another peer other h in
     answered_leaves w peer other (filter_set w peer rate) (first_failing (session_rules w.sessions peer)) apart (rating_leaves w.sessions peer other (rate_after w.sessions peer rate) apart)
 step_leaves w (Rpc call) other h =
-    call_gives (λ p. session_of p.1.sessions other ≡ session_of w.sessions other) w call.time call.user (request_of call.json) (λ answer. refl) (λ id transaction is. refl)
+    call_gives (λ p. session_of p.1.sessions other ≡ session_of w.sessions other) w call.time call.user (request_of call.json) (λ answer. refl) (λ id transaction is. refl) (λ id call is. refl)
 step_leaves w (SetFloor rate) other h = refl
 step_leaves w (Turn switch on) other h = refl
 step_leaves w (OfChain event) other h =

@@ -12,13 +12,18 @@ use Rattle.gate_trim.specs.Expiry.{expired, is_stale}
 use Rattle.gate_trim.proofs.Trimmings.{trim_keeps}
 use Rattle.gate_admit.specs.declared.Attempt.TheVariants.{First}
 use Rattle.gate_admit.specs.declared.Grant.{Grant}
-use Rattle.gate_admit.specs.Rules.{decision_of}
+use Rattle.gate_admit.specs.Rules.{decision_of, grant_of}
 use Rattle.gate_admit.specs.Policies.{Policy}
 use Rattle.gate_admit.specs.Standing.{Standing}
 use Rattle.gate_admit.specs.Submission.{admitted, entry_of, submitted_by, submit_of}
 use Rattle.gate_admit.specs.Truc.{sibling_of}
-use Rattle.gate_admit.proofs.Granted.{decided_live}
+use Rattle.gate_admit.proofs.Granted.{decided_live, rules_grant}
 use Rattle.gate_submission.specs.Blocks.{present}
+use Rattle.gate_package.specs.Packages.{packaged_of, sibling_in}
+use Rattle.gate_package.specs.Shapes.{members_of}
+use Rattle.gate_package.proofs.Keeping.{package_keeps}
+use Rattle.gate_package.proofs.Membership.{among, course_keeps}
+use Rattle.gate_package.proofs.Once.{together_once}
 use Rattle.gate_reorg.proofs.Spending.{SpendOnce, below_once, beside_once, events_spend_once, part_once}
 use Rattle.gate_message.specs.declared.event.Event.{Event}
 use Rattle.gate_message.specs.declared.event.Event.TheVariants.{Enter, Leave, Tx as Submit, Mempool, GetBlock, Headers, FeeFilter, Rpc, SetFloor, Set as Turn, Chain as OfChain}
@@ -30,6 +35,7 @@ use Rattle.gate_core.specs.Runs.{run_of}
 use Rattle.gate_core.specs.Steps.{step_of}
 use Rattle.gate_core.specs.World.{World, standing_of}
 use Rattle.gate_rpc.specs.Calls.{request_of}
+use Rattle.gate_rpc.specs.declared.request.PackageCall.{PackageCall}
 use Rattle.gate_core.proofs.Calls.{call_gives}
 use Rattle.gate_core.proofs.Following.{chain_gives}
 
@@ -49,6 +55,18 @@ submission_once over (Some tx) now budget (Ok grant) is h = entry_once over.poli
 after_once : (w : World) (now : ℕ) (transaction : Option Tx) → SpendOnce w.pool → SpendOnce (submit_of (standing_of w) transaction now w.budget).entries
 unfolding submit_of
 after_once w now transaction h = submission_once (standing_of w) transaction now w.budget (decision_of First (standing_of w) transaction) (λ _. decision_of First (standing_of w) transaction) h
+
+-- the members of a package, one by one and those together, spend nothing that an entry spends which stays
+package_once : (w : World) (now : ℕ) (call : PackageCall) → SpendOnce w.pool → SpendOnce (packaged_of call.max_rate (standing_of w) (members_of call.members) now w.budget).entries
+package_once w now call h =
+    let over = standing_of w in
+    let txs = members_of call.members in
+    package_keeps SpendOnce call.max_rate over now txs
+    (λ entries these prices is distinct apart within once. together_once call.max_rate (among over entries) now these prices is distinct apart once)
+    w.budget (λ entries once. below_once (is_stale w.policy.stay now) entries once) (λ entries txid once. part_once (λ (a : Entry). not (reaches (steps entries) txid (txid_of a.tx))) entries once)
+    (course_keeps SpendOnce (λ tx. Unit {0}) call.max_rate over now
+    (λ entries tx told passes once. beside_once (among over entries) (sibling_in (among over entries) tx) tx (grant_of First (among over entries) tx) now (rules_grant First (among over entries) tx passes) once) w.pool txs (λ tx m. tt))
+    h
 
 decided_once : (w : World) (peer : ℕ) (transaction : Option Tx) (decision : Result Grant Denial) → SpendOnce w.pool → SpendOnce (decided w peer transaction decision).1.pool
 decided_once w peer None decision h = h
@@ -71,7 +89,8 @@ step_once w (Mempool peer) h = answered_once w peer (listed w peer) (first_faili
 step_once w (GetBlock peer height) h = answered_once w peer (block_given w height) (first_failing (block_rules w peer height)) h h
 step_once w (Headers peer height) h = answered_once w peer (headers_given w height) (first_failing (headers_rules w peer height)) h h
 step_once w (FeeFilter peer rate) h = answered_once w peer (filter_set w peer rate) (first_failing (session_rules w.sessions peer)) h h
-step_once w (Rpc call) h = call_gives (λ p. SpendOnce p.1.pool) w call.time call.user (request_of call.json) (λ answer. h) (λ id transaction is. after_once w call.time transaction h)
+step_once w (Rpc call) h =
+    call_gives (λ p. SpendOnce p.1.pool) w call.time call.user (request_of call.json) (λ answer. h) (λ id transaction is. after_once w call.time transaction h) (λ id given is. package_once w call.time given h)
 step_once w (SetFloor rate) h = h
 step_once w (Turn switch on) h = h
 step_once w (OfChain event) h =

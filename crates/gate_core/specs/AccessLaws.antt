@@ -1,5 +1,5 @@
 -- Laws of permissions and of lists of methods, in plain words.
-use Rattle.std.specs.Prelude.{◌≡◌, ◌≢◌, ℕ, true, false, Bool, List, Option, Some, Result, Ok, Err, codes}
+use Rattle.std.specs.Prelude.{◌≡◌, ◌≢◌, ◌⊎◌, ℕ, true, false, Bool, List, Option, Some, Result, Ok, Err, codes}
 use Rattle.gate_tx.specs.Tx.{Tx}
 use Rattle.gate_rules.specs.declared.Denial.{Denial}
 use Rattle.gate_admit.specs.Policies.{Policy, usual_policy}
@@ -7,7 +7,7 @@ use Rattle.gate_net.specs.Permissions.{Permissions}
 use Rattle.gate_rpc.specs.Calls.{request_of}
 use Rattle.gate_rpc.specs.Lists.{is_allowed, is_among, list_of}
 use Rattle.gate_rpc.specs.declared.request.Command.{Command}
-use Rattle.gate_rpc.specs.declared.request.Command.TheVariants.{SendRawTransaction, TestMempoolAccept, TestList, GetRawMempool, GetRawMempoolVerbose, GetMempoolEntry, GetMempoolAncestors, GetMempoolDescendants, GetMempoolInfo, GetRawTransaction, GetTxSpendingPrevout}
+use Rattle.gate_rpc.specs.declared.request.Command.TheVariants.{SendRawTransaction, TestMempoolAccept, TestList, GetRawMempool, GetRawMempoolVerbose, GetMempoolEntry, GetMempoolAncestors, GetMempoolDescendants, GetMempoolInfo, GetRawTransaction, GetTxSpendingPrevout, SubmitPackage}
 use Rattle.gate_rpc.specs.declared.request.Request.{Request}
 use Rattle.gate_rpc.specs.declared.fault.CallError.{CallError}
 use Rattle.gate_rpc.specs.declared.reply.RpcReply.TheVariants.{NotAllowed}
@@ -65,9 +65,14 @@ ListsBar =
     → list_of w.rpcwhitelist.entries call.user ≡ Some list → name_called (request_of call.json) ≡ Some name → is_among name list ≡ false
     → step_of w (Rpc call) ≡ (Answered NotAllowed, w)
 
--- a user who may not send transactions changes nothing, whatever the calls say
+-- a user submits no packages: the operator takes none, or the user may not
+abbrev pub SubmitsNoPackage : World → List ℕ → Type 0
+SubmitsNoPackage w user = (w.policy.packages ≡ false) ⊎ (is_allowed w.rpcwhitelist user (codes "submitpackage") ≡ false)
+
+-- a user who may neither send transactions nor submit packages changes nothing, whatever the calls say
 abbrev pub OnlySendersChange : Type 0
-OnlySendersChange = (w : World) (call : UserCall) → is_allowed w.rpcwhitelist call.user (codes "sendrawtransaction") ≡ false → (step_of w (Rpc call)).1 ≡ w
+OnlySendersChange =
+    (w : World) (call : UserCall) → is_allowed w.rpcwhitelist call.user (codes "sendrawtransaction") ≡ false → SubmitsNoPackage w call.user → (step_of w (Rpc call)).1 ≡ w
 
 abbrev pub sends_by : Command → Bool
 sends_by (SendRawTransaction transaction) = true
@@ -81,11 +86,12 @@ sends_by (GetMempoolDescendants txid) = false
 sends_by GetMempoolInfo = false
 sends_by (GetRawTransaction txid) = false
 sends_by (GetTxSpendingPrevout points) = false
+sends_by (SubmitPackage call) = true
 
 abbrev pub sends : Result Request CallError → Bool
 sends (Ok request) = sends_by request.command
 sends (Err error) = false
 
--- no call but `sendrawtransaction` changes anything: `testmempoolaccept` doesn't
+-- no call but `sendrawtransaction` and `submitpackage` changes anything: `testmempoolaccept` doesn't
 abbrev pub QuestionsChangeNothing : Type 0
 QuestionsChangeNothing = (w : World) (call : UserCall) → sends (request_of call.json) ≡ false → (step_of w (Rpc call)).1 ≡ w

@@ -16,3 +16,5 @@ pub mod SessionLaws
 pub mod AccessLaws
 pub mod ChainLaws
 pub mod Examples
+pub mod Packaging
+pub mod PackageSteps

@@ -12,7 +12,7 @@ use Rattle.gate_query.specs.Answers.{info_of, ancestors_listed, descendants_list
 use Rattle.gate_query.specs.Queries.{entries_known, spendings_of, tested_list, transaction_of}
 use Rattle.gate_rpc.specs.declared.id.Id.{Id}
 use Rattle.gate_rpc.specs.declared.request.Command.{Command}
-use Rattle.gate_rpc.specs.declared.request.Command.TheVariants.{SendRawTransaction, TestMempoolAccept, TestList, GetRawMempool, GetRawMempoolVerbose, GetMempoolEntry, GetMempoolAncestors, GetMempoolDescendants, GetMempoolInfo, GetRawTransaction, GetTxSpendingPrevout}
+use Rattle.gate_rpc.specs.declared.request.Command.TheVariants.{SendRawTransaction, TestMempoolAccept, TestList, GetRawMempool, GetRawMempoolVerbose, GetMempoolEntry, GetMempoolAncestors, GetMempoolDescendants, GetMempoolInfo, GetRawTransaction, GetTxSpendingPrevout, SubmitPackage}
 use Rattle.gate_rpc.specs.declared.request.Request.{Request}
 use Rattle.gate_rpc.specs.declared.fault.CallError.{CallError}
 use Rattle.gate_rpc.specs.declared.error.RpcError.{RpcError}
@@ -27,6 +27,7 @@ use Rattle.gate_message.specs.declared.reply.Reply.{Reply}
 use Rattle.gate_message.specs.declared.reply.Reply.TheVariants.{Rpc}
 use Rattle.gate_message.specs.UserCalls.{name_called}
 use Rattle.gate_core.specs.World.{World, standing_of}
+use Rattle.gate_core.specs.Packaging.{Answered, packaged_by, served}
 
 -- the answer to the call of this id
 abbrev pub replied : Id → Result RpcResult RpcError → RpcReply
@@ -51,7 +52,11 @@ sent_as (Some tx) (Err denial) = Err (Denied denial)
 abbrev pub sent : World → Id → Option Tx → Submitted → Reply × World
 sent w id transaction s = told (record w { pool = s.entries; floor = s.floor }) id (sent_as transaction s.decision)
 
--- only a transaction that is sent changes something
+-- what a package leaves
+abbrev pub packaged : Id → Answered → Reply × World
+packaged id a = told a.world id a.answer
+
+-- only transactions that are sent, and packages, change something
 abbrev pub commanded : World → ℕ → Id → Command → Reply × World
 commanded w now id (SendRawTransaction transaction) = sent w id transaction (submit_of (standing_of w) transaction now w.budget)
 commanded w now id (TestMempoolAccept transaction) = told w id (tested (standing_of w) transaction)
@@ -64,6 +69,7 @@ commanded w now id (GetMempoolDescendants txid) = told w id (of_entry Txids (des
 commanded w now id GetMempoolInfo = told w id (Ok (pool_info w.pool w.floor w.policy w.budget))
 commanded w now id (GetRawTransaction txid) = told w id (of_entry Transaction (transaction_of w.pool txid))
 commanded w now id (GetTxSpendingPrevout points) = told w id (Ok (Spendings (spendings_of w.pool points)))
+commanded w now id (SubmitPackage call) = packaged id (packaged_by w now call)
 
 -- a call that may be made: the command that was read is done, or the reply tells the error
 abbrev pub called_by : World → ℕ → Result Request CallError → Reply × World
@@ -75,4 +81,4 @@ abbrev pub is_barred : World → List ℕ → Result Request CallError → Bool
 is_barred w user request = option_map_or (λ name. not (is_allowed w.rpcwhitelist user name)) (name_called request) false
 
 abbrev pub rpc_step : World → List ℕ → ℕ → Result Request CallError → Reply × World
-rpc_step w user now request = if is_barred w user request then (Rpc NotAllowed, w) else called_by w now request
+rpc_step w user now request = if is_barred w user request then (Rpc NotAllowed, w) else called_by w now (served w request)

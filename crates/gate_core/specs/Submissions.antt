@@ -5,7 +5,7 @@ use Rattle.gate_tx.specs.declared.TxIn.{TxIn}
 use Rattle.gate_tx.specs.Tx.{Tx}
 use Rattle.gate_admit.specs.Coins.{view_coin}
 use Rattle.gate_rpc.specs.declared.request.Command.{Command}
-use Rattle.gate_rpc.specs.declared.request.Command.TheVariants.{SendRawTransaction, TestMempoolAccept, TestList, GetRawMempool, GetRawMempoolVerbose, GetMempoolEntry, GetMempoolAncestors, GetMempoolDescendants, GetMempoolInfo, GetRawTransaction, GetTxSpendingPrevout}
+use Rattle.gate_rpc.specs.declared.request.Command.TheVariants.{SendRawTransaction, TestMempoolAccept, TestList, GetRawMempool, GetRawMempoolVerbose, GetMempoolEntry, GetMempoolAncestors, GetMempoolDescendants, GetMempoolInfo, GetRawTransaction, GetTxSpendingPrevout, SubmitPackage}
 use Rattle.gate_rpc.specs.declared.request.Request.{Request}
 use Rattle.gate_rpc.specs.declared.fault.CallError.{CallError}
 use Rattle.gate_rpc.specs.Calls.{request_of}
@@ -13,8 +13,8 @@ use Rattle.gate_message.specs.declared.event.Event.{Event}
 use Rattle.gate_message.specs.declared.event.Event.TheVariants.{Enter, Leave, Tx as Submit, Mempool, GetBlock, Headers, FeeFilter, Rpc, SetFloor, Set, Chain as OfChain}
 use Rattle.gate_core.specs.World.{World}
 
--- what a command submits, to let it enter or to ask whether it would: one transaction, or what spells none. A list of several
--- is no submission
+-- what a command submits, to let it enter or to ask whether it would: one transaction, or what spells none. A list of several,
+-- or a package, is no submission
 abbrev pub submitted_by : Command → Option (Option Tx)
 submitted_by (SendRawTransaction submission) = Some submission
 submitted_by (TestMempoolAccept submission) = Some submission
@@ -27,6 +27,7 @@ submitted_by (GetMempoolDescendants txid) = None
 submitted_by GetMempoolInfo = None
 submitted_by (GetRawTransaction txid) = None
 submitted_by (GetTxSpendingPrevout points) = None
+submitted_by (SubmitPackage call) = None
 
 abbrev pub submitted_in : Result Request CallError → Option (Option Tx)
 submitted_in (Ok request) = submitted_by request.command

@@ -1,13 +1,16 @@
 //! The plans of users' calls.
-ghost use Rattle.std.specs.Prelude.{◌≡◌, IfOk, OnOk};
+ghost use Rattle.std.specs.Prelude.{◌≡◌, ℕ, None, IfOk, OnOk};
 ghost use Rattle.std.specs.Option.{option_copied};
 ghost use Rattle.gate_core.specs.Submissions.{StandsFor, submitted_by, submitted_in};
 ghost use Rattle.gate_rpc.specs.Calls.{request_of};
-ghost use Rattle.gate_core.specs.RpcSteps.{is_barred, rpc_step, commanded, told, of_entry};
+ghost use Rattle.gate_rpc.specs.Faults.{reply_of};
+ghost use Rattle.gate_core.specs.Packaging.{served};
+ghost use Rattle.gate_core.specs.RpcSteps.{is_barred, rpc_step, called_by, commanded, told, of_entry};
 ghost use Rattle.gate_rpc.specs.declared.result.RpcResult.TheVariants.{Txids, Entry, Transaction};
 ghost use Rattle.gate_query.specs.Answers.{tested};
 ghost use Rattle.gate_query.specs.Queries.{tested_list};
 ghost use Rattle.gate_core.specs.World.{World, standing_of};
+ghost use Rattle.gate_core.specs.PackageSteps.{called_with, package_in};
 ghost use Rattle.gate_core.specs.Planning.{Fits, Plans, world_of};
 ghost use Rattle.gate_pool.specs.Moves.{IsMarked};
 
@@ -21,7 +24,7 @@ use gate_query::{
     ancestors_listed, descendants_listed, entries_known, entry_info, pool_info, spendings,
     test_list, test_submission, transaction,
 };
-use gate_rpc::{Command, EntryInfo, Id, Request, RpcError, RpcReply, RpcResult};
+use gate_rpc::{CallError, Command, EntryInfo, Id, Request, RpcError, RpcReply, RpcResult};
 use gate_standard::Denial;
 use gate_tx::{Identified, Txid};
 use std::alloc::Global;
@@ -48,6 +51,14 @@ fn telling(alloc: Global, id: &Id, outcome: Result<RpcResult, RpcError>) -> Resu
             Err(error) => RpcReply::Failure { id, error },
         },
     )
+}
+
+/// A plan that answers a call with its fault and changes nothing.
+fn faulted(alloc: Global, error: &CallError) -> Result<Plan, Memory>
+    ensures ok { IfOk result (λ plan. (w : World) → Plans w (Reply.Rpc (reply_of error.now), w) plan) }
+    ensures change { IfOk result (λ plan. plan.change ≡ Change.Nothing) }
+{
+    answered(alloc, error.copy(alloc)?.into_reply())
 }
 
 /// The result of a call that asks for the ids of an entry's ancestors or descendants.
@@ -82,7 +93,7 @@ fn of_info(alloc: Global, found: Option<EntryInfo>) -> Result<Result<RpcResult, 
 
 impl<S: BuildHasher + Copy + Drop> StateParts<S> {
     /// Whether the user may not make the call (U1).
-    fn bars(&self, call: &Call) -> bool
+    pub(crate) fn bars(&self, call: &Call) -> bool
         ensures { result ≡ is_barred (world_of self.now) call.now.user (request_of call.now.json) }
     {
         match call.method() {
@@ -98,7 +109,8 @@ impl<S: BuildHasher + Copy + Drop> StateParts<S> {
         call: &Call,
         prepared: Option<&Prepared>,
     ) -> Result<Plan, Memory>
-        requires { StandsFor (option_copied prepared) (submitted_in (request_of call.now.json)) }
+        requires prepared { StandsFor (option_copied prepared) (submitted_in (request_of call.now.json)) }
+        requires no_package { package_in (world_of self.old) call.now ≡ None }
         ensures ok { IfOk result (Plans (world_of self.old) (rpc_step (world_of self.old) call.now.user call.now.time (request_of call.now.json))) }
         ensures fits { IfOk result (λ plan. Fits plan.change self.new.sessions self.new.pool) }
         ensures same { world_of self.new ≡ world_of self.old }
@@ -108,8 +120,29 @@ impl<S: BuildHasher + Copy + Drop> StateParts<S> {
             return answered(alloc, RpcReply::NotAllowed);
         }
         match call.request() {
-            Ok(request) => self.command(alloc, call.time(), request, prepared),
-            Err(error) => answered(alloc, error.copy(alloc)?.into_reply()),
+            Ok(request) => {
+                if self.lacks(request.command.method()) {
+                    return telling(alloc, &request.id, Err(RpcError::MethodNotFound));
+                }
+                self.command(alloc, call.time(), request, prepared)
+            }
+            Err(error) => self.failing(alloc, error),
+        }
+    }
+
+    /// The plan of a call that asks for nothing that there is.
+    fn failing(&self, alloc: Global, error: &CallError) -> Result<Plan, Memory>
+        ensures ok { IfOk result (λ plan. (now : ℕ) → Plans (world_of self.now) (called_by (world_of self.now) now (served (world_of self.now) (Err error.now))) plan) }
+        ensures change { IfOk result (λ plan. plan.change ≡ Change.Nothing) }
+    {
+        match error {
+            CallError::InvalidParams { id, method } => {
+                if self.lacks(*method) {
+                    return telling(alloc, id, Err(RpcError::MethodNotFound));
+                }
+                faulted(alloc, error)
+            }
+            _ => faulted(alloc, error),
         }
     }
 
@@ -120,7 +153,8 @@ impl<S: BuildHasher + Copy + Drop> StateParts<S> {
         request: &Request,
         prepared: Option<&Prepared>,
     ) -> Result<Plan, Memory>
-        requires { StandsFor (option_copied prepared) (submitted_by request.now.command) }
+        requires prepared { StandsFor (option_copied prepared) (submitted_by request.now.command) }
+        requires no_package { called_with now request.now.id request.now.command ≡ None }
         ensures ok { IfOk result (Plans (world_of self.old) (commanded (world_of self.old) now request.now.id request.now.command)) }
         ensures fits { IfOk result (λ plan. Fits plan.change self.new.sessions self.new.pool) }
         ensures same { world_of self.new ≡ world_of self.old }
@@ -172,6 +206,7 @@ impl<S: BuildHasher + Copy + Drop> StateParts<S> {
                 let found = Counted::new(alloc, found)?;
                 telling(alloc, id, Ok(RpcResult::Spendings(found)))
             }
+            Command::SubmitPackage(_) => unreachable!(),
         }
     }
 

@@ -40,7 +40,7 @@ pub fn lists_bar()
     ensures senders { OnlySendersChange }
 {}
 
-/// No call but `sendrawtransaction` changes anything: `testmempoolaccept` doesn't.
+/// No call but `sendrawtransaction` and `submitpackage` changes anything: `testmempoolaccept` doesn't.
 pub fn questions_change_nothing()
     ensures { QuestionsChangeNothing }
 {}

@@ -9,6 +9,7 @@ mod chaining;
 mod examples;
 mod laws;
 mod opening;
+mod packaging;
 mod parts;
 mod peering;
 mod planning;

@@ -1,9 +1,10 @@
 //! The parts of a state, and its step in two: a plan that takes all memory and changes nothing, and its commit.
-ghost use Rattle.std.specs.Prelude.{◌≡◌, IfOk, OnOk};
+ghost use Rattle.std.specs.Prelude.{◌≡◌, None, IfOk, OnOk};
 ghost use Rattle.std.specs.Option.{option_copied};
 ghost use Rattle.gate_core.specs.Submissions.{StandsFor, submission_of};
 ghost use Rattle.gate_message.specs.declared.reply.Reply.{Reply};
 ghost use Rattle.gate_message.specs.Replies.{settled};
+ghost use Rattle.gate_core.specs.PackageSteps.{package_of};
 ghost use Rattle.gate_core.specs.Planning.{Fits, HasRoom, IsMadeBy, made_by, world_of};
 ghost use Rattle.gate_pool.specs.Moves.{IsMarked};
 
@@ -40,8 +41,8 @@ pub(crate) struct StateParts<S: BuildHasher + Copy + Drop> {
 }
 
 impl<S: BuildHasher + Copy + Drop> StateParts<S> {
-    /// How the step of an event is made. A plan has the reply to it, and what it will change: the memory for the change
-    /// is taken, and nothing changes yet. `prepared` may stand for the event's submission.
+    /// How the step of an event is made that submits no package. A plan has the reply to it, and what it will change: the
+    /// memory for the change is taken, and nothing changes yet. `prepared` may stand for the event's submission.
     #[tactic(auto, unfolding(crate::specs::Steps::step_of))]
     pub(crate) fn plan<'a>(
         &mut self,
@@ -49,7 +50,8 @@ impl<S: BuildHasher + Copy + Drop> StateParts<S> {
         event: &'a Event,
         prepared: Option<&Prepared>,
     ) -> Result<Step<'a>, Memory>
-        requires { StandsFor (option_copied prepared) (submission_of event.now) }
+        requires no_package { package_of (world_of self.old) event.now ≡ None }
+        requires prepared { StandsFor (option_copied prepared) (submission_of event.now) }
         ensures ok { IfOk result (IsMadeBy (world_of self.old) event.now) }
         ensures fits { IfOk result (λ step. HasRoom step self.new.sessions self.new.pool) }
         ensures same { world_of self.new ≡ world_of self.old }

@@ -1,11 +1,13 @@
-//! The step of an event: a plan and its commit, or what the chain's caller asks for.
+//! The step of an event: a plan and its commit, a package and its stage, or what the chain's caller asks for.
 ghost use Rattle.std.specs.Prelude.{◌≡◌, IfOk, OnOk, OnErr};
 ghost use Rattle.std.specs.Option.{option_copied};
 ghost use Rattle.gate_core.specs.Submissions.{StandsFor, submission_of};
 ghost use Rattle.gate_message.specs.Recording.{AreCopies};
+ghost use Rattle.gate_core.specs.PackageSteps.{package_of, packaged_step};
 ghost use Rattle.gate_core.specs.Planning.{world_of};
 ghost use Rattle.gate_core.specs.Steps.{step_of};
 
+use crate::packaging::{CalledPackage, StagedReply};
 use crate::parts::StateParts;
 use crate::planning::{Plan, Step};
 use gate_admit::Prepared;
@@ -15,6 +17,49 @@ use std::alloc::Global;
 use std::hash::BuildHasher;
 
 impl<S: BuildHasher + Copy + Drop> StateParts<S> {
+    /// The step of a package that may be submitted.
+    fn step_package(&mut self, alloc: Global, called: &CalledPackage<'_>) -> Result<Reply, Memory>
+        ensures ok { IfOk result (λ reply. (reply, world_of self.new) ≡ packaged_step (world_of self.old) called.now) }
+        ensures err { OnErr result (world_of self.new ≡ world_of self.old) }
+        ensures before { self.old.pool.before ≡ self.old.pool.entries → OnOk result (self.new.pool.before ≡ self.old.pool.entries) }
+    {
+        let StagedReply { reply, stage } = self.stage(alloc, called)?;
+        match stage {
+            Some(stage) => {
+                let gone = self.land(stage, called.second());
+                Ok(reply.without(gone.as_slice()))
+            }
+            None => Ok(reply),
+        }
+    }
+
+    /// The step of a package that may be submitted, with copies of the reply, which are made before it lands: without the
+    /// memory for them it is taken back.
+    fn record_package(
+        &mut self,
+        alloc: Global,
+        called: &CalledPackage<'_>,
+    ) -> Result<Replies, Memory>
+        ensures ok { IfOk result (λ replies. (replies.reply, world_of self.new) ≡ packaged_step (world_of self.old) called.now) }
+        ensures copies { IfOk result AreCopies }
+        ensures err { OnErr result (world_of self.new ≡ world_of self.old) }
+    {
+        let StagedReply { reply, stage } = self.stage(alloc, called)?;
+        let Some(stage) = stage else {
+            return Replies::of(alloc, reply);
+        };
+        match Replies::of(alloc, reply) {
+            Ok(replies) => {
+                let gone = self.land(stage, called.second());
+                Ok(replies.without(gone.as_slice()))
+            }
+            Err(Memory) => {
+                stage.take_back(&mut self.pool);
+                Err(Memory)
+            }
+        }
+    }
+
     /// Makes the step of an event. What moves in the pool is what moves from now on.
     pub(crate) fn apply(&mut self, alloc: Global, event: &Event) -> Result<Reply, Memory>
         ensures ok { IfOk result (λ reply. (reply, world_of self.new) ≡ step_of (world_of self.old) event.now) }
@@ -22,6 +67,9 @@ impl<S: BuildHasher + Copy + Drop> StateParts<S> {
         ensures before { OnOk result (self.new.pool.before ≡ self.old.pool.entries) }
     {
         self.pool.mark();
+        if let Some(called) = self.package_of(event) {
+            return self.step_package(alloc, &called);
+        }
         match self.plan(alloc, event, None)? {
             Step::Planned(Plan { reply, change }) => {
                 let denial = self.commit(change);
@@ -48,6 +96,9 @@ impl<S: BuildHasher + Copy + Drop> StateParts<S> {
         ensures err { OnErr result (world_of self.new ≡ world_of self.old) }
     {
         self.pool.mark();
+        if let Some(called) = self.package_of(event) {
+            return self.record_package(alloc, &called);
+        }
         match self.plan(alloc, event, prepared)? {
             Step::Planned(Plan { reply, change }) => {
                 let replies = Replies::of(alloc, reply)?;

@@ -1,10 +1,11 @@
 //! The rule that a reply says fails, and the fault of a call.
 use gate_bytes::Memory;
 use gate_causes::call_cause;
-use gate_message::{Event, PeerDenial, Reply};
-use gate_rpc::{Outcome, RpcError, RpcReply, RpcResult};
-use gate_rules::{Rule, user_rule};
+use gate_message::{Call, Event, PeerDenial, Reply};
+use gate_rpc::{CallError, Outcome, RpcError, RpcReply, RpcResult};
+use gate_rules::{PackageDenial, Rule, user_rule};
 use gate_standard::Denial;
+use gate_submission::{Member, PackageVerdict};
 use std::alloc::Global;
 
 /// The rule of admission that an answer to a call names.
@@ -34,8 +35,29 @@ pub(crate) fn denial_in(reply: &Reply) -> Option<Denial> {
     }
 }
 
+/// The rule on packages that an answer to a call names.
+fn denial_of_package(answer: &RpcReply) -> Option<PackageDenial> {
+    match answer {
+        RpcReply::Failure {
+            error: RpcError::PackageDenied(denial),
+            ..
+        } => Some(*denial),
+        RpcReply::Answer {
+            result: RpcResult::Package(outcome),
+            ..
+        } => match outcome.verdict {
+            PackageVerdict::Denied(denial) => Some(denial),
+            _ => None,
+        },
+        _ => None,
+    }
+}
+
 /// The rule that an answer to a call names.
 fn answered_rule(answer: &RpcReply) -> Option<&'static Rule> {
+    if let Some(denial) = denial_of_package(answer) {
+        return Some(denial.row());
+    }
     match answer {
         RpcReply::NotAllowed => Some(user_rule()),
         _ => Some(denial_of_call(answer)?.row()),
@@ -66,6 +88,36 @@ pub(crate) fn outcomes_in(reply: &Reply) -> &[Outcome] {
     }
 }
 
+/// What became of each member of a package, if a reply says it.
+pub(crate) fn members_in(reply: &Reply) -> &[Member] {
+    match reply {
+        Reply::Rpc(answer) => match answer.get() {
+            RpcReply::Answer {
+                result: RpcResult::Package(outcome),
+                ..
+            } => outcome.members.as_slice(),
+            _ => &[],
+        },
+        _ => &[],
+    }
+}
+
+/// Why there is no such method: without its line in the opening, no package is taken.
+fn method_fault(alloc: Global, call: &Call) -> Result<Option<String>, Memory> {
+    let is_named = match call.request() {
+        Ok(_) => true,
+        Err(CallError::InvalidParams { .. }) => true,
+        Err(_) => false,
+    };
+    if is_named {
+        return Ok(Some(String::from_str(
+            alloc,
+            "packages are taken with the opening line 'packages 1' alone",
+        )?));
+    }
+    call_cause(alloc, call)
+}
+
 /// Why a call is answered by an error that is no denial.
 pub(crate) fn call_fault(
     alloc: Global,
@@ -80,6 +132,10 @@ pub(crate) fn call_fault(
             error: RpcError::NotInMempool,
             ..
         } => Ok(Some(String::from_str(alloc, "no transaction in the pool has this txid")?)),
+        RpcReply::Failure {
+            error: RpcError::MethodNotFound,
+            ..
+        } => method_fault(alloc, call.get()),
         _ => call_cause(alloc, call.get()),
     }
 }

@@ -1,11 +1,12 @@
 //! The totals of the events of a run, by their replies.
 use crate::counted_noun::CountedNoun;
-use crate::denied::{outcomes_in, rule_in};
+use crate::denied::{members_in, outcomes_in, rule_in};
 use gate_bytes::Memory;
 use gate_figures::Explained;
 use gate_message::{ChainEvent, Event, Reply};
 use gate_rpc::{Outcome, RpcReply, RpcResult};
 use gate_rules::{Rule, rules};
+use gate_submission::Fate;
 use std::alloc::Global;
 use std::cell::Cell;
 
@@ -138,7 +139,7 @@ impl EventTotals {
         self.events.get()
     }
 
-    /// Counts an event by its reply, and each transaction that a list was denied. How many entries a user's transaction
+    /// Counts an event by its reply, each transaction that a list was denied, and each member of a package. How many entries a user's transaction
     /// replaced is known from the explanation alone.
     pub(crate) fn count(&self, event: &Event, explained: &Option<Explained>, reply: &Reply) {
         add(&self.events, 1);
@@ -155,12 +156,27 @@ impl EventTotals {
                 self.count_rule(denial.row());
             }
         }
+        for member in members_in(reply) {
+            self.count_member(&member.fate);
+        }
     }
 
     /// Counts an event in whose step memory ran out.
     pub(crate) fn count_fault(&self) {
         add(&self.events, 1);
         add(&self.faults, 1);
+    }
+
+    /// Counts what became of a member of a package.
+    fn count_member(&self, fate: &Fate) {
+        match fate {
+            Fate::Taken { replaced, .. } => {
+                add(&self.admitted, 1);
+                add(&self.replaced, replaced.as_slice().len() as u64);
+            }
+            Fate::Denied(denial) => self.count_rule(denial.row()),
+            _ => {}
+        }
     }
 
     /// Counts a denial by this rule.

@@ -1,12 +1,13 @@
 -- The transactions that an event brings, and that each of them has a text.
-use Rattle.std.specs.Prelude.{List, [], Contains, Option, None, Result, Ok, Err, IfSome}
+use Rattle.std.specs.Prelude.{List, [], Contains, Result, Ok, Err, IfSome}
+use Rattle.std.specs.List.{flat_map}
 use Rattle.std.specs.Option.{option_to_list}
 use Rattle.gate_tx.specs.Text.{IsTx}
 use Rattle.gate_tx.specs.Tx.{Tx}
 use Rattle.gate_submission.specs.Blocks.{present}
 use Rattle.gate_submission.specs.Blocks.{transactions_of as block_transactions}
 use Rattle.gate_rpc.specs.declared.request.Command.{Command}
-use Rattle.gate_rpc.specs.declared.request.Command.TheVariants.{SendRawTransaction, TestMempoolAccept, TestList, GetRawMempool, GetRawMempoolVerbose, GetMempoolEntry, GetMempoolAncestors, GetMempoolDescendants, GetMempoolInfo, GetRawTransaction, GetTxSpendingPrevout}
+use Rattle.gate_rpc.specs.declared.request.Command.TheVariants.{SendRawTransaction, TestMempoolAccept, TestList, GetRawMempool, GetRawMempoolVerbose, GetMempoolEntry, GetMempoolAncestors, GetMempoolDescendants, GetMempoolInfo, GetRawTransaction, GetTxSpendingPrevout, SubmitPackage}
 use Rattle.gate_rpc.specs.declared.request.Request.{Request}
 use Rattle.gate_rpc.specs.declared.fault.CallError.{CallError}
 use Rattle.gate_rpc.specs.Calls.{request_of}
@@ -15,23 +16,24 @@ use Rattle.gate_message.specs.declared.chain_event.ChainEvent.TheVariants.{MoveT
 use Rattle.gate_message.specs.declared.event.Event.{Event}
 use Rattle.gate_message.specs.declared.event.Event.TheVariants.{Enter, Leave, Tx as Submit, Mempool, GetBlock, Headers, FeeFilter, Rpc, SetFloor, Set, Chain as OfChain}
 
--- the transaction that a command offers to the pool
-abbrev pub offered_by : Command → Option Tx
-offered_by (SendRawTransaction transaction) = transaction
-offered_by (TestMempoolAccept transaction) = None
-offered_by (TestList transactions) = None
-offered_by GetRawMempool = None
-offered_by GetRawMempoolVerbose = None
-offered_by (GetMempoolEntry txid) = None
-offered_by (GetMempoolAncestors txid) = None
-offered_by (GetMempoolDescendants txid) = None
-offered_by GetMempoolInfo = None
-offered_by (GetRawTransaction txid) = None
-offered_by (GetTxSpendingPrevout points) = None
+-- the transactions that a command offers to the pool
+abbrev pub offered_by : Command → List Tx
+offered_by (SendRawTransaction transaction) = option_to_list transaction
+offered_by (TestMempoolAccept transaction) = []
+offered_by (TestList transactions) = []
+offered_by GetRawMempool = []
+offered_by GetRawMempoolVerbose = []
+offered_by (GetMempoolEntry txid) = []
+offered_by (GetMempoolAncestors txid) = []
+offered_by (GetMempoolDescendants txid) = []
+offered_by GetMempoolInfo = []
+offered_by (GetRawTransaction txid) = []
+offered_by (GetTxSpendingPrevout points) = []
+offered_by (SubmitPackage call) = flat_map option_to_list call.members
 
-abbrev pub offered : Result Request CallError → Option Tx
+abbrev pub offered : Result Request CallError → List Tx
 offered (Ok request) = offered_by request.command
-offered (Err error) = None
+offered (Err error) = []
 
 -- the transactions of the blocks that an event of the chain connects
 abbrev pub connected_by : ChainEvent → List Tx
@@ -49,7 +51,7 @@ transactions_of (Mempool peer) = []
 transactions_of (GetBlock peer height) = []
 transactions_of (Headers peer height) = []
 transactions_of (FeeFilter peer rate) = []
-transactions_of (Rpc call) = option_to_list (offered (request_of call.json))
+transactions_of (Rpc call) = offered (request_of call.json)
 transactions_of (SetFloor rate) = []
 transactions_of (Set switch on) = []
 transactions_of (OfChain event) = connected_by event
@@ -63,7 +65,7 @@ IsSpelled (Mempool peer) = Unit {0}
 IsSpelled (GetBlock peer height) = Unit {0}
 IsSpelled (Headers peer height) = Unit {0}
 IsSpelled (FeeFilter peer rate) = Unit {0}
-IsSpelled (Rpc call) = IfSome (offered (request_of call.json)) IsTx
+IsSpelled (Rpc call) = (tx : Tx) → Contains (offered (request_of call.json)) tx → IsTx tx
 IsSpelled (SetFloor rate) = Unit {0}
 IsSpelled (Set switch on) = Unit {0}
 IsSpelled (OfChain event) = (tx : Tx) → Contains (connected_by event) tx → IsTx tx

@@ -1,11 +1,14 @@
 //! A call by RPC.
 ghost use Rattle.std.specs.Prelude.{◌≡◌, IfOk};
-ghost use Rattle.std.specs.Option.{option_map};
+ghost use Rattle.std.specs.List.{flat_map};
+ghost use Rattle.std.specs.Option.{option_map, option_to_list};
 ghost use Rattle.gate_rpc.specs.Calls.{request_of};
+ghost use Rattle.gate_message.specs.Spelled.{offered, offered_by};
 ghost use Rattle.gate_message.specs.UserCalls.{called, name_called};
 
 use gate_bytes::{Copied, Exact, Memory, Text};
 use gate_rpc::{CallError, Command, Request, RpcFault};
+use gate_submission::{Prepared, recall_texts};
 use std::alloc::Global;
 use std::marker::Model;
 
@@ -99,19 +102,36 @@ impl Call {
 }
 
 impl Call {
-    ghost use Rattle.std.specs.Prelude.{IfSome};
+    ghost use Rattle.std.specs.Prelude.{Contains};
     ghost use Rattle.gate_tx.specs.Text.{IsTx};
-    ghost use Rattle.gate_message.specs.Spelled.{offered};
+    ghost use Rattle.gate_tx.specs.Tx.{Tx};
 
-    /// Recalls for a proof that the transaction that the call sends has a text: it does nothing.
+    /// Recalls for a proof that each transaction that the call sends has a text: it does nothing.
     pub(crate) fn recall_spelled(&self)
-        ensures { IfSome (offered (request_of self.now.json)) IsTx }
+        ensures { (tx : Tx) → Contains (offered (request_of self.now.json)) tx → IsTx tx }
     {
-        if let Ok(request) = &self.request {
-            if let Command::SendRawTransaction(transaction) = &request.command {
-                transaction.recall_spelled();
-            }
-        }
+        recall_texts(submissions_of(&self.request));
+    }
+}
+
+/// The submissions that a command offers to the pool.
+fn offered_by(command: &Command) -> &[Prepared]
+    ensures { flat_map option_to_list result.now ≡ offered_by command.now }
+{
+    match command {
+        Command::SendRawTransaction(transaction) => std::slice::from_ref(transaction),
+        Command::SubmitPackage(call) => call.members.as_slice(),
+        _ => &[],
+    }
+}
+
+/// The submissions that a call offers to the pool: none if it asks for nothing that there is.
+fn submissions_of(request: &Result<Request, CallError>) -> &[Prepared]
+    ensures { flat_map option_to_list result.now ≡ offered request.now }
+{
+    match request {
+        Ok(request) => offered_by(&request.command),
+        Err(_) => &[],
     }
 }
 

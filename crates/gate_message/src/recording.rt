@@ -1,12 +1,13 @@
 //! Copies of a reply, one for each keeper.
 ghost use Rattle.std.specs.Prelude.{◌≡◌, IfOk};
-ghost use Rattle.gate_message.specs.Replies.{chain_reply, settled};
+ghost use Rattle.gate_message.specs.Replies.{chain_reply, settled, without};
 ghost use Rattle.gate_message.specs.Recording.{AreCopies};
 
 use crate::outcome::ChainOutcome;
 use crate::reply::Reply;
 use gate_bytes::{Copied, Memory};
 use gate_standard::Denial;
+use gate_tx::Txid;
 use std::alloc::Global;
 
 /// The reply to one event, and two copies of it.
@@ -61,6 +62,23 @@ impl Replies {
             reply: Reply::of_chain(outcome),
             receipt: Reply::of_chain(outcome),
             entry: Reply::of_chain(outcome),
+        }
+    }
+
+    /// These replies to a package, once these entries have left the pool again.
+    pub fn without(self, gone: &[Txid]) -> Replies
+        ensures reply { result.reply ≡ without gone.now self.reply }
+        ensures copies { AreCopies self → AreCopies result }
+    {
+        let Replies {
+            reply,
+            receipt,
+            entry,
+        } = self;
+        Replies {
+            reply: reply.without(gone),
+            receipt: receipt.without(gone),
+            entry: entry.without(gone),
         }
     }
 

@@ -4,7 +4,7 @@ use Rattle.std.proofs.lemmas.Bool.{true≢false}
 use Rattle.gate_register.specs.Policies.{IsPolicy as IsSet, number_of, usual_policy as usual_set, with_number}
 use Rattle.gate_register.specs.Settings.{allows, greatest_of, least_of, most_of}
 use Rattle.gate_register.specs.declared.Setting.{Setting}
-use Rattle.gate_register.specs.declared.Setting.TheVariants.{AncestorCount, AncestorSize, DescendantCount, DescendantSize, RelayRate, IncrementalRate, ExpiryHours, SigopSize, DustRate, DataSize, DataOutputs, LeastSize, FullRbf, BareMultisig, Bloom, BlocksOnly, WhitelistRelay, WhitelistForceRelay, RpcWhitelistDefault, FeesRoundUp, RelayFeeFirst, ReplacedParents, KeepInvalid, Anchors, LegacySigops, DataTotal, Truc, EphemeralDust}
+use Rattle.gate_register.specs.declared.Setting.TheVariants.{AncestorCount, AncestorSize, DescendantCount, DescendantSize, RelayRate, IncrementalRate, ExpiryHours, SigopSize, DustRate, DataSize, DataOutputs, LeastSize, FullRbf, BareMultisig, Bloom, BlocksOnly, WhitelistRelay, WhitelistForceRelay, RpcWhitelistDefault, FeesRoundUp, RelayFeeFirst, ReplacedParents, KeepInvalid, Anchors, LegacySigops, DataTotal, Truc, Packages, PackageAllParents, EphemeralDust}
 use Rattle.gate_register.proofs.Policies.{is_policy, others_kept}
 use Rattle.gate_release.specs.Releases.{choices}
 use Rattle.gate_release.proofs.Kept.{beside_is_policy}
@@ -129,6 +129,8 @@ least_usual Anchors = let h : 0 ≤ 0 = omega arith in h
 least_usual LegacySigops = let h : 0 ≤ 1000000001 = omega arith in h
 least_usual DataTotal = let h : 0 ≤ 100001 = omega arith in h
 least_usual Truc = let h : 0 ≤ 0 = omega arith in h
+least_usual Packages = let h : 0 ≤ 0 = omega arith in h
+least_usual PackageAllParents = let h : 0 ≤ 0 = omega arith in h
 least_usual EphemeralDust = let h : 0 ≤ 0 = omega arith in h
 
 most_usual : (setting : Setting) → number_of usual_set setting ≤ greatest_of setting
@@ -159,6 +161,8 @@ most_usual Anchors = let h : 0 ≤ 1 = omega arith in h
 most_usual LegacySigops = let h : 1000000001 ≤ 1000000001 = omega arith in h
 most_usual DataTotal = let h : 100001 ≤ 100001 = omega arith in h
 most_usual Truc = let h : 0 ≤ 1 = omega arith in h
+most_usual Packages = let h : 0 ≤ 1 = omega arith in h
+most_usual PackageAllParents = let h : 0 ≤ 1 = omega arith in h
 most_usual EphemeralDust = let h : 0 ≤ 1 = omega arith in h
 
 usual_bounds : IsSet usual_set
@@ -227,6 +231,8 @@ kept set setting n clean = λ i. record {
     truc = same Truc refl i == 1;
     ephemeral_dust = same EphemeralDust refl i == 1;
   };
+  packages = same Packages refl i == 1;
+  all_parents = same PackageAllParents refl i == 1;
 }
   where
     limit_at : Setting → ℕ → Option ℕ

@@ -7,7 +7,7 @@ use Rattle.gate_tx.specs.declared.TxIn.{TxIn}
 use Rattle.gate_tx.specs.Tx.{Tx}
 use Rattle.gate_tx.specs.Ids.{txid_of, wtxid_of}
 use Rattle.gate_rules.specs.declared.Denial.{Denial}
-use Rattle.gate_rules.specs.declared.Denial.TheVariants.{Decode, MempoolConflict, SpendsConflicting, TrucViolation, UnsweptDust}
+use Rattle.gate_rules.specs.declared.Denial.TheVariants.{Decode, MempoolConflict, SpendsConflicting, TrucViolation, UnsweptDust, MaxFeerate}
 use Rattle.gate_rules.specs.Denials.{rule_of}
 use Rattle.gate_pool.specs.Pool.{Admitted, entry_by_txid, spender_of}
 use Rattle.gate_admit.specs.declared.Attempt.TheVariants.{First}
@@ -59,9 +59,9 @@ spendings_of entries points = map (spending_of entries) points
 abbrev pub has_conflict : List Admitted → Tx → Bool
 has_conflict entries tx = list_any (λ (i : TxIn). is_some (spender_of entries i.prevout)) tx.inputs
 
--- A23, or a rule that is tested behind it: those with the numbers from A23 to A49, but not A51, which is tested behind A16
+-- A23, or a rule that is tested behind it: those with the numbers from A23 to A50, but not A51, which is tested behind A16
 abbrev pub is_from_conflict : Denial → Bool
-is_from_conflict denial = nat_le (rule_of MempoolConflict) (rule_of denial) && nat_le (rule_of denial) (rule_of UnsweptDust)
+is_from_conflict denial = nat_le (rule_of MempoolConflict) (rule_of denial) && nat_le (rule_of denial) (rule_of MaxFeerate)
 
 -- the decision where nothing may be replaced: A23 fails for each transaction that spends what an entry spends
 abbrev pub unreplacing : Bool → Result Grant Denial → Result Grant Denial

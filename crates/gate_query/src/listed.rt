@@ -26,12 +26,12 @@ fn has_conflict<S: BuildHasher + Copy + Drop>(pool: &Pool<S>, transaction: &Tran
         .any(|input| pool.spender(&input.prevout).is_some())
 }
 
-/// Whether a rule is A23, or is tested behind it: those with the numbers from A23 to A49.
+/// Whether a rule is A23, or is tested behind it: those with the numbers from A23 to A50.
 fn is_from_conflict(denial: Denial) -> bool
     ensures { result ≡ is_from_conflict denial }
 {
     let rule = denial as usize;
-    rule >= Denial::MempoolConflict as usize && rule <= Denial::UnsweptDust as usize
+    rule >= Denial::MempoolConflict as usize && rule <= Denial::MaxFeerate as usize
 }
 
 /// A decision where nothing may be replaced.

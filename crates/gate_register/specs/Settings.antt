@@ -3,7 +3,7 @@ use Rattle.std.specs.Prelude.{ℕ, nat_le, Bool, ◌&&◌, List, [], ◌∷◌, 
 use Rattle.std.specs.List.{find}
 use Rattle.std.specs.Str.{bytes_eq}
 use Rattle.gate_register.specs.declared.setting.Setting.{Setting}
-use Rattle.gate_register.specs.declared.setting.Setting.TheVariants.{AncestorCount, AncestorSize, DescendantCount, DescendantSize, RelayRate, IncrementalRate, ExpiryHours, SigopSize, DustRate, DataSize, DataOutputs, LeastSize, FullRbf, BareMultisig, Bloom, BlocksOnly, WhitelistRelay, WhitelistForceRelay, RpcWhitelistDefault, FeesRoundUp, RelayFeeFirst, ReplacedParents, KeepInvalid, Anchors, LegacySigops, DataTotal, Truc, EphemeralDust}
+use Rattle.gate_register.specs.declared.setting.Setting.TheVariants.{AncestorCount, AncestorSize, DescendantCount, DescendantSize, RelayRate, IncrementalRate, ExpiryHours, SigopSize, DustRate, DataSize, DataOutputs, LeastSize, FullRbf, BareMultisig, Bloom, BlocksOnly, WhitelistRelay, WhitelistForceRelay, RpcWhitelistDefault, FeesRoundUp, RelayFeeFirst, ReplacedParents, KeepInvalid, Anchors, LegacySigops, DataTotal, Truc, Packages, PackageAllParents, EphemeralDust}
 
 -- a setting's place in their order, the first word of its line, the least and the greatest number, and the number if no line says
 -- one: past the greatest if there is no limit then
@@ -45,15 +45,17 @@ row_of Anchors = row 23 (codes "anchors") 0 1 0
 row_of LegacySigops = row 24 (codes "maxtxlegacysigops") 0 1000000000 1000000001
 row_of DataTotal = row 25 (codes "datacarriertotal") 0 100000 100001
 row_of Truc = row 26 (codes "truc") 0 1 0
-row_of EphemeralDust = row 27 (codes "ephemeraldust") 0 1 0
+row_of Packages = row 27 (codes "packages") 0 1 0
+row_of PackageAllParents = row 28 (codes "packageallparents") 0 1 0
+row_of EphemeralDust = row 29 (codes "ephemeraldust") 0 1 0
 
 abbrev pub count : ℕ
-count = 28
+count = 30
 
 -- all settings, in their order
 abbrev pub settings : List Setting
 settings =
-    AncestorCount ∷ AncestorSize ∷ DescendantCount ∷ DescendantSize ∷ RelayRate ∷ IncrementalRate ∷ ExpiryHours ∷ SigopSize ∷ DustRate ∷ DataSize ∷ DataOutputs ∷ LeastSize ∷ FullRbf ∷ BareMultisig ∷ Bloom ∷ BlocksOnly ∷ WhitelistRelay ∷ WhitelistForceRelay ∷ RpcWhitelistDefault ∷ FeesRoundUp ∷ RelayFeeFirst ∷ ReplacedParents ∷ KeepInvalid ∷ Anchors ∷ LegacySigops ∷ DataTotal ∷ Truc ∷ EphemeralDust ∷ []
+    AncestorCount ∷ AncestorSize ∷ DescendantCount ∷ DescendantSize ∷ RelayRate ∷ IncrementalRate ∷ ExpiryHours ∷ SigopSize ∷ DustRate ∷ DataSize ∷ DataOutputs ∷ LeastSize ∷ FullRbf ∷ BareMultisig ∷ Bloom ∷ BlocksOnly ∷ WhitelistRelay ∷ WhitelistForceRelay ∷ RpcWhitelistDefault ∷ FeesRoundUp ∷ RelayFeeFirst ∷ ReplacedParents ∷ KeepInvalid ∷ Anchors ∷ LegacySigops ∷ DataTotal ∷ Truc ∷ Packages ∷ PackageAllParents ∷ EphemeralDust ∷ []
 
 abbrev pub place_of : Setting → ℕ
 place_of setting = (row_of setting).place

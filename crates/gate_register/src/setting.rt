@@ -63,6 +63,10 @@ pub enum Setting {
     DataTotal,
     /// Version 3 is standard, and its transactions keep to small families (TRUC, BIP 431; Bitcoin Core 28.0 and later).
     Truc,
+    /// Packages may be submitted (Bitcoin Core 28.0 and later).
+    Packages,
+    /// A package's child has no unconfirmed parent beside it (Bitcoin Core 28.0 to 29).
+    PackageAllParents,
     /// An output of a transaction without a fee may be dust if its child spends it (Bitcoin Core 29.0 and later).
     EphemeralDust,
 }
@@ -81,7 +85,7 @@ pub struct Row {
 }
 
 /// How many settings there are.
-pub const COUNT: usize = 28;
+pub const COUNT: usize = 30;
 
 /// The row of each setting, in their order.
 static ROWS: [Row; COUNT] = [
@@ -275,6 +279,20 @@ static ROWS: [Row; COUNT] = [
         usual: 0,
     },
     Row {
+        word: "packages",
+        unit: "0 or 1",
+        least: 0,
+        most: 1,
+        usual: 0,
+    },
+    Row {
+        word: "packageallparents",
+        unit: "0 or 1",
+        least: 0,
+        most: 1,
+        usual: 0,
+    },
+    Row {
         word: "ephemeraldust",
         unit: "0 or 1",
         least: 0,
@@ -312,6 +330,8 @@ static SETTINGS: [Setting; COUNT] = [
     Setting::LegacySigops,
     Setting::DataTotal,
     Setting::Truc,
+    Setting::Packages,
+    Setting::PackageAllParents,
     Setting::EphemeralDust,
 ];
 

@@ -4,5 +4,6 @@ pub mod Each
 pub mod Digits
 pub mod Listed
 pub mod Objects
+pub mod Packaged
 pub mod Narrowing
 pub mod Intersections

@@ -1,13 +1,17 @@
 -- The texts of lists and of objects, one item after another.
-use Rattle.std.proofs.Common.{◌≡◌, ℕ, List, [], ◌∷◌, ◌++◌, ◌+◌, ◌<◌, ◌≤◌, length, take, get_or, true, refl, sym, ap, ◌∙◌, append_assoc}
+use Rattle.std.proofs.Common.{◌≡◌, ℕ, List, [], ◌∷◌, ◌++◌, ◌+◌, ◌<◌, ◌≤◌, length, take, get_or, true, refl, sym, ap, ◌∙◌, append_assoc, Option}
 use Rattle.std.proofs.lemmas.List.{take_all, take_more, flat_map_more}
 use Rattle.std.specs.List.{flat_map}
 use Rattle.json.specs.Print.{quoted}
 use Rattle.serde_json.specs.Data.{Data, array, object, Members, no_members, member}
 use Rattle.serde_json.specs.Written.{compact_text, items_text, members_text}
 use Rattle.gate_tx.specs.Ids.{id_text}
+use Rattle.gate_submission.specs.declared.package_outcome.Member.{Member}
+use Rattle.gate_submission.specs.declared.package_outcome.Together.{Together}
 use Rattle.gate_rpc.specs.declared.items.KnownEntry.{KnownEntry}
-use Rattle.gate_rpc.specs.Replies.{entries_json, entry_json, items_json, txid_items, txids_json}
+use Rattle.gate_rpc.specs.Packages.{fate_json, members_json}
+use Rattle.gate_rpc.specs.Replies.{entries_json, entry_json, items_json}
+use Rattle.gate_rpc.specs.Values.{txid_items, txids_json}
 
 -- an id after others
 abbrev pub later_text : List ℕ → List ℕ
@@ -101,3 +105,16 @@ pub entries_whole : (known : KnownEntry) (entries : List KnownEntry) (i : ℕ) (
     → all ≡ text ++ 125 ∷ [] → all ≡ compact_text (entries_json (known ∷ entries))
 unfolding member_text
 entries_whole known entries i text all is end pushed = members_whole (λ e. id_text e.txid) (λ e. entry_json e.info) known entries i text all is end pushed
+
+-- what became of a member of a package, behind its witness id
+unfoldable pub fate_text : Option Together → Member → List ℕ
+fate_text all m = quoted (id_text m.wtxid) ++ 58 ∷ compact_text (fate_json all m.txid m.wtxid m.fate)
+
+pub fate_is : (all : Option Together) (m : Member) → quoted (id_text m.wtxid) ++ 58 ∷ compact_text (fate_json all m.txid m.wtxid m.fate) ≡ fate_text all m
+unfolding fate_text
+fate_is all m = refl
+
+pub fates_whole : (together : Option Together) (m : Member) (members : List Member) (i : ℕ) (text all : List ℕ) → text ≡ 123 ∷ (fate_text together m ++ flat_map (λ e. 44 ∷ fate_text together e) (take i members)) → length members ≤ i
+    → all ≡ text ++ 125 ∷ [] → all ≡ compact_text (members_json together (m ∷ members))
+unfolding fate_text
+fates_whole together m members i text all is end pushed = members_whole (λ e. id_text e.wtxid) (λ e. fate_json together e.txid e.wtxid e.fate) m members i text all is end pushed

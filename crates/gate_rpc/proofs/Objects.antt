@@ -10,7 +10,8 @@ use Rattle.gate_rules.specs.declared.Denial.{Denial}
 use Rattle.gate_rules.specs.Denials.{name_of}
 use Rattle.gate_rpc.specs.declared.items.Spending.{Spending}
 use Rattle.gate_rpc.specs.declared.result.EntryInfo.{EntryInfo}
-use Rattle.gate_rpc.specs.Replies.{rejected_json, entry_json, reject_reason, spending_json, txids_json}
+use Rattle.gate_rpc.specs.Replies.{rejected_json, entry_json, reject_reason, spending_json}
+use Rattle.gate_rpc.specs.Values.{txids_json}
 use Rattle.gate_rpc.specs.Texts.{rejected_text, entry_text, bool_text, spending_start, spending_end}
 
 rejected_is : (t w : List ℕ) (d : Denial) → rejected_text (quoted (reject_reason d)) (quoted (name_of d)) (quoted (id_text t)) (quoted (id_text w)) ≡ compact_text (rejected_json t w d)

@@ -12,12 +12,14 @@ use Rattle.gate_tx.specs.declared.OutPoint.{OutPoint}
 use Rattle.gate_tx.specs.Tx.{Tx}
 use Rattle.gate_tx.specs.Ids.{read_id}
 use Rattle.gate_tx.specs.Reading.{decoded}
+use Rattle.gate_tx.specs.Money.{max_money}
 use Rattle.gate_rpc.specs.declared.id.Id.{Id}
 use Rattle.gate_rpc.specs.declared.id.Id.TheVariants as ids
 use Rattle.gate_rpc.specs.declared.method.Method.{Method}
 use Rattle.gate_rpc.specs.declared.method.Method.TheVariants as methods
 use Rattle.gate_rpc.specs.declared.request.Command.{Command}
 use Rattle.gate_rpc.specs.declared.request.Command.TheVariants as commands
+use Rattle.gate_rpc.specs.declared.request.PackageCall.{PackageCall}
 use Rattle.gate_rpc.specs.declared.request.Request.{Request}
 use Rattle.gate_rpc.specs.declared.fault.CallError.{CallError}
 use Rattle.gate_rpc.specs.declared.fault.CallError.TheVariants.{ParseError, InvalidRequest, MethodNotFound, InvalidParams}
@@ -37,6 +39,7 @@ method_of (commands.GetMempoolDescendants txid) = methods.GetMempoolDescendants
 method_of commands.GetMempoolInfo = methods.GetMempoolInfo
 method_of (commands.GetRawTransaction txid) = methods.GetRawTransaction
 method_of (commands.GetTxSpendingPrevout points) = methods.GetTxSpendingPrevout
+method_of (commands.SubmitPackage call) = methods.SubmitPackage
 
 abbrev pub decoded_from : Result (List ℕ) FromHexError → Option Tx
 decoded_from (Ok bytes) = decoded bytes
@@ -183,6 +186,44 @@ point_in d =
 abbrev pub points_in : Items → Option (List OutPoint)
 points_in items = if is_none items then None else each_of point_in items
 
+-- ---- packages
+
+-- what a package may pay at most, in satoshi per 1,000 virtual bytes, and the greatest number that a call says
+abbrev pub usual_max_rate : ℕ
+usual_max_rate = 10_000_000
+
+abbrev pub greatest_max_rate : ℕ
+greatest_max_rate = 99_999_999
+
+-- a number up to this one
+abbrev pub up_to : ℕ → Option ℕ → Option ℕ
+up_to most None = None
+up_to most (Some n) = if nat_le n most then Some n else None
+
+-- the whole number from 0 to `most` that a value is
+abbrev pub number_in : ℕ → Data → Option ℕ
+number_in most d = up_to most (option_and_then as_u64 (as_number d))
+
+abbrev pub package_with : ℕ → ℕ → List (Option Tx) → Command
+package_with max_rate max_burn members = commands.SubmitPackage (record { members = members; max_rate = max_rate; max_burn = max_burn })
+
+abbrev pub package_of : Option ℕ → Option ℕ → Option (List (Option Tx)) → Option Command
+package_of None max_burn members = None
+package_of (Some max_rate) None members = None
+package_of (Some max_rate) (Some max_burn) members = option_map (package_with max_rate max_burn) members
+
+-- the members that a list of texts stands for
+abbrev pub members_in : Data → Option (List (Option Tx))
+members_in d = option_and_then submissions_in (as_array d)
+
+-- `[[text, ..]]`, `[[text, ..], rate]` or `[[text, ..], rate, value]`
+abbrev pub package_in : Items → Option Command
+package_in no_items = None
+package_in (item d no_items) = package_of (Some usual_max_rate) (Some 0) (members_in d)
+package_in (item d (item rate no_items)) = package_of (number_in greatest_max_rate rate) (Some 0) (members_in d)
+package_in (item d (item rate (item burn no_items))) = package_of (number_in greatest_max_rate rate) (number_in max_money burn) (members_in d)
+package_in (item d (item rate (item burn (item other others)))) = None
+
 -- ---- commands
 
 -- the txid that a value prints, if another is `false`
@@ -214,6 +255,7 @@ command_of methods.GetMempoolDescendants params = option_map commands.GetMempool
 command_of methods.GetMempoolInfo params = if is_none params then Some commands.GetMempoolInfo else None
 command_of methods.GetRawTransaction params = option_map commands.GetRawTransaction (txid_first params)
 command_of methods.GetTxSpendingPrevout params = option_map commands.GetTxSpendingPrevout (option_and_then points_in (list_alone params))
+command_of methods.SubmitPackage params = package_in params
 
 -- ---- the whole
 

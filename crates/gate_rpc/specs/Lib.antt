@@ -3,6 +3,8 @@ pub mod Listing
 pub mod Equality
 pub mod Methods
 pub mod Calls
+pub mod Values
+pub mod Packages
 pub mod Replies
 pub mod Texts
 pub mod Faults

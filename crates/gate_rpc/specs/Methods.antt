@@ -2,7 +2,7 @@
 use Rattle.std.specs.Prelude.{ℕ, if◌then◌else◌, List, codes, Option, Some, None}
 use Rattle.std.specs.Str.{bytes_eq}
 use Rattle.gate_rpc.specs.declared.method.Method.{Method}
-use Rattle.gate_rpc.specs.declared.method.Method.TheVariants.{SendRawTransaction, TestMempoolAccept, GetRawMempool, GetMempoolEntry, GetMempoolAncestors, GetMempoolDescendants, GetMempoolInfo, GetRawTransaction, GetTxSpendingPrevout}
+use Rattle.gate_rpc.specs.declared.method.Method.TheVariants.{SendRawTransaction, TestMempoolAccept, GetRawMempool, GetMempoolEntry, GetMempoolAncestors, GetMempoolDescendants, GetMempoolInfo, GetRawTransaction, GetTxSpendingPrevout, SubmitPackage}
 
 abbrev pub method_name : Method → List ℕ
 method_name SendRawTransaction = codes "sendrawtransaction"
@@ -14,6 +14,7 @@ method_name GetMempoolDescendants = codes "getmempooldescendants"
 method_name GetMempoolInfo = codes "getmempoolinfo"
 method_name GetRawTransaction = codes "getrawtransaction"
 method_name GetTxSpendingPrevout = codes "gettxspendingprevout"
+method_name SubmitPackage = codes "submitpackage"
 
 -- the method of a name
 abbrev pub method_named : List ℕ → Option Method
@@ -27,4 +28,5 @@ method_named name =
     else if bytes_eq name (codes "getmempoolinfo") then Some GetMempoolInfo
     else if bytes_eq name (codes "getrawtransaction") then Some GetRawTransaction
     else if bytes_eq name (codes "gettxspendingprevout") then Some GetTxSpendingPrevout
+    else if bytes_eq name (codes "submitpackage") then Some SubmitPackage
     else None

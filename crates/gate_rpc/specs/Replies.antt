@@ -9,11 +9,14 @@ use Rattle.gate_tx.specs.Text.{text}
 use Rattle.gate_tx.specs.Tx.{Tx}
 use Rattle.gate_rules.specs.declared.Denial.{Denial}
 use Rattle.gate_rules.specs.declared.Denial.TheVariants.{Decode, MissingOrSpent}
-use Rattle.gate_rules.specs.Denials.{name_of, token_of}
+use Rattle.gate_rules.specs.Denials.{token_of}
+use Rattle.gate_rules.specs.Packages.{token_of as package_token}
+use Rattle.gate_rpc.specs.Packages.{package_json, package_rule_json}
+use Rattle.gate_rpc.specs.Values.{integer, rule_json, txid_json, txids_json}
 use Rattle.gate_rpc.specs.declared.id.Id.{Id}
 use Rattle.gate_rpc.specs.declared.id.Id.TheVariants as ids
 use Rattle.gate_rpc.specs.declared.error.RpcError.{RpcError}
-use Rattle.gate_rpc.specs.declared.error.RpcError.TheVariants.{ParseError, InvalidRequest, MethodNotFound, InvalidParams, NotInMempool, Denied}
+use Rattle.gate_rpc.specs.declared.error.RpcError.TheVariants.{ParseError, InvalidRequest, MethodNotFound, InvalidParams, NotInMempool, Denied, PackageDenied}
 use Rattle.gate_rpc.specs.declared.items.KnownEntry.{KnownEntry}
 use Rattle.gate_rpc.specs.declared.items.Outcome.{Outcome}
 use Rattle.gate_rpc.specs.declared.items.Outcome.TheVariants.{Allowed, Rejected}
@@ -33,6 +36,7 @@ status_of MethodNotFound = 404
 status_of InvalidParams = 500
 status_of NotInMempool = 500
 status_of (Denied denial) = 500
+status_of (PackageDenied denial) = 500
 
 -- A1 and A25 have codes of their own
 abbrev pub denial_code : Denial → ℕ
@@ -48,6 +52,7 @@ code_below_zero MethodNotFound = 32601
 code_below_zero InvalidParams = 32602
 code_below_zero NotInMempool = 5
 code_below_zero (Denied denial) = denial_code denial
+code_below_zero (PackageDenied denial) = 25
 
 abbrev pub code_of : RpcError → ℤ
 code_of error = neg_ℤ (pos (code_below_zero error))
@@ -59,18 +64,13 @@ message_of MethodNotFound = codes "Method not found"
 message_of InvalidParams = codes "Invalid params"
 message_of NotInMempool = codes "Transaction not in mempool"
 message_of (Denied denial) = token_of denial
+message_of (PackageDenied denial) = package_token denial
 
 -- ---- values
 
-abbrev pub integer : ℕ → Data
-integer n = number (unsigned n)
-
--- the name of the rule that denies, such as `A17`
-abbrev pub rule_json : Denial → Data
-rule_json denial = string (name_of denial)
-
 abbrev pub rules_of : RpcError → Members
 rules_of (Denied denial) = member (codes "rule") (rule_json denial) no_members
+rules_of (PackageDenied denial) = member (codes "rule") (package_rule_json denial) no_members
 rules_of error = no_members
 
 -- the error of an answer; only a denial names its rule
@@ -85,16 +85,6 @@ id_json ids.Null = null
 id_json (ids.Text text) = string text
 id_json (ids.Unsigned n) = number (unsigned n)
 id_json (ids.Signed z) = number (of_integer z)
-
-abbrev pub txid_json : List ℕ → Data
-txid_json id = string (id_text id)
-
-abbrev pub txid_items : List (List ℕ) → Items
-txid_items [] = no_items
-txid_items (id ∷ ids) = item (txid_json id) (txid_items ids)
-
-abbrev pub txids_json : List (List ℕ) → Data
-txids_json ids = array (txid_items ids)
 
 -- why a transaction would be denied
 abbrev pub reject_reason : Denial → List ℕ
@@ -197,6 +187,7 @@ result_json (results.Outcomes outcomes) = outcomes_json outcomes
 result_json (results.Entries entries) = entries_json entries
 result_json (results.Transaction tx) = transaction_json tx
 result_json (results.Spendings spendings) = spendings_json spendings
+result_json (results.Package outcome) = package_json outcome
 
 abbrev pub answer_json : Data → Data → Data → Data
 answer_json error id result =

@@ -3,6 +3,7 @@ ghost use Rattle.std.specs.Prelude.{◌≡◌};
 ghost use Rattle.gate_rpc.specs.Replies.{status_of, code_of, message_of};
 
 use gate_bytes::Exact;
+use gate_rules::PackageDenial;
 use gate_standard::Denial;
 
 /// Why a call has no result, as its answer says it: by the codes of JSON-RPC 2.0 and of Bitcoin Core 22.0.
@@ -16,6 +17,8 @@ pub enum RpcError {
     NotInMempool,
     /// The transaction fails a rule of admission.
     Denied(Denial),
+    /// The package fails a rule on packages before its members are judged.
+    PackageDenied(PackageDenial),
 }
 
 impl RpcError {
@@ -42,6 +45,7 @@ impl RpcError {
             RpcError::Denied(Denial::Decode) => -22,
             RpcError::Denied(Denial::MissingOrSpent) => -25,
             RpcError::Denied(_) => -26,
+            RpcError::PackageDenied(_) => -25,
         }
     }
 
@@ -55,15 +59,17 @@ impl RpcError {
             RpcError::InvalidParams => "Invalid params",
             RpcError::NotInMempool => "Transaction not in mempool",
             RpcError::Denied(denial) => denial.row().token,
+            RpcError::PackageDenied(denial) => denial.row().token,
         }
     }
 }
 
 impl Exact for RpcError {
     ghost use Rattle.gate_rules.specs.contracts.denial.Denial.{enum as denials};
+    ghost use Rattle.gate_rules.specs.contracts.package.PackageDenial.{enum as package_denials};
     ghost use Rattle.gate_rpc.specs.contracts.error.RpcError.{enum};
     ghost use Rattle.gate_bytes.specs.Equality.{enum_decides, ◌or◌, none_decides, last_decides, bare_decides};
 
     ghost exact = { enum_decides enum _ (none_decides or none_decides or none_decides or none_decides or none_decides
-        or last_decides (bare_decides denials tt) or tt) };
+        or last_decides (bare_decides denials tt) or last_decides (bare_decides package_denials tt) or tt) };
 }

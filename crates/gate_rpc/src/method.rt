@@ -4,7 +4,8 @@ ghost use Rattle.gate_rpc.specs.Methods.{method_named, method_name};
 
 use gate_bytes::Exact;
 
-/// What can be called, under the names of Bitcoin Core 22.0; `gettxspendingprevout` came with 24.0.
+/// What can be called, under the names of Bitcoin Core 22.0; `gettxspendingprevout` came with 24.0, and `submitpackage`
+/// with 26.0.
 #[derive(Clone, Copy, Debug, PartialEq, Eq)]
 pub enum Method {
     SendRawTransaction,
@@ -16,6 +17,7 @@ pub enum Method {
     GetMempoolInfo,
     GetRawTransaction,
     GetTxSpendingPrevout,
+    SubmitPackage,
 }
 
 impl Method {
@@ -41,6 +43,8 @@ impl Method {
             Some(Method::GetRawTransaction)
         } else if name == "gettxspendingprevout" {
             Some(Method::GetTxSpendingPrevout)
+        } else if name == "submitpackage" {
+            Some(Method::SubmitPackage)
         } else {
             None
         }
@@ -59,6 +63,7 @@ impl Method {
             Method::GetMempoolInfo => "getmempoolinfo",
             Method::GetRawTransaction => "getrawtransaction",
             Method::GetTxSpendingPrevout => "gettxspendingprevout",
+            Method::SubmitPackage => "submitpackage",
         }
     }
 }

@@ -3,19 +3,26 @@ ghost use Rattle.std.specs.Prelude.{◌≡◌, IfOk, option_and_then};
 ghost use Rattle.std.specs.Option.{option_map};
 ghost use Rattle.serde_json.specs.View.{view, items_view};
 ghost use Rattle.serde_json.specs.Find.{as_bool, as_object, as_str};
-ghost use Rattle.gate_rpc.specs.Calls.{params_of, only, is_none, is_false_alone, is_true_alone, text_alone, list_alone, txid_alone, txid_first, txid_unless, listing_of, submissions_in, test_of, keys_in, txid_in, index_in, point_in, points_in, command_of, submission_of, each_of};
+ghost use Rattle.gate_rpc.specs.Calls.{params_of, only, is_none, is_false_alone, is_true_alone, text_alone, list_alone, txid_alone, txid_first, txid_unless, listing_of, submissions_in, test_of, keys_in, txid_in, index_in, point_in, points_in, number_in, members_in, package_of, package_in, command_of, submission_of, each_of};
 
 use crate::method::Method;
-use crate::request::Command;
+use crate::request::{Command, PackageCall};
 use gate_bytes::{Kept, Memory};
 use gate_submission::Prepared;
-use gate_tx::{OutPoint, Txid};
+use gate_tx::{MAX_MONEY, OutPoint, Txid};
 use hex::FromHexError;
 use serde_json::Value;
 use std::alloc::Global;
 
-/// The most transactions that one call tests.
+/// The most transactions that one call tests, or submits as a package.
 const MOST_TESTED: usize = 25;
+
+/// What a package may pay at most, in satoshi per 1,000 virtual bytes, if the call doesn't say it (Bitcoin Core's
+/// `DEFAULT_MAX_RAW_TX_FEE_RATE`).
+const USUAL_MAX_RATE: u64 = 10_000_000;
+
+/// The greatest of these rates that a call may say: Bitcoin Core takes less than 1 BTC.
+const GREATEST_MAX_RATE: u64 = 99_999_999;
 
 /// The command of a method with these parameters, which may be absent; `None` if the method doesn't take them.
 pub(crate) fn read_command(
@@ -61,6 +68,7 @@ pub(crate) fn read_command(
             let points = points_inside(alloc, params)?;
             Ok(points.map(|points| Command::GetTxSpendingPrevout(points)))
         }
+        Method::SubmitPackage => submitted_package(alloc, params),
     }
 }
 
@@ -355,4 +363,70 @@ fn txid_alone(params: &[Value]) -> Option<Txid>
         Some(text) => Txid::read(text),
         None => None,
     }
+}
+
+/// The whole number from 0 to `most` that a value is.
+fn number_in(value: &Value, most: u64) -> Option<u64>
+    ensures { result ≡ number_in most (view value.now) }
+{
+    match value.as_u64() {
+        Some(number) => if number <= most { Some(number) } else { None },
+        None => None,
+    }
+}
+
+/// The submissions of a list of texts, of which there are at least one and at most 25.
+fn members_in(alloc: Global, value: &Value) -> Result<Option<Kept<Prepared>>, Memory>
+    ensures { IfOk result (λ members. members ≡ members_in (view value.now)) }
+{
+    match value.as_array() {
+        Some(items) => submissions(alloc, items.as_slice()),
+        None => Ok(None),
+    }
+}
+
+/// The call of `submitpackage` for a list of texts, with the greatest feerate and the greatest burnt value that it allows,
+/// if both are such numbers.
+fn package_of(
+    alloc: Global,
+    texts: &Value,
+    max_rate: Option<u64>,
+    max_burn: Option<u64>,
+) -> Result<Option<Command>, Memory>
+    ensures { IfOk result (λ command. command ≡ package_of max_rate max_burn (members_in (view texts.now))) }
+{
+    let Some(max_rate) = max_rate else {
+        return Ok(None);
+    };
+    let Some(max_burn) = max_burn else {
+        return Ok(None);
+    };
+    match members_in(alloc, texts)? {
+        Some(members) => Ok(Some(Command::SubmitPackage(PackageCall {
+            members,
+            max_rate,
+            max_burn,
+        }))),
+        None => Ok(None),
+    }
+}
+
+/// The call of `submitpackage`: `[[text, ..]]`, behind it the greatest feerate, and behind that the greatest burnt
+/// value.
+fn submitted_package(alloc: Global, params: &[Value]) -> Result<Option<Command>, Memory>
+    ensures { IfOk result (λ command. command ≡ package_in (items_view params.now)) }
+{
+    if params.len() == 1 {
+        return package_of(alloc, &params[0], Some(USUAL_MAX_RATE), Some(0));
+    }
+    if params.len() == 2 {
+        let max_rate = number_in(&params[1], GREATEST_MAX_RATE);
+        return package_of(alloc, &params[0], max_rate, Some(0));
+    }
+    if params.len() == 3 {
+        let max_rate = number_in(&params[1], GREATEST_MAX_RATE);
+        let max_burn = number_in(&params[2], MAX_MONEY);
+        return package_of(alloc, &params[0], max_rate, max_burn);
+    }
+    Ok(None)
 }

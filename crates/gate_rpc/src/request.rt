@@ -34,6 +34,29 @@ pub enum Command {
     GetRawTransaction(Txid),
     /// Which entries spend outpoints.
     GetTxSpendingPrevout(Kept<OutPoint>),
+    /// Lets a package enter the pool.
+    SubmitPackage(PackageCall),
+}
+
+/// A package that is submitted, and what the call allows of it.
+#[derive(Drop, PartialEq, Eq)]
+pub struct PackageCall {
+    /// The members, in their order.
+    pub members: Kept<Prepared>,
+    /// The greatest feerate of a member by itself, in satoshi per 1,000 virtual bytes; 0 bounds nothing.
+    pub max_rate: u64,
+    /// The greatest value in satoshi of an output that nothing can spend.
+    pub max_burn: u64,
+}
+
+impl Copied for PackageCall {
+    fn copy(&self, alloc: Global) -> Result<PackageCall, Memory> {
+        Ok(PackageCall {
+            members: self.members.copy(alloc)?,
+            max_rate: self.max_rate,
+            max_burn: self.max_burn,
+        })
+    }
 }
 
 impl Command {
@@ -52,6 +75,7 @@ impl Command {
             Command::GetMempoolInfo => Method::GetMempoolInfo,
             Command::GetRawTransaction(_) => Method::GetRawTransaction,
             Command::GetTxSpendingPrevout(_) => Method::GetTxSpendingPrevout,
+            Command::SubmitPackage(_) => Method::SubmitPackage,
         }
     }
 }
@@ -76,6 +100,7 @@ impl Copied for Command {
             Command::GetTxSpendingPrevout(points) => {
                 Ok(Command::GetTxSpendingPrevout(points.copy(alloc)?))
             }
+            Command::SubmitPackage(call) => Ok(Command::SubmitPackage(call.copy(alloc)?)),
         }
     }
 }
@@ -96,17 +121,28 @@ impl Copied for Request {
     }
 }
 
+impl Exact for PackageCall {
+    ghost use Rattle.std.proofs.lemmas.Bool.Decides.{Decides-eqb};
+    ghost use Rattle.gate_submission.specs.contracts.prepared.PreparedExact.TheImpl.Laws.{exact-law as prepared_decides};
+    ghost use Rattle.gate_rpc.specs.contracts.request.PackageCall.{the_type};
+    ghost use Rattle.gate_rpc.specs.Equality.{list_decides};
+    ghost use Rattle.gate_bytes.specs.Equality.{struct_decides, ◌&◌, last_decides};
+
+    ghost exact = { struct_decides the_type (list_decides prepared_decides & Decides-eqb & last_decides Decides-eqb) };
+}
+
 impl Exact for Command {
     ghost use Rattle.std.proofs.lemmas.Slice.Eq.{bytes_eq-Decides};
     ghost use Rattle.gate_tx.specs.Equality.{out_point_decides};
     ghost use Rattle.gate_submission.specs.contracts.prepared.PreparedExact.TheImpl.Laws.{exact-law as prepared_decides};
+    ghost use Rattle.gate_rpc.specs.contracts.request.PackageCallExact.TheImpl.Laws.{exact-law as package_decides};
     ghost use Rattle.gate_rpc.specs.contracts.request.Command.{enum};
     ghost use Rattle.gate_rpc.specs.Equality.{list_decides};
     ghost use Rattle.gate_bytes.specs.Equality.{enum_decides, ◌or◌, none_decides, last_decides};
 
     ghost exact = { enum_decides enum _ (last_decides prepared_decides or last_decides prepared_decides or last_decides (list_decides prepared_decides)
         or none_decides or none_decides or last_decides bytes_eq-Decides or last_decides bytes_eq-Decides or last_decides bytes_eq-Decides or none_decides
-        or last_decides bytes_eq-Decides or last_decides (list_decides out_point_decides) or tt) };
+        or last_decides bytes_eq-Decides or last_decides (list_decides out_point_decides) or last_decides package_decides or tt) };
 }
 
 impl Exact for Request {

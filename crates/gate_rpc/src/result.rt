@@ -2,6 +2,7 @@
 use crate::items::{KnownEntry, Outcome, Spending};
 use gate_bytes::{Copied, Counted, Exact, Kept, Memory};
 use gate_standard::Denial;
+use gate_submission::PackageOutcome;
 use gate_tx::{Identified, Txid, Wtxid};
 use std::alloc::Global;
 
@@ -68,6 +69,9 @@ pub enum RpcResult {
     Transaction(Counted<Identified>),
     /// Which entries spend outpoints.
     Spendings(Counted<Kept<Spending>>),
+    /// What became of a package. Copies of it share nothing, so that a member that has left the pool again is denied in
+    /// the memory of each.
+    Package(PackageOutcome),
 }
 
 impl Copied for RpcResult {
@@ -115,6 +119,7 @@ impl Copied for RpcResult {
                 Ok(RpcResult::Transaction(transaction.copy(alloc)?))
             }
             RpcResult::Spendings(spendings) => Ok(RpcResult::Spendings(spendings.copy(alloc)?)),
+            RpcResult::Package(outcome) => Ok(RpcResult::Package(outcome.copy(alloc)?)),
         }
     }
 }
@@ -142,6 +147,7 @@ impl Exact for RpcResult {
     ghost use Rattle.gate_tx.specs.Equality.{items_decides};
     ghost use Rattle.gate_rules.specs.contracts.denial.Denial.{enum as denials};
     ghost use Rattle.gate_rpc.specs.contracts.result.EntryInfoExact.TheImpl.Laws.{exact-law as entry_decides};
+    ghost use Rattle.gate_submission.specs.contracts.package_outcome.PackageOutcomeExact.TheImpl.Laws.{exact-law as package_decides};
     ghost use Rattle.gate_rpc.specs.contracts.result.RpcResult.{enum};
     ghost use Rattle.gate_rpc.specs.Equality.{list_decides};
     ghost use Rattle.gate_bytes.specs.Equality.{enum_decides, ◌or◌, ◌&◌, last_decides, bare_decides};
@@ -156,5 +162,6 @@ impl Exact for RpcResult {
         or last_decides (list_decides known_decides)
         or last_decides transaction_decides
         or last_decides (list_decides spending_decides)
+        or last_decides package_decides
         or tt) };
 }

@@ -3,7 +3,8 @@ ghost use Rattle.std.specs.Prelude.{◌≡◌, [], ◌∷◌, ◌++◌, IfOk, On
 ghost use Rattle.std.specs.Option.{option_map};
 ghost use Rattle.serde_json.specs.View.{view};
 ghost use Rattle.serde_json.specs.Written.{compact_text};
-ghost use Rattle.gate_rpc.specs.Replies.{error_json, id_json, txids_json, allowed_json, rejected_json, entry_json, info_json, outcome_json, outcomes_json, entries_json, transaction_json, spending_json, spendings_json, result_json, reject_reason};
+ghost use Rattle.gate_rpc.specs.Replies.{error_json, id_json, allowed_json, rejected_json, entry_json, info_json, outcome_json, outcomes_json, entries_json, transaction_json, spending_json, spendings_json, result_json, reject_reason};
+ghost use Rattle.gate_rpc.specs.Values.{txids_json};
 ghost use Rattle.gate_rules.specs.Denials.{name_of};
 ghost use Rattle.gate_tx.specs.Ids.{id_text};
 ghost use Rattle.gate_rpc.specs.Texts.{rejected_text, spending_start, spending_end, entry_text, entry_start, entry_middle, entry_end};
@@ -13,6 +14,7 @@ ghost use Rattle.json.specs.Print.{quoted};
 use crate::error::RpcError;
 use crate::id::Id;
 use crate::items::{KnownEntry, Outcome, Spending};
+use crate::packaging::package_json;
 use crate::result::{EntryInfo, RpcResult};
 use gate_bytes::Memory;
 use gate_standard::Denial;
@@ -37,11 +39,15 @@ fn error_value(alloc: Global, error: &RpcError) -> Result<Value, AllocError>
             let rule = denial.row().name;
             json!(in alloc; {"code": code, "message": message, "rule": rule})
         }
+        RpcError::PackageDenied(denial) => {
+            let rule = denial.row().name;
+            json!(in alloc; {"code": code, "message": message, "rule": rule})
+        }
         _ => json!(in alloc; {"code": code, "message": message}),
     }
 }
 
-fn quoted_text(alloc: Global, text: &str) -> Result<String, AllocError>
+pub(crate) fn quoted_text(alloc: Global, text: &str) -> Result<String, AllocError>
     ensures { IfOk result (λ json. string_bytes json ≡ quoted text.now) }
 {
     Value::try_from_str(alloc, text)?.to_string(alloc)
@@ -100,6 +106,7 @@ pub(crate) fn result_json(alloc: Global, outcome: &RpcResult) -> Result<String, 
         RpcResult::Entries(entries) => entries_json(alloc, entries.get().as_slice()),
         RpcResult::Transaction(transaction) => transaction_json(alloc, transaction.get()),
         RpcResult::Spendings(spendings) => spendings_json(alloc, spendings.get().as_slice()),
+        RpcResult::Package(outcome) => package_json(alloc, outcome),
     }
 }
 
@@ -123,13 +130,13 @@ fn txid_after(alloc: Global, before: &str, txid: &Txid) -> Result<String, AllocE
     format!(in alloc; "{before}\"{txid}\"")
 }
 
-fn txid_text(alloc: Global, txid: &Txid) -> Result<String, AllocError>
+pub(crate) fn txid_text(alloc: Global, txid: &Txid) -> Result<String, AllocError>
     ensures { IfOk result (λ text. string_bytes text ≡ quoted (id_text txid.now)) }
 {
     txid_after(alloc, "", txid)
 }
 
-fn wtxid_text(alloc: Global, wtxid: &Wtxid) -> Result<String, AllocError>
+pub(crate) fn wtxid_text(alloc: Global, wtxid: &Wtxid) -> Result<String, AllocError>
     ensures { IfOk result (λ text. string_bytes text ≡ quoted (id_text wtxid.now)) }
 {
     recall_bytes(wtxid.as_bytes());
@@ -188,7 +195,7 @@ fn rejected_text(
     )
 }
 
-fn rule_json(alloc: Global, denial: &Denial) -> Result<String, AllocError>
+pub(crate) fn rule_json(alloc: Global, denial: &Denial) -> Result<String, AllocError>
     ensures { IfOk result (λ text. string_bytes text ≡ quoted (name_of denial.now)) }
 {
     quoted_text(alloc, denial.row().name)
@@ -204,7 +211,7 @@ fn reject_reason(denial: &Denial) -> &'static str
     }
 }
 
-fn txids_json(alloc: Global, txids: &[Txid]) -> Result<String, Memory>
+pub(crate) fn txids_json(alloc: Global, txids: &[Txid]) -> Result<String, Memory>
     ensures { IfOk result (λ text. string_bytes text ≡ compact_text (txids_json txids.now)) }
 {
     match txids.split_first() {
@@ -266,14 +273,14 @@ fn outcome_json(alloc: Global, outcome: &Outcome) -> Result<String, AllocError>
 }
 
 /// The text of a list or an object up to its first item.
-fn opened(alloc: Global, bracket: &str, item: &str) -> Result<String, AllocError>
+pub(crate) fn opened(alloc: Global, bracket: &str, item: &str) -> Result<String, AllocError>
     ensures { IfOk result (λ text. string_bytes text ≡ bracket.now ++ item.now) }
 {
     format!(in alloc; "{bracket}{item}")
 }
 
 /// Puts a comma and an item at the end.
-fn push_later(text: &mut String, item: &str) -> Result<(), AllocError>
+pub(crate) fn push_later(text: &mut String, item: &str) -> Result<(), AllocError>
     ensures { OnOk result (string_bytes text.new ≡ string_bytes text.old ++ 44 ∷ item.now) }
 {
     text.push_str(",")?;

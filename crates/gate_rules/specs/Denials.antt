@@ -1,7 +1,7 @@
 -- The rules of admission, a row each.
-use Rattle.std.specs.Prelude.{ℕ, ◌+◌, ◌*◌, ◌-◌, List, [], ◌∷◌, drop, codes}
+use Rattle.std.specs.Prelude.{ℕ, ◌+◌, ◌*◌, ◌-◌, List, [], ◌∷◌, ◌++◌, drop, codes}
 use Rattle.gate_rules.specs.declared.denial.Denial.{Denial}
-use Rattle.gate_rules.specs.declared.denial.Denial.TheVariants.{Decode, VinEmpty, VoutEmpty, Oversize, VoutNegative, VoutTooLarge, TotalTooLarge, InputsDuplicate, CoinbaseLength, PrevoutNull, Coinbase, Version, TxSize, ScriptSigSize, ScriptSigNotPushOnly, ScriptPubKey, Dust, MultiOpReturn, TxSizeSmall, NonFinal, AlreadyInMempool, SameNonWitnessData, MempoolConflict, AlreadyKnown, MissingOrSpent, NonBip68Final, PrematureSpend, InputValues, InBelowOut, FeeOutOfRange, NonstandardInputs, WitnessNonstandard, TooManySigops, MempoolMinFee, MinRelayFee, TooLongChain, SpendsConflicting, LowerFeeRate, TooManyReplacements, AddsUnconfirmed, LowerFee, LowerDifference, VerdictMissing, SoftVerdict, HardVerdict, MempoolFull, TrucViolation, DustWithFee, UnsweptDust, DataCarrier}
+use Rattle.gate_rules.specs.declared.denial.Denial.TheVariants.{Decode, VinEmpty, VoutEmpty, Oversize, VoutNegative, VoutTooLarge, TotalTooLarge, InputsDuplicate, CoinbaseLength, PrevoutNull, Coinbase, Version, TxSize, ScriptSigSize, ScriptSigNotPushOnly, ScriptPubKey, Dust, MultiOpReturn, TxSizeSmall, NonFinal, AlreadyInMempool, SameNonWitnessData, MempoolConflict, AlreadyKnown, MissingOrSpent, NonBip68Final, PrematureSpend, InputValues, InBelowOut, FeeOutOfRange, NonstandardInputs, WitnessNonstandard, TooManySigops, MempoolMinFee, MinRelayFee, TooLongChain, SpendsConflicting, LowerFeeRate, TooManyReplacements, AddsUnconfirmed, LowerFee, LowerDifference, VerdictMissing, SoftVerdict, HardVerdict, MempoolFull, TrucViolation, DustWithFee, UnsweptDust, MaxFeerate, DataCarrier}
 use Rattle.gate_rules.specs.declared.rule.Consequence.{Consequence}
 use Rattle.gate_rules.specs.declared.rule.Consequence.TheVariants.{Close, Keep}
 use Rattle.gate_rules.specs.Key.{Key, key}
@@ -56,12 +56,22 @@ row_of MempoolFull = key (codes "A46") (codes "mempool full") Keep
 row_of TrucViolation = key (codes "A47") (codes "TRUC-violation") Keep
 row_of DustWithFee = key (codes "A48") (codes "dust") Keep
 row_of UnsweptDust = key (codes "A49") (codes "missing-ephemeral-spends") Keep
+row_of MaxFeerate = key (codes "A50") (codes "max feerate exceeded") Keep
 row_of DataCarrier = key (codes "A51") (codes "datacarrier") Keep
+
+-- those on a transaction by itself, in the order of their numbers
+abbrev pub alone : List Denial
+alone =
+    Decode ∷ VinEmpty ∷ VoutEmpty ∷ Oversize ∷ VoutNegative ∷ VoutTooLarge ∷ TotalTooLarge ∷ InputsDuplicate ∷ CoinbaseLength ∷ PrevoutNull ∷ Coinbase ∷ Version ∷ TxSize ∷ ScriptSigSize ∷ ScriptSigNotPushOnly ∷ ScriptPubKey ∷ Dust ∷ MultiOpReturn ∷ TxSizeSmall ∷ []
+
+-- those behind these, in the order of their numbers
+abbrev pub behind : List Denial
+behind =
+    NonFinal ∷ AlreadyInMempool ∷ SameNonWitnessData ∷ MempoolConflict ∷ AlreadyKnown ∷ MissingOrSpent ∷ NonBip68Final ∷ PrematureSpend ∷ InputValues ∷ InBelowOut ∷ FeeOutOfRange ∷ NonstandardInputs ∷ WitnessNonstandard ∷ TooManySigops ∷ MempoolMinFee ∷ MinRelayFee ∷ TooLongChain ∷ SpendsConflicting ∷ LowerFeeRate ∷ TooManyReplacements ∷ AddsUnconfirmed ∷ LowerFee ∷ LowerDifference ∷ VerdictMissing ∷ SoftVerdict ∷ HardVerdict ∷ MempoolFull ∷ TrucViolation ∷ DustWithFee ∷ UnsweptDust ∷ MaxFeerate ∷ DataCarrier ∷ []
 
 -- all of them, in the order of their numbers
 abbrev pub admission : List Denial
-admission =
-    Decode ∷ VinEmpty ∷ VoutEmpty ∷ Oversize ∷ VoutNegative ∷ VoutTooLarge ∷ TotalTooLarge ∷ InputsDuplicate ∷ CoinbaseLength ∷ PrevoutNull ∷ Coinbase ∷ Version ∷ TxSize ∷ ScriptSigSize ∷ ScriptSigNotPushOnly ∷ ScriptPubKey ∷ Dust ∷ MultiOpReturn ∷ TxSizeSmall ∷ NonFinal ∷ AlreadyInMempool ∷ SameNonWitnessData ∷ MempoolConflict ∷ AlreadyKnown ∷ MissingOrSpent ∷ NonBip68Final ∷ PrematureSpend ∷ InputValues ∷ InBelowOut ∷ FeeOutOfRange ∷ NonstandardInputs ∷ WitnessNonstandard ∷ TooManySigops ∷ MempoolMinFee ∷ MinRelayFee ∷ TooLongChain ∷ SpendsConflicting ∷ LowerFeeRate ∷ TooManyReplacements ∷ AddsUnconfirmed ∷ LowerFee ∷ LowerDifference ∷ VerdictMissing ∷ SoftVerdict ∷ HardVerdict ∷ MempoolFull ∷ TrucViolation ∷ DustWithFee ∷ UnsweptDust ∷ DataCarrier ∷ []
+admission = alone ++ behind
 
 -- the letter of the layer, and the number
 abbrev pub name_of : Denial → List ℕ

@@ -4,6 +4,7 @@ use Rattle.gate_rules.specs.declared.rule.Consequence.TheVariants.{Nothing, Ends
 use Rattle.gate_rules.specs.Chain.{chain, row_of as chain_row}
 use Rattle.gate_rules.specs.Denials.{admission, row_of as admission_row}
 use Rattle.gate_rules.specs.Key.{Key, key}
+use Rattle.gate_rules.specs.Packages.{packages, row_of as package_row}
 use Rattle.gate_rules.specs.Peers.{peers, row_of as peer_row}
 use Rattle.gate_rules.specs.Whitelist.{whitelist, row_of as whitelist_row}
 
@@ -58,4 +59,4 @@ with_words keys = keys ++ line_keys ++ opening_keys ++ fault_keys ++ call_keys
 
 abbrev pub table_keys : List Key
 table_keys =
-    with_words (map admission_row admission ++ map peer_row peers ++ user_key ∷ map whitelist_row whitelist ++ map chain_row chain)
+    with_words (map admission_row admission ++ map peer_row peers ++ map package_row packages ++ user_key ∷ map whitelist_row whitelist ++ map chain_row chain)

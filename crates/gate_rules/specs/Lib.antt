@@ -2,6 +2,7 @@ pub mod Chain
 pub mod Denials
 pub mod Key
 pub mod Keys
+pub mod Packages
 pub mod Peers
 pub mod Rules
 pub mod Texts

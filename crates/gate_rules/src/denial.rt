@@ -1,6 +1,6 @@
 //! What denies: a rule of each layer. The variants stand in the order of their rows.
 ghost use Rattle.std.specs.Prelude.{◌≡◌, map, Some};
-ghost use Rattle.gate_rules.specs.Denials.{admission, name_of, token_of, then_of, row_of};
+ghost use Rattle.gate_rules.specs.Denials.{alone, behind, name_of, token_of, then_of, row_of};
 ghost use Rattle.gate_rules.specs.Rules.{key_of};
 
 use crate::rule::{Consequence, Rule};
@@ -60,11 +60,15 @@ pub enum Denial {
     TrucViolation, // A47
     DustWithFee, // A48
     UnsweptDust, // A49
+    MaxFeerate, // A50
     DataCarrier, // A51
 }
 
-/// The row of each rule of admission, in their order.
-static ROWS: [Rule; 50] = [
+/// How many rules there are on a transaction by itself.
+const ALONE_COUNT: usize = 19;
+
+/// The row of each rule on a transaction by itself, in their order.
+static ALONE: [Rule; ALONE_COUNT] = [
     Rule {
         name: "A1",
         token: "tx-decode",
@@ -198,6 +202,10 @@ static ROWS: [Rule; 50] = [
         core: Some("MIN_STANDARD_TX_NONWITNESS_SIZE"),
         says: "The size without witnesses is below what mintxsize says (82 bytes)",
     },
+];
+
+/// The row of each rule of admission behind these, in their order.
+static BEHIND: [Rule; 32] = [
     Rule {
         name: "A20",
         token: "non-final",
@@ -409,6 +417,13 @@ static ROWS: [Rule; 50] = [
         says: "ephemeraldust is 1, and an output of a parent in the pool has less than its dust threshold and is not spent by the transaction; tested behind A37 and before A38",
     },
     Rule {
+        name: "A50",
+        token: "max feerate exceeded",
+        then: Consequence::Keep,
+        core: Some("AcceptSubPackage (28.0)"),
+        says: "The feerate of a member of a package is above what the call allows; tested behind A37 and before A49",
+    },
+    Rule {
         name: "A51",
         token: "datacarrier",
         then: Consequence::Keep,
@@ -418,11 +433,18 @@ static ROWS: [Rule; 50] = [
 ];
 
 impl Denial {
-    /// All rows, in their order.
-    pub(crate) fn rows() -> &'static [Rule]
-        ensures { map key_of result.now ≡ map row_of admission }
+    /// The rows of the rules on a transaction by itself, in their order.
+    pub(crate) fn rows_alone() -> &'static [Rule]
+        ensures { map key_of result.now ≡ map row_of alone }
     {
-        &ROWS
+        &ALONE
+    }
+
+    /// The rows of the rules of admission behind these, in their order.
+    pub(crate) fn rows_behind() -> &'static [Rule]
+        ensures { map key_of result.now ≡ map row_of behind }
+    {
+        &BEHIND
     }
 
     /// What is said of the rule.
@@ -431,7 +453,12 @@ impl Denial {
         ensures token { result.now.token.now ≡ token_of self.now }
         ensures follows { result.now.then ≡ then_of self.now }
     {
-        &ROWS[*self as usize]
+        let place = *self as usize;
+        if place < ALONE_COUNT {
+            &ALONE[place]
+        } else {
+            &BEHIND[place - ALONE_COUNT]
+        }
     }
 }
 

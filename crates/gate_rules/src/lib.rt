@@ -8,6 +8,7 @@
 
 mod chain;
 mod denial;
+mod package;
 mod peer;
 mod rule;
 mod table;
@@ -15,6 +16,7 @@ mod whitelist;
 
 pub use chain::ChainDenial;
 pub use denial::Denial;
+pub use package::PackageDenial;
 pub use peer::PeerDenial;
 pub use rule::{Consequence, Rule};
 pub use table::{rules, rules_named, rules_text, user_rule};

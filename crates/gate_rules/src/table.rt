@@ -6,6 +6,7 @@ ghost use Rattle.gate_rules.specs.Texts.{rules_text};
 
 use crate::chain::ChainDenial;
 use crate::denial::Denial;
+use crate::package::PackageDenial;
 use crate::peer::PeerDenial;
 use crate::rule::{Consequence, Rule};
 use crate::whitelist::NetDenial;
@@ -224,14 +225,16 @@ fn append_words(rules: &mut Vec<Rule>) -> Result<(), Memory>
     append(rules, call_words())
 }
 
-/// All rules and words, in their order: those of admission, peers, users, whitelists, chain events and lines, and then the
-/// words for openings, lanes and calls.
+/// All rules and words, in their order: those of admission, peers, packages, users, whitelists, chain events and lines, and
+/// then the words for openings, lanes and calls.
 pub fn rules(alloc: Global) -> Result<Vec<Rule>, Memory>
     ensures { IfOk result (λ rules. map key_of rules.items ≡ table_keys) }
 {
     let mut rules = Vec::new(alloc);
-    append(&mut rules, Denial::rows())?;
+    append(&mut rules, Denial::rows_alone())?;
+    append(&mut rules, Denial::rows_behind())?;
     append(&mut rules, PeerDenial::rows())?;
+    append(&mut rules, PackageDenial::rows())?;
     rules.push(*user_rule())?;
     append(&mut rules, NetDenial::rows())?;
     append(&mut rules, ChainDenial::rows())?;

@@ -1,6 +1,8 @@
 -- What holds of each element of a list, told one by one.
 use Rattle.std.proofs.Common.{◌≡◌, ℕ, suc, ◌+◌, ◌<◌, ◌≤◌, List, [], ◌∷◌, length, drop, get_or, Option, Some, None, sym, ap, ◌∙◌, subst, ⊎_elim, add-one, append-nil}
-use Rattle.std.specs.Prelude.{Contains}
+use Rattle.std.specs.Prelude.{Contains, IfSome}
+use Rattle.std.specs.List.{flat_map}
+use Rattle.std.specs.Option.{option_to_list}
 use Rattle.std.proofs.Math.Seq.{drop-cons}
 use Rattle.std.proofs.lemmas.List.{drop_all}
 use Rattle.std.proofs.lemmas.List.Elements.{Contains-append_left, Contains-append_cases}
@@ -24,6 +26,19 @@ spelled_next txs i tx within is told rest = subst AreSpelled (sym (item_first tx
 -- none is left
 pub spelled_last : (txs : List Tx) (i : ℕ) → length txs ≤ i → AreSpelled (drop i txs)
 spelled_last txs i past = subst AreSpelled (sym (drop_all i txs past)) (λ t m. not_in_none t m)
+
+-- one more of a list of submissions
+pub texts_next : (these : List (Option Tx)) (i : ℕ) (found : Option Tx) → i < length these → found ≡ get_or these i found → IfSome found IsTx
+    → AreSpelled (flat_map option_to_list (drop (i + 1) these)) → AreSpelled (flat_map option_to_list (drop i these))
+texts_next these i found within is told rest =
+    subst (λ (l : List (Option Tx)). AreSpelled (flat_map option_to_list l)) (sym (item_first these i found within is)) (go found told)
+  where
+    go : (found : Option Tx) → IfSome found IsTx → AreSpelled (flat_map option_to_list (found ∷ drop (i + 1) these))
+    go None told = rest
+    go (Some tx) told = λ t m. ⊎_elim (λ (e : tx ≡ t). subst IsTx e told) (λ k. rest t k) (Contains-cons_cases tx (flat_map option_to_list (drop (i + 1) these)) t m)
+
+pub texts_last : (these : List (Option Tx)) (i : ℕ) → length these ≤ i → AreSpelled (flat_map option_to_list (drop i these))
+texts_last these i past = subst (λ (l : List (Option Tx)). AreSpelled (flat_map option_to_list l)) (sym (drop_all i these past)) (λ t m. not_in_none t m)
 
 -- one more of a list of blocks
 pub blocks_next : (blocks : List (Option Block)) (i : ℕ) (found : Option Block) → i < length blocks → found ≡ get_or blocks i found → AreSpelled (transactions_of (present (found ∷ [])))

@@ -2,3 +2,4 @@ pub mod Alone
 pub mod Blocks
 pub mod Equality
 pub mod Findings
+pub mod PackageOutcomes

@@ -60,10 +60,40 @@ impl<'a> Model for Candidate<'a> {
 }
 
 impl<'a> Candidate<'a> {
+    /// The same once more.
+    pub fn again(&self) -> Candidate<'a>
+        ensures { result ≡ self.now }
+    {
+        let findings = self.findings;
+        Candidate {
+            identified: self.identified,
+            findings,
+            reports: self.reports,
+        }
+    }
+
     pub fn identified(&self) -> &'a Counted<Identified>
         ensures { result.now ≡ self.now }
     {
         self.identified
+    }
+
+    pub fn transaction(&self) -> &'a Transaction
+        ensures { result.now ≡ self.now }
+    {
+        self.identified.get().transaction()
+    }
+
+    pub fn txid(&self) -> Txid
+        ensures { result ≡ txid_of self.now }
+    {
+        self.identified.get().txid()
+    }
+
+    pub fn wtxid(&self) -> Wtxid
+        ensures { result ≡ wtxid_of self.now }
+    {
+        self.identified.get().wtxid()
     }
 
     /// The first of A2 to A11 and A13 to A15 that fails: whatever an operator sets, a rule fails then.

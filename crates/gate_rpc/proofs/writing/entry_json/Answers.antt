@@ -1,6 +1,6 @@
 use Rattle.std.proofs.Common.{◌∙◌, ap}
 use Rattle.serde_json.specs.Written.{compact_text}
-use Rattle.gate_rpc.specs.Replies.{txids_json}
+use Rattle.gate_rpc.specs.Values.{txids_json}
 use Rattle.gate_rpc.proofs.Objects.{entry_whole}
 use Rattle.gate_rpc.proofs.writing.entry_json.Goals as goal
 

@@ -1,0 +1,10 @@
+pub mod Shapes
+pub mod Coins
+pub mod Judging
+pub mod Prices
+pub mod Kinship
+pub mod Sweeping
+pub mod Together
+pub mod Packages
+pub mod Staging
+pub mod Laws

@@ -1,0 +1,30 @@
+//! Packages: a child with its parents, judged one by one, and then those together that are denied for what they pay or for
+//! a coin that one before them makes (Bitcoin Core 28.0 to 30.0, `submitpackage`).
+//!
+//! The main clause is that of `submit_package`: the outcome, and the pool and the floor after it. A package is staged, which
+//! takes all memory and lets its members stand in the pool, and is then landed, which takes none: between the two it can be
+//! taken back. A package that replaces nothing stands in the pool itself; one that replaces entries stands in a copy, which
+//! takes the pool's place.
+#![tactic(auto)]
+
+mod coins;
+mod families;
+mod half;
+mod law;
+mod members;
+mod price;
+mod role;
+mod shape;
+mod staging;
+mod submitting;
+mod sweeping;
+mod together;
+mod truc;
+
+pub use law::{
+    known_again, package_keeps_good, package_keeps_truc, package_of_one, together_all_or_none,
+};
+pub use role::Role;
+pub use shape::{Unfit, check_shape, read_members};
+pub use staging::Stage;
+pub use submitting::{StagedPackage, stage_package, submit_package};
