@@ -2,7 +2,7 @@
 
 import leaving
 from leaving import LIMITS
-from workloads import TAPROOT, Stream, WideParent, beside_wide_conflicts, opened, repeated
+from workloads import CHAIN, FLOOR, TAPROOT, Stream, WideParent, answered, at_once, beside_wide_conflicts, chains, last_link, opened, package_of, repeated
 from texts import FEE, VALUE, block, call, coin, coins, count_of, hash_of, output, payment, paying, submission, transaction
 
 # the peer keeps its session whatever it sends
@@ -89,6 +89,35 @@ def dust_left(outputs, inputs):
     lines = ["minrelaytxfee 0\n", "ephemeraldust 1\n", *coins(1, sum(shares))]
     child = submission(transaction([(parent, index) for index in range(inputs)], [inputs * 1000], witness=False))
     return lambda events: (opened(lines, [submission(transaction([1], shares, witness=False))]), repeated(child, events))
+
+
+PACKAGES = "packages 1\n"
+
+
+def below_the_floor(parents):
+    """A34: parents and their child, who are judged one by one, and then together, and pay a half of what the floor asks for."""
+    (event,) = at_once(package_of(range(1, parents + 1)))
+    return lambda events: (opened([PACKAGES, *coins(parents)], [FLOOR]), repeated(event, events))
+
+
+def below_chains(parents):
+    """J9: parents below the floor, each of them the 25th of a chain, and their child."""
+    numbers = range(1, parents + 1)
+    links = [last_link(number, CHAIN) for number in numbers]
+    spent = [(hash_of([link], [value]), 0) for link, value in links]
+    members = [transaction([link], [value]) for link, value in links] + [transaction(spent, [VALUE])]
+    (event,) = at_once(members)
+    return lambda events: (opened([PACKAGES, *coins(parents)], [*chains(numbers, CHAIN - 1), FLOOR]), repeated(event, events))
+
+
+def replacing_by_a_package(pool):
+    """A parent that replaces an entry, so that the package stands in a copy of the pool."""
+
+    def make(events):
+        before = (submission(payment(it)) for it in range(1, pool + 1))
+        return opened([PACKAGES, *coins(pool)], before), (at_once(package_of([it], 5 * FEE))[0] for it in range(1, events + 1))
+
+    return make
 
 
 def trimming_many(pool, padding):
@@ -184,6 +213,9 @@ def streams():
         Stream("A41: 50 conflicts of 7,000 outputs with a child each", beside_wide_conflicts(50, 7000), 1, 0, "denied A41"),
         Stream("A49: one output of a parent of 3,000 is spent, its dust is not", dust_left(3000, 1), 2, 0, "denied A49"),
         Stream("A49: 1,300 outputs of a parent of 1,500 are spent, its dust is not", dust_left(1500, 1300), 2, 0, "denied A49"),
+        Stream("A34: a package of 25, each by itself and together", below_the_floor(CHAIN - 1), 2, 0, answered("transaction failed")),
+        Stream("J9: a package of 24 parents at the end of chains of 24", below_chains(CHAIN - 1), 2, 0, answered("package-mempool-limits")),
+        Stream("a package of two that replaces an entry of 10,000", replacing_by_a_package(10000), 1, 0, answered("success")),
         Stream("trim: a newcomer for which 600 of 2,000 entries go", trimming_many(2000, 2100), 1, 0, "admitted"),
         Stream("an empty block goes, over 10,000 entries", empty_block_that_goes(10000), 1, 0, "chain"),
         Stream("a block that pays to 1,600 entries goes", payout_that_goes(1600), 1, 0, "chain"),

@@ -292,6 +292,45 @@ def expiring(pool):
     return make
 
 
+# Packages
+
+# the operator's floor, in satoshi per 1,000 virtual bytes: twice what a payment pays
+FLOOR = "operator floor %d\n" % (2 * 1000 * FEE // SIZE)
+
+
+def package_of(numbers, paid=FEE, times=1):
+    """Parents that each spend one of these coins and pay so much, and their child, which pays so many times its size."""
+    left = VALUE - paid
+    spent = [(hash_of([number], [left]), 0) for number in numbers]
+    value = len(numbers) * left - times * virtual_size(spent, [0])
+    return [transaction([number], [left]) for number in numbers] + [transaction(spent, [value])]
+
+
+def packages(pool, size, submit, before=(), times=1):
+    """Packages of this size, each handed to `submit`, which gives the lines that submit it."""
+
+    def make(count):
+        parents = size - 1
+        groups = (range(first, first + parents) for first in range(1, count * parents + 1, parents))
+        events = ("".join(submit(package_of(group, times=times))) for group in groups)
+        return above(pool, joined(["packages 1\n"], coins(count * parents)), before), events
+
+    return make
+
+
+def answered(message):
+    """How the answer to a package begins."""
+    return 'rpc 200 {"error":null,"id":1,"result":{"package_msg":"%s"' % message
+
+
+def at_once(members):
+    return [call("submitpackage", members)]
+
+
+def one_by_one(members):
+    return (call("sendrawtransaction", member) for member in members)
+
+
 # Calls of users and peers
 
 
@@ -443,6 +482,23 @@ def admissions():
     ]
 
 
+def packaged():
+    """What a member of a package takes, beside the same transactions sent one by one."""
+
+    def rows(size, counted, timed):
+        paid = "a package of %d that pay for themselves, a member" % size
+        mended = "a package of %d whose child pays for its parents, a member" % size
+        alone = "a package of %d that pay for themselves, sent one by one, each" % size
+        success = answered("success")
+        return [
+            grown(alone, lambda pool: packages(pool, size, one_by_one), counted, timed, "rpc 200", parts=size, replies=size),
+            grown(paid, lambda pool: packages(pool, size, at_once), counted, timed, success, "1.15 times one by one", parts=size),
+            grown(mended, lambda pool: packages(pool, size, at_once, [FLOOR], 10), counted, timed, success, "twice one by one", parts=size),
+        ]
+
+    return [*rows(2, 250, 5000), *rows(CHAIN, 20, 400)]
+
+
 def trimmed(pool, count):
     name = "a submission to a full pool of %s entries, of which one goes" % format(pool, ",")
     return Stream(name, trimming(pool), count, 20 * count, "admitted", limit="1.5 times an independent one, in any pool")
@@ -466,6 +522,7 @@ def streams():
     return [
         *denials(),
         *admissions(),
+        *packaged(),
         *answers(),
         grown("a block of 100, a transaction", blocks, 3, 30, "chain", "the same in any pool", parts=BLOCK),
         grown("a block of 100 that comes and goes again", blocks_that_go, 2, 10, "chain", replies=2),

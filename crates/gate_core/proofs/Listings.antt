@@ -14,6 +14,7 @@ use Rattle.gate_message.specs.declared.reply.Reply.{Reply}
 use Rattle.gate_message.specs.declared.reply.Reply.TheVariants.{Listing, Rpc as Answered}
 use Rattle.gate_message.specs.UserCalls.{UserCall}
 use Rattle.gate_rpc.specs.declared.fault.CallError.{CallError}
+use Rattle.gate_rpc.specs.declared.fault.CallError.TheVariants.{MethodNotFound}
 use Rattle.gate_rpc.specs.declared.id.Id.{Id}
 use Rattle.gate_rpc.specs.declared.request.Command.{Command}
 use Rattle.gate_rpc.specs.declared.request.Command.TheVariants.{GetRawMempool, GetRawMempoolVerbose}
@@ -23,13 +24,15 @@ use Rattle.gate_rpc.specs.declared.result.RpcResult.TheVariants.{Entries, Txids}
 use Rattle.gate_query.specs.Queries.{entries_known, known_from}
 use Rattle.gate_rpc.specs.declared.reply.RpcReply.{RpcReply}
 use Rattle.gate_rpc.specs.declared.reply.RpcReply.TheVariants.{NotAllowed, Answer}
-use Rattle.gate_rpc.specs.Calls.{request_of}
+use Rattle.gate_rpc.specs.Calls.{method_of, request_of}
+use Rattle.gate_rpc.specs.Methods.{method_name}
 use Rattle.gate_core.proofs.Calls.{call_gives}
 use Rattle.gate_core.proofs.Following.{chain_gives}
 use Rattle.gate_core.specs.World.{World, standing_of}
 use Rattle.gate_core.specs.Access.{entering_rules, session_rules, submission_rules, listing_rules, block_rules, headers_rules}
 use Rattle.gate_core.specs.PeerSteps.{decided, answered, entered, left, submitted, listed, block_given, headers_given, filter_set}
 use Rattle.gate_core.specs.Steps.{step_of}
+use Rattle.gate_core.specs.Packaging.{lacks_method, served}
 use Rattle.gate_core.specs.RpcSteps.{is_barred, commanded, called_by, rpc_step}
 use Rattle.gate_core.specs.Runs.{ListsThePool, AnswersThePool, DescribesThePool, told_to}
 
@@ -89,6 +92,13 @@ lists_the_pool (event ∷ events) w (suc k) txids h = lists_the_pool events (ste
 
 -- ---- answers to users
 
+-- a call of a method that there always is
+done_if_there : (P : Reply × World → Type 0) (w : World) (now : ℕ) (request : Request) (command : Command) → request.command ≡ command → lacks_method w (method_of command) ≡ false
+    → P (commanded w now request.id request.command) → P (called_by w now (served w (Ok request)))
+done_if_there P w now request command is there done =
+    subst (λ (b : Bool). P (called_by w now (if b then Err (MethodNotFound request.id (method_name (method_of request.command))) else Ok request)))
+    (sym (ap (λ (c : Command). lacks_method w (method_of c)) is ∙ there)) done
+
 -- the answer to `getrawmempool`
 abbrev Lists : World → Id → List (List ℕ) → Reply × World → Type 0
 Lists w id txids given = given.0 ≡ Answered (Answer id (Txids txids)) → txids ≡ listing_of w.pool
@@ -97,9 +107,10 @@ command_lists : (w : World) (now : ℕ) (own id : Id) (command : Command) (txids
 command_lists w now own id command txids is = subst (λ (c : Command). Lists w id txids (commanded w now own c)) (sym is) (λ h. cc)
 
 request_lists : (w : World) (call : UserCall) (request : Request) (id : Id) (txids : List (List ℕ)) (b : Bool) → request.command ≡ GetRawMempool
-    → Lists w id txids (if b then (Answered NotAllowed, w) else called_by w call.time (Ok request))
+    → Lists w id txids (if b then (Answered NotAllowed, w) else called_by w call.time (served w (Ok request)))
 request_lists w call request id txids true is = λ h. cc
-request_lists w call request id txids false is = command_lists w call.time request.id id request.command txids is
+request_lists w call request id txids false is =
+    done_if_there (Lists w id txids) w call.time request GetRawMempool is refl (command_lists w call.time request.id id request.command txids is)
 
 step_answers : (w : World) (call : UserCall) (request : Request) (id : Id) (txids : List (List ℕ)) → request_of call.json ≡ Ok request → request.command ≡ GetRawMempool
     → Lists w id txids (step_of w (Rpc call))
@@ -134,9 +145,10 @@ command_describes w now own id command entries is =
     (λ h. ap (λ (es : List KnownEntry). map (λ (e : KnownEntry). e.txid) es) (sym (same_entries own id (entries_known w.pool) entries h)) ∙ known_ids w.pool w.pool)
 
 request_describes : (w : World) (call : UserCall) (request : Request) (id : Id) (entries : List KnownEntry) (b : Bool) → request.command ≡ GetRawMempoolVerbose
-    → Describes w id entries (if b then (Answered NotAllowed, w) else called_by w call.time (Ok request))
+    → Describes w id entries (if b then (Answered NotAllowed, w) else called_by w call.time (served w (Ok request)))
 request_describes w call request id entries true is = λ h. cc
-request_describes w call request id entries false is = command_describes w call.time request.id id request.command entries is
+request_describes w call request id entries false is =
+    done_if_there (Describes w id entries) w call.time request GetRawMempoolVerbose is refl (command_describes w call.time request.id id request.command entries is)
 
 step_describes : (w : World) (call : UserCall) (request : Request) (id : Id) (entries : List KnownEntry) → request_of call.json ≡ Ok request → request.command ≡ GetRawMempoolVerbose
     → Describes w id entries (step_of w (Rpc call))

@@ -1,5 +1,5 @@
 //! A package as a whole: each of its members by itself, those together that are denied, and its landing.
-ghost use Rattle.std.specs.Prelude.{◌≡◌, ◌∷◌, ◌++◌, [], All, None, false, map, IfOk, OnOk, OnErr};
+ghost use Rattle.std.specs.Prelude.{◌≡◌, ◌∷◌, ◌++◌, [], All, None, false, true, map, IfErr, IfOk, OnOk, OnErr};
 ghost use Rattle.gate_admit.specs.Bounds.{FitsEntry};
 ghost use Rattle.gate_admit.specs.Lending.{lent_with};
 ghost use Rattle.gate_admit.specs.Standing.{standing};
@@ -8,6 +8,7 @@ ghost use Rattle.gate_tx.specs.Ids.{wtxid_of};
 ghost use Rattle.gate_package.specs.Packages.{AreNewcomers, IsAbsent, Leaves, all_together, course_behind, course_of, denied_count, denied_of, fate_of, granted, has_failed, held_txids, is_denied, is_lost, judged_as, judged_of, member_with, newcomers, reconsidered_by, refused, replaces};
 ghost use Rattle.gate_package.specs.Shapes.{has_conflict, has_duplicates};
 ghost use Rattle.gate_package.specs.Staging.{StagesAs, StaysPlain, without_all};
+ghost use Rattle.gate_package.specs.declared.submitting.Stop.TheVariants.{Memory as OutOfMemory};
 
 use crate::members::{JudgedMember, is_reconsiderable, judge};
 use crate::price::{Price, sum_of};
@@ -131,6 +132,7 @@ fn judge_next<S: BuildHasher + Copy + Drop>(
     ensures entries { OnOk result (pool.new.entries ≡ course_behind max_rate (lent_with under.now pool.old.entries) under.now.second candidate.now) }
     ensures before { pool.new.before ≡ pool.old.before }
     ensures back { replacing ≡ false → without_all entered.new.items pool.new.entries ≡ without_all entered.old.items pool.old.entries }
+    ensures stop { replacing ≡ true → IfErr result (λ stop. stop ≡ OutOfMemory) }
 {
     let JudgedMember {
         fate,
@@ -162,6 +164,7 @@ fn judge_each<S: BuildHasher + Copy + Drop>(
     ensures entries { OnOk result (pool.new.entries ≡ (course_of max_rate (lent_with under.now pool.old.entries) under.now.second members.now).entries) }
     ensures before { pool.new.before ≡ pool.old.before }
     ensures back { replacing ≡ false → without_all entered.new.items pool.new.entries ≡ without_all entered.old.items pool.old.entries }
+    ensures stop { replacing ≡ true → IfErr result (λ stop. stop ≡ OutOfMemory) }
 {
     for candidate in members {
         judge_next(
@@ -389,6 +392,7 @@ fn conclude<S: BuildHasher + Copy + Drop>(
     ensures ok { IfOk result (λ c. judged_as c.verdict members.new.items c.together pool.new.entries ≡ judged_of max_rate (lent_with under.now pool.old.entries) under.now.second candidates.now) }
     ensures before { pool.new.before ≡ pool.old.before }
     ensures back { replacing ≡ false → without_all entered.new.items pool.new.entries ≡ without_all entered.old.items pool.old.entries }
+    ensures stop { replacing ≡ true → IfErr result (λ stop. stop ≡ OutOfMemory) }
 {
     judge_each(
         alloc, under, pool, entered, replacing, max_rate, candidates, members,
@@ -432,6 +436,7 @@ fn judge_on<S: BuildHasher + Copy + Drop>(
     ensures held { IfOk result (λ judged. judged.1.items ≡ held_txids judged.0.members) }
     ensures before { pool.new.before ≡ pool.old.before }
     ensures back { replacing ≡ false → without_all entered.new.items pool.new.entries ≡ without_all entered.old.items pool.old.entries }
+    ensures stop { replacing ≡ true → IfErr result (λ stop. stop ≡ OutOfMemory) }
 {
     let mut members = with_room(alloc, candidates.len())?;
     let Conclusion { verdict, together } = conclude(
@@ -480,7 +485,8 @@ fn stage_on_copy<S: BuildHasher + Copy + Drop>(
             outcome,
             stage: Stage::in_draft(draft, held, alloc),
         }),
-        Err(_) => Err(Memory),
+        Err(Stop::Memory) => Err(Memory),
+        Err(Stop::Replaces) => unreachable!(),
     }
 }
 
