@@ -34,8 +34,7 @@ enter_all-requires g t c κs within =
     let tx = ap (λ (a : Admitted). a.tx) c.new-entry.ensures ∙ (c.in_ok-identified.ensures ∙ c.identified.ensures) in
     let new = led_by entries c.in-Some.candidate.now c.args.these.now rest e c.requires.new c.in-Some.ensures.cases.0 tx in
     let after : c.enter.new.pool.entries ≡ entries ++ e ∷ [] = c.in_ok-enter.ensures.ok ∙ enters_plainly entries e (first_alone entries e.tx rest new) in
-    let Fit = λ (p : Price). FitsEntry p.fee p.vsize in
-    (
+    let Fit = λ (p : Price). FitsEntry p.fee p.vsize in (
       omega (arith, c.decreases, c.in-Some.ensures.cases.1),
       (
         within.0,
