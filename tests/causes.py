@@ -331,7 +331,7 @@ def test_checks(gate):
 
 def test_lines_with_a_form(gate):
     """Nothing is told of lines that have a form, of comments and of empty lines."""
-    for name in ("first-path.txt", "permissions.txt", "policies.txt", "rpc.txt", "replacement.txt", "reorganisation.txt", "living-chain.txt"):
+    for name in ("first-path.txt", "permissions.txt", "policies.txt", "rpc.txt", "replacement.txt", "reorganisation.txt", "living-chain.txt", "package.txt"):
         done = gate.run("run --explain", example(name))
         said = [line for line in done.stderr.decode().splitlines() if not any(it.match(line) for it in (SUMMARY, DENIED, MOVED))]
         same("standard error of " + name, said, [])

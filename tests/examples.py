@@ -1,10 +1,10 @@
-"""The files of examples/ on permissions, policies, RPC, a payment of one's own, a living chain, lanes and rounds stand as they are made here,
+"""The files of examples/ on permissions, policies, RPC, a package, a payment of one's own, a living chain, lanes and rounds stand as they are made here,
 and each event gets the reply that is told."""
 
 import os
 
 from bitcoin import Input, Output, Transaction, WITNESS_KEY_HASH, printed
-from callers import json_text
+from callers import InOrder, json_text
 from chain_model import Block
 from gate import ROOT, lines, same, same_lines, true
 from model import NULL
@@ -140,6 +140,42 @@ def rpc():
     ]
 
 
+def packaged(message, *results):
+    """The answer to a package: its members stand in the order of the package, and not in that of their names."""
+    told = InOrder((tx.wtxid(), result) for tx, result in results)
+    return answer({"package_msg": message, "replaced-transactions": [], "tx-results": told})
+
+
+def below_the_fee(tx):
+    return tx, {"error": "min relay fee not met", "rule": "A35", "txid": tx.txid()}
+
+
+def package():
+    """A commitment transaction without a fee, and the child that brings it in."""
+    opening = ["# a parent that pays nothing, and a child that pays for both, as payment channels send them (BIP 431)"] + CHAIN + ["bloom 1", "truc 1", "packages 1"]
+
+    def of_version_three(hash, value):
+        return Transaction([Input(hash, witness=[b"\x30" * 72, b"\x02" * 33])], [Output(value)], version=3)
+
+    parent = of_version_three(COIN, 100000)
+    poor, child = of_version_three(parent.hash(), 99781), of_version_three(parent.hash(), 99780)
+    fees = {"effective-feerate": 1000, "effective-includes": [parent.wtxid(), child.wtxid()]}
+    taken = [(tx, {"fees": {"base": fee, **fees}, "txid": tx.txid(), "vsize": 110}) for tx, fee in ((parent, 0), (child, 220))]
+    known = [(tx, {"fees": {"base": fee}, "txid": tx.txid(), "vsize": 110}) for tx, fee in ((parent, 0), (child, 220))]
+    return opening, [
+        ("a peer connects", "peer 1 enter 192.0.2.1", "entered none"),
+        ("it sends the parent alone, which is below the least fee", "peer 1 tx 5000 " + parent.hex(), "denied A35 keep min relay fee not met"),
+        (
+            "a user sends it with its child, which pays 219 satoshi: one too few for the 220 virtual bytes of both",
+            call("a", 5000, "submitpackage", [parent.hex(), poor.hex()]),
+            packaged("transaction failed", below_the_fee(parent), below_the_fee(poor)),
+        ),
+        ("with 220 both come in, each at the feerate of both", call("a", 5000, "submitpackage", [parent.hex(), child.hex()]), packaged("success", *taken)),
+        ("the same package again: both are known", call("a", 5001, "submitpackage", [parent.hex(), child.hex()]), packaged("success", *known)),
+        ("and both are in the pool", "peer 1 mempool", "listing 2 %s %s" % (parent.txid(), child.txid())),
+    ]
+
+
 def living_chain():
     """An opening without coins and verdicts, which are learnt."""
     opening = [
@@ -228,6 +264,11 @@ def test_example_of_policies(gate):
 def test_example_of_rpc(gate):
     """examples/rpc.txt."""
     holds(gate, "rpc.txt", rpc())
+
+
+def test_example_of_a_package(gate):
+    """examples/package.txt."""
+    holds(gate, "package.txt", package())
 
 
 def test_example_of_a_payment(gate):

@@ -28,7 +28,7 @@ SECONDS = 600
 WARNINGS = ["-O1", "-Wall", "-Wextra", "-Werror"]
 C = ["-std=c11", "-D_POSIX_C_SOURCE=200809L"]
 WRAPPED = ["-Wl,--wrap=" + it for it in ("malloc", "realloc", "free")]
-EXAMPLES = ("first-path.txt", "permissions.txt", "policies.txt", "replacement.txt", "reorganisation.txt", "rpc.txt", "living-chain.txt")
+EXAMPLES = ("first-path.txt", "permissions.txt", "policies.txt", "replacement.txt", "reorganisation.txt", "rpc.txt", "living-chain.txt", "package.txt")
 STREAMS = ("family_streams", "caller_streams", "chain_streams", "living_streams", "permissions", "calls", "heights", "openings", "json_texts", "decoding")
 
 
