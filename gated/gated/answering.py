@@ -150,6 +150,9 @@ def _outcome_of(call: Call, answer: Answer) -> str:
         return str(answer.error.get("rule", answer.error["code"]))
     if call.method == "testmempoolaccept" and len(answer.result) == 1 and not answer.result[0]["allowed"]:
         return str(answer.result[0].get("rule", answer.result[0]["reject-reason"]))
+    if call.method == "submitpackage":
+        rules = [it["rule"] for it in (answer.result, *answer.result["tx-results"].values()) if "rule" in it]
+        return str(rules[0]) if rules else "ok"
     return "ok"
 
 

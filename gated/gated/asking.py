@@ -34,8 +34,8 @@ def result_of(reply: str) -> Any:
     error = told["error"]
     if error is None:
         return told["result"]
-    message = forms.UNREADABLE if error["code"] == forms.DECODE_ERROR else error["message"]
-    raise Fault(error["code"], message, error.get("rule"), int(status))
+    message, rule = forms.UNREADABLE if error["code"] == forms.DECODE_ERROR else error["message"], error.get("rule")
+    raise Fault(error["code"], forms.SAID_OF_PACKAGE.get(rule, message), rule, int(status))
 
 
 def asked(turn: Turn, user: str, method: str, params: Sequence[Any]) -> Any:
@@ -52,13 +52,15 @@ def looked(turn: Turn, method: str, params: Sequence[Any]) -> Any:
 
 
 def permit(turn: Turn, user: str, method: str) -> None:
-    """A Fault unless the gate permits a user this method. A denial is in the journal; where it permits, nothing is written."""
+    """A Fault unless the gate permits a user this method, and has it, if it is one that it may have. A denial is in the journal;
+    where it permits, nothing is written."""
     try:
         result_of(turn.look(line_of(user, method, OF_NO_METHOD)))
     except Fault as fault:
-        if fault.error["code"] in (forms.INVALID_PARAMS, forms.METHOD_NOT_FOUND):
-            # what is wrong is the parameters, or that the gate has no such method: the user may call it
+        code = fault.error["code"]
+        if code == forms.INVALID_PARAMS or code == forms.METHOD_NOT_FOUND and method not in forms.METHODS:
+            # what is wrong is the parameters, or that the method is the node's: the user may call it
             return
-        if fault.error["code"] == forms.FORBIDDEN:
+        if code in (forms.FORBIDDEN, forms.METHOD_NOT_FOUND):
             asked(turn, user, method, [])
         raise

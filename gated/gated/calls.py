@@ -21,7 +21,7 @@ MOST_VERBOSE = 1_000
 MANY_ENTRIES = 200
 NO_SEQUENCE = "mempool_sequence is a number of the node's: ask the node"
 NOT_BOTH = "Verbose results cannot contain mempool sequence values."
-NOT_FORWARDED = "sendrawtransaction is off: gated was started without --forward"
+NOT_FORWARDED = "%s is off: gated was started without --forward"
 
 Result = TypeVar("Result")
 
@@ -70,6 +70,8 @@ class Calls:
             return await self._tried(user, *given)
         if call.method == "sendrawtransaction":
             return await self._sent(user, *given)
+        if call.method == "submitpackage":
+            return await self._submitted(user, *given)
         if call.method == "getrawtransaction":
             return await self._transaction(user, call, *given)
         if call.method == "getrawmempool":
@@ -100,8 +102,8 @@ class Calls:
             return " ".join([method, *(it.name if it.is_needed else "( %s )" % it.name for it in forms.METHODS[method])])
 
     async def _permitted(self, user: str, method: str) -> None:
-        """A Fault unless the gate permits a user this method. The lists are lines of each opening, the same ones as long as gated
-        runs, so what it has permitted stays so."""
+        """A Fault unless the gate permits a user this method, and has it. Lines of each opening say both, the same ones as long as
+        gated runs, so what it has permitted stays so."""
         if (user, method) not in self._permits:
             await self._keeper.offered(functools.partial(asking.permit, user=user, method=method))
             self._permits.add((user, method))
@@ -178,18 +180,28 @@ class Calls:
 
     async def _tried(self, user: str, listed: list[Any], rate: Any) -> Answer:
         await self._permitted(user, "testmempoolaccept")
-        forms.check_tried(listed)
+        forms.check_listed(listed)
         _check_amount(rate)
         told = await self._trying.tried(user, listed, rate)
         return Answer([it if self._options.in_satoshi else forms.trial(it) for it in told])
 
     async def _sent(self, user: str, digits: str, rate: Any, burn: Any) -> Answer:
-        await self._permitted(user, "sendrawtransaction")
-        if not self._options.forwards:
-            raise Fault(forms.MISC_ERROR, NOT_FORWARDED)
+        await self._permitted_to_send(user, "sendrawtransaction")
         _check_amount(rate)
         _check_amount(burn)
         return Answer(await self._trying.sent(user, digits, rate, burn))
+
+    async def _submitted(self, user: str, listed: list[Any], rate: Any, burn: Any) -> Answer:
+        await self._permitted_to_send(user, "submitpackage")
+        forms.check_listed(listed)
+        in_satoshi = [forms.USUAL_RATE if rate is None else forms.rate_of(rate), 0 if burn is None else forms.satoshi_of(burn)]
+        told = await self._trying.submitted(user, listed, in_satoshi, rate, burn)
+        return Answer(told if self._options.in_satoshi else forms.package(told))
+
+    async def _permitted_to_send(self, user: str, method: str) -> None:
+        await self._permitted(user, method)
+        if not self._options.forwards:
+            raise Fault(forms.MISC_ERROR, NOT_FORWARDED % method)
 
 
 def _check_amount(value: Any) -> None:

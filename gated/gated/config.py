@@ -129,7 +129,7 @@ def words() -> argparse.ArgumentParser:
     door.add_argument("--listen", metavar="HOST:PORT", type=Address.read, default=Address("127.0.0.1", 18332), help="where they call (127.0.0.1:18332)")
     door.add_argument("--rpccookiefile", metavar="FILE", type=Path, default=Path("gated.cookie"), help="gated's own cookie, which it writes (gated.cookie)")
     door.add_argument("--rpcauth", metavar="TEXT", action="append", help="a user, USER:SALT$HASH as bitcoind's; repeatable")
-    door.add_argument("--forward", action="store_true", default=None, help="hands to the node what the gate takes by sendrawtransaction")
+    door.add_argument("--forward", action="store_true", default=None, help="hands to the node what the gate takes by sendrawtransaction and submitpackage")
     door.add_argument("--passthrough", metavar="METHOD", action="append", help="a further call that is passed to the node; repeatable")
     door.add_argument("--satoshi", action="store_true", default=None, help="answers in the gate's own forms, with amounts in satoshi")
     door.add_argument("--queue", metavar="N", type=_whole(1, 100_000), default=256, help="calls that may wait; further ones get status 503 (256)")

@@ -7,7 +7,7 @@ import re
 from dataclasses import dataclass
 from decimal import Decimal
 from enum import Enum
-from typing import Any, Optional, TypedDict, Union
+from typing import Any, NotRequired, Optional, TypedDict, Union
 
 import simplejson
 
@@ -21,6 +21,13 @@ VERIFY_ERROR, VERIFY_REJECTED, IN_WARMUP = -25, -26, -28
 STATUSES = {INVALID_REQUEST: 400, METHOD_NOT_FOUND: 404, FORBIDDEN: 403}
 # what Core says of a transaction that does not parse
 UNREADABLE = "TX decode failed. Make sure the tx has at least one input."
+# what Core says of a package that is none, and of one that burns more than its caller allows, by the gate's rule
+SAID_OF_PACKAGE = {
+    "J1": "Unspendable output exceeds maximum configured by user (maxburnamount)",
+    "J2": "package topology disallowed. not child-with-parents or parents depend on each other.",
+}
+# what a package's members may pay for 1,000 virtual bytes at the most, in satoshi, if the caller doesn't say it
+USUAL_RATE = 10_000_000
 HASH_DIGITS = 64
 MOST_TRIED = 25
 MOST_INDEX = 2**31 - 1
@@ -148,11 +155,12 @@ class Parameter:
 
 TXID = Parameter("txid", Kind.STRING, is_needed=True)
 VERBOSE = Parameter("verbose", Kind.BOOL)
-RATE = Parameter("maxfeerate", Kind.ANY)
+RATE, BURN = Parameter("maxfeerate", Kind.ANY), Parameter("maxburnamount", Kind.ANY)
 # the methods that the gate answers
 METHODS: dict[str, tuple[Parameter, ...]] = {
-    "sendrawtransaction": (Parameter("hexstring", Kind.STRING, is_needed=True), RATE, Parameter("maxburnamount", Kind.ANY)),
+    "sendrawtransaction": (Parameter("hexstring", Kind.STRING, is_needed=True), RATE, BURN),
     "testmempoolaccept": (Parameter("rawtxs", Kind.ARRAY, is_needed=True), RATE),
+    "submitpackage": (Parameter("package", Kind.ARRAY, is_needed=True), RATE, BURN),
     "getrawmempool": (VERBOSE, Parameter("mempool_sequence", Kind.BOOL)),
     "getmempoolentry": (TXID,),
     "getmempoolancestors": (TXID, VERBOSE),
@@ -225,8 +233,8 @@ def check_hash(name: str, value: str) -> None:
         raise Fault(INVALID_PARAMETER, "%s must be hexadecimal string (not '%s')" % (name, value))
 
 
-def check_tried(listed: list[Any]) -> None:
-    """A Fault if this is no list of transactions to be tried."""
+def check_listed(listed: list[Any]) -> None:
+    """A Fault if this is no list of transactions to be tried, and no package."""
     if not 1 <= len(listed) <= MOST_TRIED:
         raise Fault(INVALID_PARAMETER, "Array must contain between 1 and %d transactions." % MOST_TRIED)
     for it in listed:
@@ -277,6 +285,14 @@ def satoshi_of(value: Any) -> int:
     return int(digits + "0" * zeros)
 
 
+def rate_of(value: Any) -> int:
+    """A feerate in BTC for 1,000 virtual bytes as satoshi."""
+    found = satoshi_of(value)
+    if found >= SATOSHI:
+        raise Fault(INVALID_PARAMETER, "Fee rates larger than or equal to 1BTC/kvB are not accepted")
+    return found
+
+
 # what the gate says, and the same as a node says it
 
 
@@ -287,6 +303,15 @@ class GateFees(TypedDict):
 # what the gate says of a transaction that was tried
 GateTrial = TypedDict(
     "GateTrial", {"txid": str, "wtxid": str, "allowed": bool, "vsize": int, "fees": GateFees, "rule": str, "reject-reason": str}, total=False
+)
+# what it says of a member of a package that it took, or that it had; of one that it has with another witness; of one that it denies
+GateMemberFees = TypedDict("GateMemberFees", {"base": int, "effective-feerate": int, "effective-includes": list[str]}, total=False)
+GateMember = TypedDict(
+    "GateMember", {"txid": str, "vsize": int, "fees": GateMemberFees, "other-wtxid": str, "error": str, "rule": str}, total=False
+)
+# what it says of a package, its members by their wtxids; the rule is one that denies all of it
+GatePackage = TypedDict(
+    "GatePackage", {"package_msg": str, "tx-results": dict[str, GateMember], "replaced-transactions": list[str], "rule": NotRequired[str]}
 )
 # what it says of an entry
 GateEntry = TypedDict(
@@ -338,3 +363,20 @@ def trial(told: dict[str, Any]) -> dict[str, Any]:
     if not told["allowed"]:
         return told
     return {**told, "fees": {"base": amount(told["fees"]["base"])}}
+
+
+def package(told: GatePackage) -> dict[str, Any]:
+    """What the gate says of a package as a node says it, with its rules beside."""
+    results = {wtxid: _member(it) for wtxid, it in told["tx-results"].items()}
+    rule = {"rule": told["rule"]} if "rule" in told else {}
+    return {"package_msg": told["package_msg"], "tx-results": results, "replaced-transactions": told["replaced-transactions"], **rule}
+
+
+def _member(told: GateMember) -> dict[str, Any]:
+    """What became of a member of a package."""
+    if "fees" not in told:
+        return dict(told)
+    of_gate, fees = told["fees"], dict[str, Any](base=amount(told["fees"]["base"]))
+    if "effective-feerate" in of_gate:
+        fees.update({"effective-feerate": amount(of_gate["effective-feerate"]), "effective-includes": of_gate["effective-includes"]})
+    return {"txid": told["txid"], "vsize": told["vsize"], "fees": fees}

@@ -7,15 +7,15 @@ import asyncio
 import functools
 import logging
 from dataclasses import dataclass, field
-from typing import Any, Callable, Optional, Sequence
+from typing import Any, Awaitable, Callable, Optional, Sequence
 
-from . import asking, burning, forms
+from . import asking, burning, forms, scripts
 from .client import NodeClient, NotThere
 from .following import ChainMoved, CoinsShown, Following
-from .forms import Fault, GateTrial
+from .forms import Fault, GateMember, GatePackage, GateTrial
 from .keeper import Closed, Keeper, Turn
 from .node import SCRIPT_REASONS, Refused, Transaction, Unusable, read_transaction, satoshi
-from .node.answers import TrialInfo
+from .node.answers import MemberInfo, PackageInfo, TrialInfo
 from .node.differences import Answer
 from .node.releases import SAID_OF_BURN
 from .once_for_all import OnceForAll
@@ -27,10 +27,14 @@ log = logging.getLogger("gated")
 # the rules of the gate that are answered by what the node says
 KNOWN_ALREADY = ("A21", "A22")
 NO_COIN, VERDICT_MISSING = "A25", "A43"
+# the rules that a member of a package may fail by itself and pass with the others: they ask for coins and for fees
+MENDED = (NO_COIN, "A34", "A35", "A38", "A41", "A42")
 # how a node names what pays more than its caller wants, and a transaction without coins
 FEE_PAST, MISSING_INPUTS = "max-fee-exceeded", "missing-inputs"
 SAID_OF_FEE = "Fee exceeds maximum configured by user (e.g. -maxtxfee, maxfeerate)"
 SAID_OF_COINS = "bad-txns-inputs-missingorspent"
+# how a node says that it has a whole package, and that it doesn't have some of it
+PACKAGE_TAKEN, PACKAGE_FAILED = "success", "transaction failed"
 IN_CHAIN_ALREADY = -27
 # the codes by which a node says that parameters are wrong, or that it doesn't know so many
 OF_THE_PARAMETERS = (forms.MISC_ERROR, forms.TYPE_ERROR, forms.INVALID_PARAMETER)
@@ -65,8 +69,16 @@ def read(digits: str) -> Optional[Transaction]:
         return None
 
 
+class PackageRefused(Refused):
+    """The node takes not all of a package."""
+
+    def __init__(self, reason: str, members: list[Transaction]) -> None:
+        super().__init__(reason)
+        self.code, self.members = forms.VERIFY_REJECTED, members
+
+
 class Trying:
-    """Answers `testmempoolaccept` and `sendrawtransaction`."""
+    """Answers `testmempoolaccept`, `sendrawtransaction` and `submitpackage`."""
 
     def __init__(self, keeper: Keeper, following: Following, client: NodeClient, shadow: Shadow) -> None:
         self._keeper, self._following, self._client, self._shadow = keeper, following, client, shadow
@@ -126,7 +138,7 @@ class Trying:
             judged = await self._judged([one], rate, functools.partial(_tried_by_gate, listed=[one]))
             if judged.differ and not is_last:
                 return False
-            await self._handed_on(one, rate, burn, await self._taken(user, one, judged))
+            await self._handed_on([one], lambda: self._sent_to_node(one, rate, burn), await self._taken(user, one, judged))
             return True
 
     async def _has_to_burn_no_more(self, one: Transaction, rate: Any, burn: Any) -> None:
@@ -166,38 +178,138 @@ class Trying:
             return Fault(forms.VERIFY_ERROR, SAID_OF_COINS)
         return Fault(forms.VERIFY_REJECTED, reason or "the node doesn't say whether it takes the transaction")
 
-    async def _handed_on(self, one: Transaction, rate: Any, burn: Any, is_new: bool) -> None:
+    async def _handed_on(self, them: list[Transaction], send: Callable[[], Awaitable[None]], is_new: bool) -> None:
         """Hands the node what the gate has. If the answer is lost, the node is asked again: a node that has the transaction
         answers by its txid. If it stays unknown, a gate that took it just now is opened anew, since it may be wrong."""
-        params = [one.digits, *_bounds(rate, burn)]
+        what = "transaction" if len(them) == 1 else "package"
         for pause in (*PAUSES, None):
             try:
-                told = await self._client.ask("sendrawtransaction", *params)
-                if told != one.txid:
-                    raise Unusable("the node answers by %r" % (told,))
+                await send()
                 return
             except Refused as error:
                 code = error.code or forms.VERIFY_ERROR
                 if code != IN_CHAIN_ALREADY:
-                    await self._refused(one, str(error))
+                    await self._refused(error.members if isinstance(error, PackageRefused) else them, str(error))
                 raise Fault(code, str(error)) from error
             except Unusable as error:
-                log.warning("whether the node has %s is not known: %s", one.txid, error)
+                log.warning("whether the node has %s is not known: %s", " ".join(it.txid for it in them), error)
             if pause is not None:
                 await asyncio.sleep(pause)
         if is_new:
-            self._following.open_anew("whether the node has a transaction that was handed on to it is not known")
-        raise Fault(forms.IN_WARMUP, "whether the node has the transaction is not known: send it again")
+            self._following.open_anew("whether the node has a %s that was handed on to it is not known" % what)
+        raise Fault(forms.IN_WARMUP, "whether the node has the %s is not known: send it again" % what)
 
-    async def _refused(self, one: Transaction, reason: str) -> None:
+    async def _sent_to_node(self, one: Transaction, rate: Any, burn: Any) -> None:
+        told = await self._client.ask("sendrawtransaction", one.digits, *_bounds(rate, burn))
+        if told != one.txid:
+            raise Unusable("the node answers by %r" % (told,))
+
+    async def _refused(self, them: list[Transaction], reason: str) -> None:
         """A gate that has what the node refuses is opened anew, since it has no event that takes an entry back."""
-        self._shadow.differs("node", one.txid, "taken and handed on", reason)
+        for one in them:
+            self._shadow.differs("node", one.txid, "taken and handed on", reason)
         try:
-            has_it = await self._keeper.made(lambda turn: self._following.has(turn, one.txid))
+            has_some = await self._keeper.made(lambda turn: any(self._following.has(turn, one.txid) for one in them))
         except Closed:
             return
-        if has_it:
+        if has_some:
             self._following.open_anew("the node refuses a transaction that the gate took")
+
+    # submitpackage
+
+    async def submitted(self, user: str, listed: list[str], in_satoshi: list[int], rate: Any, burn: Any) -> GatePackage:
+        """What becomes of a package at the gate, which has the caller's bounds in satoshi. What it takes the node has, too."""
+        self._keeper.has_to_be_open()
+        told: GatePackage
+        members = [it for it in map(read, listed) if it is not None]
+        ask = functools.partial(asking.asked, user=user, method="submitpackage", params=[listed, *in_satoshi])
+        if len(members) < len(listed):
+            # the gate says what is wrong
+            told = await self._keeper.offered(ask)
+            return told
+        await self._has_to_take_packages()
+        async with self._sending:
+            # it may have been closed while others were before this one
+            self._keeper.has_to_be_open()
+            judged, reasons = await self._members_judged(members)
+            told = await self._over_coins(members, judged, ask)
+            await self._package_handed_on(members, told, rate, burn)
+        for wtxid, it in told["tx-results"].items():
+            if it.get("rule") == VERDICT_MISSING and reasons.get(wtxid):
+                it["error"] = "%s, the node says: %s" % (it["error"], reasons[wtxid])
+        return told
+
+    async def _has_to_take_packages(self) -> None:
+        """A Fault in the node's words if it has no packages. It refuses one without members, and says why."""
+        try:
+            told = await self._client.ask("submitpackage", [])
+        except Refused as error:
+            if error.code == forms.INVALID_PARAMETER:
+                return
+            log.warning("the node takes no packages: %s", error)
+            raise Fault(error.code or forms.MISC_ERROR, str(error)) from error
+        raise Unusable("the node answers a package without members by %r" % (told,))
+
+    async def _members_judged(self, members: list[Transaction]) -> tuple[Judged, dict[str, str]]:
+        """The coins of a package's members, and what the node says of the scripts of those that the gate may take; by wtxid what
+        it says against them. Nobody asks the node whether it would take them, which it can't say."""
+        ask = functools.partial(_each_tried_by_gate, listed=members)
+        ours, shown = await self._by_gate(members, ask)
+        if await self._lack_what_the_node_has(members, ours):
+            ours, shown = await self._by_gate(members, ask)
+        asked = [(one, told) for one, told in zip(members, ours) if _is_for_node(told) or told.get("rule") in MENDED]
+        answers = await self._client.ask_all(scripts.METHOD, [scripts.question(one, members) for one, _ in asked])
+        reasons = {one.wtxid: scripts.why_not(one, answer) for (one, _), answer in zip(asked, answers)}
+        lines = [(told, verdict_lines(one.wtxid, len(one.spent))) for one, told in asked if not reasons[one.wtxid]]
+        unknown = [them for told, them in lines if not told["allowed"]]
+        return Judged(ours, [], shown, sum(unknown, []), sum((them for _, them in lines), [])), reasons
+
+    async def _package_handed_on(self, members: list[Transaction], told: GatePackage, rate: Any, burn: Any) -> None:
+        """Hands the node a package that the gate has, or those of its members that the gate took by themselves."""
+        results = told["tx-results"]
+        taken = [one for one in members if "effective-feerate" in results.get(one.wtxid, {}).get("fees", {})]
+        self._following.heights.update({one.txid: self._following.chain.tip.height for one in taken})
+        if told["package_msg"] == PACKAGE_TAKEN:
+            await self._handed_on(members, lambda: self._package_sent_to_node(members, told, rate, burn), bool(taken))
+            return
+        faults = []
+        for one in taken:
+            try:
+                await self._handed_on([one], functools.partial(self._sent_to_node, one, rate, burn), is_new=True)
+            except Fault as fault:
+                # the others are handed on, too
+                faults.append(fault)
+        if faults:
+            raise faults[0]
+
+    async def _package_sent_to_node(self, members: list[Transaction], ours: GatePackage, rate: Any, burn: Any) -> None:
+        theirs: PackageInfo = await self._client.ask("submitpackage", [it.digits for it in members], *_bounds(rate, burn))
+        try:
+            message, results = theirs["package_msg"], [theirs["tx-results"].get(it.wtxid, {}) for it in members]
+            errors = [it.get("error", "") for it in results]
+            is_whole = not any(errors) and [it.get("txid") for it in results] == [it.txid for it in members]
+        except (KeyError, TypeError, AttributeError) as error:
+            raise Unusable("the node answers a package by %r" % (theirs,)) from error
+        if message != PACKAGE_TAKEN:
+            reason = message if message != PACKAGE_FAILED else next(filter(None, errors), message)
+            raise PackageRefused(reason, [it for it, one in zip(members, results) if one.get("error") or not one] or members)
+        if not is_whole:
+            raise Unusable("the node answers a package by %r" % (theirs,))
+        for one, told in zip(members, results):
+            self._compare_member(one, ours["tx-results"][one.wtxid], told)
+
+    def _compare_member(self, one: Transaction, ours: GateMember, theirs: MemberInfo) -> None:
+        """Compares the fee and the virtual size of a member that both have."""
+        if "fees" not in ours or "fees" not in theirs:
+            return
+        try:
+            here = Answer(fee=ours["fees"]["base"], vsize=ours["vsize"])
+            there = Answer(fee=satoshi(theirs["fees"]["base"]), vsize=theirs["vsize"])
+        except (Unusable, KeyError, TypeError) as error:
+            log.warning("%s is not compared: %s", one.txid, error)
+            return
+        if here != there:
+            self._shadow.differs("fee", one.txid, here.text(), there.text())
 
     # what both say
 
@@ -286,6 +398,12 @@ def _tried_by_gate(turn: Turn, listed: Sequence[Transaction]) -> list[GateTrial]
     """What the gate says of these transactions, without an entry in the journal; nothing if it doesn't judge them."""
     found: Optional[list[GateTrial]] = asking.looked(turn, "testmempoolaccept", [[it.digits for it in listed]])
     return found or []
+
+
+def _each_tried_by_gate(turn: Turn, listed: Sequence[Transaction]) -> list[GateTrial]:
+    """What the gate says of each of these by itself, without an entry in the journal; nothing if it judges not all of them."""
+    found = [it for one in listed for it in _tried_by_gate(turn, [one])]
+    return found if len(found) == len(listed) else []
 
 
 def _bounds(rate: Any, burn: Any) -> list[Optional[str]]:

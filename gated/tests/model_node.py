@@ -31,6 +31,10 @@ LATE_SECONDS = 2.5
 BURN_BOUND_SINCE = 250000
 SENDING_HELP = 'sendrawtransaction "hexstring" ( maxfeerate )'
 WITHOUT_COINS = "sendrawtransaction, without coins"
+# how a question is named that only asks whether the node takes packages
+WITHOUT_MEMBERS = "submitpackage, without members"
+# why a member of a package waits for the others
+MENDED = ("A25", "A34", "A35")
 NOWHERE = b"\xff" * 32
 
 
@@ -85,15 +89,17 @@ class RpcError(Exception):
 class ModelNode:
     """The node. Tests change it by its methods; whoever asks it sees it between two of them."""
 
-    def __init__(self, folder, has_zmq=True, has_prevouts=True, has_index=False, release=RELEASE):
+    def __init__(self, folder, has_zmq=True, has_prevouts=True, has_index=False, release=RELEASE, settings=None):
         self.release = release
         # whether it tries several transactions at once, as Bitcoin Core 22.0 does
         self.takes_lists = True
+        # whether it takes packages, as Bitcoin Core since 28.0
+        self.takes_packages = True
         self.cookie = os.path.join(folder, "node.cookie")
         self.has_prevouts, self.has_index = has_prevouts, has_index
         self.lock = threading.RLock()
         coins = {(number_hash(number), 0): Coin(COIN_VALUE, number, False) for number in range(BASE_COINS)}
-        self.model = ChainModel(Opening(list(BASE_TIMES), coins, {"*": "ok"}))
+        self.model = ChainModel(Opening(list(BASE_TIMES), coins, {"*": "ok"}, settings=settings or {}))
         self.model.enter(1)
         self.base = self.base_blocks()
         self.known = {block.hash(): block for block in self.base}
@@ -484,6 +490,66 @@ class ModelNode:
         self.submit(tx)
         return tx.txid()
 
+    def do_signrawtransactionwithkey(self, digits, keys, outputs):
+        """Whether the scripts are met: no key can be given."""
+        assert keys == []
+        tx, verdicts, given = self.parsed(digits), self.model.opening.verdicts, {(it["txid"], it["vout"]) for it in outputs}
+        errors = []
+        for index, it in enumerate(tx.inputs):
+            about = {"txid": printed(it.hash), "vout": it.index}
+            if self.model.coin(it) is None and tuple(about.values()) not in given:
+                errors.append({**about, "error": "Input not found or already spent"})
+            elif verdicts.get((tx.wtxid(), index), verdicts["*"]) != "ok":
+                errors.append({**about, "error": "Witness program hash mismatch"})
+        return {"hex": digits, "complete": not errors, **({"errors": errors} if errors else {})}
+
+    def do_submitpackage(self, digits, highest="0.10", burn=None):
+        """Each member by itself, and then together those that lack nothing but coins and fees."""
+        if not self.takes_packages:
+            raise RpcError(-32601, "Method not found")
+        if not 1 <= len(digits) <= 25:
+            raise RpcError(-8, "Array must contain between 1 and 25 transactions.")
+        before, found, waiting, rules = self.pool(), {}, [], []
+        for tx in map(self.parsed, digits):
+            entry, rule = self.pool().get(tx.txid()), self.model.failing(tx)
+            found[tx.wtxid()] = about = {"txid": tx.txid()}
+            if entry is not None:
+                about.update(self.priced(entry) if entry.wtxid == tx.wtxid() else {"other-wtxid": entry.wtxid})
+            elif rule is None:
+                self.model.submit(1, int(time.time()), tx)
+                about.update(self.priced(self.pool()[tx.txid()], [tx]))
+            else:
+                about["error"] = self.reason(rule)
+                waiting.append(tx)
+                rules.append(rule)
+        if len(waiting) > 1 and all(it in MENDED for it in rules):
+            found.update(self.together(waiting))
+        self.changed(before, set())
+        message = "transaction failed" if any("error" in it for it in found.values()) else "success"
+        return {"package_msg": message, "tx-results": found, "replaced-transactions": [it for it in before if it not in self.pool()]}
+
+    def together(self, members):
+        """What became of members that are judged by what they pay together; nothing if they stay outside."""
+        pool, floor, settings = list(self.model.pool), self.model.floor, self.model.opening.settings
+        self.model.floor, self.model.opening.settings = 0, {**settings, "minrelaytxfee": 0}
+        replies = [self.model.submit(1, int(time.time()), tx) for tx in members]
+        self.model.floor, self.model.opening.settings = floor, settings
+        entries = [it for it in self.model.pool if it not in pool]
+        least = self.model.fee_at(max(floor, self.model.opening["minrelaytxfee"]), size_of(entries))
+        if fees_of(entries) >= least and all(it.startswith("admitted ") for it in replies):
+            return {it.wtxid: {"txid": it.tx.txid(), **self.priced(it, members)} for it in entries}
+        self.model.pool = pool
+        return {}
+
+    def priced(self, entry, together=()):
+        """What is said of an entry, and of those whose feerate counted when it came."""
+        fees = {"base": amount(entry.fee)}
+        if together:
+            entries = [self.pool()[it.txid()] for it in together]
+            rate = amount(fees_of(entries) * 1000 // size_of(entries))
+            fees.update({"effective-feerate": rate, "effective-includes": [it.wtxid for it in entries]})
+        return {"vsize": entry.size, "fees": fees}
+
     def knows(self, tx):
         """A transaction that callers may send to it, and with it one of the same outputs whose coin is nowhere."""
         nowhere = Transaction([Input(NOWHERE, 0, sequence=0xFFFFFFFF)], tx.outputs)
@@ -499,8 +565,10 @@ class ModelNode:
 
 
 def named(call):
-    """A method; a transaction that is sent though its coin is nowhere has a name of its own."""
+    """A method; a transaction that is sent though its coin is nowhere has a name of its own, and so has a package of nothing."""
     method, params = call["method"], call["params"]
+    if method == "submitpackage" and not params[0]:
+        return WITHOUT_MEMBERS
     is_nowhere = method == "sendrawtransaction" and str(params[0])[10:74] == NOWHERE.hex()
     return WITHOUT_COINS if is_nowhere else method
 

@@ -278,6 +278,7 @@ def bad_bodies(draw, good):
         lambda: good.replace(b'"', draw.choice((b"'", b"", b"\\", b"\0")), draw.randint(1, 5)),
         lambda: b"[" * draw.randint(1, 50_000),
         lambda: b'{"method":"testmempoolaccept","params":[["' + draw.choice((b"0", b"ff", b"zz", b"0" * 40_001, b"\\u0000", b"\\ud800")) + b'"]],"id":1}',
+        lambda: json.dumps({"method": "submitpackage", "params": [["00", odd(draw, 1)], odd(draw, 1), odd(draw, 1)][: draw.randint(0, 3)], "id": 1}).encode(),
         lambda: b'{"method":"sendrawtransaction","params":["' + bytes(draw.choice(b"0123456789abcdef") for _ in range(draw.randint(0, 400))) + b'"],"id":1}',
         lambda: json.dumps({"method": draw.choice(("getmempoolentry", "getrawmempool", "", "a b", "\n---\n", "x" * 9000)), "params": odd(draw, 3), "id": odd(draw, 2)}).encode(),
         lambda: json.dumps(odd(draw, 4)).encode(),
@@ -334,7 +335,7 @@ def test_bad_input(gate):
     """A thousand requests that are cut, of the wrong size, of the wrong encoding or of no sense: each whole one gets an answer,
     none changes anything, and the door stays open."""
     draw = random.Random(1000)
-    with Beside(gate, "--forward", "--body", "100000") as it:
+    with Beside(gate, "--forward", "--line", "packages 1", "--body", "100000") as it:
         it.open()
         it.pay(outputs=2)
         it.is_alike()

@@ -2,9 +2,9 @@
 
 from gate import same, true
 
-from gated import forms
+from gated import forms, scripts
 from gated.burning import without_coins
-from gated.node import Paid, read_transaction
+from gated.node import Paid, Refused, Spent, Transaction, read_transaction
 from gated.forms import Call, Fault, Number, WrongCount, amount, arguments, call_of, read_json, satoshi_of, text_of
 
 
@@ -94,6 +94,77 @@ def test_a_transaction_without_coins(gate):
         same("its outputs", found.paid, outputs)
         same("what it spends", [(it.txid, it.index) for it in found.spent], [("ff" * 32, 0)])
         same("without witnesses", found.txid, found.wtxid)
+
+
+def test_questions_about_scripts(gate):
+    """A node is told the outputs of other members that one spends, with the scripts whose hashes they pay; of its answers only one
+    says that the scripts are met: the same transaction, complete."""
+    to_script, to_witness = b"\xa9\x14" + b"\x22" * 20 + b"\x87", b"\x00\x20" + b"\x33" * 32
+    paid = [Paid(150_000_000, b"\x51"), Paid(1, to_script), Paid(2, to_witness), Paid(3, to_witness[:-1])]
+    parent = Transaction("aa", 2, [], paid, "11" * 32, "12" * 32)
+    other, last = Spent("22" * 32, 0, 0, b""), Spent("11" * 32, 4, 0, b"")
+    spent = [Spent("11" * 32, 0, 0, b"\x01\x07"), Spent("11" * 32, 1, 0, b"\x01\x07\x02\x51\x52"), Spent("11" * 32, 2, 0, b"", [b"\x07", b"\x53"]), Spent("11" * 32, 3, 0, b"", [b"\x54"])]
+    child = Transaction("AB", 2, [other, *spent, last], [], "44" * 32, "45" * 32)
+    outputs = [
+        '{"txid":"%s","vout":%d,"scriptPubKey":"%s","amount":%s%s}' % ("11" * 32, index, paid[index].script.hex(), value, more)
+        for index, (value, more) in enumerate((("1.50000000", ""), ("0.00000001", ',"redeemScript":"5152"'), ("0.00000002", ',"witnessScript":"53"'), ("0.00000003", "")))
+    ]
+    same("a question", text_of(scripts.question(child, [parent, child])), '["AB",[],[%s]]' % ",".join(outputs))
+    same("alone", text_of(scripts.question(child, [child])), '["AB",[],[]]')
+    same("met", scripts.why_not(child, {"hex": "ab", "complete": True}), "")
+    for told, why in (
+        ({"hex": "ac", "complete": True}, scripts.NOT_MET), ({"hex": "ab", "complete": 1}, scripts.NOT_MET), ({"complete": True}, scripts.NOT_MET), ({}, scripts.NOT_MET),
+        ({"hex": "ab", "complete": False, "errors": [{"error": "too bad"}]}, "too bad"), (Refused("no method"), "no method"),
+    ):  # fmt: skip
+        same("not met: %s" % (told,), scripts.why_not(child, told), why)
+
+
+def test_the_last_push(gate):
+    """Of each kind of push; nothing if a script ends within one, or pushes no item."""
+    long = b"x" * 300
+    pushes = (
+        (b"", b""), (b"\x02ab", b"ab"), (b"\x01a\x02bc", b"bc"), (b"\x4c\x03abc", b"abc"), (b"\x4d\x2c\x01" + long, long), (b"\x4e\x2c\x01\x00\x00" + long, long),
+        (b"\x01a\x51", b""), (b"\x03ab", b""), (b"\x4d\x05", b""),
+    )  # fmt: skip
+    for script, item in pushes:
+        same("of %s" % script[:9].hex(), scripts.last_push(script), item)
+
+
+def test_inputs(gate):
+    """A transaction is read with the scripts and the witnesses of its inputs."""
+    digits = "02000000" "0001" "02" + "11" * 32 + "00000000" "020151" "fdffffff" + "22" * 32 + "05000000" "00" "ffffffff" "00" "00" "02" "0161" "00" "00000000"
+    one, two = read_transaction(digits).spent
+    same("the first", one, Spent("11" * 32, 0, 0xFFFFFFFD, b"\x01\x51", []))
+    same("the second", two, Spent("22" * 32, 5, 0xFFFFFFFF, b"", [b"a", b""]))
+
+
+def test_packages(gate):
+    """A package as Bitcoin Core 29 has it: amounts in BTC, and each member with what is said of it alone."""
+    fees = {"base": 2000, "effective-feerate": 8510, "effective-includes": ["aa", "bb"]}
+    told = {
+        "package_msg": "transaction failed", "replaced-transactions": ["ff"],
+        "tx-results": {
+            "aa": {"fees": fees, "txid": "01", "vsize": 139}, "bb": {"fees": {"base": 0}, "txid": "02", "vsize": 96}, "cc": {"other-wtxid": "dd", "txid": "03"},
+            "ee": {"error": "dust", "rule": "A17", "txid": "04"},
+        },
+    }  # fmt: skip
+    wanted = (
+        '{"package_msg":"transaction failed","tx-results":{'
+        '"aa":{"txid":"01","vsize":139,"fees":{"base":0.00002000,"effective-feerate":0.00008510,"effective-includes":["aa","bb"]}},'
+        '"bb":{"txid":"02","vsize":96,"fees":{"base":0.00000000}},"cc":{"other-wtxid":"dd","txid":"03"},"ee":{"error":"dust","rule":"A17","txid":"04"}},'
+        '"replaced-transactions":["ff"]}'
+    )
+    same("package", text_of(forms.package(told)), wanted)
+    denied = {"package_msg": "package-too-large", "replaced-transactions": [], "rule": "J3", "tx-results": {}}
+    same("denied", text_of(forms.package(denied)), '{"package_msg":"package-too-large","tx-results":{},"replaced-transactions":[],"rule":"J3"}')
+
+
+def test_rates(gate):
+    """Below one BTC for 1,000 virtual bytes."""
+    for value, satoshi in ((0, 0), ("0.1", 10_000_000), (Number("0.99999999"), 99_999_999)):
+        same("%s" % value, forms.rate_of(value), satoshi)
+    for value in (1, "1.00000000", 20_000_000):
+        same("%s" % value, fault_of(lambda value=value: forms.rate_of(value)), (-8, "Fee rates larger than or equal to 1BTC/kvB are not accepted"))
 
 
 def test_entries(gate):

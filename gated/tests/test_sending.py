@@ -370,7 +370,7 @@ def test_permissions_first(gate):
         time.sleep(1)
         size = sum(os.path.getsize(os.path.join(it.gated.journal, name)) for name in os.listdir(it.gated.journal))
         it.node.asked.clear()
-        calls = [("sendrawtransaction", [many.hex()]), ("testmempoolaccept", [[many.hex()]]), ("getblock", ["00" * 32]), ("getmempoolentry", ["x"]), ("getrawmempool", [True, True])]
+        calls = [("sendrawtransaction", [many.hex()]), ("testmempoolaccept", [[many.hex()]]), ("getblock", ["00" * 32]), ("getmempoolentry", ["x"]), ("getrawmempool", [True, True]), ("submitpackage", [[many.hex()]])]
         calls += [("sendrawtransaction", []), ("testmempoolaccept", ["x"]), ("getrawtransaction", ["00" * 32, True]), ("gettxspendingprevout", [[]]), ("nothing", [])]
         for method, params in calls:
             status, text = it.gated.raw({"method": method, "params": params, "id": 1}, authorization=VIEWER)

@@ -166,6 +166,12 @@ TrialInfo = TypedDict(
 )
 
 
+# what became of a member of a package; one that is refused has no `fees`
+MemberInfo = TypedDict("MemberInfo", {"txid": str, "vsize": int, "fees": TrialFees, "other-wtxid": str, "error": str}, total=False)
+# `submitpackage`: its members by their wtxids, or none of them
+PackageInfo = TypedDict("PackageInfo", {"package_msg": str, "tx-results": dict[str, MemberInfo], "replaced-transactions": list[str]})
+
+
 class Publisher(TypedDict):
     """One of `getzmqnotifications`."""
 

@@ -3,7 +3,7 @@
 from __future__ import annotations
 
 import hashlib
-from dataclasses import dataclass
+from dataclasses import dataclass, field
 from typing import Callable, TypeVar
 
 Item = TypeVar("Item")
@@ -11,11 +11,13 @@ Item = TypeVar("Item")
 
 @dataclass
 class Spent:
-    """An outpoint that an input spends, and the input's sequence."""
+    """An outpoint that an input spends, and the input's sequence, script and witness."""
 
     txid: str
     index: int
     sequence: int
+    script: bytes
+    witness: list[bytes] = field(default_factory=list)
 
 
 @dataclass
@@ -77,9 +79,8 @@ def read_transaction(digits: str) -> Transaction:
     body_at = reader.at = 6 if has_witness else 4
 
     def spent() -> Spent:
-        hash, index = reader.take(32), reader.number(4)
-        reader.counted()
-        return Spent(hash[::-1].hex(), index, reader.number(4))
+        hash, index, script = reader.take(32), reader.number(4), reader.counted()
+        return Spent(hash[::-1].hex(), index, reader.number(4), script)
 
     def paid() -> Paid:
         return Paid(reader.number(8), reader.counted())
@@ -88,7 +89,7 @@ def read_transaction(digits: str) -> Transaction:
     outputs = reader.each(paid)
     body = text[body_at : reader.at]
     if has_witness:
-        for _ in inputs:
-            reader.each(reader.counted)
+        for it in inputs:
+            it.witness = reader.each(reader.counted)
     stripped = text[:4] + body + reader.take(4)
     return Transaction(digits, version, inputs, outputs, printed_hash(stripped), printed_hash(text))
