@@ -92,7 +92,7 @@ def test_a_submission_that_trims(gate):
 
 def test_a_package(gate):
     """Its members stand in the pool itself, and what they push out is trimmed."""
-    refused(gate, "trim-behind-a-package", 3, 20)
+    refused(gate, "trim-behind-a-package", 3, 15)
 
 
 def test_a_package_that_replaces(gate):

@@ -50,11 +50,12 @@ NAMES = {
 # how the node's message on a package begins that would replace entries, and the one that the gate has for each of them; and the
 # message that comes behind the rules on that
 REPLACES, REFUSES, UNSWEPT = "package RBF failed: ", "package RBF failed: package must be 1-parent-1-child", "unspent-dust"
+FULL_POOL = "mempool full"
 # the codes of calls: the node has several for parameters that are none
 DENIED, UNDECODABLE, INVALID = -25, -22, -32602
 REPLACEMENT, LIST, BEHIND = "packages that replace together", "lists, which the node judges as packages", "behind these"
 # how many answers were compared when this was written
-COMPARED = {CASES: 962, FULL: 35}
+COMPARED = {CASES: 962, FULL: 34}
 EXPIRY = 336 * 3600
 COINBASE = "00" * 32
 
@@ -90,7 +91,11 @@ def replaces_together(told, has_conflict):
     message = told.get("package_msg", "")
     if message.startswith(REPLACES) or message == UNSWEPT and has_conflict:
         return message != REFUSES
-    together = [it for it in told.get("tx-results", {}).values() if len(it.get("fees", {}).get("effective-includes", [])) > 1]
+    # those that replaced entries and were trimmed again are all told that there is no room
+    results = told.get("tx-results", {}).values()
+    if has_conflict and results and all(it.get("error") == FULL_POOL for it in results):
+        return True
+    together = [it for it in results if len(it.get("fees", {}).get("effective-includes", [])) > 1]
     return bool(together and told["replaced-transactions"])
 
 
