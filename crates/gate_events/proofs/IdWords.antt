@@ -1,12 +1,11 @@
 -- The words of ids and of small numbers: what is printed for each is read as the same.
 use Rattle.std.proofs.Common.{◌≡◌, ℕ, ◌*◌, ◌<◌, ◌≤◌, ◌^◌, ◌⊎◌, nat_lt, Bool, true, false, List, length, reverse, Option, Some, None, Result, Ok, Err, refl, ap, sym, subst, ◌∙◌, inl, inr, arith}
 use Rattle.std.specs.Fmt.{decimal}
-use Rattle.std.specs.Option.{option_and_then}
 use Rattle.std.specs.Str.{bytes_eq, all_ascii_digits}
 use Rattle.std.proofs.lemmas.Fmt.{digits_decimal}
 use Rattle.std.proofs.lemmas.List.{reverse-reverse}
 use Rattle.std.proofs.lemmas.Option.{option_and_then_some}
-use Rattle.hex.specs.Hex.{decode_of, decode_sized, encode_lower, lower_digits}
+use Rattle.hex.specs.Hex.{decode_sized, encode_lower, lower_digits}
 use Rattle.hex.specs.declared.error.FromHexError.{FromHexError}
 use Rattle.hex.proofs.HexLemmas.{decode_of-ok, decode_sized-encode_lower, decode_sized-ok, decode_sized-twice, length-encode_with}
 use Rattle.gate_lines.specs.Numbers.{number_of, small_number_of, fit_small}

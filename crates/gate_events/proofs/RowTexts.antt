@@ -1,5 +1,5 @@
 -- The words of verdicts on inputs: what is printed for one is read as the same.
-use Rattle.std.proofs.Common.{◌≡◌, ℕ, ◌≤◌, ◌⊎◌, true, false, if◌then◌else◌, List, ◌∷◌, ◌++◌, length, codes, Option, Some, None, refl, ap, sym, subst, ◌∙◌, inl, inr, arith, length-append}
+use Rattle.std.proofs.Common.{◌≡◌, ℕ, ◌≤◌, ◌⊎◌, true, false, if◌then◌else◌, List, ◌∷◌, ◌++◌, length, codes, Option, Some, None, refl, ap, subst, ◌∙◌, inl, inr, arith, length-append}
 use Rattle.std.specs.Fmt.{decimal}
 use Rattle.std.specs.Option.{option_and_then}
 use Rattle.std.specs.Str.{bytes_eq}
@@ -15,7 +15,7 @@ use Rattle.gate_events.proofs.Again.{either, same_word, some_is}
 use Rattle.gate_events.proofs.IdWords.{IsIdRead, IsSmall, id_again, small_again}
 use Rattle.gate_events.proofs.Letters.{all_letters, letters_joined, number_letters, number_no_space}
 use Rattle.gate_events.proofs.Numbered.{small_decimal}
-use Rattle.gate_events.proofs.Spaces.{has_space, part_at, part_joined}
+use Rattle.gate_events.proofs.Spaces.{part_at, part_joined}
 
 -- ---- the verdict
 

@@ -11,7 +11,7 @@ use Rattle.gate_net.specs.Spelling.{IsAddress}
 use Rattle.gate_message.specs.declared.chain_event.ChainEvent.{ChainEvent}
 use Rattle.gate_message.specs.declared.chain_event.ChainEvent.TheVariants.{MoveTip, LearnCoin, LearnVerdict, Forget}
 use Rattle.gate_message.specs.declared.event.Event.{Event}
-use Rattle.gate_message.specs.declared.event.Event.TheVariants.{Enter, Leave, Tx as Submit, Mempool, GetBlock, Headers, FeeFilter, Rpc, SetFloor, Set, Chain}
+use Rattle.gate_message.specs.declared.event.Event.TheVariants.{Enter, Leave, Tx as Submit, Package, Mempool, GetBlock, Headers, FeeFilter, Rpc, SetFloor, Set, Chain}
 use Rattle.gate_events.specs.EventLines.{event_of}
 use Rattle.gate_events.specs.EventTexts.{chain_event_text, text_of}
 use Rattle.gate_events.specs.TextLaws.{TextsAreLines}
@@ -74,6 +74,7 @@ entering_few (Enter peer address) is =
     omega (arith, length-append (decimal peer) (codes " enter " ++ address_text address))
 entering_few (Leave peer) is = absurd is
 entering_few (Submit peer now transaction) is = absurd is
+entering_few (Package peer now parent child) is = absurd is
 entering_few (Mempool peer) is = absurd is
 entering_few (GetBlock peer height) is = absurd is
 entering_few (Headers peer height) is = absurd is
@@ -95,6 +96,7 @@ never_skipped : (event : Event) → is_skipped (text_of event) ≡ false
 never_skipped (Enter peer address) = refl
 never_skipped (Leave peer) = refl
 never_skipped (Submit peer now transaction) = refl
+never_skipped (Package peer now parent child) = refl
 never_skipped (Mempool peer) = refl
 never_skipped (GetBlock peer height) = refl
 never_skipped (Headers peer height) = refl

@@ -51,10 +51,22 @@ tx_event_of peer text = do
   p ← numbered_of text
   if is_word p.1 then Some (events.Tx peer p.0 (prepared_of p.1)) else None
 
+-- a parent and its child, each in a word of hex
+abbrev pub package_with : ℕ → ℕ → List ℕ × List ℕ → Option Event
+package_with peer now p = if length p.0 == 0 then None else if is_word p.1 then Some (events.Package peer now (prepared_of p.0) (prepared_of p.1)) else None
+
+-- `NOW HEX HEX`, whatever the words of hex are
+abbrev pub package_event_of : ℕ → List ℕ → Option Event
+package_event_of peer text = do
+  p ← numbered_of text
+  texts ← part_of p.1
+  package_with peer p.0 texts
+
 abbrev pub worded_event : ℕ → List ℕ × List ℕ → Option Event
 worded_event peer p =
     if bytes_eq p.0 (codes "enter") then enter_event_of peer p.1
     else if bytes_eq p.0 (codes "tx") then tx_event_of peer p.1
+    else if bytes_eq p.0 (codes "package") then package_event_of peer p.1
     else if bytes_eq p.0 (codes "getblock") then option_map (events.GetBlock peer) (small_number_of p.1)
     else if bytes_eq p.0 (codes "headers") then option_map (events.Headers peer) (small_number_of p.1)
     else if bytes_eq p.0 (codes "feefilter") then option_map (events.FeeFilter peer) (number_of p.1)
@@ -66,7 +78,7 @@ peer_event p =
     else if bytes_eq p.1 (codes "mempool") then Some (events.Mempool p.0)
     else option_and_then (worded_event p.0) (part_of p.1)
 
--- `P leave`, `P mempool`, `P enter ADDRESS`, `P tx NOW HEX`, `P getblock H`, `P headers H` or `P feefilter RATE`
+-- `P leave`, `P mempool`, `P enter ADDRESS`, `P tx NOW HEX`, `P package NOW HEX HEX`, `P getblock H`, `P headers H` or `P feefilter RATE`
 abbrev pub peer_event_of : List ℕ → Option Event
 peer_event_of text = option_and_then peer_event (numbered_of text)
 

@@ -16,7 +16,7 @@ use Rattle.gate_words.specs.VerdictWords.{row_text}
 use Rattle.gate_message.specs.declared.chain_event.ChainEvent.{ChainEvent}
 use Rattle.gate_message.specs.declared.chain_event.ChainEvent.TheVariants.{MoveTip, LearnCoin, LearnVerdict, Forget}
 use Rattle.gate_message.specs.declared.event.Event.{Event}
-use Rattle.gate_message.specs.declared.event.Event.TheVariants.{Enter, Leave, Tx as Submit, Mempool, GetBlock, Headers, FeeFilter, Rpc, SetFloor, Set, Chain}
+use Rattle.gate_message.specs.declared.event.Event.TheVariants.{Enter, Leave, Tx as Submit, Package, Mempool, GetBlock, Headers, FeeFilter, Rpc, SetFloor, Set, Chain}
 use Rattle.gate_message.specs.declared.switch.Switch.{Switch}
 use Rattle.gate_message.specs.declared.switch.Switch.TheVariants.{Bloom, Upload, Historic, Download}
 
@@ -50,6 +50,10 @@ enter_text peer address = codes "peer " ++ (decimal peer ++ (codes " enter " ++ 
 abbrev pub tx_text : ℕ → ℕ → Option Tx → List ℕ
 tx_text peer now transaction = codes "peer " ++ (decimal peer ++ (codes " tx " ++ (decimal now ++ (codes " " ++ transaction_word transaction))))
 
+abbrev pub package_text : ℕ → ℕ → Option Tx → Option Tx → List ℕ
+package_text peer now parent child =
+    codes "peer " ++ (decimal peer ++ (codes " package " ++ (decimal now ++ (codes " " ++ (transaction_word parent ++ (codes " " ++ transaction_word child))))))
+
 -- the line of a user's call, with its JSON as it was read
 abbrev pub call_text : UserCall → List ℕ
 call_text call = codes "user " ++ (call.user ++ (codes " rpc " ++ (decimal call.time ++ (codes " " ++ call.json))))
@@ -76,6 +80,7 @@ abbrev pub text_of : Event → List ℕ
 text_of (Enter peer address) = enter_text peer address
 text_of (Leave peer) = codes "peer " ++ (decimal peer ++ codes " leave")
 text_of (Submit peer now transaction) = tx_text peer now transaction
+text_of (Package peer now parent child) = package_text peer now parent child
 text_of (Mempool peer) = codes "peer " ++ (decimal peer ++ codes " mempool")
 text_of (GetBlock peer height) = codes "peer " ++ (decimal peer ++ (codes " getblock " ++ decimal height))
 text_of (Headers peer height) = codes "peer " ++ (decimal peer ++ (codes " headers " ++ decimal height))

@@ -1,6 +1,6 @@
 //! The event that a line spells.
 ghost use Rattle.std.specs.Prelude.{◌≡◌, IfOk, MatchOption, None, Some};
-ghost use Rattle.gate_events.specs.EventLines.{line_event, event_of, numbered_of, peer_event_of, worded_event, enter_event_of, tx_event_of, user_event_of, call_event_of, chain_event_of, blocks_event_of, timed_blocks_of, operator_event_of, switch_event_of, switch_of, is_on_of, prepared_of};
+ghost use Rattle.gate_events.specs.EventLines.{line_event, event_of, numbered_of, peer_event_of, worded_event, enter_event_of, tx_event_of, package_event_of, user_event_of, call_event_of, chain_event_of, blocks_event_of, timed_blocks_of, operator_event_of, switch_event_of, switch_of, is_on_of, prepared_of};
 
 use crate::chain_line::blocks_in;
 use crate::hexadecimal::decode;
@@ -43,7 +43,7 @@ pub fn read_event(alloc: Global, line: &str) -> Result<Option<Event>, Memory>
     }
 }
 
-/// `P leave`, `P mempool`, `P enter ADDRESS`, `P tx NOW HEX`, `P getblock H`, `P headers H` or `P feefilter RATE`.
+/// `P leave`, `P mempool`, `P enter ADDRESS`, `P tx NOW HEX`, `P package NOW HEX HEX`, `P getblock H`, `P headers H` or `P feefilter RATE`.
 fn peer_event(alloc: Global, rest: &str) -> Result<Option<Event>, Memory>
     ensures { IfOk result (λ event. event ≡ peer_event_of rest.now) }
 {
@@ -71,6 +71,9 @@ fn worded_event(alloc: Global, peer: u64, word: &str, rest: &str) -> Result<Opti
     }
     if word == "tx" {
         return tx_event(alloc, peer, rest);
+    }
+    if word == "package" {
+        return package_event(alloc, peer, rest);
     }
     if word == "getblock" {
         return Ok(read_small_number(rest).map(|height| Event::GetBlock { peer, height }));
@@ -172,6 +175,34 @@ fn tx_event(alloc: Global, peer: u64, rest: &str) -> Result<Option<Event>, Memor
         now,
         transaction,
     }))
+}
+
+/// `NOW HEX HEX`: whatever the words of hex are, the line is an event.
+fn package_event(alloc: Global, peer: u64, rest: &str) -> Result<Option<Event>, Memory>
+    ensures { IfOk result (λ event. event ≡ package_event_of peer rest.now) }
+{
+    let Some((now, texts)) = numbered(rest) else {
+        return Ok(None);
+    };
+    let Some((parent, child)) = next_word(texts) else {
+        return Ok(None);
+    };
+    if parent.is_empty() || !is_one_word(child) {
+        return Ok(None);
+    }
+    let parent = prepared(alloc, parent)?;
+    match prepared(alloc, child) {
+        Ok(child) => Ok(Some(Event::Package {
+            peer,
+            now,
+            parent,
+            child,
+        })),
+        Err(fault) => {
+            drop(parent);
+            Err(fault)
+        }
+    }
 }
 
 /// `NAME rpc NOW JSON`.

@@ -1,6 +1,6 @@
 //! The text of each event: its line, without the newline.
 ghost use Rattle.std.specs.Prelude.{◌≡◌, IfOk, string_bytes};
-ghost use Rattle.gate_events.specs.EventTexts.{call_text, on_word, switch_text, switch_word, text_of, transaction_word, tx_text};
+ghost use Rattle.gate_events.specs.EventTexts.{call_text, on_word, package_text, switch_text, switch_word, text_of, transaction_word, tx_text};
 
 use crate::chain_printing::chain_event_text;
 use gate_bytes::Memory;
@@ -21,6 +21,12 @@ pub fn event_text(alloc: Global, event: &Event) -> Result<String, Memory>
             now,
             transaction,
         } => tx_text(alloc, *peer, *now, transaction),
+        Event::Package {
+            peer,
+            now,
+            parent,
+            child,
+        } => package_text(alloc, *peer, *now, parent, child),
         Event::Mempool { peer } => Ok(format!(in alloc; "peer {peer} mempool")?),
         Event::GetBlock { peer, height } => Ok(format!(in alloc; "peer {peer} getblock {height}")?),
         Event::Headers { peer, height } => Ok(format!(in alloc; "peer {peer} headers {height}")?),
@@ -37,6 +43,20 @@ fn tx_text(alloc: Global, peer: u64, now: u64, transaction: &Prepared) -> Result
 {
     let word = transaction_word(alloc, transaction)?;
     Ok(format!(in alloc; "peer {peer} tx {now} {word}")?)
+}
+
+fn package_text(
+    alloc: Global,
+    peer: u64,
+    now: u64,
+    parent: &Prepared,
+    child: &Prepared,
+) -> Result<String, Memory>
+    ensures { IfOk result (λ text. string_bytes text ≡ package_text peer now parent.now child.now) }
+{
+    let parent = transaction_word(alloc, parent)?;
+    let child = transaction_word(alloc, child)?;
+    Ok(format!(in alloc; "peer {peer} package {now} {parent} {child}")?)
 }
 
 fn transaction_word(alloc: Global, transaction: &Prepared) -> Result<String, Memory>

@@ -3,12 +3,13 @@ use Rattle.std.specs.Prelude.{ℕ, Option, Some, None}
 use Rattle.gate_message.specs.declared.caller.Caller.{Caller}
 use Rattle.gate_message.specs.declared.caller.Caller.TheVariants.{Chain, Operator, Peer, User}
 use Rattle.gate_message.specs.declared.event.Event.{Event}
-use Rattle.gate_message.specs.declared.event.Event.TheVariants.{Enter, Leave, Tx as Submit, Mempool, GetBlock, Headers, FeeFilter, Rpc, SetFloor, Set, Chain as OfChain}
+use Rattle.gate_message.specs.declared.event.Event.TheVariants.{Enter, Leave, Tx as Submit, Package, Mempool, GetBlock, Headers, FeeFilter, Rpc, SetFloor, Set, Chain as OfChain}
 
 abbrev pub caller_of : Event → Caller
 caller_of (Enter peer address) = Peer peer
 caller_of (Leave peer) = Peer peer
 caller_of (Submit peer now transaction) = Peer peer
+caller_of (Package peer now parent child) = Peer peer
 caller_of (Mempool peer) = Peer peer
 caller_of (GetBlock peer height) = Peer peer
 caller_of (Headers peer height) = Peer peer

@@ -1,4 +1,4 @@
--- The reply to an event of the chain's caller, and what takes the place of a reply that was planned.
+-- The reply to an event of the chain's caller and to a peer's package, and what takes the place of a reply that was planned.
 use Rattle.std.specs.Prelude.{ℕ, List, Option, Some, None}
 use Rattle.gate_rules.specs.declared.Denial.{Denial}
 use Rattle.gate_rpc.specs.declared.error.RpcError.TheVariants as errors
@@ -7,12 +7,16 @@ use Rattle.gate_rpc.specs.declared.result.RpcResult.TheVariants as results
 use Rattle.gate_rpc.specs.declared.reply.RpcReply.{RpcReply}
 use Rattle.gate_rpc.specs.declared.reply.RpcReply.TheVariants.{NotAllowed, Answer, Failure}
 use Rattle.gate_rules.specs.declared.PeerDenial.TheVariants.{Admission}
+use Rattle.gate_submission.specs.declared.Member.{Member}
+use Rattle.gate_submission.specs.declared.PackageOutcome.{PackageOutcome}
+use Rattle.gate_submission.specs.declared.PackageVerdict.{PackageVerdict}
 use Rattle.gate_submission.specs.PackageOutcomes.{settled as settled_package}
+use Rattle.gate_message.specs.declared.denial.Then.{Then}
 use Rattle.gate_message.specs.declared.denial.Then.TheVariants.{Keep}
 use Rattle.gate_message.specs.declared.outcome.ChainOutcome.{ChainOutcome}
 use Rattle.gate_message.specs.declared.outcome.ChainOutcome.TheVariants as outcomes
 use Rattle.gate_message.specs.declared.reply.Reply.{Reply}
-use Rattle.gate_message.specs.declared.reply.Reply.TheVariants.{Entered, Left, Admitted, Listing, Block, Headers, Filter, Rpc, Denied, Set, Moved, Forgotten, Refused}
+use Rattle.gate_message.specs.declared.reply.Reply.TheVariants.{Entered, Left, Admitted, Packaged, Listing, Block, Headers, Filter, Rpc, Denied, Set, Moved, Forgotten, Refused}
 
 -- the reply to an event of the chain's caller with this outcome
 abbrev pub chain_reply : ChainOutcome → Reply
@@ -26,6 +30,7 @@ abbrev pub denied_instead : Reply → Denial → Reply
 denied_instead (Entered flags) denial = Denied (Admission denial) Keep
 denied_instead Left denial = Denied (Admission denial) Keep
 denied_instead (Admitted txid fee vsize replaced) denial = Denied (Admission denial) Keep
+denied_instead (Packaged then verdict members) denial = Denied (Admission denial) Keep
 denied_instead (Listing txids) denial = Denied (Admission denial) Keep
 denied_instead (Block height time) denial = Denied (Admission denial) Keep
 denied_instead (Headers first count) denial = Denied (Admission denial) Keep
@@ -65,11 +70,19 @@ answer_without gone NotAllowed = NotAllowed
 answer_without gone (Answer id result) = Answer id (result_without gone result)
 answer_without gone (Failure id error) = Failure id error
 
+-- the reply to a peer's package with this outcome
+abbrev pub packaged_as : Then → PackageOutcome → Reply
+packaged_as then outcome = Packaged then outcome.verdict outcome.members
+
+abbrev pub packaged_without : List (List ℕ) → Then → PackageVerdict → List Member → Reply
+packaged_without gone then verdict members = packaged_as then (settled_package gone (record { verdict = verdict; members = members; together = None }))
+
 -- the reply to a package once these entries have left the pool again: A46 denies each member among them
 abbrev pub without : List (List ℕ) → Reply → Reply
 without gone (Entered flags) = Entered flags
 without gone Left = Left
 without gone (Admitted txid fee vsize replaced) = Admitted txid fee vsize replaced
+without gone (Packaged then verdict members) = packaged_without gone then verdict members
 without gone (Listing txids) = Listing txids
 without gone (Block height time) = Block height time
 without gone (Headers first count) = Headers first count

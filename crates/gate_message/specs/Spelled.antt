@@ -1,5 +1,5 @@
 -- The transactions that an event brings, and that each of them has a text.
-use Rattle.std.specs.Prelude.{List, [], Contains, Result, Ok, Err, IfSome}
+use Rattle.std.specs.Prelude.{List, [], ◌∷◌, Option, Contains, Result, Ok, Err, IfSome}
 use Rattle.std.specs.List.{flat_map}
 use Rattle.std.specs.Option.{option_to_list}
 use Rattle.gate_tx.specs.Text.{IsTx}
@@ -14,7 +14,7 @@ use Rattle.gate_rpc.specs.Calls.{request_of}
 use Rattle.gate_message.specs.declared.chain_event.ChainEvent.{ChainEvent}
 use Rattle.gate_message.specs.declared.chain_event.ChainEvent.TheVariants.{MoveTip, LearnCoin, LearnVerdict, Forget}
 use Rattle.gate_message.specs.declared.event.Event.{Event}
-use Rattle.gate_message.specs.declared.event.Event.TheVariants.{Enter, Leave, Tx as Submit, Mempool, GetBlock, Headers, FeeFilter, Rpc, SetFloor, Set, Chain as OfChain}
+use Rattle.gate_message.specs.declared.event.Event.TheVariants.{Enter, Leave, Tx as Submit, Package, Mempool, GetBlock, Headers, FeeFilter, Rpc, SetFloor, Set, Chain as OfChain}
 
 -- the transactions that a command offers to the pool
 abbrev pub offered_by : Command → List Tx
@@ -42,11 +42,16 @@ connected_by (LearnCoin coin) = []
 connected_by (LearnVerdict row) = []
 connected_by (Forget blocks) = []
 
+-- the transactions of a parent and its child
+abbrev pub of_both : Option Tx → Option Tx → List Tx
+of_both parent child = flat_map option_to_list (parent ∷ child ∷ [])
+
 -- the transactions that an event brings
 abbrev pub transactions_of : Event → List Tx
 transactions_of (Enter peer address) = []
 transactions_of (Leave peer) = []
 transactions_of (Submit peer now transaction) = option_to_list transaction
+transactions_of (Package peer now parent child) = of_both parent child
 transactions_of (Mempool peer) = []
 transactions_of (GetBlock peer height) = []
 transactions_of (Headers peer height) = []
@@ -61,6 +66,7 @@ abbrev pub IsSpelled : Event → Type 0
 IsSpelled (Enter peer address) = Unit {0}
 IsSpelled (Leave peer) = Unit {0}
 IsSpelled (Submit peer now transaction) = IfSome transaction IsTx
+IsSpelled (Package peer now parent child) = (tx : Tx) → Contains (of_both parent child) tx → IsTx tx
 IsSpelled (Mempool peer) = Unit {0}
 IsSpelled (GetBlock peer height) = Unit {0}
 IsSpelled (Headers peer height) = Unit {0}

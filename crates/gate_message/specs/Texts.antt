@@ -4,11 +4,20 @@ use Rattle.std.specs.List.{flat_map}
 use Rattle.std.specs.Fmt.{decimal}
 use Rattle.gate_tx.specs.Ids.{id_text}
 use Rattle.gate_rules.specs.declared.ChainDenial.{ChainDenial}
+use Rattle.gate_rules.specs.declared.Denial.{Denial as AdmissionDenial}
 use Rattle.gate_rules.specs.Chain as chain
+use Rattle.gate_rules.specs.Denials as admission
+use Rattle.gate_rules.specs.Packages as packages
+use Rattle.gate_submission.specs.declared.Fate.{Fate}
+use Rattle.gate_submission.specs.declared.Fate.TheVariants as fates
+use Rattle.gate_submission.specs.declared.Member.{Member}
 use Rattle.gate_submission.specs.declared.Moved.{Moved as Change}
+use Rattle.gate_submission.specs.declared.PackageVerdict.{PackageVerdict}
+use Rattle.gate_submission.specs.declared.PackageVerdict.TheVariants as verdicts
 use Rattle.gate_rules.specs.declared.PeerDenial.{PeerDenial}
+use Rattle.gate_message.specs.declared.denial.Then.{Then}
 use Rattle.gate_message.specs.declared.reply.Reply.{Reply}
-use Rattle.gate_message.specs.declared.reply.Reply.TheVariants.{Entered, Left, Admitted, Listing, Block, Headers, Filter, Rpc, Denied, Set, Moved, Forgotten, Refused}
+use Rattle.gate_message.specs.declared.reply.Reply.TheVariants.{Entered, Left, Admitted, Packaged, Listing, Block, Headers, Filter, Rpc, Denied, Set, Moved, Forgotten, Refused}
 use Rattle.gate_rpc.specs.declared.reply.RpcReply.{RpcReply}
 use Rattle.gate_rpc.specs.Replies.{reply_status, reply_text as answer_text}
 use Rattle.gate_net.specs.Permissions.{Permissions, permissions_text}
@@ -21,6 +30,35 @@ entered_text flags = codes "entered " ++ permissions_text flags
 abbrev pub admitted_text : List ℕ → ℕ → ℕ → ℕ → List ℕ
 admitted_text txid fee vsize replaced =
     codes "admitted " ++ (id_text txid ++ (codes " fee " ++ (decimal fee ++ (codes " vsize " ++ (decimal vsize ++ (codes " replaced " ++ decimal replaced))))))
+
+abbrev pub known_text : List ℕ → List ℕ
+known_text txid = codes "known " ++ id_text txid
+
+abbrev pub denied_member_text : AdmissionDenial → List ℕ
+denied_member_text denial = codes "denied " ++ (admission.name_of denial ++ (codes " " ++ admission.token_of denial))
+
+-- what became of the transaction of this txid: it came into the pool, was there before, also with another witness, or is denied
+abbrev pub fate_text : List ℕ → Fate → List ℕ
+fate_text txid (fates.Taken fee vsize together replaced) = admitted_text txid fee vsize (length replaced)
+fate_text txid (fates.Known fee vsize) = known_text txid
+fate_text txid (fates.OtherWitness wtxid) = known_text txid
+fate_text txid (fates.Denied denial) = denied_member_text denial
+
+abbrev pub member_text : Member → List ℕ
+member_text m = fate_text m.txid m.fate
+
+-- what became of each member, behind a bar
+abbrev pub members_text : List Member → List ℕ
+members_text members = flat_map (λ m. codes " | " ++ member_text m) members
+
+-- what became of a package as a whole
+abbrev pub verdict_text : PackageVerdict → List ℕ
+verdict_text verdicts.Success = codes "success"
+verdict_text verdicts.Failed = codes "transaction failed"
+verdict_text (verdicts.Denied denial) = packages.name_of denial ++ (codes " " ++ packages.token_of denial)
+
+abbrev pub packaged_text : Then → PackageVerdict → List Member → List ℕ
+packaged_text then verdict members = codes "packaged " ++ (then_text then ++ (codes " " ++ (verdict_text verdict ++ members_text members)))
 
 -- how many txids there are, and then each after a space
 abbrev pub listing_text : List (List ℕ) → List ℕ
@@ -60,6 +98,7 @@ abbrev pub reply_text : Reply → List ℕ
 reply_text (Entered flags) = entered_text flags
 reply_text Left = codes "left"
 reply_text (Admitted txid fee vsize replaced) = admitted_text txid fee vsize replaced
+reply_text (Packaged then verdict members) = packaged_text then verdict members
 reply_text (Listing txids) = listing_text txids
 reply_text (Block height time) = block_text height time
 reply_text (Headers first count) = headers_text first count

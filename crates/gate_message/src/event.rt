@@ -28,6 +28,13 @@ pub enum Event {
         now: u64,
         transaction: Prepared,
     },
+    /// A peer submits a parent with its child at this second.
+    Package {
+        peer: u64,
+        now: u64,
+        parent: Prepared,
+        child: Prepared,
+    },
     /// A peer asks for the txids in the pool (BIP 35).
     Mempool {
         peer: u64,
@@ -73,6 +80,7 @@ impl Event {
             Event::Enter { peer, .. } => Ok(Caller::Peer(*peer)),
             Event::Leave { peer } => Ok(Caller::Peer(*peer)),
             Event::Tx { peer, .. } => Ok(Caller::Peer(*peer)),
+            Event::Package { peer, .. } => Ok(Caller::Peer(*peer)),
             Event::Mempool { peer } => Ok(Caller::Peer(*peer)),
             Event::GetBlock { peer, .. } => Ok(Caller::Peer(*peer)),
             Event::Headers { peer, .. } => Ok(Caller::Peer(*peer)),
@@ -99,6 +107,7 @@ impl Event {
             Event::Enter { peer, .. } => Some(*peer),
             Event::Leave { peer } => Some(*peer),
             Event::Tx { peer, .. } => Some(*peer),
+            Event::Package { peer, .. } => Some(*peer),
             Event::Mempool { peer } => Some(*peer),
             Event::GetBlock { peer, .. } => Some(*peer),
             Event::Headers { peer, .. } => Some(*peer),
@@ -142,9 +151,38 @@ impl Event {
     {
         match self {
             Event::Tx { transaction, .. } => transaction.recall_spelled(),
+            Event::Package { parent, child, .. } => {
+                parent.recall_spelled();
+                child.recall_spelled();
+            }
             Event::Rpc(call) => call.get().recall_spelled(),
             Event::Chain(event) => event.recall_spelled(),
             _ => (),
+        }
+    }
+}
+
+/// A copy of a peer's package.
+fn copied_package(
+    alloc: Global,
+    peer: u64,
+    now: u64,
+    parent: &Prepared,
+    child: &Prepared,
+) -> Result<Event, Memory>
+    ensures { IfOk result (λ event. event ≡ Event.Package peer now parent.now child.now) }
+{
+    let parent = parent.copy(alloc)?;
+    match child.copy(alloc) {
+        Ok(child) => Ok(Event::Package {
+            peer,
+            now,
+            parent,
+            child,
+        }),
+        Err(fault) => {
+            drop(parent);
+            Err(fault)
         }
     }
 }
@@ -166,6 +204,12 @@ impl Copied for Event {
                 now: *now,
                 transaction: transaction.copy(alloc)?,
             }),
+            Event::Package {
+                peer,
+                now,
+                parent,
+                child,
+            } => copied_package(alloc, *peer, *now, parent, child),
             Event::Mempool { peer } => Ok(Event::Mempool { peer: *peer }),
             Event::GetBlock { peer, height } => Ok(Event::GetBlock {
                 peer: *peer,
@@ -203,6 +247,7 @@ impl Exact for Event {
     ghost exact = { enum_decides enum _ (Decides-eqb & last_decides address_decides
         or last_decides Decides-eqb
         or Decides-eqb & Decides-eqb & last_decides prepared_decides
+        or Decides-eqb & Decides-eqb & prepared_decides & last_decides prepared_decides
         or last_decides Decides-eqb
         or Decides-eqb & last_decides Decides-eqb
         or Decides-eqb & last_decides Decides-eqb

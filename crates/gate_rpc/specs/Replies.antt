@@ -10,6 +10,7 @@ use Rattle.gate_tx.specs.Tx.{Tx}
 use Rattle.gate_rules.specs.declared.Denial.{Denial}
 use Rattle.gate_rules.specs.declared.Denial.TheVariants.{Decode, MissingOrSpent}
 use Rattle.gate_rules.specs.Denials.{token_of}
+use Rattle.gate_rules.specs.declared.PackageDenial.{PackageDenial}
 use Rattle.gate_rules.specs.Packages.{token_of as package_token}
 use Rattle.gate_rpc.specs.Packages.{package_json, package_rule_json}
 use Rattle.gate_rpc.specs.Values.{integer, rule_json, txid_json, txids_json}
@@ -19,7 +20,7 @@ use Rattle.gate_rpc.specs.declared.error.RpcError.{RpcError}
 use Rattle.gate_rpc.specs.declared.error.RpcError.TheVariants.{ParseError, InvalidRequest, MethodNotFound, InvalidParams, NotInMempool, Denied, PackageDenied}
 use Rattle.gate_rpc.specs.declared.items.KnownEntry.{KnownEntry}
 use Rattle.gate_rpc.specs.declared.items.Outcome.{Outcome}
-use Rattle.gate_rpc.specs.declared.items.Outcome.TheVariants.{Allowed, Rejected}
+use Rattle.gate_rpc.specs.declared.items.Outcome.TheVariants.{Allowed, Rejected, AllRejected, Unjudged}
 use Rattle.gate_rpc.specs.declared.items.Spending.{Spending}
 use Rattle.gate_rpc.specs.declared.result.EntryInfo.{EntryInfo}
 use Rattle.gate_rpc.specs.declared.result.RpcResult.{RpcResult}
@@ -109,6 +110,19 @@ rejected_json txid wtxid denial =
     (member (codes "wtxid") (txid_json wtxid)
     no_members)))))
 
+-- a rule on packages denies a transaction with all others of its list
+abbrev pub all_rejected_json : List ℕ → List ℕ → PackageDenial → Data
+all_rejected_json txid wtxid denial =
+    object (member (codes "package-error") (string (package_token denial))
+    (member (codes "rule") (package_rule_json denial)
+    (member (codes "txid") (txid_json txid)
+    (member (codes "wtxid") (txid_json wtxid)
+    no_members))))
+
+-- a transaction of which nothing is said
+abbrev pub ids_json : List ℕ → List ℕ → Data
+ids_json txid wtxid = object (member (codes "txid") (txid_json txid) (member (codes "wtxid") (txid_json wtxid) no_members))
+
 abbrev pub entry_json : EntryInfo → Data
 entry_json entry =
     object (member (codes "ancestorcount") (integer entry.ancestor_count)
@@ -140,6 +154,8 @@ info_json size budget least_rate relay_rate count =
 abbrev pub outcome_json : Outcome → Data
 outcome_json (Allowed txid wtxid fee vsize) = allowed_json txid wtxid fee vsize
 outcome_json (Rejected txid wtxid denial) = rejected_json txid wtxid denial
+outcome_json (AllRejected txid wtxid denial) = all_rejected_json txid wtxid denial
+outcome_json (Unjudged txid wtxid) = ids_json txid wtxid
 
 -- the list of what each of these is answered as
 abbrev pub items_json : {A : Type 0} → (A → Data) → List A → Items

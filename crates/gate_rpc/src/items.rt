@@ -1,6 +1,7 @@
 //! What the lists that calls are answered with have.
 use crate::result::EntryInfo;
 use gate_bytes::Exact;
+use gate_rules::PackageDenial;
 use gate_standard::Denial;
 use gate_tx::{OutPoint, Txid, Wtxid};
 
@@ -34,6 +35,17 @@ pub enum Outcome {
         wtxid: Wtxid,
         denial: Denial,
     },
+    /// A rule on packages would deny all of them.
+    AllRejected {
+        txid: Txid,
+        wtxid: Wtxid,
+        denial: PackageDenial,
+    },
+    /// Nothing is said of it, since another one would be denied.
+    Unjudged {
+        txid: Txid,
+        wtxid: Wtxid,
+    },
 }
 
 impl Exact for KnownEntry {
@@ -59,10 +71,13 @@ impl Exact for Outcome {
     ghost use Rattle.std.proofs.lemmas.Bool.Decides.{Decides-eqb};
     ghost use Rattle.std.proofs.lemmas.Slice.Eq.{bytes_eq-Decides};
     ghost use Rattle.gate_rules.specs.contracts.denial.Denial.{enum as denials};
+    ghost use Rattle.gate_rules.specs.contracts.package.PackageDenial.{enum as package_denials};
     ghost use Rattle.gate_rpc.specs.contracts.items.Outcome.{enum};
     ghost use Rattle.gate_bytes.specs.Equality.{enum_decides, ◌or◌, ◌&◌, last_decides, bare_decides};
 
     ghost exact = { enum_decides enum _ (bytes_eq-Decides & bytes_eq-Decides & Decides-eqb & last_decides Decides-eqb
         or bytes_eq-Decides & bytes_eq-Decides & last_decides (bare_decides denials tt)
+        or bytes_eq-Decides & bytes_eq-Decides & last_decides (bare_decides package_denials tt)
+        or bytes_eq-Decides & last_decides bytes_eq-Decides
         or tt) };
 }

@@ -3,7 +3,7 @@ ghost use Rattle.std.specs.Prelude.{◌≡◌, [], ◌∷◌, ◌++◌, IfOk, On
 ghost use Rattle.std.specs.Option.{option_map};
 ghost use Rattle.serde_json.specs.View.{view};
 ghost use Rattle.serde_json.specs.Written.{compact_text};
-ghost use Rattle.gate_rpc.specs.Replies.{error_json, id_json, allowed_json, rejected_json, entry_json, info_json, outcome_json, outcomes_json, entries_json, transaction_json, spending_json, spendings_json, result_json, reject_reason};
+ghost use Rattle.gate_rpc.specs.Replies.{error_json, id_json, allowed_json, all_rejected_json, ids_json, rejected_json, entry_json, info_json, outcome_json, outcomes_json, entries_json, transaction_json, spending_json, spendings_json, result_json, reject_reason};
 ghost use Rattle.gate_rpc.specs.Values.{txids_json};
 ghost use Rattle.gate_rules.specs.Denials.{name_of};
 ghost use Rattle.gate_tx.specs.Ids.{id_text};
@@ -17,6 +17,7 @@ use crate::items::{KnownEntry, Outcome, Spending};
 use crate::packaging::package_json;
 use crate::result::{EntryInfo, RpcResult};
 use gate_bytes::Memory;
+use gate_rules::PackageDenial;
 use gate_standard::Denial;
 use gate_tx::{Identified, Txid, Wtxid};
 use serde_json::{Value, json};
@@ -195,6 +196,35 @@ fn rejected_text(
     )
 }
 
+/// A rule on packages denies a transaction with all others of its list.
+#[tactic(auto, unfolding(serde_json::proofs::OnLiterals::serde_json_on_literals))]
+fn all_rejected_json(
+    alloc: Global,
+    txid: &Txid,
+    wtxid: &Wtxid,
+    denial: &PackageDenial,
+) -> Result<String, AllocError>
+    ensures { IfOk result (λ text. string_bytes text ≡ compact_text (all_rejected_json txid.now wtxid.now denial.now)) }
+{
+    let reason = quoted_text(alloc, denial.row().token)?;
+    let rule = quoted_text(alloc, denial.row().name)?;
+    let txid = txid_text(alloc, txid)?;
+    let wtxid = wtxid_text(alloc, wtxid)?;
+    format!(in alloc;
+        "{{\"package-error\":{reason},\"rule\":{rule},\"txid\":{txid},\"wtxid\":{wtxid}}}"
+    )
+}
+
+/// A transaction of which nothing is said.
+#[tactic(auto, unfolding(serde_json::proofs::OnLiterals::serde_json_on_literals))]
+fn ids_json(alloc: Global, txid: &Txid, wtxid: &Wtxid) -> Result<String, AllocError>
+    ensures { IfOk result (λ text. string_bytes text ≡ compact_text (ids_json txid.now wtxid.now)) }
+{
+    let txid = txid_text(alloc, txid)?;
+    let wtxid = wtxid_text(alloc, wtxid)?;
+    format!(in alloc; "{{\"txid\":{txid},\"wtxid\":{wtxid}}}")
+}
+
 pub(crate) fn rule_json(alloc: Global, denial: &Denial) -> Result<String, AllocError>
     ensures { IfOk result (λ text. string_bytes text ≡ quoted (name_of denial.now)) }
 {
@@ -269,6 +299,12 @@ fn outcome_json(alloc: Global, outcome: &Outcome) -> Result<String, AllocError>
             wtxid,
             denial,
         } => rejected_json(alloc, txid, wtxid, denial),
+        Outcome::AllRejected {
+            txid,
+            wtxid,
+            denial,
+        } => all_rejected_json(alloc, txid, wtxid, denial),
+        Outcome::Unjudged { txid, wtxid } => ids_json(alloc, txid, wtxid),
     }
 }
 

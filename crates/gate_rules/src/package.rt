@@ -14,16 +14,23 @@ pub enum PackageDenial {
     NotChildWithParents, // J2
     TooLarge, // J3
     Duplicates, // J4
+    NotSorted, // J5
     Conflicting, // J6
     LacksParents, // J7
     TrucViolation, // J8
     FamilyLimits, // J9
-    Replaces, // J10
+    ReplacesAsOthers, // J10
+    HasAncestors, // J11
+    TooManyReplacements, // J12
+    LowerFee, // J13
+    LowerRateThanFirst, // J14
+    ConflictTopology, // J15
+    LowerDiagram, // J16
     UnspentDust, // J17
 }
 
 /// The row of each rule on packages, in their order.
-static ROWS: [Rule; 10] = [
+static ROWS: [Rule; 17] = [
     Rule {
         name: "J1",
         token: "max-burn-exceeded",
@@ -51,6 +58,13 @@ static ROWS: [Rule; 10] = [
         then: Consequence::Keep,
         core: Some("IsWellFormedPackage"),
         says: "Two members have one txid",
+    },
+    Rule {
+        name: "J5",
+        token: "package-not-sorted",
+        then: Consequence::Keep,
+        core: Some("IsWellFormedPackage"),
+        says: "An input of a transaction of a list for testmempoolaccept names the txid of the same or of a later one",
     },
     Rule {
         name: "J6",
@@ -85,7 +99,49 @@ static ROWS: [Rule; 10] = [
         token: "package RBF failed: package must be 1-parent-1-child",
         then: Consequence::Keep,
         core: Some("PackageMempoolChecks"),
-        says: "The members that are judged together spend what an entry of the pool spends",
+        says: "The members that are judged together replace entries of the pool, and are not two",
+    },
+    Rule {
+        name: "J11",
+        token: "package RBF failed: new transaction cannot have mempool ancestors",
+        then: Consequence::Keep,
+        core: Some("PackageMempoolChecks"),
+        says: "They replace entries, and one of them has an ancestor in the pool, be it one that was taken just now",
+    },
+    Rule {
+        name: "J12",
+        token: "package RBF failed: too many potential replacements",
+        then: Consequence::Keep,
+        core: Some("GetEntriesForConflicts"),
+        says: "The entries that they conflict with, each counted once, have more than 100 descendants, themselves among them; one below two of these counts twice",
+    },
+    Rule {
+        name: "J13",
+        token: "package RBF failed: insufficient anti-DoS fees",
+        then: Consequence::Keep,
+        core: Some("PaysForRBF"),
+        says: "Together they pay less than the entries that they replace, or not enough more to pay for their own relay at incrementalrelayfee",
+    },
+    Rule {
+        name: "J14",
+        token: "package RBF failed: package feerate is less than or equal to parent feerate",
+        then: Consequence::Keep,
+        core: Some("PackageMempoolChecks"),
+        says: "The feerate of both, rounded down, is not above that of the first",
+    },
+    Rule {
+        name: "J15",
+        token: "package RBF failed: conflict topology",
+        then: Consequence::Keep,
+        core: Some("CheckConflictTopology"),
+        says: "An entry that they replace is joined, by parent steps either way, to more than one other entry",
+    },
+    Rule {
+        name: "J16",
+        token: "package RBF failed: insufficient feerate: does not improve feerate diagram",
+        then: Consequence::Keep,
+        core: Some("ImprovesFeerateDiagram"),
+        says: "The feerate diagram with both is below the one with what they replace somewhere, or above it nowhere",
     },
     Rule {
         name: "J17",

@@ -4,10 +4,11 @@ ghost use Rattle.gate_rules.specs.Peers.{peers, name_of, token_of, then_of, row_
 ghost use Rattle.gate_rules.specs.Rules.{key_of};
 
 use crate::denial::Denial;
+use crate::package::PackageDenial;
 use crate::rule::{Consequence, Rule};
 use gate_bytes::Exact;
 
-/// A rule that an event fails: one on its peer, or one of admission.
+/// A rule that an event fails: one on its peer, one of admission, or one on its package.
 #[derive(Clone, Copy, PartialEq, Eq)]
 pub enum PeerDenial {
     PeerUnknown, // P1
@@ -20,12 +21,15 @@ pub enum PeerDenial {
     HeadersDuringDownload, // P8
     UnknownBlock, // P9
     HistoricalUploadTarget, // P10
+    NoPackages, // P11
     /// A rule of admission.
     Admission(Denial),
+    /// A rule on a package.
+    Package(PackageDenial),
 }
 
 /// The row of each rule on a peer, in their order.
-static ROWS: [Rule; 10] = [
+static ROWS: [Rule; 11] = [
     Rule {
         name: "P1",
         token: "peer-unknown",
@@ -96,6 +100,13 @@ static ROWS: [Rule; 10] = [
         core: Some("-maxuploadtarget"),
         says: "The peer asks without download for a block more than 604,800 seconds (a week) older than the tip, while the target for historical blocks is reached",
     },
+    Rule {
+        name: "P11",
+        token: "no-packages",
+        then: Consequence::Keep,
+        core: None,
+        says: "The peer submits a package, and packages are taken with packages 1 alone",
+    },
 ];
 
 impl PeerDenial {
@@ -123,17 +134,20 @@ impl PeerDenial {
             PeerDenial::HeadersDuringDownload => &ROWS[7],
             PeerDenial::UnknownBlock => &ROWS[8],
             PeerDenial::HistoricalUploadTarget => &ROWS[9],
+            PeerDenial::NoPackages => &ROWS[10],
             PeerDenial::Admission(denial) => denial.row(),
+            PeerDenial::Package(denial) => denial.row(),
         }
     }
 }
 
 impl Exact for PeerDenial {
     ghost use Rattle.gate_rules.specs.contracts.denial.Denial.{enum as denials};
+    ghost use Rattle.gate_rules.specs.contracts.package.PackageDenial.{enum as package_denials};
     ghost use Rattle.gate_bytes.specs.Equality.{enum_decides, ◌or◌, none_decides, last_decides, bare_decides};
     ghost use Rattle.gate_rules.specs.contracts.peer.PeerDenial.{enum};
 
     ghost exact = { enum_decides enum _ (none_decides or none_decides or none_decides or none_decides or none_decides
-        or none_decides or none_decides or none_decides or none_decides or none_decides
-        or last_decides (bare_decides denials tt) or tt) };
+        or none_decides or none_decides or none_decides or none_decides or none_decides or none_decides
+        or last_decides (bare_decides denials tt) or last_decides (bare_decides package_denials tt) or tt) };
 }
