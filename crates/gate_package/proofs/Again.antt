@@ -1,14 +1,14 @@
 -- A package that is a success is known when it is submitted again, and changes nothing.
-use Rattle.std.proofs.Common.{◌≡◌, ◌≤◌, ◌+◌, ℕ, zero, suc, Bool, true, false, cond, not, ◌&&◌, ◌||◌, if◌then◌else◌, List, [], ◌∷◌, ◌++◌, length, map, Option, Some, None, Result, Ok, Err, refl, sym, ap, ◌∙◌, subst, arith, ⊎_elim}
+use Rattle.std.proofs.Common.{◌≡◌, ◌+◌, ℕ, suc, Bool, true, false, cond, ◌&&◌, ◌||◌, if◌then◌else◌, List, [], ◌∷◌, ◌++◌, length, map, Option, Some, None, Result, Ok, Err, refl, sym, ap, ◌∙◌, subst, arith, ⊎_elim}
 use Rattle.std.specs.Prelude.{◌==◌, nat_le, Contains, IfOk, filter, is_none}
-use Rattle.std.specs.List.{All, count_by, list_any}
+use Rattle.std.specs.List.{All, list_any}
 use Rattle.std.specs.Str.{bytes_eq}
 use Rattle.std.specs.Cmp.Lexicographic.{bytes_decides}
 use Rattle.std.proofs.lemmas.Bool.{cond-false, cond-true, eqb-true, false_from_ne_true, le-leb, or_parts, true≢false}
 use Rattle.std.proofs.lemmas.List.Elements.{All-cons, All-contains, All-nil}
 use Rattle.std.proofs.lemmas.List.Sums.{sum_by-cons}
 use Rattle.gate_bytes.specs.Order.{first_failing}
-use Rattle.gate_bytes.proofs.Members.{Contains-cons_cases, Contains-head, Contains-rest, any_is, list_any_of, not_in_none}
+use Rattle.gate_bytes.proofs.Members.{Contains-cons_cases, Contains-head, Contains-rest, list_any_of, not_in_none}
 use Rattle.gate_tx.specs.Ids.{txid_of, wtxid_of}
 use Rattle.gate_tx.specs.Tx.{Tx}
 use Rattle.gate_rules.specs.declared.Denial.{Denial}
@@ -18,10 +18,9 @@ use Rattle.gate_submission.specs.declared.Fate.{Fate}
 use Rattle.gate_submission.specs.declared.Fate.TheVariants.{Taken, Known, OtherWitness, Denied}
 use Rattle.gate_submission.specs.declared.Member.{Member}
 use Rattle.gate_submission.specs.declared.PackageOutcome.{PackageOutcome}
-use Rattle.gate_submission.specs.declared.PackageVerdict.{PackageVerdict}
 use Rattle.gate_submission.specs.declared.PackageVerdict.TheVariants as verdicts
 use Rattle.gate_submission.specs.PackageOutcomes.{has_left, is_held, is_of_pool, left, one_left, settled}
-use Rattle.gate_pool.specs.Pool.{Admitted, entry_by_txid, entry_by_wtxid, size_of}
+use Rattle.gate_pool.specs.Pool.{Admitted, entry_by_txid, entry_by_wtxid, listing_of, size_of}
 use Rattle.gate_pool.proofs.Entries.{Contains-from_map, Contains-map}
 use Rattle.gate_pool.proofs.Walking.{Contains-filter, Contains-from_filter}
 use Rattle.gate_trim.specs.Expiry.{expired}
@@ -29,7 +28,7 @@ use Rattle.gate_trim.specs.Trimming.{Trimmed, trim_of}
 use Rattle.gate_trim.proofs.Trimmings.{trim_ends, trim_within}
 use Rattle.gate_admit.specs.Standing.{Standing}
 use Rattle.gate_admit.proofs.Lists.{none_pass}
-use Rattle.gate_package.specs.declared.price.Price.{Price}
+use Rattle.gate_diagram.specs.declared.Price.{Price}
 use Rattle.gate_package.specs.declared.role.Role.TheVariants.{Together}
 use Rattle.gate_package.specs.declared.together.DeniedOne.{DeniedOne}
 use Rattle.gate_package.specs.declared.together.Refusal.{Refusal}
@@ -37,9 +36,10 @@ use Rattle.gate_package.specs.Judging.{fee_beside, half_rules, member_decision, 
 use Rattle.gate_package.specs.Kinship.{breaks_together}
 use Rattle.gate_package.specs.Laws.{KnownAgain, is_known}
 use Rattle.gate_package.specs.Packages.{Course, Judged, concluded, course_behind, course_of, denied_count, denied_of, entries_behind, entry_as, fate_by, fate_of, fate_unless_known, gone_from, granted, has_failed, held_txids, is_denial, is_denied, judged_from, judged_of, landed, landed_as, member_with, Packaged, packaged_of, reconsidered_as, reconsidered_by, sibling_in, unless_unfit}
-use Rattle.gate_package.specs.Prices.{price_sum_fee, price_sum_size}
+use Rattle.gate_diagram.specs.Prices.{price_sum_fee, price_sum_size}
 use Rattle.gate_package.specs.Shapes.{shape_rules}
-use Rattle.gate_package.specs.Together.{all_checked, doubted_place, half_or, halves_of, passes_limits, priced_refusal, refusal_of, refused_by_dust, refused_by_price, refused_by_verdict, replaces_some, together_of, unless_refused, unpaid, unswept_place, with_price}
+use Rattle.gate_rivals.specs.Rivals.{replaced_together}
+use Rattle.gate_package.specs.Together.{all_checked, doubted_place, half_or, halves_of, passes_limits, priced_refusal, refusal_of, refused_by_dust, refused_by_price, refused_by_rule, refused_by_verdict, replacing_denial, together_of, unless_refused, unpaid, unswept_place, with_price}
 use Rattle.gate_package.proofs.AllOrNone.{together_one_each}
 
 -- ---- the members are those of the transactions
@@ -80,24 +80,24 @@ none_counted (m ∷ members) h = by (is_denied m) (sym (sum_by-cons (λ (x : Mem
     by false k ih = ih (omega (arith, k))
 
 -- those that are denied are granted where there is a price for each
-granted_held : (txs : List Tx) (members : List Member) (prices : List Price) → AreOf txs members → length prices ≡ length (denied_of txs members) → AllHeld (granted prices members) × AreOf txs (granted prices members)
-granted_held [] [] prices are many = (tt, tt)
-granted_held [] (m ∷ members) prices are many = absurd are
-granted_held (tx ∷ txs) [] prices are many = absurd are
-granted_held (tx ∷ txs) (m ∷ members) [] are many = by (is_denied m) refl many (granted_held txs members [] are.1)
+granted_held : (replaced : List (List ℕ)) (txs : List Tx) (members : List Member) (prices : List Price) → AreOf txs members → length prices ≡ length (denied_of txs members) → AllHeld (granted replaced prices members) × AreOf txs (granted replaced prices members)
+granted_held replaced [] [] prices are many = (tt, tt)
+granted_held replaced [] (m ∷ members) prices are many = absurd are
+granted_held replaced (tx ∷ txs) [] prices are many = absurd are
+granted_held replaced (tx ∷ txs) (m ∷ members) [] are many = by (is_denied m) refl many (granted_held replaced txs members [] are.1)
   where
-    by : (b : Bool) → is_denied m ≡ b → 0 ≡ length (cond b (tx ∷ denied_of txs members) (denied_of txs members)) → (0 ≡ length (denied_of txs members) → AllHeld (granted [] members) × AreOf txs (granted [] members))
-        → AllHeld (m ∷ granted [] members) × AreOf (tx ∷ txs) (m ∷ granted [] members)
+    by : (b : Bool) → is_denied m ≡ b → 0 ≡ length (cond b (tx ∷ denied_of txs members) (denied_of txs members)) → (0 ≡ length (denied_of txs members) → AllHeld (granted replaced [] members) × AreOf txs (granted replaced [] members))
+        → AllHeld (m ∷ granted replaced [] members) × AreOf (tx ∷ txs) (m ∷ granted replaced [] members)
     by true is k ih = absurd (omega (arith, k))
     by false is k ih = let rest = ih k in ((held_unless_denied m.fate is, rest.0), (are.0, rest.1))
-granted_held (tx ∷ txs) (m ∷ members) (price ∷ prices) are many =
-    by (is_denied m) refl many (granted_held txs members prices are.1) (granted_held txs members (price ∷ prices) are.1)
+granted_held replaced (tx ∷ txs) (m ∷ members) (price ∷ prices) are many =
+    by (is_denied m) refl many (granted_held [] txs members prices are.1) (granted_held replaced txs members (price ∷ prices) are.1)
   where
     by : (b : Bool) → is_denied m ≡ b → suc (length prices) ≡ length (cond b (tx ∷ denied_of txs members) (denied_of txs members))
-        → (length prices ≡ length (denied_of txs members) → AllHeld (granted prices members) × AreOf txs (granted prices members))
-        → (suc (length prices) ≡ length (denied_of txs members) → AllHeld (granted (price ∷ prices) members) × AreOf txs (granted (price ∷ prices) members))
-        → AllHeld (cond b (record m { fate = Taken price.fee price.vsize true [] } ∷ granted prices members) (m ∷ granted (price ∷ prices) members))
-        × AreOf (tx ∷ txs) (cond b (record m { fate = Taken price.fee price.vsize true [] } ∷ granted prices members) (m ∷ granted (price ∷ prices) members))
+        → (length prices ≡ length (denied_of txs members) → AllHeld (granted [] prices members) × AreOf txs (granted [] prices members))
+        → (suc (length prices) ≡ length (denied_of txs members) → AllHeld (granted replaced (price ∷ prices) members) × AreOf txs (granted replaced (price ∷ prices) members))
+        → AllHeld (cond b (record m { fate = Taken price.fee price.vsize true replaced } ∷ granted [] prices members) (m ∷ granted replaced (price ∷ prices) members))
+        × AreOf (tx ∷ txs) (cond b (record m { fate = Taken price.fee price.vsize true replaced } ∷ granted [] prices members) (m ∷ granted replaced (price ∷ prices) members))
     by true is k ih jh = let rest = ih (omega (arith, k)) in ((refl, rest.0), (are.0, rest.1))
     by false is k ih jh = let rest = jh k in ((held_unless_denied m.fate is, rest.0), (are.0, rest.1))
 
@@ -144,13 +144,18 @@ unfolding NoSuccess
 rule_fails true denial others h = λ e. cc
 rule_fails false denial others h = h
 
+denial_fails : (found : Option PackageDenial) (others : Option Refusal) → NoSuccess others → NoSuccess (refused_by_rule found others)
+unfolding NoSuccess
+denial_fails None others h = h
+denial_fails (Some denial) others h = λ e. cc
+
 refusal_fails : (over : Standing) (txs : List Tx) (prices : List Price) → NoSuccess (refusal_of over txs prices)
 unfolding refusal_of priced_refusal
 refusal_fails over txs prices =
     rule_fails (breaks_together over.policy over.entries txs prices) _ _
     (price_fails txs (unpaid over.policy over.floor (price_sum_fee prices) (price_sum_size prices)) _
     (rule_fails (passes_limits over.policy over.entries txs (price_sum_size prices)) _ _
-    (rule_fails (replaces_some over.entries txs) _ _
+    (denial_fails (replacing_denial over.policy over.entries txs prices) _
     (dust_fails (unswept_place over.policy.standards txs over.entries 0 txs) (refused_by_verdict (doubted_place over.verdicts 0 txs)) (doubt_fails (doubted_place over.verdicts 0 txs))))))
 
 together_fails : (max_rate : ℕ) (over : Standing) (txs : List Tx) → FailsOr (together_of max_rate over txs)
@@ -176,7 +181,7 @@ reconsidered_holds max_rate over now txs members are =
     by (together_of max_rate over (denied_of txs members)) (together_one_each max_rate over (denied_of txs members)) (together_fails max_rate over (denied_of txs members))
   where
     by : (found : Result (List Price) Refusal) → IfOk found (λ prices. length prices ≡ length (denied_of txs members)) → FailsOr found → Holds txs (reconsidered_as over.entries now members (denied_of txs members) found)
-    by (Ok prices) many fails = λ e. granted_held txs members prices are many
+    by (Ok prices) many fails = λ e. granted_held (listing_of (replaced_together over.entries (denied_of txs members))) txs members prices are many
     by (Err refusal) many fails = λ e. absurd (fails e)
 
 judged_holds : (max_rate : ℕ) (over : Standing) (now : ℕ) (txs : List Tx) (course : Course) → AreOf txs course.members → Holds txs (judged_from max_rate over now txs course)

@@ -1,5 +1,5 @@
 -- Those that are judged together enter all or none.
-use Rattle.std.proofs.Common.{◌≡◌, ◌+◌, ℕ, suc, Bool, true, false, if◌then◌else◌, List, [], ◌∷◌, ◌++◌, length, Option, Some, None, Result, Ok, Err, refl, ap, ◌⊎◌, inl, inr, arith}
+use Rattle.std.proofs.Common.{◌≡◌, ◌+◌, ℕ, suc, Bool, true, false, if◌then◌else◌, List, [], ◌∷◌, ◌++◌, length, Option, Some, None, Result, Ok, Err, refl, sym, ap, ◌∙◌, subst, ◌⊎◌, inl, inr, arith}
 use Rattle.std.specs.Prelude.{◌==◌, nat_le, IfOk}
 use Rattle.gate_bytes.specs.Order.{first_failing}
 use Rattle.gate_tx.specs.Tx.{Tx}
@@ -8,12 +8,13 @@ use Rattle.gate_submission.specs.declared.Member.{Member}
 use Rattle.gate_submission.specs.declared.PackageVerdict.TheVariants as verdicts
 use Rattle.gate_pool.specs.Pool.{Admitted}
 use Rattle.gate_admit.specs.Standing.{Standing}
-use Rattle.gate_package.specs.declared.price.Price.{Price}
+use Rattle.gate_diagram.specs.declared.Price.{Price}
 use Rattle.gate_package.specs.declared.role.Role.TheVariants.{Together}
 use Rattle.gate_package.specs.declared.together.Refusal.{Refusal}
 use Rattle.gate_package.specs.Judging.{fee_beside, half_rules, vsize_beside}
 use Rattle.gate_package.specs.Laws.{TogetherAllOrNone}
 use Rattle.gate_package.specs.Packages.{Course, concluded, course_of, denied_count, denied_of, has_failed, judged_from, judged_of, newcomers, reconsidered_as, reconsidered_by}
+use Rattle.gate_rivals.specs.Rivals.{staying_beside}
 use Rattle.gate_package.specs.Together.{all_checked, half_or, halves_of, refusal_of, together_of, unless_refused, with_price}
 
 -- ---- one price for each
@@ -24,11 +25,15 @@ priced n place price (Some denial) others h = tt
 priced n place price None (Ok prices) h = ap suc h
 priced n place price None (Err refusal) h = tt
 
-one_each : (max_rate : ℕ) (over : Standing) (before : List Tx) (place : ℕ) (txs : List Tx) → IfOk (halves_of max_rate over before place txs) (λ prices. length prices ≡ length txs)
+pub one_each : (max_rate : ℕ) (over : Standing) (before : List Tx) (place : ℕ) (txs : List Tx) → IfOk (halves_of max_rate over before place txs) (λ prices. length prices ≡ length txs)
 one_each max_rate over before place [] = refl
 one_each max_rate over before place (tx ∷ txs) =
     priced (length txs) place (record { fee = fee_beside before over tx; vsize = vsize_beside before over tx }) (first_failing (half_rules Together max_rate before over tx))
     (halves_of max_rate over (before ++ tx ∷ []) (place + 1) txs) (one_each max_rate over (before ++ tx ∷ []) (place + 1) txs)
+
+-- so where each of them passes
+pub halves_one_each : (max_rate : ℕ) (over : Standing) (txs : List Tx) (found : Result (List Price) Refusal) (prices : List Price) → found ≡ halves_of max_rate over [] 0 txs → found ≡ Ok prices → length prices ≡ length txs
+halves_one_each max_rate over txs found prices is h = subst (λ (r : Result (List Price) Refusal). IfOk r (λ ps. length ps ≡ length txs)) (sym is ∙ h) (one_each max_rate over [] 0 txs)
 
 checked : (over : Standing) (these : List Tx) (n : ℕ) (found : Result (List Price) Refusal) → IfOk found (λ prices. length prices ≡ n) → IfOk (all_checked over these found) (λ prices. length prices ≡ n)
 checked over these n (Err refusal) h = tt
@@ -53,7 +58,7 @@ abbrev Either : ℕ → Standing → List Admitted → List Admitted → Type 0
 Either max_rate over before after =
     (after ≡ before)
     ⊎ ((these : List Tx) × (prices : List Price) × (more : List Admitted)
-    × (together_of max_rate (record over { entries = before }) these ≡ Ok prices) × (after ≡ before ++ more) × (length more ≡ length these))
+    × (together_of max_rate (record over { entries = before }) these ≡ Ok prices) × (after ≡ staying_beside before these ++ more) × (length more ≡ length these))
 
 reconsidered : (max_rate : ℕ) (over : Standing) (now : ℕ) (members : List Member) (these : List Tx) (entries : List Admitted)
     → Either max_rate over entries (reconsidered_by max_rate (record over { entries = entries }) now members these).entries

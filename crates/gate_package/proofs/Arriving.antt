@@ -1,5 +1,5 @@
 -- Those that enter together, one after another: each is new, and replaces nothing.
-use Rattle.std.proofs.Common.{◌≡◌, ℕ, Bool, true, false, ◌||◌, List, [], ◌∷◌, ◌++◌, length, Option, Some, None, Result, Ok, Err, refl, sym, ap, ◌∙◌, subst, append_assoc, ⊎_elim}
+use Rattle.std.proofs.Common.{◌≡◌, ℕ, Bool, false, ◌||◌, List, [], ◌∷◌, ◌++◌, length, Some, None, Ok, refl, sym, ap, ◌∙◌, subst, append_assoc, ⊎_elim}
 use Rattle.std.specs.Prelude.{◌+◌, ◌==◌, Contains, find, is_some}
 use Rattle.std.specs.List.{list_any}
 use Rattle.std.specs.Option.{option_or}
@@ -10,7 +10,6 @@ use Rattle.std.proofs.lemmas.List.Elements.{All-contains}
 use Rattle.std.proofs.lemmas.List.Folds.{find-append}
 use Rattle.gate_bytes.specs.Order.{first_failing}
 use Rattle.gate_bytes.proofs.Members.{Contains-cons_cases, Contains-head, Contains-rest, any_is, not_in_none}
-use Rattle.gate_tx.specs.declared.OutPoint.{OutPoint}
 use Rattle.gate_tx.specs.declared.TxIn.{TxIn}
 use Rattle.gate_tx.specs.Coins.{spends}
 use Rattle.gate_tx.specs.Ids.{txid_of, wtxid_of}
@@ -22,14 +21,14 @@ use Rattle.gate_pool.proofs.Entries.{find_none}
 use Rattle.gate_pool.proofs.Removals.{without_below-none}
 use Rattle.gate_admit.specs.Standing.{Standing}
 use Rattle.gate_admit.proofs.Lists.{none_pass}
-use Rattle.gate_package.specs.declared.price.Price.{Price}
+use Rattle.gate_diagram.specs.declared.Price.{Price}
 use Rattle.gate_package.specs.declared.role.Role.TheVariants.{Together}
-use Rattle.gate_package.specs.Judging.{fee_beside, half_rules, vsize_beside}
-use Rattle.gate_package.specs.Packages.{AreNewcomers, IsAbsent, newcomers}
+use Rattle.gate_package.specs.Judging.{fee_beside, half_rules, replaces_one, vsize_beside}
+use Rattle.gate_package.specs.Packages.{AreAbsent, AreNewcomers, IsAbsent, newcomers}
 use Rattle.gate_package.specs.Shapes.{has_conflict, has_duplicates, has_same_id, shares_input}
 use Rattle.gate_package.specs.Staging.{StaysPlain}
-use Rattle.gate_package.specs.Together.{halves_of, replaces_one, replaces_some, together_of}
-use Rattle.gate_package.proofs.Joining.{all_pass, checked, none_there, not_found, priced}
+use Rattle.gate_package.specs.Together.{halves_of, replaces_some, together_of}
+use Rattle.gate_package.proofs.Joining.{StandsFree, checked, none_there, not_found, priced}
 use Rattle.gate_package.proofs.Belonging.{half_absent, half_passes, neither}
 
 -- ---- an entry that replaces nothing
@@ -123,8 +122,9 @@ all_absent max_rate over before place (first ∷ txs) prices h tx c =
     (λ (k : Contains txs tx). all_absent max_rate over (before ++ first ∷ []) (place + 1) txs found.rest found.behind tx k)
     (Contains-cons_cases first txs tx c)
 
-pub together_new : (max_rate : ℕ) (over : Standing) (txs : List Tx) (prices : List Price) → together_of max_rate over txs ≡ Ok prices → has_duplicates txs ≡ false → has_conflict txs ≡ false → AreNewcomers over.entries txs
+pub together_absent : (max_rate : ℕ) (over : Standing) (txs : List Tx) (prices : List Price) → together_of max_rate over txs ≡ Ok prices → AreAbsent over.entries txs
 unfolding together_of
-together_new max_rate over txs prices h distinct apart =
-    let made = checked over txs (halves_of max_rate over [] 0 txs) prices h in
-    record { absent = all_absent max_rate over [] 0 txs prices made.0; replace_none = (all_pass over txs prices made.1).none; distinct = distinct; apart = apart }
+together_absent max_rate over txs prices h = all_absent max_rate over [] 0 txs prices (checked over txs (halves_of max_rate over [] 0 txs) prices h).0
+
+pub together_new : (max_rate : ℕ) (over : Standing) (txs : List Tx) (prices : List Price) → StandsFree max_rate over txs prices → has_duplicates txs ≡ false → has_conflict txs ≡ false → AreNewcomers over.entries txs
+together_new max_rate over txs prices h distinct apart = record { absent = all_absent max_rate over [] 0 txs prices h.halves; replace_none = h.none; distinct = distinct; apart = apart }

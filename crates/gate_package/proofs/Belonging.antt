@@ -1,6 +1,6 @@
 -- What the members of a package keep of what holds of all of them, and what those that are judged together pass.
-use Rattle.std.proofs.Common.{◌≡◌, ◌≢◌, ◌≤◌, ◌+◌, ◌*◌, ℕ, Bool, true, false, cond, ◌||◌, List, [], ◌∷◌, ◌++◌, length, Option, Some, None, Result, Ok, Err, refl, sym, ap, ◌∙◌, subst, arith, ⊎_elim}
-use Rattle.std.specs.Prelude.{◌-◌, ◌==◌, Contains, sum_by}
+use Rattle.std.proofs.Common.{◌≡◌, ◌≢◌, ◌≤◌, ◌+◌, ◌*◌, ℕ, Bool, true, false, cond, ◌||◌, List, [], ◌∷◌, length, None, refl, sym, ◌∙◌, subst, ⊎_elim}
+use Rattle.std.specs.Prelude.{◌==◌, Contains}
 use Rattle.std.specs.List.{list_any}
 use Rattle.std.specs.Str.{bytes_eq}
 use Rattle.std.proofs.lemmas.Bool.{or_parts, ltb-false, true≢false, false_from_ne_true}
@@ -11,21 +11,21 @@ use Rattle.gate_bytes.proofs.OrderLemmas.{none_fails-append, none_fails}
 use Rattle.gate_tx.specs.Ids.{txid_of, wtxid_of}
 use Rattle.gate_tx.specs.Sizes.{weight_of}
 use Rattle.gate_tx.specs.Tx.{Tx}
-use Rattle.gate_rules.specs.declared.Denial.{Denial}
 use Rattle.gate_submission.specs.Alone.{alone_rules}
 use Rattle.gate_submission.specs.declared.Member.{Member}
 use Rattle.gate_chain.specs.Times.{tip_of}
-use Rattle.gate_pool.specs.Pool.{Admitted, entry_by_txid, entry_by_wtxid}
+use Rattle.gate_pool.specs.Pool.{entry_by_txid, entry_by_wtxid}
 use Rattle.gate_admit.specs.Policies.{IsPolicy}
-use Rattle.gate_admit.specs.Reports.{reported, report_rules, sigop_cost, vsize_of}
+use Rattle.gate_admit.specs.Reports.{reported, report_rules, sigop_cost}
 use Rattle.gate_admit.specs.Rules.{balance_rules, coin_value_rules, coins_value, final_rules, lock_rules, outputs_value, pool_rules}
 use Rattle.gate_admit.specs.Standing.{Standing}
 use Rattle.gate_admit.proofs.Granted.{hundred, ids_differ, none_found, sized}
 use Rattle.gate_admit.proofs.Lists.{none_pass}
 use Rattle.gate_admit.proofs.Weighing.{counted}
 use Rattle.gate_package.specs.declared.role.Role.{Role}
+use Rattle.gate_package.specs.declared.role.Role.TheVariants.{Member as AsMember, Together, Listed}
 use Rattle.gate_package.specs.Coins.{coins_beside, coin_rules_beside}
-use Rattle.gate_package.specs.Judging.{family_rules, fee_beside, half_rules, payment_rules, rate_rules, vsize_beside}
+use Rattle.gate_package.specs.Judging.{fee_beside, half_rules, pool_rules_as, vsize_beside}
 use Rattle.gate_package.specs.Packages.{denied_of, is_denied}
 use Rattle.gate_package.specs.Shapes.{has_conflict, has_duplicates, has_same_id, shares_input}
 
@@ -120,6 +120,13 @@ pub record Half (before : List Tx) (over : Standing) (tx : Tx) : Type 0 where
   pub coin : NoneFails (coin_rules_beside over.chain before over.entries tx)
   pub report : NoneFails (report_rules over.policy (reported tx.inputs (coins_beside over.chain before over.entries tx.inputs)) (fee_beside before over tx) tx)
 
+-- whatever its role, it passes the rules on the pool
+pool_passes : (role : Role) (over : Standing) (tx : Tx) → NoneFails (pool_rules_as role over.policy over.entries tx) → NoneFails (pool_rules over.policy over.entries tx)
+unfolding pool_rules_as
+pool_passes AsMember over tx p = p
+pool_passes Together over tx p = p
+pool_passes Listed over tx p = (none_fails-append (pool_rules over.policy over.entries tx) _ p).0
+
 pub half_passes : (role : Role) (max_rate : ℕ) (before : List Tx) (over : Standing) (tx : Tx) → first_failing (half_rules role max_rate before over tx) ≡ None → Half before over tx
 unfolding half_rules
 half_passes role max_rate before over tx h =
@@ -127,13 +134,13 @@ half_passes role max_rate before over tx h =
     let fee = fee_beside before over tx in
     let alone = none_fails-append (alone_rules over.policy.standards tx) _ (none_fails _ h) in
     let final = none_fails-append (final_rules over.chain tx) _ alone.1 in
-    let pool = none_fails-append (pool_rules over.policy over.entries tx) _ final.1 in
+    let pool = none_fails-append (pool_rules_as role over.policy over.entries tx) _ final.1 in
     let coin = none_fails-append (coin_rules_beside over.chain before over.entries tx) _ pool.1 in
     let lock = none_fails-append (lock_rules over.chain coins tx) _ coin.1 in
     let value = none_fails-append (coin_value_rules (tip_of over.chain + 1) 0 coins) _ lock.1 in
     let balance = none_fails-append (balance_rules (coins_value coins) (outputs_value tx)) _ value.1 in
     let report = none_fails-append (report_rules over.policy (reported tx.inputs coins) fee tx) _ balance.1 in
-    record { alone = alone.0; pool = pool.0; coin = coin.0; report = report.0 }
+    record { alone = alone.0; pool = pool_passes role over tx pool.0; coin = coin.0; report = report.0 }
 
 -- no entry has one of its ids
 pub half_absent : (before : List Tx) (over : Standing) (tx : Tx) → Half before over tx → (entry_by_txid over.entries (txid_of tx) ≡ None) × (entry_by_wtxid over.entries (wtxid_of tx) ≡ None)

@@ -1,7 +1,7 @@
 -- Whether those that are judged together pass the limits of families, found step by step.
-use Rattle.std.proofs.Common.{◌≡◌, ◌≤◌, ◌<◌, ◌+◌, ◌-◌, ℕ, Bool, true, false, ◌||◌, List, [], ◌∷◌, length, map, filter, refl, sym, ap, ◌∙◌, subst, arith}
+use Rattle.std.proofs.Common.{◌≡◌, ◌≤◌, ◌<◌, ◌+◌, ◌-◌, ℕ, Bool, true, false, ◌||◌, List, [], ◌∷◌, length, map, filter, refl, sym, ap, ◌∙◌, arith}
 use Rattle.std.specs.Prelude.{nat_lt}
-use Rattle.std.specs.List.{flat_map, list_any}
+use Rattle.std.specs.List.{list_any}
 use Rattle.std.proofs.lemmas.Bool.{ltb-false, or_left, or_parts, or_right}
 use Rattle.std.proofs.lemmas.Bool.Decides.{nat_tests}
 use Rattle.gate_tx.specs.declared.OutPoint.{OutPoint}
@@ -14,7 +14,8 @@ use Rattle.gate_pool.specs.Pool.{Admitted, size_of}
 use Rattle.gate_admit.specs.declared.limits.FamilyLimits.{FamilyLimits}
 use Rattle.gate_admit.specs.Limits.{usual_limits}
 use Rattle.gate_admit.specs.Policies.{Policy}
-use Rattle.gate_package.specs.Together.{above_all, are_too_many, crowd, inputs_of, passes_limits, point_of}
+use Rattle.gate_rivals.specs.Rivals.{point_of}
+use Rattle.gate_package.specs.Together.{above_all, are_too_many, crowd, passes_limits}
 
 -- ---- one entry
 

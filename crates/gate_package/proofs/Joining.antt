@@ -1,11 +1,11 @@
 -- Those that enter together keep entries sound over their chain.
-use Rattle.std.proofs.Common.{◌≡◌, ◌≢◌, ◌≤◌, ◌+◌, ℕ, suc, Bool, true, false, cond, ◌||◌, ◌&&◌, List, [], ◌∷◌, ◌++◌, length, get_or, Option, Some, None, Result, Ok, Err, refl, sym, ap, ◌∙◌, subst, append-nil, append_assoc, length-append, arith, ⊎_elim}
+use Rattle.std.proofs.Common.{◌≡◌, ◌≤◌, ◌+◌, ℕ, Bool, true, false, cond, ◌||◌, ◌&&◌, List, [], ◌∷◌, ◌++◌, length, get_or, Option, Some, None, Result, Ok, Err, refl, sym, ap, ◌∙◌, subst, append-nil, append_assoc, length-append, arith, ⊎_elim}
 use Rattle.std.specs.Prelude.{nat_lt, if◌then◌else◌, Contains, IsSome, is_none, is_some, option_and_then, slice_get, find, filter, map, sum_by}
 use Rattle.std.specs.List.{All, list_any, flat_map}
 use Rattle.std.specs.Option.{option_or}
 use Rattle.std.specs.Str.{bytes_eq}
 use Rattle.std.specs.Cmp.Lexicographic.{bytes_decides}
-use Rattle.std.proofs.lemmas.Bool.{cases_Bool, cond-false, false_from_ne_true, ltb-false, or_left, or_parts, or_right, true≢false}
+use Rattle.std.proofs.lemmas.Bool.{cases_Bool, cond-false, false_from_ne_true, ltb-false, or_parts, true≢false}
 use Rattle.std.proofs.lemmas.List.Elements.{All-append, All-contains, Contains-append_cases, Contains-append_left, Contains-append_right, Contains-get_or, Contains-push_cases, filter-append}
 use Rattle.std.proofs.lemmas.List.Folds.{find-append}
 use Rattle.std.proofs.lemmas.List.Sums.{sum_by-append, sum_by-cons}
@@ -17,21 +17,20 @@ use Rattle.gate_tx.specs.Coins.{spends}
 use Rattle.gate_tx.specs.Ids.{txid_of, wtxid_of}
 use Rattle.gate_tx.specs.Tx.{Tx}
 use Rattle.gate_rules.specs.declared.Denial.{Denial}
+use Rattle.gate_rules.specs.declared.PackageDenial.{PackageDenial}
 use Rattle.gate_chain.specs.Coins.{coin_made, coin_of, is_known_txid}
 use Rattle.gate_chain.specs.Times.{tip_of}
 use Rattle.gate_graph.specs.Family.{reaches}
 use Rattle.gate_graph.proofs.Steps.{cases_id}
 use Rattle.gate_pool.specs.Pool.{Admitted, entry_by_txid, has_txid, has_wtxid, size_of, spender_of, spends_of}
 use Rattle.gate_pool.specs.Counting.{entered_beside, is_counted, is_sibling}
-use Rattle.gate_pool.specs.Family.{steps, ancestors_above, descendants_of, is_conflict, without_below}
+use Rattle.gate_pool.specs.Family.{steps, ancestors_above, descendants_of, is_conflict}
 use Rattle.gate_pool.proofs.Entries.{Contains-from_map, Contains-map, find_none, find_some}
 use Rattle.gate_pool.proofs.Removals.{without_below-none}
 use Rattle.gate_pool.proofs.Walking.{Contains-filter, Contains-from_filter}
-use Rattle.gate_rbf.specs.declared.ParentsOf.TheVariants.{Conflicts}
 use Rattle.gate_admit.specs.Coins.{pool_coin, view_coin}
 use Rattle.gate_admit.specs.Good.{IsLimited, IsSound, IsUnconnected}
 use Rattle.gate_admit.specs.Limits.{usual_limits}
-use Rattle.gate_admit.specs.Policies.{IsPolicy, Policy, most_ancestors, most_descendants_size}
 use Rattle.gate_admit.specs.Standing.{Standing}
 use Rattle.gate_admit.proofs.Childless.{IsChildless, above_new, left_by, left_within, reached_before, reached_from_new}
 use Rattle.gate_admit.proofs.Coining.{coin_beside, coin_elsewhere, some_either}
@@ -40,15 +39,16 @@ use Rattle.gate_admit.proofs.Filtering.{length_ones, sum_by-none}
 use Rattle.gate_admit.proofs.Granted.{each_once, ids_differ, some_from_not_none, spends_once}
 use Rattle.gate_admit.proofs.Limited.{HasRoom, HasRoomAbove, limited_new, limited_old}
 use Rattle.gate_admit.proofs.Lists.{All-one, none_pass}
-use Rattle.gate_package.specs.declared.price.Price.{Price}
+use Rattle.gate_diagram.specs.declared.Price.{Price}
 use Rattle.gate_package.specs.declared.role.Role.TheVariants.{Together}
 use Rattle.gate_package.specs.declared.together.Refusal.{Refusal}
-use Rattle.gate_package.specs.Coins.{coin_rules_beside, made_by, misses_coin_beside, view_beside}
-use Rattle.gate_package.specs.Judging.{fee_beside, half_rules, vsize_beside}
+use Rattle.gate_package.specs.Coins.{coin_rules_beside, made_by, view_beside}
+use Rattle.gate_package.specs.Judging.{fee_beside, half_rules, replaces_one, vsize_beside}
 use Rattle.gate_package.specs.Packages.{newcomers}
-use Rattle.gate_package.specs.Prices.{price_sum_fee, price_sum_size}
-use Rattle.gate_package.specs.Shapes.{has_conflict, has_duplicates, shares_input}
-use Rattle.gate_package.specs.Together.{above_all, all_checked, are_too_many, crowd, all_denied, half_or, halves_of, inputs_of, is_crowded, passes_limits, priced_refusal, refusal_of, refused_by_price, refused_each, replaces_one, replaces_some, together_of, unless_refused, unpaid, with_price}
+use Rattle.gate_diagram.specs.Prices.{price_sum_fee, price_sum_size}
+use Rattle.gate_package.specs.Shapes.{has_conflict, has_duplicates}
+use Rattle.gate_rivals.specs.Rivals.{inputs_of}
+use Rattle.gate_package.specs.Together.{above_all, all_checked, are_too_many, crowd, half_or, halves_of, is_crowded, passes_limits, priced_refusal, refusal_of, refused_by_price, refused_by_rule, replaces_some, replacing_denial, unless_refused, unpaid, with_price}
 use Rattle.gate_package.specs.Kinship.{breaks_together}
 use Rattle.gate_package.proofs.Belonging.{AllDiffer, Differ, Half, all_differ, half_absent, half_passes, half_small}
 use Rattle.gate_package.proofs.Membership.{among}
@@ -391,7 +391,11 @@ price_none txs None others h = h
 pub record PassAll (over : Standing) (txs : List Tx) (prices : List Price) : Type 0 where
   pub truc : breaks_together over.policy over.entries txs prices ≡ false
   pub limits : passes_limits over.policy over.entries txs (price_sum_size prices) ≡ false
-  pub none : replaces_some over.entries txs ≡ false
+  pub rules : replacing_denial over.policy over.entries txs prices ≡ None
+
+rule_none : (found : Option PackageDenial) (others : Option Refusal) → refused_by_rule found others ≡ None → found ≡ None
+rule_none (Some denial) others h = cc
+rule_none None others h = refl
 
 pub all_pass : (over : Standing) (txs : List Tx) (prices : List Price) → refusal_of over txs prices ≡ None → PassAll over txs prices
 unfolding refusal_of priced_refusal
@@ -399,8 +403,7 @@ all_pass over txs prices h =
     let whole = unless_none (breaks_together over.policy over.entries txs prices) _ _ h in
     let priced = price_none txs (unpaid over.policy over.floor (price_sum_fee prices) (price_sum_size prices)) _ whole.1 in
     let limits = unless_none (passes_limits over.policy over.entries txs (price_sum_size prices)) _ _ priced in
-    let replaces = unless_none (replaces_some over.entries txs) _ _ limits.1 in
-    record { truc = whole.0; limits = limits.0; none = replaces.0 }
+    record { truc = whole.0; limits = limits.0; rules = rule_none (replacing_denial over.policy over.entries txs prices) _ limits.1 }
 
 unrefused : (over : Standing) (txs : List Tx) (made prices : List Price) (refusal : Option Refusal) → refusal_of over txs made ≡ refusal → unless_refused refusal made ≡ Ok prices → (made ≡ prices) × (refusal_of over txs prices ≡ None)
 unrefused over txs made prices (Some refusal) is h = absurd (cc)
@@ -448,7 +451,7 @@ room_made over txs vsize h =
           (ltb-false over.policy.descendants (length (descendants_of over.entries (txid_of e.tx)) + length txs) parts.0, ltb-false over.policy.descendants_size (size_of (descendants_of over.entries (txid_of e.tx)) + vsize) parts.1);
     }
 
-own_inputs : (txs : List Tx) (tx : Tx) → Contains txs tx → (i : TxIn) → Contains tx.inputs i → Contains (flat_map inputs_of txs) i
+pub own_inputs : (txs : List Tx) (tx : Tx) → Contains txs tx → (i : TxIn) → Contains tx.inputs i → Contains (flat_map inputs_of txs) i
 own_inputs [] tx m i c = not_in_none tx m
 own_inputs (first ∷ txs) tx m i c =
     ⊎_elim (λ (same : first ≡ tx). Contains-append_left first.inputs (flat_map inputs_of txs) i (subst (λ (t : Tx). Contains t.inputs i) (sym same) c))
@@ -479,15 +482,19 @@ all_ahead over txs distinct apart new none = record {
   none = λ t c. All-contains (λ (x : Tx). replaces_one over.entries x ≡ false) txs t (none_pass (replaces_one over.entries) txs none) c;
 }
 
--- those that may enter together keep entries sound, if no connected block has one of them that passes
-pub together_sound : (max_rate : ℕ) (over : Standing) (now : ℕ) (txs : List Tx) (prices : List Price) → together_of max_rate over txs ≡ Ok prices → has_duplicates txs ≡ false → has_conflict txs ≡ false
+-- these pass over the entries, which are none of those that they replace
+pub record StandsFree (max_rate : ℕ) (over : Standing) (txs : List Tx) (prices : List Price) : Type 0 where
+  pub halves : halves_of max_rate over [] 0 txs ≡ Ok prices
+  pub truc : breaks_together over.policy over.entries txs prices ≡ false
+  pub limits : passes_limits over.policy over.entries txs (price_sum_size prices) ≡ false
+  pub none : replaces_some over.entries txs ≡ false
+
+-- those that enter together keep the entries sound that stay, if no connected block has one of them that passes
+pub together_sound : (max_rate : ℕ) (over : Standing) (now : ℕ) (txs : List Tx) (prices : List Price) → StandsFree max_rate over txs prices → has_duplicates txs ≡ false → has_conflict txs ≡ false
     → ((tx : Tx) → Contains txs tx → ComesNew over tx) → IsSound over.policy over.chain over.entries → IsSound over.policy over.chain (over.entries ++ newcomers now txs prices)
-unfolding together_of
 together_sound max_rate over now txs prices h distinct apart new good =
-    let made = checked over txs (halves_of max_rate over [] 0 txs) prices h in
-    let all = all_pass over txs prices made.1 in
     let inputs = flat_map inputs_of txs in
-    let room = room_made over txs (price_sum_size prices) all.limits in
-    joined max_rate over now inputs (length txs) (price_sum_size prices) room [] 0 txs prices [] over.entries made.0
-    (behind_none over inputs good) (all_ahead over txs distinct apart new all.none)
+    let room = room_made over txs (price_sum_size prices) h.limits in
+    joined max_rate over now inputs (length txs) (price_sum_size prices) room [] 0 txs prices [] over.entries h.halves
+    (behind_none over inputs good) (all_ahead over txs distinct apart new h.none)
     (omega arith) (omega (arith, room.descendants_size, good.bounds.descendants_size_most))

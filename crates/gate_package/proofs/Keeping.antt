@@ -9,25 +9,27 @@ use Rattle.gate_submission.specs.declared.Member.{Member}
 use Rattle.gate_submission.specs.declared.PackageVerdict.TheVariants as verdicts
 use Rattle.gate_tx.specs.Ids.{txid_of}
 use Rattle.gate_graph.specs.Family.{reaches}
-use Rattle.gate_pool.specs.Family.{steps, without_family}
+use Rattle.gate_pool.specs.Family.{is_below_some, steps, without_below, without_family}
 use Rattle.gate_pool.specs.Pool.{Admitted}
 use Rattle.gate_trim.specs.Expiry.{expired, is_stale}
 use Rattle.gate_trim.proofs.Trimmings.{trim_keeps}
 use Rattle.gate_admit.specs.Good.{IsSound, IsUnconnected}
 use Rattle.gate_admit.specs.Standing.{Standing}
 use Rattle.gate_admit.specs.Truc.{TrucHolds}
-use Rattle.gate_admit.proofs.Kin.{expired_truc, truc_part}
+use Rattle.gate_admit.proofs.Kin.{truc_part}
 use Rattle.gate_admit.proofs.Removing.{below_sound, family_sound}
-use Rattle.gate_package.specs.declared.price.Price.{Price}
+use Rattle.gate_diagram.specs.declared.Price.{Price}
 use Rattle.gate_package.specs.declared.together.Refusal.{Refusal}
 use Rattle.gate_package.specs.Laws.{PackageKeepsGood, PackageKeepsTruc}
 use Rattle.gate_package.specs.Packages.{Course, Judged, concluded, course_of, denied_count, denied_of, has_failed, judged_from, judged_of, landed, newcomers, packaged_of, reconsidered_as, reconsidered_by, unless_unfit}
 use Rattle.gate_package.specs.Shapes.{has_conflict, has_duplicates, shape_rules}
+use Rattle.gate_rivals.specs.Rivals.{is_rival, staying_beside}
 use Rattle.gate_package.specs.Together.{together_of}
-use Rattle.gate_package.proofs.Joining.{ComesNew, together_sound}
+use Rattle.gate_package.proofs.Joining.{ComesNew, StandsFree, together_sound}
 use Rattle.gate_package.proofs.Landing.{package_within}
 use Rattle.gate_package.proofs.Belonging.{denied_apart, denied_distinct, denied_within}
 use Rattle.gate_package.proofs.Membership.{among, course_sound, course_truc}
+use Rattle.gate_package.proofs.Parting.{stands_free}
 use Rattle.gate_package.proofs.Newness.{IsNew, new_if_unconnected}
 use Rattle.gate_package.proofs.Shaping.{shape_passes}
 use Rattle.gate_package.proofs.SmallFamilies.{together_truc}
@@ -35,16 +37,17 @@ use Rattle.gate_package.proofs.SmallFamilies.{together_truc}
 -- those of these transactions that may enter together keep a fact about entries
 abbrev pub TogetherKeep : (List Admitted → Type 0) → ℕ → Standing → ℕ → List Tx → Type 0
 TogetherKeep Keeps max_rate over now txs =
-    (entries : List Admitted) (these : List Tx) (prices : List Price) → together_of max_rate (among over entries) these ≡ Ok prices → has_duplicates these ≡ false → has_conflict these ≡ false
+    (entries : List Admitted) (these : List Tx) (prices : List Price) → StandsFree max_rate (among over entries) these prices → has_duplicates these ≡ false → has_conflict these ≡ false
     → ((tx : Tx) → Contains these tx → Contains txs tx) → Keeps entries → Keeps (entries ++ newcomers now these prices)
 
-module _ (Keeps : List Admitted → Type 0) (max_rate : ℕ) (over : Standing) (now : ℕ) (txs : List Tx) (together : TogetherKeep Keeps max_rate over now txs) where
+module _ (Keeps : List Admitted → Type 0) (max_rate : ℕ) (over : Standing) (now : ℕ) (txs : List Tx) (together : TogetherKeep Keeps max_rate over now txs)
+    (parts : (test : Admitted → Bool) (entries : List Admitted) → Keeps entries → Keeps (without_below test entries)) where
   reconsidered_keeps : (entries : List Admitted) (members : List Member) (these : List Tx) → has_duplicates these ≡ false → has_conflict these ≡ false → ((tx : Tx) → Contains these tx → Contains txs tx) → Keeps entries
       → Keeps (reconsidered_by max_rate (among over entries) now members these).entries
   reconsidered_keeps entries members these distinct apart within h = by (together_of max_rate (among over entries) these) refl
     where
       by : (found : Result (List Price) Refusal) → together_of max_rate (among over entries) these ≡ found → Keeps (reconsidered_as entries now members these found).entries
-      by (Ok prices) is = together entries these prices is distinct apart within h
+      by (Ok prices) is = together (staying_beside entries these) these prices (stands_free max_rate (among over entries) these prices is) distinct apart within (parts (is_rival these) entries h)
       by (Err refusal) is = h
 
   judged_keeps : (course : Course) → has_duplicates txs ≡ false → has_conflict txs ≡ false → Keeps course.entries → Keeps (judged_from max_rate over now txs course).entries
@@ -59,10 +62,10 @@ module _ (Keeps : List Admitted → Type 0) (max_rate : ℕ) (over : Standing) (
       by false false false =
           reconsidered_keeps course.entries course.members (denied_of txs course.members) (denied_distinct txs course.members distinct) (denied_apart txs course.members apart) (denied_within txs course.members) h
 
-  module _ (budget : ℕ) (expires : (entries : List Admitted) → Keeps entries → Keeps (expired over.policy.stay now entries)) (goes : (entries : List Admitted) (txid : List ℕ) → Keeps entries → Keeps (without_family entries txid)) where
+  module _ (budget : ℕ) (goes : (entries : List Admitted) (txid : List ℕ) → Keeps entries → Keeps (without_family entries txid)) where
     landed_keeps : (judged : Judged) → Keeps judged.entries → Keeps (landed over now budget judged).entries
     unfolding landed
-    landed_keeps judged h = trim_keeps Keeps goes over.policy.incremental_rate budget (expired over.policy.stay now judged.entries) over.floor (expires judged.entries h)
+    landed_keeps judged h = trim_keeps Keeps goes over.policy.incremental_rate budget (expired over.policy.stay now judged.entries) over.floor (parts (is_stale over.policy.stay now) judged.entries h)
 
     -- the entries that a package leaves
     pub package_keeps : (Keeps over.entries → Keeps (course_of max_rate over now txs).entries) → Keeps over.entries → Keeps (packaged_of max_rate over txs now budget).entries
@@ -81,7 +84,7 @@ pub package_sound : (max_rate : ℕ) (over : Standing) (txs : List Tx) (now budg
 package_sound max_rate over txs now budget new h =
     package_keeps (IsSound over.policy over.chain) max_rate over now txs
     (λ entries these prices is distinct apart within good. together_sound max_rate (among over entries) now these prices is distinct apart (λ tx c. (new tx (within tx c)).behind entries good.fresh) good)
-    budget (λ entries good. below_sound over.policy over.chain (is_stale over.policy.stay now) entries good) (family_sound over.policy over.chain)
+    (below_sound over.policy over.chain) budget (family_sound over.policy over.chain)
     (course_sound max_rate over now txs (λ tx c. (new tx c).alone)) h
 
 pub package_good : PackageKeepsGood
@@ -99,7 +102,7 @@ package_small max_rate over txs now budget on new h =
     (λ entries these prices is distinct apart within good.
     let comes : (tx : Tx) → Contains these tx → ComesNew (among over entries) tx = λ tx c. (new tx (within tx c)).behind entries good.0.fresh in
     (together_sound max_rate (among over entries) now these prices is distinct apart comes good.0, together_truc max_rate (among over entries) now these prices is distinct apart comes on good.0 good.1))
-    budget (λ entries good. (below_sound over.policy over.chain (is_stale over.policy.stay now) entries good.0, expired_truc over.policy.stay now entries good.1))
+    (λ test entries good. (below_sound over.policy over.chain test entries good.0, truc_part (λ e. not (is_below_some test entries e)) entries good.1)) budget
     (λ entries txid good. (family_sound over.policy over.chain entries txid good.0, truc_part (λ (a : Admitted). not (reaches (steps entries) txid (txid_of a.tx))) entries good.1))
     (course_truc max_rate over now txs on (λ tx c. (new tx c).alone)) h
 

@@ -7,7 +7,13 @@ pub mod Finding
 pub mod Landing
 pub mod Crowding
 pub mod Placing
-pub mod Replacing
+pub mod Spenders
+pub mod Chunking
+pub mod Parting
+pub mod Entering
+pub mod Raising
+pub mod Pricing
+pub mod Asking
 pub mod Membership
 pub mod Belonging
 pub mod Joining

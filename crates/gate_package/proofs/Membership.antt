@@ -1,5 +1,5 @@
 -- A member that is granted by itself would be granted as a submission, and so members one by one keep what each submission keeps.
-use Rattle.std.proofs.Common.{◌≡◌, ◌≤◌, ◌+◌, ℕ, Bool, true, false, not, ◌&&◌, ◌||◌, if◌then◌else◌, List, [], ◌∷◌, ◌++◌, length, Option, Some, None, Result, Ok, Err, refl, sym, ap, ◌∙◌, arith}
+use Rattle.std.proofs.Common.{◌≡◌, ◌+◌, ℕ, Bool, true, not, ◌&&◌, ◌||◌, if◌then◌else◌, List, [], ◌∷◌, ◌++◌, length, Option, Some, None, Ok, refl, sym, ap, ◌∙◌, arith}
 use Rattle.std.specs.Prelude.{◌-◌, ◌==◌, nat_le, Contains}
 use Rattle.std.specs.List.{list_all}
 use Rattle.std.specs.Option.{option_or}
@@ -17,24 +17,22 @@ use Rattle.gate_chain.specs.Times.{tip_of}
 use Rattle.gate_pool.specs.Pool.{Admitted, entry_by_txid, entry_by_wtxid, size_of}
 use Rattle.gate_pool.specs.Counting.{entered_beside}
 use Rattle.gate_pool.specs.Family.{ancestors_above, conflicts_of, descendants_of}
-use Rattle.gate_rbf.specs.Replacing.{replacement_rules}
 use Rattle.gate_admit.specs.declared.Attempt.TheVariants.{First}
 use Rattle.gate_admit.specs.declared.Grant.{Grant}
 use Rattle.gate_admit.specs.declared.limits.FamilyLimits.{FamilyLimits}
 use Rattle.gate_admit.specs.Coins.{coins_of}
 use Rattle.gate_admit.specs.Good.{IsSound}
 use Rattle.gate_admit.specs.Limits.{carved_out, fits_families, grown, has_room, has_room_below, has_second_try, is_within, limit_rules, usual_limits}
-use Rattle.gate_admit.specs.Policies.{Policy, incremental_feerate}
-use Rattle.gate_admit.specs.Reports.{reported, report_rules, sigop_cost, verdict_rules, vsize_of}
+use Rattle.gate_admit.specs.Policies.{Policy}
+use Rattle.gate_admit.specs.Reports.{reported, report_rules, sigop_cost, vsize_of}
 use Rattle.gate_admit.specs.Rules.{admission_rules, balance_rules, coin_rules, coin_value_rules, coins_value, decision_of, denied_or, fee_rules, final_rules, grant_of, lock_rules, outputs_value, pool_rules}
 use Rattle.gate_admit.specs.Standing.{Standing}
 use Rattle.gate_admit.specs.Submission.{admitted}
-use Rattle.gate_admit.specs.Sweeping.{sweep_rules}
-use Rattle.gate_admit.specs.Truc.{TrucHolds, sibling_of}
+use Rattle.gate_admit.specs.Truc.{TrucHolds}
 use Rattle.gate_admit.proofs.Entering.{StaysUnconnected, grant_sound, grant_truc}
 use Rattle.gate_package.specs.declared.role.Role.TheVariants.{Member}
 use Rattle.gate_package.specs.Coins.{coin_rules_beside}
-use Rattle.gate_package.specs.Judging.{family_rules, half_rules, member_decision, member_grant, member_rules, payment_rules, rate_rules}
+use Rattle.gate_package.specs.Judging.{family_rules, half_rules, member_decision, member_grant, member_rules, payment_rules, pool_rules_as, rate_rules}
 use Rattle.gate_package.specs.Packages.{course_behind, course_of, entries_behind, entry_as, fate_by, fate_unless_known, sibling_in}
 
 -- ---- lists of rules, one behind another
@@ -102,7 +100,7 @@ payment_passes policy tx floor fee vsize h = h
 -- ---- the whole order
 
 pub member_passes : (max_rate : ℕ) (over : Standing) (tx : Tx) → first_failing (member_rules max_rate over tx) ≡ None → first_failing (admission_rules First over tx) ≡ None
-unfolding member_rules half_rules admission_rules
+unfolding member_rules half_rules pool_rules_as admission_rules
 member_passes max_rate over tx h =
     let coins = coins_of over.chain over.entries tx.inputs in
     let answers = reported tx.inputs coins in

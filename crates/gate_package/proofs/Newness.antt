@@ -1,13 +1,11 @@
 -- No connected block has a member of a package that enters: where none has a member, or where transactions are told apart by their ids.
-use Rattle.std.proofs.Common.{◌≡◌, ℕ, true, false, List, [], ◌∷◌, ◌++◌, Option, Some, None, refl, sym, ap, ◌∙◌, subst, ⊎_elim}
+use Rattle.std.proofs.Common.{◌≡◌, ℕ, true, false, List, ◌∷◌, Option, Some, None, refl, sym, subst, ⊎_elim}
 use Rattle.std.specs.Prelude.{◌+◌, Contains, IsSome, find, is_none, is_some, option_and_then, slice_get}
 use Rattle.std.specs.List.{All}
 use Rattle.std.specs.Str.{bytes_eq}
 use Rattle.std.specs.Cmp.Lexicographic.{bytes_decides}
 use Rattle.std.proofs.lemmas.Bool.{true≢false}
-use Rattle.std.proofs.lemmas.List.Elements.{All-contains, Contains-append_left, Contains-append_right}
-use Rattle.gate_bytes.specs.Order.{NoneFails}
-use Rattle.gate_bytes.proofs.Members.{Contains-cons_cases}
+use Rattle.std.proofs.lemmas.List.Elements.{All-contains}
 use Rattle.gate_tx.specs.declared.OutPoint.{OutPoint}
 use Rattle.gate_tx.specs.declared.TxIn.{TxIn}
 use Rattle.gate_tx.specs.Ids.{txid_of}

@@ -1,5 +1,5 @@
 -- Those that enter together spend no outpoint that an entry or another of them spends.
-use Rattle.std.proofs.Common.{◌≡◌, ℕ, false, List, [], ◌∷◌, ◌++◌, get_or, Result, Ok, refl, sym, subst, append-nil, append_assoc, ⊎_elim}
+use Rattle.std.proofs.Common.{◌≡◌, ℕ, false, List, [], ◌∷◌, ◌++◌, get_or, Ok, sym, subst, append-nil, append_assoc, ⊎_elim}
 use Rattle.std.specs.Prelude.{◌+◌, Contains}
 use Rattle.std.specs.List.{AllPairs}
 use Rattle.std.proofs.lemmas.List.Elements.{Contains-get_or}
@@ -11,14 +11,14 @@ use Rattle.gate_admit.specs.Standing.{Standing}
 use Rattle.gate_admit.proofs.Entering.{spent_by-push}
 use Rattle.gate_admit.proofs.Granted.{Differ, each_once, no_conflicts, spends_once}
 use Rattle.gate_admit.proofs.Lists.{AllPairs-append}
-use Rattle.gate_package.specs.declared.price.Price.{Price}
+use Rattle.gate_diagram.specs.declared.Price.{Price}
 use Rattle.gate_package.specs.declared.role.Role.TheVariants.{Together}
 use Rattle.gate_package.specs.Judging.{fee_beside, half_rules, vsize_beside}
 use Rattle.gate_package.specs.Packages.{AreNewcomers, newcomers}
 use Rattle.gate_package.specs.Shapes.{has_conflict, has_duplicates}
-use Rattle.gate_package.specs.Together.{halves_of, together_of}
+use Rattle.gate_package.specs.Together.{halves_of}
 use Rattle.gate_package.proofs.Arriving.{conflicts_none, first_alone, others_behind, together_new}
-use Rattle.gate_package.proofs.Joining.{checked, priced}
+use Rattle.gate_package.proofs.Joining.{StandsFree, priced}
 use Rattle.gate_package.proofs.Belonging.{half_passes}
 
 each_single : (max_rate : ℕ) (over : Standing) (before : List Tx) (place : ℕ) (txs : List Tx) (prices : List Price) → halves_of max_rate over before place txs ≡ Ok prices → (tx : Tx) → Contains txs tx
@@ -47,9 +47,7 @@ added_once now entries (tx ∷ txs) (price ∷ prices) h single once =
     subst (λ (l : List Admitted). AllPairs Differ (spent_by l)) (append_assoc entries (e ∷ []) (newcomers now txs prices))
     (added_once now (entries ++ e ∷ []) txs prices (others_behind entries e txs h) (λ t c. single t (Contains-rest tx txs t c)) more)
 
-pub together_once : (max_rate : ℕ) (over : Standing) (now : ℕ) (txs : List Tx) (prices : List Price) → together_of max_rate over txs ≡ Ok prices → has_duplicates txs ≡ false → has_conflict txs ≡ false
+pub together_once : (max_rate : ℕ) (over : Standing) (now : ℕ) (txs : List Tx) (prices : List Price) → StandsFree max_rate over txs prices → has_duplicates txs ≡ false → has_conflict txs ≡ false
     → AllPairs Differ (spent_by over.entries) → AllPairs Differ (spent_by (over.entries ++ newcomers now txs prices))
-unfolding together_of
 together_once max_rate over now txs prices h distinct apart once =
-    let made = checked over txs (halves_of max_rate over [] 0 txs) prices h in
-    added_once now over.entries txs prices (together_new max_rate over txs prices h distinct apart) (each_single max_rate over [] 0 txs prices made.0) once
+    added_once now over.entries txs prices (together_new max_rate over txs prices h distinct apart) (each_single max_rate over [] 0 txs prices h.halves) once

@@ -1,9 +1,8 @@
 -- A package of one that has the first try of A36, and of which A50 asks nothing, is its submission.
 use Rattle.std.proofs.Common.{◌≡◌, ◌+◌, ℕ, suc, Bool, true, false, cond, not, ◌&&◌, ◌||◌, if◌then◌else◌, List, [], ◌∷◌, ◌++◌, length, Option, Some, None, Result, Ok, Err, refl, sym, ap, ◌∙◌, subst, append_assoc, arith}
-use Rattle.std.specs.Prelude.{◌-◌, ◌==◌, nat_le, is_none, is_some}
+use Rattle.std.specs.Prelude.{◌-◌, ◌==◌, is_none, is_some}
 use Rattle.std.specs.List.{list_any}
 use Rattle.std.specs.Option.{option_or}
-use Rattle.std.specs.Str.{bytes_eq}
 use Rattle.std.specs.Cmp.Lexicographic.{bytes_decides}
 use Rattle.std.proofs.lemmas.Bool.{cond-true, ne_eqb, true≢false}
 use Rattle.gate_bytes.specs.Order.{Rule, first_failing}
@@ -17,18 +16,17 @@ use Rattle.gate_rules.specs.declared.PackageDenial.TheVariants.{LacksParents}
 use Rattle.gate_submission.specs.Alone.{alone_rules}
 use Rattle.gate_submission.specs.declared.Fate.{Fate}
 use Rattle.gate_submission.specs.declared.Fate.TheVariants.{Denied}
-use Rattle.gate_submission.specs.declared.Member.{Member}
 use Rattle.gate_submission.specs.declared.PackageVerdict.TheVariants as verdicts
 use Rattle.gate_submission.specs.PackageOutcomes.{has_left, left}
 use Rattle.gate_chain.specs.History.{History}
 use Rattle.gate_chain.specs.Times.{tip_of}
 use Rattle.gate_pool.specs.Counting.{replaced_beside}
 use Rattle.gate_pool.specs.Family.{ancestors_above, is_conflict}
-use Rattle.gate_pool.specs.Pool.{Admitted, entry_by_txid, entry_by_wtxid, listing_of}
+use Rattle.gate_pool.specs.Pool.{Admitted, entry_by_txid, listing_of}
 use Rattle.gate_admit.specs.declared.Attempt.TheVariants.{First}
 use Rattle.gate_admit.specs.declared.Grant.{Grant}
 use Rattle.gate_admit.specs.Coins.{coins_of}
-use Rattle.gate_admit.specs.Limits.{fits_families, is_within, limit_rules, usual_limits}
+use Rattle.gate_admit.specs.Limits.{is_within, limit_rules, usual_limits}
 use Rattle.gate_admit.specs.Policies.{Policy, incremental_feerate}
 use Rattle.gate_admit.specs.Reports.{reported, report_rules, sigop_cost, verdict_rules, vsize_of}
 use Rattle.gate_admit.specs.Rules.{admission_rules, balance_rules, coin_rules, coin_value_rules, coins_value, decision_of, denied_or, fee_rules, final_rules, grant_of, lock_rules, outputs_value, pool_rules}
@@ -40,10 +38,10 @@ use Rattle.gate_rbf.specs.Replacing.{replacement_rules}
 use Rattle.gate_admit.proofs.Granted.{granted}
 use Rattle.gate_package.specs.declared.role.Role.TheVariants.{Member as AsMember}
 use Rattle.gate_package.specs.Coins.{coin_rules_beside}
-use Rattle.gate_package.specs.Judging.{family_rules, half_rules, member_decision, member_grant, member_rules, payment_rules, rate_rules}
+use Rattle.gate_package.specs.Judging.{family_rules, half_rules, member_decision, member_grant, member_rules, payment_rules, pool_rules_as, rate_rules}
 use Rattle.gate_package.specs.Laws.{IsAs, IsPlain, PackageOfOne}
-use Rattle.gate_package.specs.Packages.{Course, Judged, Packaged, concluded, course_of, denied_of, entries_behind, entry_as, fate_by, fate_unless_known, has_failed, judged_from, judged_of, landed, member_with, packaged_of, reconsidered_by, sibling_in, unless_unfit}
-use Rattle.gate_package.specs.Shapes.{lacks_parents, shape_rules}
+use Rattle.gate_package.specs.Packages.{Course, Packaged, concluded, course_of, entries_behind, entry_as, fate_by, fate_unless_known, has_failed, judged_from, judged_of, landed, member_with, packaged_of, sibling_in, unless_unfit}
+use Rattle.gate_package.specs.Shapes.{shape_rules}
 use Rattle.gate_package.proofs.Membership.{first_try}
 
 -- ---- the order of a member is that of its submission
@@ -69,7 +67,7 @@ same_families policy entries tx vsize h =
     (ap not h ∙ sym (ap not (first_try policy entries tx vsize h)))
 
 same_order : (max_rate : ℕ) (over : Standing) (tx : Tx) → IsPlain max_rate over tx → first_failing (member_rules max_rate over tx) ≡ first_failing (admission_rules First over tx)
-unfolding member_rules half_rules admission_rules grant_of
+unfolding member_rules half_rules pool_rules_as admission_rules grant_of
 same_order max_rate over tx plain =
     let coins = coins_of over.chain over.entries tx.inputs in
     let answers = reported tx.inputs coins in

@@ -1,5 +1,5 @@
 -- Each entry that a package leaves was there, or is of a member.
-use Rattle.std.proofs.Common.{◌≡◌, ℕ, not, List, [], ◌∷◌, ◌++◌, map, Option, sym, subst, ⊎_elim}
+use Rattle.std.proofs.Common.{◌≡◌, ℕ, not, List, [], ◌∷◌, ◌++◌, map, Option, subst, ⊎_elim}
 use Rattle.std.specs.Prelude.{Contains}
 use Rattle.std.proofs.lemmas.List.Elements.{Contains-append_cases, Contains-append_left, Contains-append_right, Contains-push_cases}
 use Rattle.gate_bytes.proofs.Members.{Contains-cons_cases, Contains-head, Contains-rest, not_in_none}
@@ -7,17 +7,16 @@ use Rattle.gate_graph.specs.Family.{reaches}
 use Rattle.gate_tx.specs.Ids.{txid_of}
 use Rattle.gate_tx.specs.Tx.{Tx}
 use Rattle.gate_pool.specs.Counting.{entered_beside, is_counted}
-use Rattle.gate_pool.specs.Family.{steps, without_below, without_family}
+use Rattle.gate_pool.specs.Family.{steps, without_below}
 use Rattle.gate_pool.specs.Pool.{Admitted}
 use Rattle.gate_pool.proofs.Entries.{Contains-map}
 use Rattle.gate_pool.proofs.Walking.{Contains-from_filter}
-use Rattle.gate_trim.specs.Expiry.{expired, is_stale}
 use Rattle.gate_admit.specs.declared.Attempt.TheVariants.{First}
 use Rattle.gate_admit.specs.Rules.{grant_of}
 use Rattle.gate_admit.specs.Standing.{Standing}
 use Rattle.gate_admit.specs.Submission.{admitted}
 use Rattle.gate_admit.proofs.Staying.{stays_within}
-use Rattle.gate_package.specs.declared.price.Price.{Price}
+use Rattle.gate_diagram.specs.declared.Price.{Price}
 use Rattle.gate_package.specs.Packages.{newcomers, packaged_of, sibling_in}
 use Rattle.gate_package.proofs.Keeping.{package_keeps}
 use Rattle.gate_package.proofs.Membership.{among, course_keeps}
@@ -46,7 +45,7 @@ package_from max_rate over txs now budget =
     (λ entries these prices is distinct apart within from e c.
     ⊎_elim (from e) (λ (k : Contains (newcomers now these prices) e). Contains-append_right (map (λ (x : Admitted). x.tx) over.entries) txs e.tx (within e.tx (newcomer_from now these prices e k)))
     (Contains-append_cases entries (newcomers now these prices) e c))
-    budget (λ entries from e c. from e (stays_within (is_stale over.policy.stay now) entries e c))
+    (λ test entries from e c. from e (stays_within test entries e c)) budget
     (λ entries txid from e c. from e (Contains-from_filter (λ (x : Admitted). not (reaches (steps entries) txid (txid_of x.tx))) entries e c))
     (course_keeps (FromThese over.entries txs) (Contains txs) max_rate over now
     (λ entries tx member passes from. entered_from over.entries txs entries (sibling_in (among over entries) tx) (admitted tx (grant_of First (among over entries) tx) now) member from)

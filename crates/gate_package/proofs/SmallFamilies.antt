@@ -1,6 +1,6 @@
 -- Families of version 3 stay small where those enter together that J8 lets pass.
-use Rattle.std.proofs.Common.{◌≡◌, ◌≢◌, ◌≤◌, ◌+◌, ℕ, Bool, true, false, not, ◌&&◌, ◌||◌, if◌then◌else◌, List, [], ◌∷◌, ◌++◌, length, Option, None, Result, Ok, refl, sym, ap, ◌∙◌, subst, append-nil, append_assoc, length-append, arith, ◌⊎◌, inl, inr, ⊎_elim}
-use Rattle.std.specs.Prelude.{◌==◌, Contains, filter, is_none, nat_lt, sum_by}
+use Rattle.std.proofs.Common.{◌≡◌, ◌≢◌, ◌≤◌, ◌+◌, ℕ, Bool, true, false, not, ◌&&◌, ◌||◌, if◌then◌else◌, List, [], ◌∷◌, ◌++◌, length, Option, None, Ok, refl, sym, ap, ◌∙◌, subst, append-nil, append_assoc, length-append, arith, ◌⊎◌, inl, inr, ⊎_elim}
+use Rattle.std.specs.Prelude.{◌==◌, Contains, is_none, nat_lt, sum_by}
 use Rattle.std.specs.List.{AllPairs, flat_map, list_any}
 use Rattle.std.specs.Str.{bytes_eq}
 use Rattle.std.specs.Cmp.Lexicographic.{bytes_decides}
@@ -28,21 +28,22 @@ use Rattle.gate_pool.proofs.Walking.{Contains-filter, Contains-from_filter}
 use Rattle.gate_admit.specs.declared.Attempt.TheVariants.{First}
 use Rattle.gate_admit.specs.Good.{IsSound}
 use Rattle.gate_admit.specs.Standing.{Standing}
-use Rattle.gate_admit.specs.Truc.{IsKin, TrucHolds, breaks_family, breaks_truc, evictable, has_conflict_below, is_of_other_kind, is_outside as is_outside_pool, is_taken, others_below, sibling_among, sibling_of, truc_child_size, truc_size}
+use Rattle.gate_admit.specs.Truc.{IsKin, TrucHolds, breaks_family, evictable, has_conflict_below, is_of_other_kind, is_outside as is_outside_pool, is_taken, others_below, sibling_among, sibling_of, truc_child_size, truc_size}
 use Rattle.gate_admit.proofs.Childless.{IsChildless}
 use Rattle.gate_admit.proofs.Evicting.{second_false}
 use Rattle.gate_admit.proofs.Lists.{none_pass}
 use Rattle.gate_admit.proofs.SmallFamilies.{entered_small}
-use Rattle.gate_package.specs.declared.price.Price.{Price}
+use Rattle.gate_diagram.specs.declared.Price.{Price}
 use Rattle.gate_package.specs.declared.role.Role.TheVariants.{Together}
 use Rattle.gate_package.specs.Judging.{fee_beside, half_rules, vsize_beside}
 use Rattle.gate_package.specs.Kinship.{another_spends, another_spends_from, breaks_beside, has_below, is_child_outside, is_outside, is_outside_entry, is_shared, is_truc_entry, parents_among, some_breaks, spends_from}
 use Rattle.gate_package.specs.Packages.{newcomers}
-use Rattle.gate_package.specs.Prices.{price_sum_size}
+use Rattle.gate_diagram.specs.Prices.{price_sum_size}
 use Rattle.gate_package.specs.Shapes.{has_conflict, has_duplicates, names_one}
-use Rattle.gate_package.specs.Together.{halves_of, inputs_of, together_of}
+use Rattle.gate_rivals.specs.Rivals.{inputs_of}
+use Rattle.gate_package.specs.Together.{halves_of}
 use Rattle.gate_package.proofs.Belonging.{Differ, Half, half_absent, half_passes, half_small, neither}
-use Rattle.gate_package.proofs.Joining.{Behind, ComesNew, IsAhead, Room, ahead_next, all_ahead, all_pass, behind_none, checked, childless, joins_alone, may_join, newcomer, one_more, priced, room_made, unknown_member}
+use Rattle.gate_package.proofs.Joining.{Behind, ComesNew, IsAhead, Room, StandsFree, ahead_next, all_ahead, behind_none, childless, joins_alone, may_join, newcomer, one_more, priced, room_made, unknown_member}
 
 -- ---- lists of one
 
@@ -474,15 +475,12 @@ joined_truc max_rate over now inputs count size room all on before place (tx ∷
     (subst (λ (l : List Admitted). TrucHolds (over.entries ++ l)) (append_assoc ns (m ∷ []) (newcomers now txs found.rest)) rest)
 
 -- those that may enter together keep families of version 3 small, where that is standard
-pub together_truc : (max_rate : ℕ) (over : Standing) (now : ℕ) (txs : List Tx) (prices : List Price) → together_of max_rate over txs ≡ Ok prices → has_duplicates txs ≡ false → has_conflict txs ≡ false
+pub together_truc : (max_rate : ℕ) (over : Standing) (now : ℕ) (txs : List Tx) (prices : List Price) → StandsFree max_rate over txs prices → has_duplicates txs ≡ false → has_conflict txs ≡ false
     → ((tx : Tx) → Contains txs tx → ComesNew over tx) → over.policy.standards.truc ≡ true → IsSound over.policy over.chain over.entries → TrucHolds over.entries → TrucHolds (over.entries ++ newcomers now txs prices)
-unfolding together_of
 together_truc max_rate over now txs prices h distinct apart new on good kin =
-    let made = checked over txs (halves_of max_rate over [] 0 txs) prices h in
-    let pass = all_pass over txs prices made.1 in
     let inputs = flat_map inputs_of txs in
-    let room = room_made over txs (price_sum_size prices) pass.limits in
-    joined_truc max_rate over now inputs (length txs) (price_sum_size prices) room txs on [] 0 txs prices [] over.entries made.0
-    (second_false over.policy.standards.truc (some_breaks over.entries txs txs prices) on pass.truc) (λ t c. c) (behind_none over inputs good) (all_ahead over txs distinct apart new pass.none)
+    let room = room_made over txs (price_sum_size prices) h.limits in
+    joined_truc max_rate over now inputs (length txs) (price_sum_size prices) room txs on [] 0 txs prices [] over.entries h.halves
+    (second_false over.policy.standards.truc (some_breaks over.entries txs txs prices) on h.truc) (λ t c. c) (behind_none over inputs good) (all_ahead over txs distinct apart new h.none)
     (record { kin = kin; passes = λ m c. not_in_none m c; told = λ m c. not_in_none m c; own = λ m c. not_in_none m c })
     (omega arith) (omega (arith, room.descendants_size, good.bounds.descendants_size_most))

@@ -1,6 +1,6 @@
 -- What stands at the end of a pool is taken out of it again, and the pool is what it was.
 use Rattle.std.proofs.Common.{◌≡◌, ℕ, Bool, true, false, not, List, [], ◌∷◌, ◌++◌, Option, Some, None, Result, Ok, Err, refl, sym, ap, subst, ◌∙◌, arith, cond}
-use Rattle.std.specs.Prelude.{filter, length, map, nat_lt, unwrap_or}
+use Rattle.std.specs.Prelude.{filter, length, nat_lt, unwrap_or}
 use Rattle.std.specs.Cmp.Lexicographic.{bytes_decides}
 use Rattle.std.proofs.lemmas.Bool.{ltb-false}
 use Rattle.gate_tx.specs.Ids.{txid_of, wtxid_of}

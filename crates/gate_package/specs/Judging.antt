@@ -1,16 +1,17 @@
 -- How a transaction of a package is judged: the order of admission, with what is asked otherwise of it.
-use Rattle.std.specs.Prelude.{ℕ, ◌+◌, ◌-◌, nat_lt, Bool, true, false, not, ◌&&◌, ◌||◌, if◌then◌else◌, List, [], ◌∷◌, ◌++◌, length, is_some, Result, Ok, Err}
+use Rattle.std.specs.Prelude.{ℕ, ◌+◌, ◌-◌, nat_lt, Bool, true, false, not, ◌&&◌, ◌||◌, if◌then◌else◌, List, [], ◌∷◌, ◌++◌, length, is_some, Result}
 use Rattle.std.specs.List.{list_any}
 use Rattle.gate_bytes.specs.Order.{Rule, first_failing}
+use Rattle.gate_tx.specs.declared.TxIn.{TxIn}
 use Rattle.gate_tx.specs.Ids.{wtxid_of}
 use Rattle.gate_tx.specs.Tx.{Tx}
 use Rattle.gate_rules.specs.declared.Denial.{Denial}
-use Rattle.gate_rules.specs.declared.Denial.TheVariants.{MissingOrSpent, MempoolMinFee, MinRelayFee, TooLongChain, TrucViolation, SpendsConflicting, LowerFeeRate, LowerFee, LowerDifference, MaxFeerate}
+use Rattle.gate_rules.specs.declared.Denial.TheVariants.{MempoolConflict, MissingOrSpent, MempoolMinFee, MinRelayFee, TooLongChain, TrucViolation, SpendsConflicting, LowerFeeRate, LowerFee, LowerDifference, MaxFeerate}
 use Rattle.gate_standard.specs.Amounts.{feerate}
 use Rattle.gate_standard.specs.Rules.{is_truc}
 use Rattle.gate_submission.specs.Alone.{alone_rules}
 use Rattle.gate_chain.specs.Times.{tip_of}
-use Rattle.gate_pool.specs.Pool.{Admitted}
+use Rattle.gate_pool.specs.Pool.{Admitted, spender_of}
 use Rattle.gate_pool.specs.Counting.{replaced_beside}
 use Rattle.gate_pool.specs.Family.{ancestors_above, is_conflict}
 use Rattle.gate_rbf.specs.Replacing.{replacement_rules}
@@ -24,22 +25,34 @@ use Rattle.gate_admit.specs.Sweeping.{sweep_rules}
 use Rattle.gate_admit.specs.Truc.{breaks_truc, sibling_of}
 use Rattle.gate_admit.specs.declared.Attempt.TheVariants.{First}
 use Rattle.gate_package.specs.declared.role.Role.{Role}
-use Rattle.gate_package.specs.declared.role.Role.TheVariants.{Member, Together}
+use Rattle.gate_package.specs.declared.role.Role.TheVariants.{Member, Together, Listed}
 use Rattle.gate_package.specs.Coins.{coins_beside, coin_rules_beside}
 
 -- a transaction is of version 3, where that is standard
 abbrev pub is_version_three : Policy → Tx → Bool
 is_version_three policy tx = policy.standards.truc && is_truc tx
 
+-- a transaction spends what an entry spends
+abbrev pub replaces_one : List Admitted → Tx → Bool
+replaces_one entries tx = list_any (λ (i : TxIn). is_some (spender_of entries i.prevout)) tx.inputs
+
+-- A21 to A23: one of a list replaces nothing
+unfoldable pub pool_rules_as : Role → Policy → List Admitted → Tx → List (Rule Denial)
+pool_rules_as Member policy entries tx = pool_rules policy entries tx
+pool_rules_as Together policy entries tx = pool_rules policy entries tx
+pool_rules_as Listed policy entries tx = pool_rules policy entries tx ++ (MempoolConflict, replaces_one entries tx) ∷ []
+
 -- A34 and A35: those that are judged together pay A34 for one another, and those of version 3 among them A35 too
 unfoldable pub payment_rules : Role → Policy → Tx → ℕ → ℕ → ℕ → List (Rule Denial)
 payment_rules Member policy tx floor fee vsize = fee_rules policy tx floor fee vsize
 payment_rules Together policy tx floor fee vsize = if is_version_three policy tx then [] else relay_rule policy fee vsize ∷ []
+payment_rules Listed policy tx floor fee vsize = fee_rules policy tx floor fee vsize
 
--- A47: a member evicts a sibling, and a transaction that is judged together with others doesn't
+-- A47: a member evicts a sibling, and a transaction that is judged with others doesn't
 abbrev pub breaks_truc_as : Role → Policy → List Admitted → Tx → ℕ → Bool
 breaks_truc_as Member policy entries tx vsize = breaks_truc First policy entries tx vsize
 breaks_truc_as Together policy entries tx vsize = breaks_truc First policy entries tx vsize || is_some (sibling_of First policy entries tx)
+breaks_truc_as Listed policy entries tx vsize = breaks_truc First policy entries tx vsize || is_some (sibling_of First policy entries tx)
 
 -- A36, A47 and A37: the first try alone, without room for what is replaced
 unfoldable pub family_rules : Role → Policy → List Admitted → Tx → ℕ → List (Rule Denial)
@@ -68,7 +81,7 @@ half_rules role max_rate others over tx =
     let vsize = vsize_beside others over tx in
     alone_rules over.policy.standards tx
     ++ (final_rules over.chain tx
-    ++ (pool_rules over.policy over.entries tx
+    ++ (pool_rules_as role over.policy over.entries tx
     ++ (coin_rules_beside over.chain others over.entries tx
     ++ (lock_rules over.chain coins tx
     ++ (coin_value_rules (tip_of over.chain + 1) 0 coins

@@ -11,7 +11,7 @@ use Rattle.gate_pool.specs.Family.{ancestors_above, descendants_of}
 use Rattle.gate_admit.specs.Policies.{Policy}
 use Rattle.gate_admit.specs.Truc.{truc_size, truc_child_size}
 use Rattle.gate_package.specs.Shapes.{names_one}
-use Rattle.gate_package.specs.declared.price.Price.{Price}
+use Rattle.gate_diagram.specs.declared.Price.{Price}
 
 -- a transaction spends an output of the one with this id
 abbrev pub spends_from : Tx → List ℕ → Bool

@@ -1,5 +1,5 @@
 -- Laws of packages.
-use Rattle.std.specs.Prelude.{◌≡◌, ◌≤◌, ◌⊎◌, ℕ, true, false, List, [], ◌∷◌, ◌++◌, length, Some, None, Result, Ok, Err}
+use Rattle.std.specs.Prelude.{◌≡◌, ◌≤◌, ◌+◌, ◌⊎◌, ℕ, true, false, List, [], ◌∷◌, ◌++◌, length, Some, None, Result, Ok, Err}
 use Rattle.std.specs.List.{All, list_any}
 use Rattle.gate_bytes.specs.Order.{first_failing}
 use Rattle.gate_tx.specs.Ids.{txid_of, wtxid_of}
@@ -10,20 +10,24 @@ use Rattle.gate_submission.specs.declared.Fate.TheVariants.{Taken, Known, OtherW
 use Rattle.gate_submission.specs.declared.Member.{Member}
 use Rattle.gate_submission.specs.declared.PackageVerdict.TheVariants as verdicts
 use Rattle.gate_pool.specs.Pool.{Admitted, entry_by_txid, entry_by_wtxid}
-use Rattle.gate_pool.specs.Family.{ancestors_above}
+use Rattle.gate_pool.specs.Family.{ancestors_above, fees_of}
+use Rattle.gate_standard.specs.Amounts.{required_fee}
 use Rattle.gate_trim.specs.Expiry.{expired}
 use Rattle.gate_admit.specs.declared.Attempt.TheVariants.{First}
 use Rattle.gate_admit.specs.declared.Grant.{Grant}
 use Rattle.gate_admit.specs.Good.{IsGood, IsUnconnected, limits_for}
 use Rattle.gate_admit.specs.Limits.{is_within, usual_limits}
+use Rattle.gate_admit.specs.Policies.{incremental_feerate}
 use Rattle.gate_admit.specs.Rules.{decision_of, grant_of}
 use Rattle.gate_admit.specs.Standing.{Standing}
 use Rattle.gate_admit.specs.Submission.{submit_of}
 use Rattle.gate_admit.specs.Truc.{TrucHolds}
 use Rattle.gate_package.specs.Judging.{rate_rules}
-use Rattle.gate_package.specs.Packages.{course_of, judged_of, packaged_of}
-use Rattle.gate_package.specs.Together.{together_of}
-use Rattle.gate_package.specs.declared.price.Price.{Price}
+use Rattle.gate_package.specs.Packages.{course_of, entered_together, judged_of, packaged_of}
+use Rattle.gate_diagram.specs.Prices.{price_sum_size}
+use Rattle.gate_rivals.specs.Rivals.{staying_beside}
+use Rattle.gate_package.specs.Together.{replaces_some, together_of}
+use Rattle.gate_diagram.specs.declared.Price.{Price}
 
 -- a transaction has the first try of A36 without room for what it replaces, A50 asks nothing of it, and no entry has one of its ids
 pub record IsPlain (max_rate : ℕ) (over : Standing) (tx : Tx) : Type 0 where
@@ -45,14 +49,14 @@ pub record PackageOfOne : Type 0 where
       → decision_of First over (Some tx) ≡ Ok grant → (packaged_of max_rate over (tx ∷ []) now budget).entries ≡ (submit_of over (Some tx) now budget).entries
 
 -- those that are judged together enter all or none: the entries that a package is judged to leave are those of its members one by one,
--- and behind them either nothing or one newcomer for each of those
+-- or without what those replace, and behind them one newcomer for each of those
 abbrev pub TogetherAllOrNone : Type 0
 TogetherAllOrNone =
     (max_rate : ℕ) (over : Standing) (now : ℕ) (txs : List Tx)
     → ((judged_of max_rate over now txs).entries ≡ (course_of max_rate over now txs).entries)
     ⊎ ((these : List Tx) × (prices : List Price) × (more : List Admitted)
     × (together_of max_rate (record over { entries = (course_of max_rate over now txs).entries }) these ≡ Ok prices)
-    × ((judged_of max_rate over now txs).entries ≡ (course_of max_rate over now txs).entries ++ more) × (length more ≡ length these))
+    × ((judged_of max_rate over now txs).entries ≡ staying_beside (course_of max_rate over now txs).entries these ++ more) × (length more ≡ length these))
 
 abbrev pub is_known : Fate → Type 0
 is_known (Taken fee vsize together replaced) = ⊥
@@ -84,3 +88,10 @@ PackageKeepsTruc =
     (max_rate : ℕ) (over : Standing) (txs : List Tx) (now budget : ℕ) → over.policy.standards.truc ≡ true
     → All (λ (tx : Tx). IsUnconnected over.chain (Some tx)) txs → IsGood (limits_for over.policy budget) over.chain over.entries → TrucHolds over.entries
     → TrucHolds (packaged_of max_rate over txs now budget).entries
+
+-- those that enter together in the place of entries pay more than these, by the fee of their own size at the incremental relay
+-- feerate: so much more the pool's fees are, before entries expire and are trimmed
+abbrev pub ReplacementPays : Type 0
+ReplacementPays =
+    (max_rate : ℕ) (over : Standing) (now : ℕ) (txs : List Tx) (prices : List Price) → together_of max_rate over txs ≡ Ok prices → replaces_some over.entries txs ≡ true
+    → fees_of over.entries + required_fee (incremental_feerate over.policy) (price_sum_size prices) ≤ fees_of (entered_together over.entries now txs prices)

@@ -1,10 +1,11 @@
 pub mod Shapes
 pub mod Coins
 pub mod Judging
-pub mod Prices
 pub mod Kinship
 pub mod Sweeping
+pub mod Replacement
 pub mod Together
+pub mod Listed
 pub mod Packages
 pub mod Staging
 pub mod Laws

@@ -1,5 +1,5 @@
 -- A package: its members one by one, those together that are denied, and what pool, floor and outcome are then.
-use Rattle.std.specs.Prelude.{◌≡◌, ℕ, suc, nat_le, nat_lt, ◌==◌, Bool, true, false, not, ◌&&◌, ◌||◌, if◌then◌else◌, List, [], ◌∷◌, ◌++◌, filter, length, map, Contains, is_none, unwrap_or, Option, Some, None, Result, Ok, Err}
+use Rattle.std.specs.Prelude.{◌≡◌, ℕ, suc, nat_le, nat_lt, ◌==◌, Bool, true, false, not, ◌||◌, if◌then◌else◌, List, [], ◌∷◌, ◌++◌, filter, length, map, Contains, is_none, unwrap_or, Option, Some, None, Result, Ok, Err}
 use Rattle.std.specs.List.{count_by}
 use Rattle.gate_bytes.specs.Order.{first_failing}
 use Rattle.gate_tx.specs.Ids.{txid_of, wtxid_of}
@@ -24,11 +24,12 @@ use Rattle.gate_admit.specs.Policies.{Policy}
 use Rattle.gate_admit.specs.Truc.{sibling_of}
 use Rattle.gate_admit.specs.declared.Attempt.TheVariants.{First}
 use Rattle.gate_package.specs.declared.together.DeniedOne.{DeniedOne}
-use Rattle.gate_package.specs.declared.price.Price.{Price}
+use Rattle.gate_diagram.specs.declared.Price.{Price}
 use Rattle.gate_package.specs.declared.together.Refusal.{Refusal}
 use Rattle.gate_package.specs.Judging.{member_decision, is_reconsiderable}
 use Rattle.gate_package.specs.Shapes.{has_conflict, has_duplicates, shape_rules}
-use Rattle.gate_package.specs.Prices.{price_sum_fee, price_sum_size}
+use Rattle.gate_diagram.specs.Prices.{price_sum_fee, price_sum_size}
+use Rattle.gate_rivals.specs.Rivals.{replaced_together, staying_beside}
 use Rattle.gate_package.specs.Together.{replaces_some, together_of}
 
 -- ---- one by one
@@ -128,15 +129,15 @@ denied_of [] members = []
 denied_of (tx ∷ txs) [] = []
 denied_of (tx ∷ txs) (m ∷ members) = if is_denied m then tx ∷ denied_of txs members else denied_of txs members
 
-abbrev pub taken_at : Price → Fate
-taken_at price = Taken price.fee price.vsize true []
+abbrev pub taken_at : Price → List (List ℕ) → Fate
+taken_at price replaced = Taken price.fee price.vsize true replaced
 
--- the members once those that were denied are taken together, each at its price
-abbrev pub granted : List Price → List Member → List Member
-granted prices [] = []
-granted [] (m ∷ members) = m ∷ granted [] members
-granted (price ∷ prices) (m ∷ members) =
-    if is_denied m then record m { fate = taken_at price } ∷ granted prices members else m ∷ granted (price ∷ prices) members
+-- the members once those that were denied are taken together, each at its price: the first of them tells what they replaced
+abbrev pub granted : List (List ℕ) → List Price → List Member → List Member
+granted replaced prices [] = []
+granted replaced [] (m ∷ members) = m ∷ granted replaced [] members
+granted replaced (price ∷ prices) (m ∷ members) =
+    if is_denied m then record m { fate = taken_at price replaced } ∷ granted [] prices members else m ∷ granted replaced (price ∷ prices) members
 
 abbrev pub one_refused : DeniedOne → ℕ → List Member → List Member
 one_refused one place [] = []
@@ -154,6 +155,10 @@ newcomers now [] prices = []
 newcomers now (tx ∷ txs) [] = []
 newcomers now (tx ∷ txs) (price ∷ prices) = record { tx = tx; fee = price.fee; vsize = price.vsize; time = now } ∷ newcomers now txs prices
 
+-- the entries once they have entered: what they replace leaves, and they stand at the end in their order
+abbrev pub entered_together : List Admitted → ℕ → List Tx → List Price → List Admitted
+entered_together entries now txs prices = staying_beside entries txs ++ newcomers now txs prices
+
 abbrev pub all_together : List Tx → List Price → Together
 all_together txs prices = record { fee = price_sum_fee prices; vsize = price_sum_size prices; wtxids = map wtxid_of txs }
 
@@ -167,16 +172,20 @@ judged_as verdict members together entries = record { outcome = record { verdict
 
 abbrev pub reconsidered_as : List Admitted → ℕ → List Member → List Tx → Result (List Price) Refusal → Judged
 reconsidered_as entries now members these (Ok prices) =
-    judged_as verdicts.Success (granted prices members) (Some (all_together these prices)) (entries ++ newcomers now these prices)
+    judged_as verdicts.Success (granted (listing_of (replaced_together entries these)) prices members) (Some (all_together these prices)) (entered_together entries now these prices)
 reconsidered_as entries now members these (Err refusal) = judged_as refusal.verdict (refused refusal.member members) None entries
 
 -- the members once these of them, which are denied, were judged together
 abbrev pub reconsidered_by : ℕ → Standing → ℕ → List Member → List Tx → Judged
 reconsidered_by max_rate over now members these = reconsidered_as over.entries now members these (together_of max_rate over these)
 
+-- no entry has an id of one of these
+abbrev pub AreAbsent : List Admitted → List Tx → Type 0
+AreAbsent entries txs = (tx : Tx) → Contains txs tx → (entry_by_txid entries (txid_of tx) ≡ None) × (entry_by_wtxid entries (wtxid_of tx) ≡ None)
+
 -- these may stand behind the entries, each of them new, in the place of none
 pub record AreNewcomers (entries : List Admitted) (txs : List Tx) : Type 0 where
-  pub absent : (tx : Tx) → Contains txs tx → (entry_by_txid entries (txid_of tx) ≡ None) × (entry_by_wtxid entries (wtxid_of tx) ≡ None)
+  pub absent : AreAbsent entries txs
   pub replace_none : replaces_some entries txs ≡ false
   pub distinct : has_duplicates txs ≡ false
   pub apart : has_conflict txs ≡ false

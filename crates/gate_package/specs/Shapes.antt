@@ -1,6 +1,6 @@
 -- What a package is before its members are judged: A1, and J1 to J7 (Bitcoin Core 28.0 to 30.0; a package of one has no parents to
 -- ask for).
-use Rattle.std.specs.Prelude.{ℕ, ◌==◌, nat_lt, Bool, true, false, not, ◌&&◌, ◌||◌, List, [], ◌∷◌, ◌++◌, length, sum_by, is_none, Option, Some, None}
+use Rattle.std.specs.Prelude.{ℕ, ◌==◌, nat_lt, Bool, true, false, not, ◌&&◌, ◌||◌, List, [], ◌∷◌, length, sum_by, is_none, Option}
 use Rattle.std.specs.List.{list_any, list_all, flat_map}
 use Rattle.std.specs.Option.{option_map_or, option_to_list}
 use Rattle.std.specs.Str.{bytes_eq}
@@ -16,7 +16,7 @@ use Rattle.gate_script.specs.Instructions.{Instruction, Push, Truncated, Plain, 
 use Rattle.gate_chain.specs.History.{History}
 use Rattle.gate_chain.specs.Coins.{coin_of}
 use Rattle.gate_rules.specs.declared.PackageDenial.{PackageDenial}
-use Rattle.gate_rules.specs.declared.PackageDenial.TheVariants.{BurntAmount, NotChildWithParents, TooLarge, Duplicates, Conflicting, LacksParents}
+use Rattle.gate_rules.specs.declared.PackageDenial.TheVariants.{BurntAmount, NotChildWithParents, TooLarge, Duplicates, NotSorted, Conflicting, LacksParents}
 use Rattle.gate_admit.specs.Policies.{Policy}
 use Rattle.gate_package.specs.declared.shape.Unfit.{Unfit}
 use Rattle.gate_package.specs.declared.shape.Unfit.TheVariants.{Undecodable, Denied}
@@ -99,6 +99,11 @@ abbrev pub has_conflict : List Tx → Bool
 has_conflict [] = false
 has_conflict (tx ∷ txs) = (length tx.inputs == 0) || (list_any (shares_input tx.inputs) txs || has_conflict txs)
 
+-- an input of one names the txid of that one, or of one behind it
+abbrev pub is_unsorted : List Tx → Bool
+is_unsorted [] = false
+is_unsorted (tx ∷ txs) = (names_one tx.inputs tx || list_any (names_one tx.inputs) txs) || is_unsorted txs
+
 -- an input is neither of one of these nor a coin of the chain
 abbrev pub lacks_parent : History → List Tx → TxIn → Bool
 lacks_parent chain parents input = is_none (coin_of chain input.prevout) && not (list_any (λ (p : Tx). bytes_eq (txid_of p) input.prevout.txid) parents)
@@ -114,4 +119,13 @@ shape_rules chain policy txs =
     ∷ (Duplicates, has_duplicates txs)
     ∷ (Conflicting, has_conflict txs)
     ∷ (LacksParents, policy.all_parents && (are_several txs && lacks_parents chain (parents_of txs) (child_inputs txs)))
+    ∷ []
+
+-- J3 to J6 of several transactions that are tested as one package, which needn't be a child with its parents
+unfoldable pub list_rules : List Tx → List (Rule PackageDenial)
+list_rules txs =
+    (TooLarge, are_several txs && nat_lt 404_000 (weight_of_all txs))
+    ∷ (Duplicates, has_duplicates txs)
+    ∷ (NotSorted, is_unsorted txs)
+    ∷ (Conflicting, has_conflict txs)
     ∷ []

@@ -1,17 +1,15 @@
 -- Those of a package that are denied by themselves, judged together: what each pays, or why they don't enter.
-use Rattle.std.specs.Prelude.{ℕ, ◌+◌, ◌-◌, nat_lt, Bool, not, ◌&&◌, ◌||◌, if◌then◌else◌, List, [], ◌∷◌, ◌++◌, length, is_some, Option, Some, None, Result, Ok, Err}
-use Rattle.std.specs.List.{list_any, flat_map}
+use Rattle.std.specs.Prelude.{ℕ, ◌+◌, ◌-◌, nat_lt, Bool, ◌&&◌, ◌||◌, if◌then◌else◌, List, [], ◌∷◌, ◌++◌, length, Option, Some, None, Result, Ok, Err}
+use Rattle.std.specs.List.{list_any}
 use Rattle.gate_bytes.specs.Order.{first_failing}
-use Rattle.gate_tx.specs.declared.OutPoint.{OutPoint}
-use Rattle.gate_tx.specs.declared.TxIn.{TxIn}
 use Rattle.gate_tx.specs.Ids.{txid_of, wtxid_of}
 use Rattle.gate_tx.specs.Tx.{Tx}
 use Rattle.gate_rules.specs.declared.Denial.{Denial}
 use Rattle.gate_standard.specs.declared.Standards.{Standards}
 use Rattle.gate_rules.specs.declared.PackageDenial.{PackageDenial}
-use Rattle.gate_rules.specs.declared.PackageDenial.TheVariants.{TrucViolation, FamilyLimits, Replaces, UnspentDust}
+use Rattle.gate_rules.specs.declared.PackageDenial.TheVariants.{TrucViolation, FamilyLimits, UnspentDust}
 use Rattle.gate_submission.specs.declared.PackageVerdict.TheVariants.{Failed, Denied}
-use Rattle.gate_pool.specs.Pool.{Admitted, size_of, spender_of}
+use Rattle.gate_pool.specs.Pool.{Admitted, size_of}
 use Rattle.gate_pool.specs.Family.{ancestors_above, descendants_of}
 use Rattle.gate_admit.specs.declared.limits.FamilyLimits.{FamilyLimits as Limits}
 use Rattle.gate_admit.specs.Limits.{usual_limits}
@@ -20,13 +18,16 @@ use Rattle.gate_admit.specs.Reports.{verdict_rules}
 use Rattle.gate_admit.specs.Rules.{floor_rule, relay_rule}
 use Rattle.gate_admit.specs.Standing.{Standing}
 use Rattle.gate_admit.specs.Verdicts.{VerdictTable}
+use Rattle.gate_package.specs.declared.role.Role.{Role}
 use Rattle.gate_package.specs.declared.role.Role.TheVariants.{Together}
 use Rattle.gate_package.specs.declared.together.DeniedOne.{DeniedOne}
-use Rattle.gate_package.specs.declared.price.Price.{Price}
+use Rattle.gate_diagram.specs.declared.Price.{Price}
 use Rattle.gate_package.specs.declared.together.Refusal.{Refusal}
-use Rattle.gate_package.specs.Judging.{half_rules, fee_beside, vsize_beside}
+use Rattle.gate_package.specs.Judging.{half_rules, fee_beside, replaces_one, vsize_beside}
 use Rattle.gate_package.specs.Kinship.{breaks_together}
-use Rattle.gate_package.specs.Prices.{price_sum_fee, price_sum_size}
+use Rattle.gate_diagram.specs.Prices.{price_sum_fee, price_sum_size}
+use Rattle.gate_package.specs.Replacement.{replacement_rules}
+use Rattle.gate_rivals.specs.Rivals.{all_inputs}
 use Rattle.gate_package.specs.Sweeping.{sweep_rules_beside}
 
 -- a member, by its place among those that are judged together, is denied by a rule of admission, and so the package has failed
@@ -47,12 +48,16 @@ abbrev pub half_or : ℕ → Option Denial → Result (List Price) Refusal → R
 half_or place (Some denial) others = Err (denied_at place denial)
 half_or place None others = others
 
--- what each pays; the first stands at this place, behind these before it
+-- what each pays in this role; the first stands at this place, behind these before it
+abbrev pub halves_as : Role → ℕ → Standing → List Tx → ℕ → List Tx → Result (List Price) Refusal
+halves_as role max_rate over before place [] = Ok []
+halves_as role max_rate over before place (tx ∷ txs) =
+    half_or place (first_failing (half_rules role max_rate before over tx))
+    (with_price (record { fee = fee_beside before over tx; vsize = vsize_beside before over tx }) (halves_as role max_rate over (before ++ tx ∷ []) (place + 1) txs))
+
+-- what each pays that is judged together with the others
 abbrev pub halves_of : ℕ → Standing → List Tx → ℕ → List Tx → Result (List Price) Refusal
-halves_of max_rate over before place [] = Ok []
-halves_of max_rate over before place (tx ∷ txs) =
-    half_or place (first_failing (half_rules Together max_rate before over tx))
-    (with_price (record { fee = fee_beside before over tx; vsize = vsize_beside before over tx }) (halves_of max_rate over (before ++ tx ∷ []) (place + 1) txs))
+halves_of max_rate over before place txs = halves_as Together max_rate over before place txs
 
 -- ---- all of them
 
@@ -60,15 +65,9 @@ halves_of max_rate over before place (tx ∷ txs) =
 abbrev pub unpaid : Policy → ℕ → ℕ → ℕ → Option Denial
 unpaid policy floor fee vsize = first_failing (floor_rule policy floor fee vsize ∷ relay_rule policy fee vsize ∷ [])
 
-abbrev pub inputs_of : Tx → List TxIn
-inputs_of tx = tx.inputs
-
-abbrev pub point_of : TxIn → OutPoint
-point_of input = input.prevout
-
 -- the entries above any of them
 abbrev pub above_all : List Admitted → List Tx → List Admitted
-above_all entries txs = ancestors_above entries (flat_map inputs_of txs)
+above_all entries txs = ancestors_above entries (all_inputs txs)
 
 -- with this many more of this size together the descendants of an entry pass the limits
 abbrev pub is_crowded : Limits → List Admitted → ℕ → ℕ → Admitted → Bool
@@ -91,11 +90,7 @@ passes_limits policy entries txs vsize =
     let above = above_all entries txs in
     are_too_many limits count vsize || (nat_lt limits.ancestors (length above + count) || crowd limits entries count vsize above)
 
--- a transaction spends what an entry spends
-abbrev pub replaces_one : List Admitted → Tx → Bool
-replaces_one entries tx = list_any (λ (i : TxIn). is_some (spender_of entries i.prevout)) tx.inputs
-
--- one of them does (J10)
+-- one of them spends what an entry spends, and so they replace entries
 abbrev pub replaces_some : List Admitted → List Tx → Bool
 replaces_some entries txs = list_any (replaces_one entries) txs
 
@@ -132,19 +127,26 @@ refused_by_price txs None others = others
 abbrev pub refused_each : Standing → List Tx → Option Refusal
 refused_each over txs = refused_by_dust (unswept_place over.policy.standards txs over.entries 0 txs) (refused_by_verdict (doubted_place over.verdicts 0 txs))
 
--- why all of them don't enter, if they pay this together and make families of version 3 where they have to
-unfoldable pub priced_refusal : Standing → List Tx → ℕ → ℕ → Option Refusal
-priced_refusal over txs fee vsize =
-    refused_by_price txs (unpaid over.policy over.floor fee vsize)
-    (if passes_limits over.policy over.entries txs vsize then Some (all_denied FamilyLimits)
-    else if replaces_some over.entries txs then Some (all_denied Replaces)
-    else refused_each over txs)
+-- the first of J10 to J16 that fails, which are asked of those that replace entries alone
+abbrev pub replacing_denial : Policy → List Admitted → List Tx → List Price → Option PackageDenial
+replacing_denial policy entries txs prices = if replaces_some entries txs then first_failing (replacement_rules policy entries txs prices) else None
+
+abbrev pub refused_by_rule : Option PackageDenial → Option Refusal → Option Refusal
+refused_by_rule (Some denial) others = Some (all_denied denial)
+refused_by_rule None others = others
+
+-- why all of them don't enter, each at its price, if they make families of version 3 where they have to
+unfoldable pub priced_refusal : Standing → List Tx → List Price → Option Refusal
+priced_refusal over txs prices =
+    refused_by_price txs (unpaid over.policy over.floor (price_sum_fee prices) (price_sum_size prices))
+    (if passes_limits over.policy over.entries txs (price_sum_size prices) then Some (all_denied FamilyLimits)
+    else refused_by_rule (replacing_denial over.policy over.entries txs prices) (refused_each over txs))
 
 -- why all of them don't enter, each at its price
 unfoldable pub refusal_of : Standing → List Tx → List Price → Option Refusal
 refusal_of over txs prices =
     if breaks_together over.policy over.entries txs prices then Some (all_denied TrucViolation)
-    else priced_refusal over txs (price_sum_fee prices) (price_sum_size prices)
+    else priced_refusal over txs prices
 
 abbrev pub unless_refused : Option Refusal → List Price → Result (List Price) Refusal
 unless_refused (Some refusal) prices = Err refusal
@@ -154,6 +156,6 @@ abbrev pub all_checked : Standing → List Tx → Result (List Price) Refusal �
 all_checked over txs (Ok prices) = unless_refused (refusal_of over txs prices) prices
 all_checked over txs (Err refusal) = Err refusal
 
--- what each pays if all may enter together, in the place of nothing, or why they don't
+-- what each pays if all may enter together, or why they don't
 unfoldable pub together_of : ℕ → Standing → List Tx → Result (List Price) Refusal
 together_of max_rate over txs = all_checked over txs (halves_of max_rate over [] 0 txs)

@@ -1,22 +1,23 @@
 //! Limits of families for packages: A36, A47 and A37 of a transaction, and J9 of those that are judged together.
-ghost use Rattle.std.specs.Prelude.{◌≡◌, ◌≤◌, ◌<◌, ◌^◌, ◌++◌, map, Contains, IfOk, OnOk};
-ghost use Rattle.std.specs.List.{flat_map, list_any};
+ghost use Rattle.std.specs.Prelude.{◌≡◌, ◌≤◌, ◌<◌, ◌^◌, Contains, IfOk};
+ghost use Rattle.std.specs.List.{list_any};
 ghost use Rattle.gate_bytes.specs.Order.{first_failing};
 ghost use Rattle.gate_tx.specs.Ids.{txid_of};
 ghost use Rattle.gate_pool.specs.Family.{OfThese, sums_of};
 ghost use Rattle.gate_pool.specs.Pool.{Admitted};
 ghost use Rattle.gate_package.specs.Judging.{family_rules};
-ghost use Rattle.gate_package.specs.Together.{are_too_many, crowd, inputs_of, is_crowded, passes_limits, point_of};
+ghost use Rattle.gate_package.specs.Together.{are_too_many, crowd, is_crowded, passes_limits};
 
 use crate::role::Role;
 use crate::truc::breaks_truc_as;
 use gate_admit::{FamilyLimits, Policy, Pool, is_within, usual_limits};
-use gate_bytes::{Kept, Memory};
+use gate_bytes::Memory;
 use gate_pool::{Above, family_above};
 use gate_rbf::DirectConflicts;
+use gate_rivals::bare_inputs;
 use gate_standard::Denial;
 use gate_submission::Candidate;
-use gate_tx::{TxIn, Txid, Witness};
+use gate_tx::Txid;
 use std::alloc::Global;
 use std::hash::BuildHasher;
 
@@ -47,39 +48,6 @@ pub(crate) fn check_families<S: BuildHasher + Copy + Drop>(
         return Ok(Some(Denial::SpendsConflicting));
     }
     Ok(None)
-}
-
-/// An input that spends what this one spends, and has nothing else.
-fn bare(alloc: Global, input: &TxIn) -> TxIn
-    ensures { result.prevout ≡ input.now.prevout }
-{
-    TxIn {
-        prevout: input.prevout,
-        script: Kept::from_vec(Vec::new(alloc)),
-        sequence: 0,
-        witness: Witness::new(alloc),
-    }
-}
-
-/// Puts inputs at the end that spend what these spend, and have nothing else.
-fn push_bare(alloc: Global, bares: &mut Vec<TxIn>, inputs: &[TxIn]) -> Result<(), Memory>
-    ensures { OnOk result (map point_of bares.new.items ≡ map point_of bares.old.items ++ map point_of inputs.now) }
-{
-    for input in inputs {
-        bares.push(bare(alloc, input))?;
-    }
-    Ok(())
-}
-
-/// Inputs that spend what those of these transactions spend, and have nothing else.
-fn bare_inputs(alloc: Global, these: &[Candidate<'_>]) -> Result<Vec<TxIn>, Memory>
-    ensures { IfOk result (λ bares. map point_of bares.items ≡ map point_of (flat_map inputs_of these.now)) }
-{
-    let mut bares = Vec::new(alloc);
-    for tx in these {
-        push_bare(alloc, &mut bares, tx.transaction().inputs())?;
-    }
-    Ok(bares)
 }
 
 /// Whether with this many more of this size together the descendants of the entry with this id pass the limits.

@@ -4,14 +4,14 @@ ghost use Rattle.gate_bytes.specs.Order.{first_failing};
 ghost use Rattle.gate_admit.specs.Bounds.{FitsEntry};
 ghost use Rattle.gate_admit.specs.Lending.{lent_with};
 ghost use Rattle.gate_package.specs.declared.role.Role.TheVariants.{Together};
-ghost use Rattle.gate_package.specs.Judging.{half_rules, fee_beside, vsize_beside, payment_rules, rate_rules};
+ghost use Rattle.gate_package.specs.Judging.{half_rules, fee_beside, vsize_beside, payment_rules, pool_rules_as, rate_rules, replaces_one};
 
 use crate::coins::check_coins;
 use crate::families::check_families;
 use crate::role::Role;
 use crate::truc::is_version_three;
 use gate_admit::{
-    Attempt, Conditions, Pool, check_balance, check_coins_paid, check_final, check_locks,
+    Attempt, Conditions, Policy, Pool, check_balance, check_coins_paid, check_final, check_locks,
     check_payment, check_pool, check_reports, reported, vsize_of,
 };
 use gate_bytes::Memory;
@@ -31,6 +31,45 @@ pub(crate) struct Half<'a, S: BuildHasher + Copy + Drop> {
     pub(crate) vsize: u64,
     /// The entries that spend what it spends.
     pub(crate) direct: DirectConflicts<'a, S>,
+}
+
+/// Whether a transaction spends what an entry spends.
+pub(crate) fn replaces_one<S: BuildHasher + Copy + Drop>(pool: &Pool<S>, tx: &Candidate<'_>) -> bool
+    ensures { result ≡ replaces_one pool.now.entries tx.now }
+{
+    tx.transaction()
+        .inputs()
+        .iter()
+        .any(|input| pool.spender(&input.prevout).is_some())
+}
+
+/// The entries that a transaction conflicts with, or the first of A21 to A23 that fails: A23 fails for one of a list wherever
+/// it conflicts with an entry.
+#[tactic(auto, using(gate_bytes::proofs::OrderLemmas::first_failing_append), unfolding(crate::specs::Judging::pool_rules_as))]
+fn check_pool_as<'a, S: BuildHasher + Copy + Drop>(
+    alloc: Global,
+    policy: &Policy,
+    pool: &'a Pool<S>,
+    role: Role,
+    candidate: &'a Candidate<'_>,
+) -> Result<Result<DirectConflicts<'a, S>, Denial>, Memory>
+    ensures ok { IfOk result (λ found. OnOk found (first_failing (pool_rules_as role policy.now pool.now.entries candidate.now) ≡ None)) }
+    ensures entries { IfOk result (λ found. IfOk found (λ direct. direct.entries ≡ pool.now.entries)) }
+    ensures transaction { IfOk result (λ found. IfOk found (λ direct. direct.tx ≡ candidate.now)) }
+    ensures err { IfOk result (λ found. IfErr found (λ denial. first_failing (pool_rules_as role policy.now pool.now.entries candidate.now) ≡ Some denial)) }
+{
+    let direct = match check_pool(alloc, policy, pool, candidate.identified().get())? {
+        Ok(direct) => direct,
+        Err(denial) => return Ok(Err(denial)),
+    };
+    match role {
+        Role::Listed => if replaces_one(pool, candidate) {
+            Ok(Err(Denial::MempoolConflict))
+        } else {
+            Ok(Ok(direct))
+        },
+        _ => Ok(Ok(direct)),
+    }
 }
 
 /// A35, if it fails, of a transaction that is judged together with others.
@@ -67,6 +106,7 @@ fn check_paid<S: BuildHasher + Copy + Drop>(
     match role {
         Role::Member => check_payment(Attempt::First, under.policy, tx, under.floor, fee, vsize),
         Role::Together => check_relay_fee(under, tx, fee, vsize),
+        Role::Listed => check_payment(Attempt::First, under.policy, tx, under.floor, fee, vsize),
     }
 }
 
@@ -111,7 +151,7 @@ pub(crate) fn first_half<'a, S: BuildHasher + Copy + Drop>(
     if let Some(denial) = check_final(under.chain, transaction) {
         return Ok(Err(denial));
     }
-    let direct = match check_pool(alloc, policy, pool, tx)? {
+    let direct = match check_pool_as(alloc, policy, pool, role, candidate)? {
         Ok(direct) => direct,
         Err(denial) => return Ok(Err(denial)),
     };

@@ -6,4 +6,7 @@ pub enum Role {
     /// With others that were denied by themselves: A34 is not asked, and the coins of its inputs are also those that the
     /// ones before it make.
     Together,
+    /// As one of several that are tested as one package: the coins of its inputs are also those that the ones before it make,
+    /// and it replaces nothing.
+    Listed,
 }

@@ -1,11 +1,12 @@
-//! What a package has to be before its members are judged: A1, and J1 to J7.
-ghost use Rattle.std.specs.Prelude.{◌≡◌, ◌&&◌, nat_lt, IfOk, IfErr, OnOk, None, Some};
+//! What a package has to be before its members are judged: A1, and J1 to J7; and a list that is tested as one package: A1, and
+//! J3 to J6.
+ghost use Rattle.std.specs.Prelude.{◌≡◌, ◌&&◌, nat_lt, IfOk, IfErr, IfSome, OnOk, None, Some, is_none};
 ghost use Rattle.std.specs.List.{list_all, list_any};
 ghost use Rattle.std.specs.Str.{bytes_eq};
 ghost use Rattle.gate_bytes.specs.Order.{first_failing};
 ghost use Rattle.gate_script.specs.Instructions.{instruction_of, instructions};
 ghost use Rattle.gate_tx.specs.Ids.{txid_of};
-ghost use Rattle.gate_package.specs.Shapes.{burns, has_conflict, has_duplicates, has_same_id, is_burnt, is_invalid, is_parent, is_spent_by, lacks_parent, lacks_parents, members_of, names_one, shape_rules, shares_input, text_rules, weight_of_all};
+ghost use Rattle.gate_package.specs.Shapes.{burns, has_conflict, has_duplicates, has_same_id, is_burnt, is_invalid, is_parent, is_spent_by, is_unsorted, lacks_parent, lacks_parents, list_rules, members_of, names_one, shape_rules, shares_input, text_rules, weight_of_all};
 
 use gate_admit::{Chain, Policy, Prepared};
 use gate_bytes::Memory;
@@ -96,6 +97,24 @@ pub fn read_members<'a>(
         members.push(member)?;
     }
     Ok(Ok(members))
+}
+
+/// The transactions of a list, or None if a text is no transaction.
+pub fn read_list<'a>(
+    alloc: Global,
+    submissions: &'a [Prepared],
+) -> Result<Option<Vec<Candidate<'a>>>, Memory>
+    ensures none { IfOk result (λ read. is_none read ≡ list_any is_none submissions.now) }
+    ensures members { IfOk result (λ read. IfSome read (λ members. members.items ≡ members_of submissions.now)) }
+{
+    let mut members = Vec::with_capacity(alloc, submissions.len())?;
+    for submission in submissions {
+        match submission.candidate() {
+            Some(member) => members.push(member)?,
+            None => return Ok(None),
+        }
+    }
+    Ok(Some(members))
 }
 
 /// Whether one of these inputs spends an output of a transaction.
@@ -204,6 +223,19 @@ fn has_conflict(members: &[Candidate<'_>]) -> bool
     }
 }
 
+/// Whether an input of one names the txid of that one, or of one behind it.
+fn is_unsorted(members: &[Candidate<'_>]) -> bool
+    ensures { result ≡ is_unsorted members.now }
+{
+    match members.split_first() {
+        Some((first, others)) => {
+            let inputs = first.transaction().inputs();
+            name_one(inputs, first) || name_any(inputs, others) || is_unsorted(others)
+        }
+        None => false,
+    }
+}
+
 /// Whether one of these has this txid.
 fn is_one_of(parents: &[Candidate<'_>], txid: &Txid) -> bool
     ensures { result ≡ list_any (λ p. bytes_eq (txid_of p) txid.now) parents.now }
@@ -263,6 +295,26 @@ pub fn check_shape<S: BuildHasher + Copy + Drop>(
     }
     if policy.all_parents() && members.len() > 1 && lacks_parents(chain, parents, child) {
         return Some(PackageDenial::LacksParents);
+    }
+    None
+}
+
+/// The first of J3 to J6 that fails of several transactions that are tested as one package.
+#[tactic(auto, unfolding(crate::specs::Shapes::list_rules))]
+pub fn check_list(members: &[Candidate<'_>]) -> Option<PackageDenial>
+    ensures { result ≡ first_failing (list_rules members.now) }
+{
+    if members.len() > 1 && is_too_heavy(members) {
+        return Some(PackageDenial::TooLarge);
+    }
+    if has_duplicates(members) {
+        return Some(PackageDenial::Duplicates);
+    }
+    if is_unsorted(members) {
+        return Some(PackageDenial::NotSorted);
+    }
+    if has_conflict(members) {
+        return Some(PackageDenial::Conflicting);
     }
     None
 }

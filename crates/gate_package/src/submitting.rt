@@ -4,29 +4,33 @@ ghost use Rattle.gate_admit.specs.Bounds.{FitsEntry};
 ghost use Rattle.gate_admit.specs.Lending.{lent_with};
 ghost use Rattle.gate_admit.specs.Standing.{standing};
 ghost use Rattle.gate_pool.specs.Counting.{entered_beside};
+ghost use Rattle.gate_pool.specs.Pool.{listing_of};
 ghost use Rattle.gate_tx.specs.Ids.{wtxid_of};
-ghost use Rattle.gate_package.specs.Packages.{AreNewcomers, IsAbsent, Leaves, all_together, course_behind, course_of, denied_count, denied_of, fate_of, granted, has_failed, held_txids, is_denied, is_lost, judged_as, judged_of, member_with, newcomers, reconsidered_by, refused, replaces};
+ghost use Rattle.gate_package.specs.Packages.{AreAbsent, AreNewcomers, IsAbsent, Leaves, all_together, course_behind, course_of, denied_count, denied_of, entered_together, fate_of, granted, has_failed, held_txids, is_denied, is_lost, judged_as, judged_of, member_with, newcomers, reconsidered_by, refused, replaces};
+ghost use Rattle.gate_rivals.specs.Rivals.{replaced_together};
 ghost use Rattle.gate_package.specs.Shapes.{has_conflict, has_duplicates};
 ghost use Rattle.gate_package.specs.Staging.{StagesAs, StaysPlain, without_all};
 ghost use Rattle.gate_package.specs.declared.submitting.Stop.TheVariants.{Memory as OutOfMemory};
 
 use crate::members::{JudgedMember, is_reconsiderable, judge};
-use crate::price::{Price, sum_of};
 use crate::shape::check_shape;
 use crate::staging::{Stage, take_out};
-use crate::together::{DeniedOne, judge_together};
+use crate::together::{DeniedOne, judge_together, replaces_some};
 use gate_admit::{Chain, Conditions, Entry, Floor, Policy, Pool, Verdicts};
 use gate_bytes::{Copied, Kept, Memory};
+use gate_diagram::{Price, sum_of};
+use gate_rivals::{list_replaced_together, take_replaced};
 use gate_submission::{Candidate, Fate, Member, PackageOutcome, PackageVerdict, Together};
 use gate_tx::{Txid, Wtxid};
 use std::alloc::Global;
 use std::hash::BuildHasher;
+use std::mem;
 
 /// Why a package is not judged to its end.
 #[derive(Clone, Copy, PartialEq, Eq)]
 enum Stop {
     Memory,
-    /// A member replaces entries, which it may not in the pool itself.
+    /// A member replaces entries, or some together do, which they may not in the pool itself.
     Replaces,
 }
 
@@ -273,7 +277,7 @@ fn all_together(
     Ok(Together { fee, vsize, wtxids })
 }
 
-/// Puts transactions at the end of the pool, each at its price: they replace nothing.
+/// Puts transactions at the end of the pool, each at its price, where they replace nothing.
 fn enter_all<S: BuildHasher + Copy + Drop>(
     alloc: Global,
     under: &Conditions<'_, S>,
@@ -300,21 +304,57 @@ fn enter_all<S: BuildHasher + Copy + Drop>(
     enter_all(alloc, under, pool, entered, these, prices)
 }
 
-/// Makes the members that are denied taken, each at its price.
-fn grant_denied(alloc: Global, members: &mut Vec<Member>, prices: &[Price])
-    ensures { members.new.items ≡ granted prices.now members.old.items }
+/// Puts transactions at the end of the pool in place of what they replace, each at its price: where they replace entries
+/// only if they may. It tells what they replaced, in the order of the pool.
+fn enter_together<S: BuildHasher + Copy + Drop>(
+    alloc: Global,
+    under: &Conditions<'_, S>,
+    pool: &mut Pool<S>,
+    entered: &mut Vec<Txid>,
+    replacing: bool,
+    these: &[Candidate<'_>],
+    prices: &[Price],
+) -> Result<Kept<Txid>, Stop>
+    requires absent { AreAbsent pool.old.entries these.now }
+    requires distinct { has_duplicates these.now ≡ false }
+    requires apart { has_conflict these.now ≡ false }
+    requires fit { All (λ price. FitsEntry price.fee price.vsize) prices.now }
+    ensures replaced { IfOk result (λ replaced. replaced ≡ listing_of (replaced_together pool.old.entries these.now)) }
+    ensures entries { OnOk result (pool.new.entries ≡ entered_together pool.old.entries under.now.second these.now prices.now) }
+    ensures before { pool.new.before ≡ pool.old.before }
+    ensures back { replacing ≡ false → without_all entered.new.items pool.new.entries ≡ without_all entered.old.items pool.old.entries }
+    ensures stop { replacing ≡ true → IfErr result (λ stop. stop ≡ OutOfMemory) }
+{
+    if !replaces_some(pool, these) {
+        enter_all(alloc, under, pool, entered, these, prices)?;
+        return Ok(Kept::from_vec(Vec::new(alloc)));
+    }
+    if !replacing {
+        return Err(Stop::Replaces);
+    }
+    let replaced = list_replaced_together(alloc, pool, these)?;
+    take_replaced(alloc, pool, these)?;
+    enter_all(alloc, under, pool, entered, these, prices)?;
+    Ok(Kept::from_vec(replaced))
+}
+
+/// Makes the members that are denied taken, each at its price. The first of them tells what they replaced.
+fn grant_denied(alloc: Global, members: &mut Vec<Member>, prices: &[Price], replaced: Kept<Txid>)
+    ensures { members.new.items ≡ granted replaced prices.now members.old.items }
 {
     let mut prices = prices;
+    let mut told = replaced;
     for member in members.iter_mut() {
         if !is_denied(member) {
             continue;
         }
         if let Some((price, others)) = prices.split_first() {
+            let all = mem::replace(&mut told, Kept::from_vec(Vec::new(alloc)));
             member.fate = Fate::Taken {
                 fee: price.fee,
                 vsize: price.vsize,
                 together: true,
-                replaced: Kept::from_vec(Vec::new(alloc)),
+                replaced: all,
             };
             prices = others;
         }
@@ -340,29 +380,33 @@ fn refuse_denied(members: &mut Vec<Member>, one: Option<DeniedOne>)
     }
 }
 
-/// Judges those members together that are denied by themselves, and lets them stand in the pool if they may enter.
+/// Judges those members together that are denied by themselves, and lets them stand in the pool if they may enter: where
+/// they replace entries only if these may be replaced there.
 fn reconsider<S: BuildHasher + Copy + Drop>(
     alloc: Global,
     under: &Conditions<'_, S>,
     pool: &mut Pool<S>,
     entered: &mut Vec<Txid>,
+    replacing: bool,
     max_rate: u64,
     candidates: &[Candidate<'_>],
     members: &mut Vec<Member>,
-) -> Result<Conclusion, Memory>
+) -> Result<Conclusion, Stop>
     requires distinct { has_duplicates candidates.now ≡ false }
     requires apart { has_conflict candidates.now ≡ false }
     ensures ok { IfOk result (λ c. judged_as c.verdict members.new.items c.together pool.new.entries ≡ reconsidered_by max_rate (lent_with under.now pool.old.entries) under.now.second members.old.items (denied_of candidates.now members.old.items)) }
     ensures before { pool.new.before ≡ pool.old.before }
-    ensures back { without_all entered.new.items pool.new.entries ≡ without_all entered.old.items pool.old.entries }
+    ensures back { replacing ≡ false → without_all entered.new.items pool.new.entries ≡ without_all entered.old.items pool.old.entries }
+    ensures stop { replacing ≡ true → IfErr result (λ stop. stop ≡ OutOfMemory) }
 {
     let these = denied_of(alloc, candidates, members.as_slice())?;
     let these = these.as_slice();
     match judge_together(alloc, under, pool, max_rate, these)? {
         Ok(prices) => {
             let together = all_together(alloc, these, prices.as_slice())?;
-            enter_all(alloc, under, pool, entered, these, prices.as_slice())?;
-            grant_denied(alloc, members, prices.as_slice());
+            let prices = prices.as_slice();
+            let replaced = enter_together(alloc, under, pool, entered, replacing, these, prices)?;
+            grant_denied(alloc, members, prices, replaced);
             Ok(Conclusion {
                 verdict: PackageVerdict::Success,
                 together: Some(together),
@@ -404,7 +448,9 @@ fn conclude<S: BuildHasher + Copy + Drop>(
     if has_failed(under.policy, candidates, members.as_slice()) || denied == 1 {
         return Ok(Conclusion::of(PackageVerdict::Failed));
     }
-    Ok(reconsider(alloc, under, pool, entered, max_rate, candidates, members)?)
+    reconsider(
+        alloc, under, pool, entered, replacing, max_rate, candidates, members,
+    )
 }
 
 /// The txids of the members that are in the pool.
@@ -491,8 +537,8 @@ fn stage_on_copy<S: BuildHasher + Copy + Drop>(
 }
 
 /// Judges a package over the pool, and lets the members that are taken stand in it, or in a copy of it if one of them
-/// replaces entries. `max_rate` is the greatest feerate of a member by itself, in satoshi per 1,000 virtual bytes, and 0
-/// bounds nothing. If memory runs out, the entries are those that they were.
+/// replaces entries, or some together do. `max_rate` is the greatest feerate of a member by itself, in satoshi per 1,000
+/// virtual bytes, and 0 bounds nothing. If memory runs out, the entries are those that they were.
 pub fn stage_package<S: BuildHasher + Copy + Drop>(
     alloc: Global,
     under: &Conditions<'_, S>,

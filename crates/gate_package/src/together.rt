@@ -1,17 +1,18 @@
 //! Those of a package that were denied by themselves, judged together.
-ghost use Rattle.std.specs.Prelude.{◌≡◌, [], All, IfOk};
+ghost use Rattle.std.specs.Prelude.{◌≡◌, [], All, IfOk, length};
 ghost use Rattle.gate_admit.specs.Bounds.{FitsEntry};
 ghost use Rattle.gate_admit.specs.Lending.{lent_with};
-ghost use Rattle.gate_package.specs.Together.{all_denied, denied_at, doubted_place, halves_of, priced_refusal, refusal_of, refused_each, replaces_one, replaces_some, together_of, unpaid, unswept_place};
+ghost use Rattle.gate_package.specs.Together.{all_denied, denied_at, doubted_place, halves_as, priced_refusal, refusal_of, refused_each, replaces_some, replacing_denial, together_of, unpaid, unswept_place};
 
 use crate::families::passes_limits;
-use crate::half::first_half;
-use crate::price::{Price, sum_of};
+use crate::half::{first_half, replaces_one};
+use crate::replacement::check_replacement;
 use crate::role::Role;
 use crate::sweeping::check_sweep_beside;
 use crate::truc::breaks_together;
-use gate_admit::{Conditions, Pool, check_verdicts};
+use gate_admit::{Conditions, Policy, Pool, check_verdicts};
 use gate_bytes::{Kept, Memory};
+use gate_diagram::{Price, sum_of};
 use gate_rules::PackageDenial;
 use gate_standard::Denial;
 use gate_submission::{Candidate, PackageVerdict};
@@ -69,25 +70,18 @@ fn unpaid<S: BuildHasher + Copy + Drop>(under: &Conditions<'_, S>, sum: Price) -
     None
 }
 
-/// Whether a transaction spends what an entry spends.
-fn replaces_one<S: BuildHasher + Copy + Drop>(pool: &Pool<S>, tx: &Candidate<'_>) -> bool
-    ensures { result ≡ replaces_one pool.now.entries tx.now }
-{
-    tx.transaction()
-        .inputs()
-        .iter()
-        .any(|input| pool.spender(&input.prevout).is_some())
-}
-
 /// Whether one of them spends what an entry spends.
-fn replaces_some<S: BuildHasher + Copy + Drop>(pool: &Pool<S>, these: &[Candidate<'_>]) -> bool
+pub(crate) fn replaces_some<S: BuildHasher + Copy + Drop>(
+    pool: &Pool<S>,
+    these: &[Candidate<'_>],
+) -> bool
     ensures { result ≡ replaces_some pool.now.entries these.now }
 {
     these.iter().any(|tx| replaces_one(pool, tx))
 }
 
 /// The first of them that fails A49, with its parents among them and in the pool.
-fn find_unswept<S: BuildHasher + Copy + Drop>(
+pub(crate) fn find_unswept<S: BuildHasher + Copy + Drop>(
     alloc: Global,
     under: &Conditions<'_, S>,
     pool: &Pool<S>,
@@ -108,7 +102,7 @@ fn find_unswept<S: BuildHasher + Copy + Drop>(
 }
 
 /// The first of them that fails one of A43 to A45.
-fn find_doubted<S: BuildHasher + Copy + Drop>(
+pub(crate) fn find_doubted<S: BuildHasher + Copy + Drop>(
     under: &Conditions<'_, S>,
     these: &[Candidate<'_>],
 ) -> Option<DeniedOne>
@@ -124,22 +118,23 @@ fn find_doubted<S: BuildHasher + Copy + Drop>(
     None
 }
 
-/// What each of these pays, or the first that fails the first half of the order behind those before it.
-fn judge_halves<'a, S: BuildHasher + Copy + Drop>(
+/// What each of these pays in this role, or the first that fails the first half of the order behind those before it.
+pub(crate) fn judge_halves<'a, S: BuildHasher + Copy + Drop>(
     alloc: Global,
     under: &'a Conditions<'_, S>,
     pool: &'a Pool<S>,
+    role: Role,
     max_rate: u64,
     these: &'a [Candidate<'_>],
 ) -> Result<Result<Kept<Price>, Refusal>, Memory>
-    ensures halves { IfOk result (λ found. found ≡ halves_of max_rate (lent_with under.now pool.now.entries) [] 0 these.now) }
+    ensures halves { IfOk result (λ found. found ≡ halves_as role max_rate (lent_with under.now pool.now.entries) [] 0 these.now) }
     ensures fit { IfOk result (λ found. IfOk found (All (λ price. FitsEntry price.fee price.vsize))) }
 {
     let mut prices = Vec::with_capacity(alloc, these.len())?;
     let mut place = 0;
     for tx in these {
         let (before, _later) = these.split_at(place);
-        match first_half(alloc, under, pool, Role::Together, max_rate, before, tx)? {
+        match first_half(alloc, under, pool, role, max_rate, before, tx)? {
             Ok(half) => prices.push(Price {
                 fee: half.fee,
                 vsize: half.vsize,
@@ -172,17 +167,39 @@ fn check_each<S: BuildHasher + Copy + Drop>(
     }
 }
 
-/// The rules on all of them behind J8, for what they pay together: why they don't enter, if one fails.
+/// The first of J10 to J16 that fails, which are asked of those that replace entries alone.
+fn check_replacing<S: BuildHasher + Copy + Drop>(
+    alloc: Global,
+    policy: &Policy,
+    pool: &Pool<S>,
+    these: &[Candidate<'_>],
+    prices: &[Price],
+) -> Result<Option<PackageDenial>, Memory>
+    requires fit { All (λ price. FitsEntry price.fee price.vsize) prices.now }
+    requires one_each { length prices.now ≡ length these.now }
+    ensures { IfOk result (λ denial. denial ≡ replacing_denial policy.now pool.now.entries these.now prices.now) }
+{
+    if replaces_some(pool, these) {
+        check_replacement(alloc, policy, pool, these, prices)
+    } else {
+        Ok(None)
+    }
+}
+
+/// The rules on all of them behind J8, each at its price: why they don't enter, if one fails.
 #[tactic(auto, unfolding(crate::specs::Together::priced_refusal))]
 fn check_priced<S: BuildHasher + Copy + Drop>(
     alloc: Global,
     under: &Conditions<'_, S>,
     pool: &Pool<S>,
     these: &[Candidate<'_>],
-    sum: Price,
+    prices: &[Price],
 ) -> Result<Option<Refusal>, Memory>
-    ensures { IfOk result (λ refusal. refusal ≡ priced_refusal (lent_with under.now pool.now.entries) these.now sum.fee sum.vsize) }
+    requires fit { All (λ price. FitsEntry price.fee price.vsize) prices.now }
+    requires one_each { length prices.now ≡ length these.now }
+    ensures { IfOk result (λ refusal. refusal ≡ priced_refusal (lent_with under.now pool.now.entries) these.now prices.now) }
 {
+    let sum = sum_of(prices);
     if let Some(denial) = unpaid(under, sum) {
         let last = these.len().saturating_sub(1);
         return Ok(Some(Refusal::of_member(last, denial)));
@@ -190,8 +207,8 @@ fn check_priced<S: BuildHasher + Copy + Drop>(
     if passes_limits(alloc, under.policy, pool, these, sum.vsize)? {
         return Ok(Some(Refusal::of_all(PackageDenial::FamilyLimits)));
     }
-    if replaces_some(pool, these) {
-        return Ok(Some(Refusal::of_all(PackageDenial::Replaces)));
+    if let Some(denial) = check_replacing(alloc, under.policy, pool, these, prices)? {
+        return Ok(Some(Refusal::of_all(denial)));
     }
     check_each(alloc, under, pool, these)
 }
@@ -205,15 +222,17 @@ fn check_all<S: BuildHasher + Copy + Drop>(
     these: &[Candidate<'_>],
     prices: &[Price],
 ) -> Result<Option<Refusal>, Memory>
+    requires fit { All (λ price. FitsEntry price.fee price.vsize) prices.now }
+    requires one_each { length prices.now ≡ length these.now }
     ensures { IfOk result (λ refusal. refusal ≡ refusal_of (lent_with under.now pool.now.entries) these.now prices.now) }
 {
     if breaks_together(alloc, under.policy, pool, these, prices)? {
         return Ok(Some(Refusal::of_all(PackageDenial::TrucViolation)));
     }
-    check_priced(alloc, under, pool, these, sum_of(prices))
+    check_priced(alloc, under, pool, these, prices)
 }
 
-/// What each of these pays if all may enter together, in the place of nothing, or why they don't. Nothing changes.
+/// What each of these pays if all may enter together, or why they don't. Nothing changes.
 #[tactic(auto, unfolding(crate::specs::Together::together_of))]
 pub(crate) fn judge_together<S: BuildHasher + Copy + Drop>(
     alloc: Global,
@@ -225,7 +244,7 @@ pub(crate) fn judge_together<S: BuildHasher + Copy + Drop>(
     ensures together { IfOk result (λ found. found ≡ together_of max_rate (lent_with under.now pool.now.entries) these.now) }
     ensures fit { IfOk result (λ found. IfOk found (All (λ price. FitsEntry price.fee price.vsize))) }
 {
-    let prices = match judge_halves(alloc, under, pool, max_rate, these)? {
+    let prices = match judge_halves(alloc, under, pool, Role::Together, max_rate, these)? {
         Ok(prices) => prices,
         Err(refusal) => return Ok(Err(refusal)),
     };

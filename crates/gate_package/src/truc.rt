@@ -10,13 +10,13 @@ ghost use Rattle.gate_package.specs.Judging.{breaks_truc_as, is_version_three};
 ghost use Rattle.gate_package.specs.Kinship.{another_spends, another_spends_from, breaks_beside, breaks_together, has_below, is_below_truc, is_child_outside, is_outside, is_outside_entry, is_outside_together, is_shared, is_truc_entry, some_breaks, spends_from};
 ghost use Rattle.gate_package.specs.Shapes.{names_one};
 
-use crate::price::Price;
 use crate::role::Role;
 use crate::shape::name_one;
 use gate_admit::{
     Attempt, Policy, Pool, TRUC_CHILD_VSIZE, TRUC_VSIZE, breaks_truc, sibling_beside,
 };
 use gate_bytes::Memory;
+use gate_diagram::Price;
 use gate_pool::ancestors;
 use gate_rbf::DirectConflicts;
 use gate_standard::is_truc;
@@ -32,7 +32,7 @@ pub(crate) fn is_version_three(policy: &Policy, tx: &Transaction) -> bool
     policy.truc() && is_truc(tx)
 }
 
-/// A47: a member evicts a sibling, and a transaction that is judged together with others doesn't.
+/// A47: a member evicts a sibling, and a transaction that is judged with others doesn't.
 pub(crate) fn breaks_truc_as<S: BuildHasher + Copy + Drop>(
     alloc: Global,
     policy: &Policy,
@@ -49,7 +49,7 @@ pub(crate) fn breaks_truc_as<S: BuildHasher + Copy + Drop>(
     }
     match role {
         Role::Member => Ok(false),
-        Role::Together => {
+        _ => {
             let sibling = sibling_beside(alloc, policy, Attempt::First, direct)?;
             Ok(sibling.is_some())
         }

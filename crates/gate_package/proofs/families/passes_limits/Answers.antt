@@ -8,7 +8,8 @@ use Rattle.gate_pool.specs.Family.{AreIdsOf, ancestors_above, steps, sums_of}
 use Rattle.gate_pool.specs.Pool.{Admitted}
 use Rattle.gate_pool.proofs.Adding.{DifferById}
 use Rattle.gate_pool.proofs.Ids.{ids_length}
-use Rattle.gate_package.specs.Together.{above_all, inputs_of, point_of}
+use Rattle.gate_rivals.specs.Rivals.{inputs_of, point_of}
+use Rattle.gate_package.specs.Together.{above_all}
 use Rattle.gate_package.proofs.Crowding.{crowd_asked, passes_above, passes_alone, room_for, same_above}
 use Rattle.gate_package.proofs.families.passes_limits.Goals as goal
 

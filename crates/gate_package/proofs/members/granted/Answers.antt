@@ -1,4 +1,4 @@
-use Rattle.std.proofs.Common.{◌≡◌, false, ℕ, List, Option, ap, ◌∙◌}
+use Rattle.std.proofs.Common.{false, ℕ, List, Option, ap, ◌∙◌}
 use Rattle.gate_tx.specs.Tx.{Tx}
 use Rattle.gate_submission.specs.declared.Fate.TheVariants.{Taken}
 use Rattle.gate_pool.specs.Counting.{replaced_beside}

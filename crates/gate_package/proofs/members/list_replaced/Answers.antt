@@ -3,7 +3,7 @@ use Rattle.std.proofs.Math.Seq.{take-append_seam}
 use Rattle.gate_pool.specs.Counting.{counted_of, is_counted, replaced_beside}
 use Rattle.gate_pool.specs.Family.{AreIdsOf, is_below_some}
 use Rattle.gate_pool.specs.Pool.{Admitted}
-use Rattle.gate_package.proofs.Replacing.{replaced_by_ids}
+use Rattle.gate_rivals.proofs.Replacing.{replaced_by_ids}
 use Rattle.gate_package.proofs.members.list_replaced.Goals as goal
 
 pub returns : goal.returns

@@ -4,7 +4,7 @@ use Rattle.gate_tx.specs.Tx.{Tx}
 use Rattle.gate_chain.proofs.Copies.{on_ok_then}
 use Rattle.gate_pool.specs.Pool.{Admitted}
 use Rattle.gate_admit.specs.Bounds.{FitsEntry}
-use Rattle.gate_package.specs.declared.price.Price.{Price}
+use Rattle.gate_diagram.specs.declared.Price.{Price}
 use Rattle.gate_package.specs.Packages.{AreNewcomers, newcomers}
 use Rattle.gate_package.proofs.Arriving.{all_behind, enters_plainly, first_absent, first_alone, led_by, newcomers_first, others_behind}
 use Rattle.gate_package.proofs.submitting.+enter_all.Goals as goal

@@ -1,9 +1,15 @@
-use Rattle.std.proofs.Common.{◌≡◌, ◌++◌, List, sym, ap, ◌∙◌, ⊎_elim, inl, inr}
+use Rattle.std.proofs.Common.{◌≡◌, ◌++◌, List, Result, Ok, Err, sym, ap, ◌∙◌, ⊎_elim, inl, inr}
+use Rattle.std.specs.Prelude.{IfOk}
 use Rattle.gate_submission.specs.declared.Member.{Member}
 use Rattle.gate_admit.specs.Lending.{lent_with}
-use Rattle.gate_package.specs.Packages.{course_of, denied_count, has_failed, judged_as}
+use Rattle.gate_package.specs.declared.submitting.Conclusion.{Conclusion}
+use Rattle.gate_package.specs.Packages.{course_of, denied_count, denied_of, has_failed, judged_as, judged_of, reconsidered_by}
 use Rattle.gate_package.proofs.Concluding.{all_fail, all_taken, judged_again}
 use Rattle.gate_package.proofs.submitting.conclude.Goals as goal
+
+joined : {X E J : Type 0} (r : Result X E) (made : X → J) (a b : J) → a ≡ b → IfOk r (λ x. made x ≡ a) → IfOk r (λ x. made x ≡ b)
+joined (Ok x) made a b e h = h ∙ e
+joined (Err x) made a b e h = tt
 
 pub returns-then-denied-eq0-clause-ok : goal.returns-then-denied-eq0-clause-ok
 returns-then-denied-eq0-clause-ok g c =
@@ -40,6 +46,9 @@ returns-clause-ok g c =
     let count : denied_count members ≡ c.count_denied-denied.result = ap denied_count (sym c.as_slice.ensures.value) ∙ sym c.count_denied-denied.ensures in
     let failed : has_failed c.args.under.now.policy.now c.args.candidates.now members ≡ c.has_failed.result =
     ap (has_failed c.args.under.now.policy.now c.args.candidates.now) (sym c.as_slice-2.ensures.value) ∙ sym c.has_failed.ensures in
-    c.in_ok-reconsider.ensures.ok
-    ∙ judged_again c.args.max_rate over second c.args.candidates.now members c.judge_each.new.pool.entries told c.in_ok-judge_each.ensures.entries
-    (λ e. c.if-denied-eq0.false (sym count ∙ e)) (failed ∙ c.if-has_failed.false) (λ e. c.if-denied-eq1.false (sym count ∙ e))
+    let these = denied_of c.args.candidates.now members in
+    joined c.reconsider.result (λ (k : Conclusion). judged_as k.verdict c.reconsider.new.members.items k.together c.reconsider.new.pool.entries)
+    (reconsidered_by c.args.max_rate (lent_with c.args.under.now c.judge_each.new.pool.entries) second members these) (judged_of c.args.max_rate over second c.args.candidates.now)
+    (judged_again c.args.max_rate over second c.args.candidates.now members c.judge_each.new.pool.entries told c.in_ok-judge_each.ensures.entries
+    (λ e. c.if-denied-eq0.false (sym count ∙ e)) (failed ∙ c.if-has_failed.false) (λ e. c.if-denied-eq1.false (sym count ∙ e)))
+    c.reconsider.ensures.ok

@@ -1,5 +1,4 @@
 use Rattle.std.proofs.Common.{◌≡◌, ◌++◌, ◌∷◌, [], List, None, ℕ, sym, ap, subst, ◌∙◌}
-use Rattle.gate_tx.specs.Ids.{txid_of}
 use Rattle.gate_pool.specs.Counting.{entered_beside}
 use Rattle.gate_pool.specs.Pool.{Admitted, entry_by_txid}
 use Rattle.gate_package.specs.Staging.{without_all}

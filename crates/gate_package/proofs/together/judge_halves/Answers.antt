@@ -4,8 +4,8 @@ use Rattle.std.proofs.lemmas.List.Elements.{All-append}
 use Rattle.gate_admit.specs.Bounds.{FitsEntry}
 use Rattle.gate_admit.specs.Lending.{lent_with}
 use Rattle.gate_admit.proofs.Lists.{All-one}
-use Rattle.gate_package.specs.declared.price.Price.{Price}
-use Rattle.gate_package.specs.Together.{halves_of}
+use Rattle.gate_diagram.specs.declared.Price.{Price}
+use Rattle.gate_package.specs.Together.{halves_as}
 use Rattle.gate_package.proofs.Halves.{halves_next}
 use Rattle.gate_package.proofs.together.judge_halves.Goals as goal
 
@@ -22,7 +22,7 @@ loop-tx-preserved g c =
     record {
       at = omega (arith, so.at);
       fit = subst (All Fit) (sym c.in_ok-push-in-Ok.ensures.items) (All-append Fit c.loop-tx.prices.items (price ∷ []) so.fit (All-one Fit price fits));
-      rest = halves_next c.args.max_rate over c.args.these.now c.loop-tx.place c.loop-tx.tx-index c.tx-item.result c.split_at.result.0.now c.loop-tx.prices.items c.push.new.self.items price
-          (halves_of c.args.max_rate over [] 0 c.args.these.now)
+      rest = halves_next c.args.role c.args.max_rate over c.args.these.now c.loop-tx.place c.loop-tx.tx-index c.tx-item.result c.split_at.result.0.now c.loop-tx.prices.items c.push.new.self.items price
+          (halves_as c.args.role c.args.max_rate over [] 0 c.args.these.now)
           c.loop-tx-test.true c.tx-item.is so.at c.split_at.ensures.front c.in_ok-push-in-Ok.ensures.items passes fee vsize so.rest;
     }

@@ -1,4 +1,4 @@
-use Rattle.std.proofs.Common.{◌≡◌, ◌||◌, ◌∙◌, not, List, [], length, ap, sym, subst, arith}
+use Rattle.std.proofs.Common.{◌||◌, ◌∙◌, not, List, [], length, ap, sym, subst, arith}
 use Rattle.std.specs.Prelude.{◌==◌, Contains}
 use Rattle.std.specs.List.{list_any}
 use Rattle.std.proofs.lemmas.Bool.{or_left}
