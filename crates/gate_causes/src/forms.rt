@@ -6,10 +6,11 @@ use gate_lines::MAX_NUMBER;
 use gate_register::{Row, Setting};
 
 /// The lines of events. Of two forms that a line fits equally far, the later one says what is wrong with it.
-pub(crate) static EVENTS: [&str; 17] = [
+pub(crate) static EVENTS: [&str; 18] = [
     "peer P enter ADDRESS",
     "peer P leave",
     "peer P tx NOW HEX",
+    "peer P package NOW HEX HEX",
     "peer P mempool",
     "peer P getblock H",
     "peer P headers H",
@@ -48,9 +49,10 @@ pub(crate) static PERMISSIONS: [&str; 1] = [
 ];
 
 /// The methods of calls, each with its params as docs/POLICY.md writes them.
-pub(crate) static METHODS: [&str; 9] = [
+pub(crate) static METHODS: [&str; 10] = [
     "sendrawtransaction [hex]",
     "testmempoolaccept [[hex, ..]] with 1 to 25 of them",
+    "submitpackage [[hex, ..]], [[hex, ..], maxfeerate] or [[hex, ..], maxfeerate, maxburnamount] with 1 to 25 texts",
     "getrawmempool [], [false] or [true]",
     "getmempoolentry [txid]",
     "getmempoolancestors [txid]",

@@ -1,5 +1,5 @@
 -- What users change, and what they don't.
-use Rattle.std.proofs.Common.{◌≡◌, ℕ, Bool, true, false, not, true≢false, if◌then◌else◌, List, Option, Some, None, Result, Ok, Err, refl, sym, ap, subst, ◌∙◌, inl, inr}
+use Rattle.std.proofs.Common.{◌≡◌, ℕ, Bool, true, false, not, true≢false, if◌then◌else◌, List, Option, Some, Result, Ok, Err, refl, ap, ◌∙◌, inl, inr}
 use Rattle.std.specs.Option.{option_map_or}
 use Rattle.std.specs.Prelude.{codes}
 use Rattle.gate_rpc.specs.Calls.{method_of, request_of}
@@ -11,14 +11,13 @@ use Rattle.gate_rpc.specs.declared.fault.CallError.{CallError}
 use Rattle.gate_rpc.specs.declared.fault.CallError.TheVariants.{ParseError, InvalidRequest, MethodNotFound, InvalidParams}
 use Rattle.gate_rpc.specs.Methods.{method_name}
 use Rattle.gate_rpc.specs.declared.reply.RpcReply.TheVariants.{NotAllowed}
-use Rattle.gate_message.specs.declared.event.Event.TheVariants.{Rpc}
 use Rattle.gate_message.specs.declared.reply.Reply.{Reply}
 use Rattle.gate_message.specs.declared.reply.Reply.TheVariants.{Rpc as Answered}
 use Rattle.gate_core.specs.AccessLaws.{ListsBar, OnlySendersChange, QuestionsChangeNothing, SubmitsNoPackage, sends, sends_by}
 use Rattle.gate_core.specs.Packaging.{lacks_method, served}
 use Rattle.gate_core.specs.RpcSteps.{is_barred, commanded, called_by, rpc_step}
 use Rattle.gate_core.specs.Steps.{step_of}
-use Rattle.gate_message.specs.UserCalls.{UserCall, name_called}
+use Rattle.gate_message.specs.UserCalls.{name_called}
 use Rattle.gate_core.specs.World.{World}
 
 barred : (w : World) (user : List ℕ) (now : ℕ) (request : Result Request CallError) → is_barred w user request ≡ true → rpc_step w user now request ≡ (Answered NotAllowed, w)

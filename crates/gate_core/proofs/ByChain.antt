@@ -1,5 +1,5 @@
 -- What the chain's caller changes, and what it leaves.
-use Rattle.std.proofs.Common.{◌≡◌, ℕ, List, Option, Some, None, Result, Ok, Err, refl, ap, ◌∙◌}
+use Rattle.std.proofs.Common.{◌≡◌, ℕ, Option, Some, None, Result, Ok, Err, refl, ap, ◌∙◌}
 use Rattle.gate_bytes.specs.Order.{first_failing}
 use Rattle.gate_tx.specs.Tx.{Tx}
 use Rattle.gate_rules.specs.declared.Denial.{Denial}
@@ -12,11 +12,9 @@ use Rattle.gate_admit.specs.Submission.{Submitted, submit_of}
 use Rattle.gate_admit.specs.Verdicts.{row_rules}
 use Rattle.gate_rules.specs.declared.PeerDenial.{PeerDenial}
 use Rattle.gate_rules.specs.declared.PeerDenial.TheVariants.{Admission}
-use Rattle.gate_message.specs.declared.event.Event.{Event}
-use Rattle.gate_message.specs.declared.event.Event.TheVariants.{Enter, Leave, Tx as Submit, Mempool, GetBlock, Headers, FeeFilter, Rpc, SetFloor, Set as Turn, Chain as OfChain}
+use Rattle.gate_message.specs.declared.event.Event.TheVariants.{Enter, Leave, Tx as Submit, Package, Mempool, GetBlock, Headers, FeeFilter, Rpc, SetFloor, Set as Turn, Chain as OfChain}
 use Rattle.gate_message.specs.declared.reply.Reply.{Reply}
 use Rattle.gate_message.specs.declared.reply.Reply.TheVariants.{Denied}
-use Rattle.gate_message.specs.Callers.{caller_of}
 use Rattle.gate_rpc.specs.Calls.{request_of}
 use Rattle.gate_core.specs.Access.{entering_rules, session_rules, submission_rules, listing_rules, block_rules, headers_rules}
 use Rattle.gate_core.specs.ChainLaws.{AsksTheSame, ForgettingChangesNoAnswer, LearningLeavesTheRest, OthersLeaveTheChain, apart_from_chain}
@@ -26,6 +24,7 @@ use Rattle.gate_core.specs.Sessions.{flags_in}
 use Rattle.gate_core.specs.Steps.{step_of}
 use Rattle.gate_core.specs.World.{World, standing_of}
 use Rattle.gate_core.proofs.Calls.{call_gives}
+use Rattle.gate_core.proofs.Pairs.{pair_gives}
 use Rattle.gate_core.proofs.Forgetting.{times_same}
 use Rattle.gate_core.proofs.SameAnswers.{decision_same, outcome_same}
 
@@ -52,6 +51,7 @@ others_leave_the_chain w (Submit peer now transaction) h =
     let s = submit_of (standing_of w) transaction now w.budget in
     answered_knows w peer (submitted w peer now transaction) (first_failing (submission_rules w peer transaction))
     (decided_knows w (record w { pool = s.entries; floor = s.floor }) peer transaction s.decision (refl, refl))
+others_leave_the_chain w (Package peer now parent child) h = pair_gives (λ p. KnowsAs w p.1) w peer now parent child (λ denial. (refl, refl)) (λ denial. (refl, refl)) (λ txs is. (refl, refl))
 others_leave_the_chain w (Mempool peer) h = answered_knows w peer (listed w peer) (first_failing (listing_rules w peer)) (refl, refl)
 others_leave_the_chain w (GetBlock peer height) h = answered_knows w peer (block_given w height) (first_failing (block_rules w peer height)) (refl, refl)
 others_leave_the_chain w (Headers peer height) h = answered_knows w peer (headers_given w height) (first_failing (headers_rules w peer height)) (refl, refl)

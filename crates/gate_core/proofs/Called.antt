@@ -1,5 +1,8 @@
 -- The package that an event submits, if it submits one, and its step.
-use Rattle.std.proofs.Common.{◌≡◌, ℕ, Bool, true, false, if◌then◌else◌, Some, None, Result, Ok, Err, refl, sym, ap, ◌∙◌}
+use Rattle.std.proofs.Common.{◌≡◌, ℕ, Bool, true, false, if◌then◌else◌, List, Option, Some, None, Result, Ok, Err, refl, sym, ap, ◌∙◌}
+use Rattle.gate_bytes.specs.Order.{first_failing}
+use Rattle.gate_tx.specs.Tx.{Tx}
+use Rattle.gate_rules.specs.declared.PeerDenial.{PeerDenial}
 use Rattle.gate_rpc.specs.Calls.{method_of, request_of}
 use Rattle.gate_rpc.specs.Faults.{reply_of}
 use Rattle.gate_rpc.specs.Methods.{method_name}
@@ -15,10 +18,15 @@ use Rattle.gate_rpc.specs.declared.fault.CallError.TheVariants.{ParseError, Inva
 use Rattle.gate_rpc.specs.declared.reply.RpcReply.TheVariants.{NotAllowed}
 use Rattle.gate_message.specs.UserCalls.{UserCall}
 use Rattle.gate_message.specs.declared.event.Event.{Event}
-use Rattle.gate_message.specs.declared.event.Event.TheVariants.{Enter, Leave, Tx as Submit, Mempool, GetBlock, Headers, FeeFilter, Rpc, SetFloor, Set as Turn, Chain as OfChain}
+use Rattle.gate_message.specs.declared.event.Event.TheVariants.{Enter, Leave, Tx as Submit, Package, Mempool, GetBlock, Headers, FeeFilter, Rpc, SetFloor, Set as Turn, Chain as OfChain}
 use Rattle.gate_message.specs.declared.reply.Reply.TheVariants.{Rpc as Answered}
 use Rattle.gate_core.specs.Packaging.{lacks_method, served}
-use Rattle.gate_core.specs.PackageSteps.{Called, called_in, called_with, package_in, package_of, packaged_step}
+use Rattle.gate_core.specs.declared.packaging.AskedPackage.{AskedPackage}
+use Rattle.gate_core.specs.declared.packaging.AskedPackage.TheVariants.{Call, Pair}
+use Rattle.gate_core.specs.Access.{package_rules}
+use Rattle.gate_core.specs.PackageSteps.{called_in, called_with, package_in, package_of, packaged_step, pair_in, pair_with, unless_refused}
+use Rattle.gate_core.specs.Pairing.{both_of, package_step, paired_if_read}
+use Rattle.gate_core.specs.PeerSteps.{answered}
 use Rattle.gate_core.specs.RpcSteps.{called_by, commanded, is_barred, rpc_step, told}
 use Rattle.gate_core.specs.Steps.{step_of}
 use Rattle.gate_core.specs.World.{World}
@@ -122,45 +130,58 @@ none_some : {X Y : Type 0} (x : X) → None ≡ Some x → Y
 none_some x e = cc
 
 -- the step of an event that submits a package is that of the package
-module _ (w : World) (called : Called) where
-  command_is : (now : ℕ) (id : Id) (command : Command) → called_with now id command ≡ Some called → packaged_step w called ≡ commanded w now id command
-  command_is now id (SendRawTransaction transaction) is = none_some called is
-  command_is now id (TestMempoolAccept transaction) is = none_some called is
-  command_is now id (TestList transactions) is = none_some called is
-  command_is now id GetRawMempool is = none_some called is
-  command_is now id GetRawMempoolVerbose is = none_some called is
-  command_is now id (GetMempoolEntry txid) is = none_some called is
-  command_is now id (GetMempoolAncestors txid) is = none_some called is
-  command_is now id (GetMempoolDescendants txid) is = none_some called is
-  command_is now id GetMempoolInfo is = none_some called is
-  command_is now id (GetRawTransaction txid) is = none_some called is
-  command_is now id (GetTxSpendingPrevout points) is = none_some called is
+module _ (w : World) (asked : AskedPackage) where
+  command_is : (now : ℕ) (id : Id) (command : Command) → called_with now id command ≡ Some asked → packaged_step w asked ≡ commanded w now id command
+  command_is now id (SendRawTransaction transaction) is = none_some asked is
+  command_is now id (TestMempoolAccept transaction) is = none_some asked is
+  command_is now id (TestList transactions) is = none_some asked is
+  command_is now id GetRawMempool is = none_some asked is
+  command_is now id GetRawMempoolVerbose is = none_some asked is
+  command_is now id (GetMempoolEntry txid) is = none_some asked is
+  command_is now id (GetMempoolAncestors txid) is = none_some asked is
+  command_is now id (GetMempoolDescendants txid) is = none_some asked is
+  command_is now id GetMempoolInfo is = none_some asked is
+  command_is now id (GetRawTransaction txid) is = none_some asked is
+  command_is now id (GetTxSpendingPrevout points) is = none_some asked is
   command_is now id (SubmitPackage call) is =
-      let given : Called = record { second = now; id = id; call = call } in
-      ap (packaged_step w) (sym (some_is given called is))
+      let given : AskedPackage = Call (record { second = now; id = id; call = call }) in
+      ap (packaged_step w) (sym (some_is given asked is))
 
-  request_is : (now : ℕ) (request : Result Request CallError) → called_in now request ≡ Some called → packaged_step w called ≡ called_by w now request
+  request_is : (now : ℕ) (request : Result Request CallError) → called_in now request ≡ Some asked → packaged_step w asked ≡ called_by w now request
   request_is now (Ok request) is = command_is now request.id request.command is
-  request_is now (Err error) is = none_some called is
+  request_is now (Err error) is = none_some asked is
 
-  call_is : (call : UserCall) → package_in w call ≡ Some called → packaged_step w called ≡ rpc_step w call.user call.time (request_of call.json)
+  call_is : (call : UserCall) → package_in w call ≡ Some asked → packaged_step w asked ≡ rpc_step w call.user call.time (request_of call.json)
   call_is call is = by (is_barred w call.user (request_of call.json)) is
     where
-      by : (b : Bool) → (if b then None else called_in call.time (served w (request_of call.json))) ≡ Some called
-          → packaged_step w called ≡ (if b then (Answered NotAllowed, w) else called_by w call.time (served w (request_of call.json)))
-      by true k = none_some called k
+      by : (b : Bool) → (if b then None else called_in call.time (served w (request_of call.json))) ≡ Some asked
+          → packaged_step w asked ≡ (if b then (Answered NotAllowed, w) else called_by w call.time (served w (request_of call.json)))
+      by true k = none_some asked k
       by false k = request_is call.time (served w (request_of call.json)) k
 
-  pub event_is : (event : Event) → package_of w event ≡ Some called → packaged_step w called ≡ step_of w event
+  pair_is : (peer now : ℕ) (parent child : Option Tx) → pair_in w peer now parent child ≡ Some asked → packaged_step w asked ≡ package_step w peer now parent child
+  pair_is peer now parent child is = by (first_failing (package_rules w peer parent child)) is
+    where
+      read : (txs : Option (List Tx)) → pair_with peer now txs ≡ Some asked → packaged_step w asked ≡ paired_if_read w peer now txs
+      read None k = none_some asked k
+      read (Some txs) k = ap (packaged_step w) (sym (some_is (Pair (record { second = now; peer = peer; members = txs })) asked k))
+
+      by : (found : Option PeerDenial) → unless_refused found (pair_with peer now (both_of parent child)) ≡ Some asked
+          → packaged_step w asked ≡ answered w peer (paired_if_read w peer now (both_of parent child)) found
+      by (Some denial) k = none_some asked k
+      by None k = read (both_of parent child) k
+
+  pub event_is : (event : Event) → package_of w event ≡ Some asked → packaged_step w asked ≡ step_of w event
   unfolding step_of
-  event_is (Enter peer address) is = none_some called is
-  event_is (Leave peer) is = none_some called is
-  event_is (Submit peer now submission) is = none_some called is
-  event_is (Mempool peer) is = none_some called is
-  event_is (GetBlock peer height) is = none_some called is
-  event_is (Headers peer height) is = none_some called is
-  event_is (FeeFilter peer rate) is = none_some called is
+  event_is (Enter peer address) is = none_some asked is
+  event_is (Leave peer) is = none_some asked is
+  event_is (Submit peer now submission) is = none_some asked is
+  event_is (Package peer now parent child) is = pair_is peer now parent child is
+  event_is (Mempool peer) is = none_some asked is
+  event_is (GetBlock peer height) is = none_some asked is
+  event_is (Headers peer height) is = none_some asked is
+  event_is (FeeFilter peer rate) is = none_some asked is
   event_is (Rpc call) is = call_is call is
-  event_is (SetFloor rate) is = none_some called is
-  event_is (Turn switch on) is = none_some called is
-  event_is (OfChain event) is = none_some called is
+  event_is (SetFloor rate) is = none_some asked is
+  event_is (Turn switch on) is = none_some asked is
+  event_is (OfChain event) is = none_some asked is

@@ -1,5 +1,6 @@
 -- Closed sessions along a run.
 use Rattle.std.proofs.Common.{◌≡◌, ℕ, zero, suc, Bool, false, not, is_some, if◌then◌else◌, List, [], ◌∷◌, ◌++◌, Option, Some, None, ap, ◌∙◌, ◌⊎◌, ◌≢◌, is_none, inl, inr, ⊎_elim}
+use Rattle.std.specs.Prelude.{◌||◌}
 use Rattle.std.specs.List.{slice_get}
 use Rattle.std.specs.Option.{option_map_or}
 use Rattle.std.proofs.lemmas.Bool.Decides.{eqb_tells}
@@ -8,15 +9,16 @@ use Rattle.gate_rules.specs.declared.Denial.TheVariants.{Decode}
 use Rattle.gate_message.specs.declared.caller.Caller.{Caller}
 use Rattle.gate_message.specs.declared.caller.Caller.TheVariants.{Chain, Operator, Peer, User}
 use Rattle.gate_message.specs.declared.event.Event.{Event}
-use Rattle.gate_message.specs.declared.event.Event.TheVariants.{Enter, Leave, Tx as Submit, Mempool, GetBlock, Headers, FeeFilter, Rpc, SetFloor, Set as Turn, Chain as OfChain}
+use Rattle.gate_message.specs.declared.event.Event.TheVariants.{Enter, Leave, Tx as Submit, Package, Mempool, GetBlock, Headers, FeeFilter, Rpc, SetFloor, Set as Turn, Chain as OfChain}
 use Rattle.gate_rules.specs.declared.PeerDenial.{PeerDenial}
-use Rattle.gate_rules.specs.declared.PeerDenial.TheVariants.{PeerUnknown, PeerClosed, PeerKnown, BlocksOnly, AlreadyInMempool, MempoolNoBloom, MempoolUploadTarget, HeadersDuringDownload, UnknownBlock, HistoricalUploadTarget, Admission}
+use Rattle.gate_rules.specs.declared.PeerDenial.TheVariants.{PeerUnknown, PeerClosed, PeerKnown, BlocksOnly, AlreadyInMempool, MempoolNoBloom, MempoolUploadTarget, HeadersDuringDownload, UnknownBlock, HistoricalUploadTarget, NoPackages, Admission}
 use Rattle.gate_message.specs.declared.reply.Reply.{Reply}
 use Rattle.gate_message.specs.Callers.{caller_of}
 use Rattle.gate_core.specs.Sessions.{Session, session_of, flags_in}
 use Rattle.gate_core.specs.World.{World}
 use Rattle.gate_core.specs.Access.{is_pooled, lacks_relay, lacks_bloom, lacks_upload, lacks_headers, lacks_history, is_above_tip, is_unknown_block, entering_rules, session_rules}
 use Rattle.gate_core.specs.PeerSteps.{answered, entered, left, submitted, listed, block_given, headers_given, filter_set}
+use Rattle.gate_core.specs.Pairing.{both_of, paired_if_read}
 use Rattle.gate_core.specs.Steps.{step_of}
 use Rattle.gate_core.specs.Runs.{run_of}
 use Rattle.gate_core.specs.SessionLaws.{closed_reply}
@@ -54,6 +56,9 @@ step_closed w (Enter number address) peer s own h shut = ap (λ r. told (answere
 step_closed w (Leave number) peer s own h shut = ap (λ r. told (answered w number (left w number) r)) (closed_first w.sessions number s [] (own_session w number peer s own h) shut)
 step_closed w (Submit number now transaction) peer s own h shut =
     ap (λ r. told (answered w number (submitted w number now transaction) r)) (closed_first w.sessions number s ((BlocksOnly, lacks_relay w (flags_in w.sessions number)) ∷ (Admission Decode, is_none transaction) ∷ (AlreadyInMempool, is_pooled w.pool transaction) ∷ []) (own_session w number peer s own h) shut)
+step_closed w (Package number now parent child) peer s own h shut =
+    ap (λ r. told (answered w number (paired_if_read w number now (both_of parent child)) r))
+    (closed_first w.sessions number s ((BlocksOnly, lacks_relay w (flags_in w.sessions number)) ∷ (NoPackages, not w.policy.packages) ∷ (Admission Decode, is_none parent || is_none child) ∷ []) (own_session w number peer s own h) shut)
 step_closed w (Mempool number) peer s own h shut = ap (λ r. told (answered w number (listed w number) r)) (closed_first w.sessions number s ((MempoolNoBloom, lacks_bloom w (flags_in w.sessions number)) ∷ (MempoolUploadTarget, lacks_upload w (flags_in w.sessions number)) ∷ []) (own_session w number peer s own h) shut)
 step_closed w (GetBlock number height) peer s own h shut =
     ap (λ r. told (answered w number (block_given w height) r))

@@ -12,7 +12,7 @@ use Rattle.gate_admit.specs.Rules.{decision_of}
 use Rattle.gate_admit.specs.Submission.{admitted, entry_of, holds, submitted_by, submit_of}
 use Rattle.gate_admit.specs.Truc.{sibling_of}
 use Rattle.gate_message.specs.declared.event.Event.{Event}
-use Rattle.gate_message.specs.declared.event.Event.TheVariants.{Enter, Leave, Tx as Submit, Mempool, GetBlock, Headers, FeeFilter, Rpc, SetFloor, Set as Turn, Chain as OfChain}
+use Rattle.gate_message.specs.declared.event.Event.TheVariants.{Enter, Leave, Tx as Submit, Package, Mempool, GetBlock, Headers, FeeFilter, Rpc, SetFloor, Set as Turn, Chain as OfChain}
 use Rattle.gate_rules.specs.declared.PeerDenial.{PeerDenial}
 use Rattle.gate_message.specs.declared.reply.Reply.{Reply}
 use Rattle.gate_core.specs.World.{World, standing_of}
@@ -24,6 +24,7 @@ use Rattle.gate_core.specs.RpcSteps.{sent, sent_as, told}
 use Rattle.gate_rpc.specs.declared.id.Id.{Id}
 use Rattle.gate_rpc.specs.Calls.{request_of}
 use Rattle.gate_core.proofs.Calls.{call_gives}
+use Rattle.gate_core.proofs.Pairs.{pair_gives}
 use Rattle.gate_core.proofs.Following.{chain_gives}
 use Rattle.gate_core.specs.SessionLaws.{IsDenied}
 
@@ -81,6 +82,8 @@ step_denied w (Enter peer address) h = answered_denied w peer (entered w peer ad
 step_denied w (Leave peer) h = answered_denied w peer (left w peer) (first_failing (session_rules w.sessions peer)) (λ k. absurd k) h
 step_denied w (Submit peer now transaction) h =
     answered_denied w peer (submitted w peer now transaction) (first_failing (submission_rules w peer transaction)) (submitted_denied w peer now transaction) h
+step_denied w (Package peer now parent child) h =
+    pair_gives (λ p. IsDenied p.0 → IsAsIn w p.1) w peer now parent child (λ denial k. (refl, refl, refl)) (λ denial k. (refl, refl, refl)) (λ txs is k. absurd k) h
 step_denied w (Mempool peer) h = answered_denied w peer (listed w peer) (first_failing (listing_rules w peer)) (λ k. absurd k) h
 step_denied w (GetBlock peer height) h = answered_denied w peer (block_given w height) (first_failing (block_rules w peer height)) (λ k. absurd k) h
 step_denied w (Headers peer height) h = answered_denied w peer (headers_given w height) (first_failing (headers_rules w peer height)) (λ k. absurd k) h

@@ -23,7 +23,7 @@ use Rattle.gate_reorg.proofs.Origins.{floors_never_fall}
 use Rattle.gate_reorg.proofs.Spending.{events_keep_the_budget}
 use Rattle.gate_message.specs.declared.caller.Caller.TheVariants.{Operator}
 use Rattle.gate_message.specs.declared.event.Event.{Event}
-use Rattle.gate_message.specs.declared.event.Event.TheVariants.{Enter, Leave, Tx as Submit, Mempool, GetBlock, Headers, FeeFilter, Rpc, SetFloor, Set as Turn, Chain as OfChain}
+use Rattle.gate_message.specs.declared.event.Event.TheVariants.{Enter, Leave, Tx as Submit, Package, Mempool, GetBlock, Headers, FeeFilter, Rpc, SetFloor, Set as Turn, Chain as OfChain}
 use Rattle.gate_rules.specs.declared.PeerDenial.{PeerDenial}
 use Rattle.gate_message.specs.declared.reply.Reply.{Reply}
 use Rattle.gate_message.specs.declared.reply.Reply.TheVariants.{Admitted}
@@ -36,6 +36,7 @@ use Rattle.gate_core.specs.Steps.{step_of}
 use Rattle.gate_core.specs.World.{World, opened_world, standing_of}
 use Rattle.gate_rpc.specs.Calls.{request_of}
 use Rattle.gate_core.proofs.Calls.{call_gives}
+use Rattle.gate_core.proofs.Pairs.{pair_gives}
 use Rattle.gate_core.proofs.Following.{chain_gives}
 use Rattle.gate_core.proofs.Running.{run_same_limits}
 
@@ -75,6 +76,8 @@ step_within w (Submit peer now transaction) h =
     let s = submit_of (standing_of w) transaction now w.budget in
     answered_within w peer (submitted w peer now transaction) (first_failing (submission_rules w peer transaction)) h
     (decided_within (record w { pool = s.entries; floor = s.floor }) peer transaction s.decision (after_within w now transaction h))
+step_within w (Package peer now parent child) h =
+    pair_gives (λ p. IsWithin p.1) w peer now parent child (λ denial. h) (λ denial. h) (λ txs is. package_within 0 (standing_of w) txs now w.budget h)
 step_within w (Mempool peer) h = answered_within w peer (listed w peer) (first_failing (listing_rules w peer)) h h
 step_within w (GetBlock peer height) h = answered_within w peer (block_given w height) (first_failing (block_rules w peer height)) h h
 step_within w (Headers peer height) h = answered_within w peer (headers_given w height) (first_failing (headers_rules w peer height)) h h
@@ -115,6 +118,8 @@ unfolding step_of
 step_floor w (Enter peer address) h = answered_floor w peer (entered w peer address) (first_failing (entering_rules w.sessions peer)) (omega arith)
 step_floor w (Leave peer) h = answered_floor w peer (left w peer) (first_failing (session_rules w.sessions peer)) (omega arith)
 step_floor w (Submit peer now transaction) h = answered_floor w peer (submitted w peer now transaction) (first_failing (submission_rules w peer transaction)) (submitted_floor w peer now transaction)
+step_floor w (Package peer now parent child) h =
+    pair_gives (λ p. w.floor ≤ p.1.floor) w peer now parent child (λ denial. omega arith) (λ denial. omega arith) (λ txs is. package_rises 0 (standing_of w) txs now w.budget)
 step_floor w (Mempool peer) h = answered_floor w peer (listed w peer) (first_failing (listing_rules w peer)) (omega arith)
 step_floor w (GetBlock peer height) h = answered_floor w peer (block_given w height) (first_failing (block_rules w peer height)) (omega arith)
 step_floor w (Headers peer height) h = answered_floor w peer (headers_given w height) (first_failing (headers_rules w peer height)) (omega arith)

@@ -1,27 +1,26 @@
 -- What flags guard is denied to peers without them.
-use Rattle.std.proofs.Common.{◌≡◌, ◌≢◌, ℕ, Bool, true, false, not, ◌&&◌, ◌||◌, is_some, is_none, true≢false, if◌then◌else◌, List, [], ◌∷◌, ◌++◌, Option, Some, None, refl, sym, ap, subst, ◌∙◌}
-use Rattle.std.specs.Prelude.{nat_lt}
-use Rattle.gate_bytes.specs.Order.{Rule, first_failing}
-use Rattle.gate_tx.specs.Tx.{Tx}
+use Rattle.std.proofs.Common.{◌≡◌, ◌≢◌, ℕ, Bool, true, false, not, ◌&&◌, ◌||◌, true≢false, if◌then◌else◌, Option, Some, None, refl, sym}
 use Rattle.gate_rules.specs.declared.Denial.TheVariants.{Decode, MempoolFull}
 use Rattle.gate_admit.specs.Policies.{usual_policy}
 use Rattle.gate_net.specs.Permissions.{Permissions}
-use Rattle.gate_message.specs.declared.event.Event.TheVariants.{Tx as Submit, Mempool, GetBlock, Headers}
 use Rattle.gate_rules.specs.declared.PeerDenial.{PeerDenial}
-use Rattle.gate_rules.specs.declared.PeerDenial.TheVariants.{PeerUnknown, PeerClosed, BlocksOnly, AlreadyInMempool, MempoolNoBloom, MempoolUploadTarget, HeadersDuringDownload, UnknownBlock, HistoricalUploadTarget, Admission}
+use Rattle.gate_rules.specs.declared.PeerDenial.TheVariants.{PeerUnknown, PeerClosed, BlocksOnly, AlreadyInMempool, MempoolNoBloom, MempoolUploadTarget, HeadersDuringDownload, UnknownBlock, HistoricalUploadTarget, Admission, Package as Packages}
 use Rattle.gate_message.specs.declared.denial.Then.{Then}
 use Rattle.gate_message.specs.declared.denial.Then.TheVariants.{Keep, Close, Relay}
 use Rattle.gate_message.specs.declared.reply.Reply.{Reply}
 use Rattle.gate_message.specs.Following.{then_by, then_of}
-use Rattle.gate_core.specs.Access.{is_known, is_closed, is_historical, is_unknown_block, is_pooled, lacks_relay, lacks_bloom, lacks_upload, lacks_headers, lacks_history}
+use Rattle.gate_core.specs.Access.{is_known, is_closed, is_historical, is_unknown_block, lacks_relay, lacks_bloom, lacks_upload, lacks_headers, lacks_history}
 use Rattle.gate_core.specs.AccessLaws.{FlagsGuard, InvalidIsKept, NobanIsKept}
 use Rattle.gate_core.specs.PeerSteps.{answered, submitted, listed, block_given, headers_given, then_under}
+use Rattle.gate_core.specs.Pairing.{both_of, paired_if_read}
 use Rattle.gate_core.specs.SessionLaws.{IsDenied}
 use Rattle.gate_core.specs.Sessions.{flags_in}
 use Rattle.gate_core.specs.Steps.{step_of}
 use Rattle.gate_core.specs.World.{World}
 use Rattle.gate_rules.specs.Denials.{then_of as follows}
 use Rattle.gate_rules.specs.declared.Denial.{Denial}
+use Rattle.gate_rules.specs.declared.PackageDenial.{PackageDenial}
+use Rattle.gate_rules.specs.declared.PackageDenial.TheVariants.{BurntAmount}
 use Rattle.gate_rules.specs.declared.Consequence.{Consequence}
 use Rattle.gate_rules.specs.declared.Consequence.TheVariants as row
 
@@ -102,6 +101,9 @@ flags_guard w peer =
     record {
       relay = λ on lacks now transaction.
           denies w peer (submitted w peer now transaction) _ (session_first known closed _ (one_fails (lacks_relay w flags) BlocksOnly _ blocks_only (both w.blocksonly flags.relay on lacks)));
+      packages = λ on lacks now parent child.
+          denies w peer (paired_if_read w peer now (both_of parent child)) _
+          (session_first known closed _ (one_fails (lacks_relay w flags) BlocksOnly _ blocks_only (both w.blocksonly flags.relay on lacks)));
       bloom = λ off lacks more.
           denies w peer (listed w peer) _ (session_first known closed _ (one_fails (lacks_bloom w flags) MempoolNoBloom _ no_bloom (none_of flags.mempool flags.bloomfilter w.switches.bloom more lacks off)));
       upload = λ on lacks.
@@ -150,12 +152,18 @@ keeping : (keeps : Bool) (otherwise : Then) → keeps ≡ true → (if keeps the
 keeping true otherwise is = refl
 keeping false otherwise is = absurd (true≢false (sym is))
 
+-- a rule on packages keeps every session
+keeps_session : (flags : Permissions) (denial : PackageDenial) → then_of flags (Packages denial) ≢ Close
+keeps_session flags BurntAmount = keep_close
+keeps_session flags denial = keep_close
+
 pub noban_is_kept : NobanIsKept
 noban_is_kept policy flags BlocksOnly is other = absurd (other refl)
 noban_is_kept policy flags AlreadyInMempool is other = either flags.forcerelay
 noban_is_kept policy flags MempoolNoBloom is other = kept flags.noban is
 noban_is_kept policy flags MempoolUploadTarget is other = kept flags.noban is
 noban_is_kept policy flags HistoricalUploadTarget is other = kept flags.noban is
+noban_is_kept policy flags (Packages denial) is other = keeps_session flags denial
 noban_is_kept policy flags (Admission denial) is other = kept_by policy.keep_invalid flags (follows denial) is (never_always denial)
 noban_is_kept policy flags denial is other = keep_close
 

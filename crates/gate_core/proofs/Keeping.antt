@@ -5,7 +5,6 @@ use Rattle.std.specs.Prelude.{Bool, true, false, is_none, if◌then◌else◌}
 use Rattle.std.specs.List.{list_any}
 use Rattle.std.proofs.lemmas.List.Elements.{Contains-append_left, Contains-append_right, Contains-append_cases}
 use Rattle.gate_bytes.specs.Order.{first_failing}
-use Rattle.gate_tx.specs.Ids.{txid_of}
 use Rattle.gate_tx.specs.Text.{IsTx}
 use Rattle.gate_tx.specs.Tx.{Tx}
 use Rattle.gate_rules.specs.declared.Denial.{Denial}
@@ -21,13 +20,13 @@ use Rattle.gate_pool.proofs.Entries.{Contains-map, Contains-from_map}
 use Rattle.gate_pool.proofs.Walking.{Contains-from_filter}
 use Rattle.gate_admit.specs.declared.Attempt.TheVariants.{First}
 use Rattle.gate_admit.specs.declared.Grant.{Grant}
-use Rattle.gate_admit.specs.Good.{Limits, IsGood, IsSettled, IsUnconnected, AreApart, SpendsCoins, connected_transactions}
+use Rattle.gate_admit.specs.Good.{Limits, IsGood, IsSettled, AreApart, SpendsCoins, connected_transactions}
 use Rattle.gate_admit.specs.Rules.{decision_of}
 use Rattle.gate_admit.specs.Policies.{IsPolicy}
 use Rattle.gate_admit.specs.Standing.{Standing}
 use Rattle.gate_admit.specs.Submission.{admitted, entry_of, submitted_by, submit_of}
 use Rattle.gate_admit.specs.Truc.{sibling_of}
-use Rattle.gate_admit.proofs.Entering.{StaysUnconnected, stays_if_apart, stays_if_unconnected}
+use Rattle.gate_admit.proofs.Entering.{StaysUnconnected, stays_if_apart}
 use Rattle.gate_admit.proofs.Submissions.{empty_good, entry_within, submission_good}
 use Rattle.gate_package.specs.Packages.{packaged_of}
 use Rattle.gate_package.specs.Shapes.{members_of}
@@ -44,7 +43,7 @@ use Rattle.gate_reorg.proofs.Spent.{events_spend_coins}
 use Rattle.gate_message.specs.declared.chain_event.ChainEvent.{ChainEvent}
 use Rattle.gate_message.specs.declared.chain_event.ChainEvent.TheVariants.{MoveTip}
 use Rattle.gate_message.specs.declared.event.Event.{Event}
-use Rattle.gate_message.specs.declared.event.Event.TheVariants.{Enter, Leave, Tx as Submit, Mempool, GetBlock, Headers, FeeFilter, Rpc, SetFloor, Set as Turn, Chain as OfChain}
+use Rattle.gate_message.specs.declared.event.Event.TheVariants.{Enter, Leave, Tx as Submit, Package, Mempool, GetBlock, Headers, FeeFilter, Rpc, SetFloor, Set as Turn, Chain as OfChain}
 use Rattle.gate_core.specs.Opening.{Start}
 use Rattle.gate_rules.specs.declared.PeerDenial.{PeerDenial}
 use Rattle.gate_message.specs.declared.reply.Reply.{Reply}
@@ -53,11 +52,11 @@ use Rattle.gate_core.specs.Access.{entering_rules, session_rules, submission_rul
 use Rattle.gate_core.specs.PeerSteps.{decided, answered, entered, left, submitted, listed, block_given, headers_given, filter_set}
 use Rattle.gate_core.specs.ChainSteps.{chained_as, with_verdict}
 use Rattle.gate_core.specs.Steps.{step_of}
-use Rattle.gate_message.specs.Spelled.{IsSpelled, connected_by, offered, transactions_of}
+use Rattle.gate_message.specs.Spelled.{IsSpelled, connected_by, of_both, offered, transactions_of}
 use Rattle.gate_core.specs.Good.{IsApartFrom, IsGoodWorld, StepGives, limits_of, transactions_in}
 use Rattle.gate_rpc.specs.Calls.{request_of}
-use Rattle.gate_rpc.specs.declared.request.PackageCall.{PackageCall}
 use Rattle.gate_core.proofs.Calls.{call_gives}
+use Rattle.gate_core.proofs.Pairs.{pair_gives}
 use Rattle.gate_core.proofs.Following.{chain_gives}
 use Rattle.gate_core.proofs.Forgetting.{forgetting_from, forgetting_good}
 use Rattle.gate_core.proofs.Learning.{coin_good}
@@ -75,6 +74,7 @@ abbrev pub StaysApart : World → Event → Type 0
 StaysApart w (Enter peer address) = Unit {0}
 StaysApart w (Leave peer) = Unit {0}
 StaysApart w (Submit peer now transaction) = StaysUnconnected (standing_of w) transaction
+StaysApart w (Package peer now parent child) = (tx : Tx) → Contains (of_both parent child) tx → IsNew (standing_of w) tx
 StaysApart w (Mempool peer) = Unit {0}
 StaysApart w (GetBlock peer height) = Unit {0}
 StaysApart w (Headers peer height) = Unit {0}
@@ -130,15 +130,14 @@ after_from w now transaction tx h =
     (submission_from (standing_of w) transaction now w.budget tx) h
 
 -- whatever becomes of a package
-package_leaves_from : (w : World) (now : ℕ) (call : PackageCall) (tx : Tx)
-    → (let p = packaged_of call.max_rate (standing_of w) (members_of call.members) now w.budget in Contains (transactions_in (record w { pool = p.entries; floor = p.floor })) tx)
-    → Contains (transactions_in w ++ members_of call.members) tx
-package_leaves_from w now call tx h =
-    let txs = members_of call.members in
-    let p = packaged_of call.max_rate (standing_of w) txs now w.budget in
+package_leaves_from : (w : World) (now max_rate : ℕ) (txs : List Tx) (tx : Tx)
+    → (let p = packaged_of max_rate (standing_of w) txs now w.budget in Contains (transactions_in (record w { pool = p.entries; floor = p.floor })) tx)
+    → Contains (transactions_in w ++ txs) tx
+package_leaves_from w now max_rate txs tx h =
+    let p = packaged_of max_rate (standing_of w) txs now w.budget in
     let entries = map (λ (e : Admitted). e.tx) w.pool in
     behind (connected_transactions w.chain) (map (λ (e : Admitted). e.tx) p.entries) entries txs tx
-    (λ k. let m = Contains-from_map (λ (e : Admitted). e.tx) p.entries tx k in subst (λ (t : Tx). Contains (entries ++ txs) t) m.is (package_from call.max_rate (standing_of w) txs now w.budget m.item m.among)) h
+    (λ k. let m = Contains-from_map (λ (e : Admitted). e.tx) p.entries tx k in subst (λ (t : Tx). Contains (entries ++ txs) t) m.is (package_from max_rate (standing_of w) txs now w.budget m.item m.among)) h
 
 submitted_from : (w : World) (peer now : ℕ) (transaction : Option Tx) (tx : Tx) → Contains (transactions_in (submitted w peer now transaction).1) tx → Contains (transactions_in w ++ option_to_list transaction) tx
 submitted_from w peer now transaction tx h =
@@ -185,20 +184,18 @@ new_of w None new = tt
 new_of w (Some tx) new = (new tx (Contains-head tx [])).alone w.pool
 
 -- whatever becomes of a package
-package_leaves_good : (w : World) (now : ℕ) (call : PackageCall) → ((tx : Tx) → Contains (members_of call.members) tx → IsTx tx) → ((tx : Tx) → Contains (members_of call.members) tx → IsNew (standing_of w) tx) → IsGoodWorld w
-    → let p = packaged_of call.max_rate (standing_of w) (members_of call.members) now w.budget in IsGoodWorld (record w { pool = p.entries; floor = p.floor })
-package_leaves_good w now call told new good =
-    let txs = members_of call.members in
-    record {
-      chain = good.chain;
-      spends = good.spends;
-      pool = record {
-        sound = package_sound call.max_rate (standing_of w) txs now w.budget new good.pool.sound;
-        size = package_within call.max_rate (standing_of w) txs now w.budget good.pool.size;
-      };
-      spelled = λ e m. ⊎_elim (λ k. entry_spelled w.pool good.spelled e.tx k) (λ k. told e.tx k)
-          (Contains-append_cases (map (λ (a : Admitted). a.tx) w.pool) txs e.tx (package_from call.max_rate (standing_of w) txs now w.budget e m));
-    }
+package_leaves_good : (w : World) (now max_rate : ℕ) (txs : List Tx) → ((tx : Tx) → Contains txs tx → IsTx tx) → ((tx : Tx) → Contains txs tx → IsNew (standing_of w) tx) → IsGoodWorld w
+    → let p = packaged_of max_rate (standing_of w) txs now w.budget in IsGoodWorld (record w { pool = p.entries; floor = p.floor })
+package_leaves_good w now max_rate txs told new good = record {
+  chain = good.chain;
+  spends = good.spends;
+  pool = record {
+    sound = package_sound max_rate (standing_of w) txs now w.budget new good.pool.sound;
+    size = package_within max_rate (standing_of w) txs now w.budget good.pool.size;
+  };
+  spelled = λ e m. ⊎_elim (λ k. entry_spelled w.pool good.spelled e.tx k) (λ k. told e.tx k)
+      (Contains-append_cases (map (λ (a : Admitted). a.tx) w.pool) txs e.tx (package_from max_rate (standing_of w) txs now w.budget e m));
+}
 
 submitted_good : (w : World) (peer now : ℕ) (transaction : Option Tx) → IfSome transaction IsTx → StaysUnconnected (standing_of w) transaction → IsGoodWorld w → IsGoodWorld (submitted w peer now transaction).1
 submitted_good w peer now transaction told new good =
@@ -258,6 +255,13 @@ step_good w (Enter peer address) told new good = answered_good w peer (entered w
 step_good w (Leave peer) told new good = answered_good w peer (left w peer) (first_failing (session_rules w.sessions peer)) good (same_good w _ refl refl refl good)
 step_good w (Submit peer now transaction) told new good =
     answered_good w peer (submitted w peer now transaction) (first_failing (submission_rules w peer transaction)) good (submitted_good w peer now transaction told new good)
+step_good w (Package peer now parent child) told new good =
+    pair_gives (λ p. IsGoodWorld p.1) w peer now parent child (λ denial. same_good w _ refl refl refl good) (λ denial. good)
+    (λ txs is.
+    let p = packaged_of 0 (standing_of w) txs now w.budget in
+    same_good (record w { pool = p.entries; floor = p.floor }) _ refl refl refl
+    (package_leaves_good w now 0 txs (subst (λ (l : List Tx). (tx : Tx) → Contains l tx → IsTx tx) (sym is) told)
+    (subst (λ (l : List Tx). (tx : Tx) → Contains l tx → IsNew (standing_of w) tx) (sym is) new) good))
 step_good w (Mempool peer) told new good = answered_good w peer (listed w peer) (first_failing (listing_rules w peer)) good good
 step_good w (GetBlock peer height) told new good = answered_good w peer (block_given w height) (first_failing (block_rules w peer height)) good good
 step_good w (Headers peer height) told new good = answered_good w peer (headers_given w height) (first_failing (headers_rules w peer height)) good good
@@ -268,7 +272,7 @@ step_good w (Rpc call) told new good =
     after_good w call.time transaction (told_of transaction (subst (λ (txs : List Tx). (tx : Tx) → Contains txs tx → IsTx tx) (sym is) told))
     (new_of w transaction (subst (λ (txs : List Tx). (tx : Tx) → Contains txs tx → IsNew (standing_of w) tx) (sym is) new)) good)
     (λ id given is.
-    package_leaves_good w call.time given (subst (λ (txs : List Tx). (tx : Tx) → Contains txs tx → IsTx tx) (sym is) told)
+    package_leaves_good w call.time given.max_rate (members_of given.members) (subst (λ (txs : List Tx). (tx : Tx) → Contains txs tx → IsTx tx) (sym is) told)
     (subst (λ (txs : List Tx). (tx : Tx) → Contains txs tx → IsNew (standing_of w) tx) (sym is) new) good)
 step_good w (SetFloor rate) told new good = same_good w _ refl refl refl good
 step_good w (Turn switch on) told new good = same_good w _ refl refl refl good
@@ -308,6 +312,7 @@ pub apart_stays : (w : World) (event : Event) → IsSettled w.chain → IsSpelle
 apart_stays w (Enter peer address) settled spelled apart = tt
 apart_stays w (Leave peer) settled spelled apart = tt
 apart_stays w (Submit peer now transaction) settled spelled apart = offered_stays w transaction settled spelled apart
+apart_stays w (Package peer now parent child) settled spelled apart = offered_new w (of_both parent child) settled spelled apart
 apart_stays w (Mempool peer) settled spelled apart = tt
 apart_stays w (GetBlock peer height) settled spelled apart = tt
 apart_stays w (Headers peer height) settled spelled apart = tt
@@ -334,6 +339,7 @@ step_limits w (Leave peer) = answered_limits w peer (left w peer) (first_failing
 step_limits w (Submit peer now transaction) =
     let s = submit_of (standing_of w) transaction now w.budget in
     answered_limits w peer (submitted w peer now transaction) (first_failing (submission_rules w peer transaction)) (decided_limits (record w { pool = s.entries; floor = s.floor }) peer transaction s.decision)
+step_limits w (Package peer now parent child) = pair_gives (λ p. limits_of p.1 ≡ limits_of w) w peer now parent child (λ denial. refl) (λ denial. refl) (λ txs is. refl)
 step_limits w (Mempool peer) = answered_limits w peer (listed w peer) (first_failing (listing_rules w peer)) refl
 step_limits w (GetBlock peer height) = answered_limits w peer (block_given w height) (first_failing (block_rules w peer height)) refl
 step_limits w (Headers peer height) = answered_limits w peer (headers_given w height) (first_failing (headers_rules w peer height)) refl
@@ -349,6 +355,10 @@ step_from w (Enter peer address) tx h = answered_from w peer (entered w peer add
 step_from w (Leave peer) tx h = answered_from w peer (left w peer) (first_failing (session_rules w.sessions peer)) [] tx (λ k. Contains-append_left _ _ tx k) h
 step_from w (Submit peer now transaction) tx h =
     answered_from w peer (submitted w peer now transaction) (first_failing (submission_rules w peer transaction)) (option_to_list transaction) tx (submitted_from w peer now transaction tx) h
+step_from w (Package peer now parent child) tx h =
+    pair_gives (λ p. Contains (transactions_in p.1) tx → Contains (transactions_in w ++ of_both parent child) tx) w peer now parent child (λ denial k. Contains-append_left _ _ tx k)
+    (λ denial k. Contains-append_left _ _ tx k)
+    (λ txs is k. subst (λ (l : List Tx). Contains (transactions_in w ++ l) tx) is (package_leaves_from w now 0 txs tx k)) h
 step_from w (Mempool peer) tx h = answered_from w peer (listed w peer) (first_failing (listing_rules w peer)) [] tx (λ k. Contains-append_left _ _ tx k) h
 step_from w (GetBlock peer height) tx h = answered_from w peer (block_given w height) (first_failing (block_rules w peer height)) [] tx (λ k. Contains-append_left _ _ tx k) h
 step_from w (Headers peer height) tx h = answered_from w peer (headers_given w height) (first_failing (headers_rules w peer height)) [] tx (λ k. Contains-append_left _ _ tx k) h
@@ -357,7 +367,7 @@ step_from w (Rpc call) tx h =
     let request = request_of call.json in
     call_gives (λ p. Contains (transactions_in p.1) tx → Contains (transactions_in w ++ offered request) tx) w call.time call.user request (λ answer k. Contains-append_left _ _ tx k)
     (λ id transaction is k. subst (λ (txs : List Tx). Contains (transactions_in w ++ txs) tx) is (after_from w call.time transaction tx k))
-    (λ id given is k. subst (λ (txs : List Tx). Contains (transactions_in w ++ txs) tx) is (package_leaves_from w call.time given tx k)) h
+    (λ id given is k. subst (λ (txs : List Tx). Contains (transactions_in w ++ txs) tx) is (package_leaves_from w call.time given.max_rate (members_of given.members) tx k)) h
 step_from w (SetFloor rate) tx h = Contains-append_left _ _ tx h
 step_from w (Turn switch on) tx h = Contains-append_left _ _ tx h
 step_from w (OfChain event) tx h =

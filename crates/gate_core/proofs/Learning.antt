@@ -1,5 +1,5 @@
 -- A coin that is learnt keeps the chain settled and the pool good, if no entry has the id of its transaction.
-use Rattle.std.proofs.Common.{◌≡◌, ◌+◌, ◌||◌, ℕ, Bool, true, false, List, [], ◌∷◌, ◌++◌, All, Contains, Option, Some, None, refl, sym, ap, ◌∙◌, subst, if◌then◌else◌}
+use Rattle.std.proofs.Common.{◌≡◌, ◌+◌, ◌||◌, ℕ, Bool, true, false, List, [], ◌∷◌, ◌++◌, Contains, Option, Some, None, refl, sym, ap, ◌∙◌, if◌then◌else◌}
 use Rattle.std.specs.Prelude.{IsSome, find, is_some}
 use Rattle.std.specs.List.{list_any}
 use Rattle.std.specs.Option.{option_map, option_or}
@@ -24,7 +24,7 @@ use Rattle.gate_chain.proofs.Histories.{bytes_either}
 use Rattle.gate_pool.specs.Pool.{Admitted, entry_by_txid, has_txid as is_entry_of, spent_by}
 use Rattle.gate_rbf.proofs.Conflicting.{is_some-find}
 use Rattle.gate_admit.specs.Coins.{pool_coin, view_coin}
-use Rattle.gate_admit.specs.Good.{IsGood, IsSettled, IsSound, Limits, SpendsCoins, chain_up_to, coin_made_at}
+use Rattle.gate_admit.specs.Good.{IsGood, IsSettled, Limits, SpendsCoins, chain_up_to, coin_made_at}
 use Rattle.gate_reorg.proofs.Spent.{some_more}
 use Rattle.gate_message.specs.declared.reply.Reply.TheVariants.{Set, Refused}
 use Rattle.gate_core.specs.ChainSteps.{coin_rules, coin_step, learnt_as, with_coin}

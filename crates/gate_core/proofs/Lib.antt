@@ -12,6 +12,7 @@ mod Guarding
 mod Learning
 mod Listings
 mod Packages
+mod Pairs
 mod Peers
 mod Rates
 mod Settling

@@ -8,7 +8,7 @@ use Rattle.gate_pool.specs.Pool.{Admitted, listing_of}
 use Rattle.gate_tx.specs.Ids.{txid_of}
 use Rattle.gate_admit.specs.Submission.{submit_of}
 use Rattle.gate_message.specs.declared.event.Event.{Event}
-use Rattle.gate_message.specs.declared.event.Event.TheVariants.{Enter, Leave, Tx as Submit, Mempool, GetBlock, Headers, FeeFilter, Rpc, SetFloor, Set as Turn, Chain as OfChain}
+use Rattle.gate_message.specs.declared.event.Event.TheVariants.{Enter, Leave, Tx as Submit, Package, Mempool, GetBlock, Headers, FeeFilter, Rpc, SetFloor, Set as Turn, Chain as OfChain}
 use Rattle.gate_rules.specs.declared.PeerDenial.{PeerDenial}
 use Rattle.gate_message.specs.declared.reply.Reply.{Reply}
 use Rattle.gate_message.specs.declared.reply.Reply.TheVariants.{Listing, Rpc as Answered}
@@ -27,6 +27,7 @@ use Rattle.gate_rpc.specs.declared.reply.RpcReply.TheVariants.{NotAllowed, Answe
 use Rattle.gate_rpc.specs.Calls.{method_of, request_of}
 use Rattle.gate_rpc.specs.Methods.{method_name}
 use Rattle.gate_core.proofs.Calls.{call_gives}
+use Rattle.gate_core.proofs.Pairs.{pair_gives}
 use Rattle.gate_core.proofs.Following.{chain_gives}
 use Rattle.gate_core.specs.World.{World, standing_of}
 use Rattle.gate_core.specs.Access.{entering_rules, session_rules, submission_rules, listing_rules, block_rules, headers_rules}
@@ -67,6 +68,8 @@ step_lists w (Enter peer address) txids h = answered_lists w peer (entered w pee
 step_lists w (Leave peer) txids h = answered_lists w peer (left w peer) (first_failing (session_rules w.sessions peer)) txids (λ k. cc) h
 step_lists w (Submit peer now transaction) txids h =
     answered_lists w peer (submitted w peer now transaction) (first_failing (submission_rules w peer transaction)) txids (submitted_lists w peer now transaction txids) h
+step_lists w (Package peer now parent child) txids h =
+    pair_gives (λ p. p.0 ≡ Listing txids → Told w (Package peer now parent child) txids) w peer now parent child (λ denial k. cc) (λ denial k. cc) (λ offered is k. cc) h
 step_lists w (Mempool peer) txids h =
     answered_lists w peer (listed w peer) (first_failing (listing_rules w peer)) txids (λ k. (peer, refl, same_list (told_to peer w) txids k)) h
 step_lists w (GetBlock peer height) txids h = answered_lists w peer (block_given w height) (first_failing (block_rules w peer height)) txids (λ k. cc) h

@@ -5,6 +5,7 @@ use Rattle.gate_bytes.specs.Order.{first_failing}
 use Rattle.gate_tx.specs.Tx.{Tx}
 use Rattle.gate_rules.specs.declared.PackageDenial.{PackageDenial}
 use Rattle.gate_submission.specs.declared.PackageOutcome.{PackageOutcome}
+use Rattle.gate_submission.specs.PackageOutcomes.{settled}
 use Rattle.gate_pool.specs.Pool.{Admitted}
 use Rattle.gate_trim.specs.Expiry.{expired}
 use Rattle.gate_trim.specs.Trimming.{Trimmed, trim_of}
@@ -17,10 +18,14 @@ use Rattle.gate_message.specs.declared.reply.Reply.{Reply}
 use Rattle.gate_message.specs.declared.reply.Reply.TheVariants.{Rpc}
 use Rattle.gate_message.specs.Replies.{without}
 use Rattle.gate_core.specs.Packaging.{Answered, answer_of, error_of, left_by, packaged_by, unless_denied, unless_unread}
-use Rattle.gate_core.specs.PackageSteps.{Called, IsStaged, Stages, packaged_step, told_outcome}
+use Rattle.gate_core.specs.declared.packaging.AskedPackage.{AskedPackage}
+use Rattle.gate_core.specs.declared.packaging.AskedPackage.TheVariants.{Call, Pair}
+use Rattle.gate_core.specs.Asking.{Called, Paired}
+use Rattle.gate_core.specs.PackageSteps.{IsStaged, Stages, closed_by, closed_for, greatest_rate, left_by_package, members_in, packaged_step, second_of, told_outcome}
 use Rattle.gate_core.specs.RpcSteps.{packaged, replied}
 use Rattle.gate_core.specs.World.{World, standing_of}
 use Rattle.gate_core.proofs.Calls.{left_behind}
+use Rattle.gate_core.proofs.Pairs.{judged_pair, pair_ending}
 
 -- what a package leaves if its texts are read and its members fit
 abbrev pub lands : World → Called → Answered
@@ -30,12 +35,12 @@ lands w called =
 abbrev pub trimmed_by : World → ℕ → List Admitted → Trimmed
 trimmed_by w now entries = trim_of w.policy.incremental_rate w.budget (expired w.policy.stay now entries) w.floor
 
-abbrev pub ending : World → Called → Judged → Trimmed → Reply × World
-ending w called judged after = packaged called.id (left_by w (landed_as judged after))
+abbrev pub ending : World → AskedPackage → Judged → Trimmed → Reply × World
+ending w asked judged after = left_by_package w asked (landed_as judged after)
 
 -- a text that is no transaction, or that burns too much
 pub unread_step : (w : World) (called : Called) (unfit : Unfit) (reply : Reply)
-    → first_failing (text_rules called.call.max_burn called.call.members) ≡ Some unfit → reply ≡ Rpc (Failure called.id (error_of unfit)) → (reply, w) ≡ packaged_step w called
+    → first_failing (text_rules called.call.max_burn called.call.members) ≡ Some unfit → reply ≡ Rpc (Failure called.id (error_of unfit)) → (reply, w) ≡ packaged_step w (Call called)
 unread_step w called unfit reply found is =
     ap (λ (r : Reply). (r, w)) is
     ∙ ap
@@ -45,7 +50,7 @@ unread_step w called unfit reply found is =
 -- members that don't fit together
 pub denied_step : (w : World) (called : Called) (denial : PackageDenial) (reply : Reply)
     → first_failing (text_rules called.call.max_burn called.call.members) ≡ None → first_failing (shape_rules w.chain w.policy (members_of called.call.members)) ≡ Some denial
-    → reply ≡ Rpc (replied called.id (answer_of denial)) → (reply, w) ≡ packaged_step w called
+    → reply ≡ Rpc (replied called.id (answer_of denial)) → (reply, w) ≡ packaged_step w (Call called)
 denied_step w called denial reply read found is =
     ap (λ (r : Reply). (r, w)) is
     ∙ (ap (λ (o : Option PackageDenial). packaged called.id (unless_denied w o (left_behind w called.second called.call))) (sym found)
@@ -66,41 +71,63 @@ judged_step w called read fits =
     fits)
 
 -- a package that was not judged has no stage
-pub unstaged : (w : World) (called : Called) (reply : Reply) (stage : Option Staged) → stage ≡ None → (reply, w) ≡ packaged_step w called → Stages w called reply stage w
-unstaged w called reply None is step = (refl, step)
-unstaged w called reply (Some stage) is step = absurd (cc)
+pub unstaged : (w : World) (asked : AskedPackage) (reply : Reply) (stage : Option Staged) (closes : Option ℕ) → stage ≡ None → (reply, w) ≡ packaged_step w asked → Stages w asked reply stage closes w
+unstaged w asked reply None closes is step = (refl, step)
+unstaged w asked reply (Some stage) closes is step = absurd (cc)
 
-landed_by : (w : World) (called : Called) (outcome : PackageOutcome) (stage : Staged) (meanwhile : List Admitted) (after : World) (gone : List (List ℕ))
-    → StagesAs called.call.max_rate (standing_of w) called.second (members_of called.call.members) outcome stage meanwhile → packaged_by w called.second called.call ≡ lands w called
-    → trimmed_by w called.second (drafted_or stage.draft meanwhile) ≡ record { entries = after.pool; floor = after.floor } → gone ≡ gone_from after.pool stage.held
-    → after ≡ record w { pool = after.pool; floor = after.floor } → (without gone (told_outcome called.id outcome), after) ≡ packaged_step w called
+-- what is told of a package that lands, and the state after it
+told_ending : (w : World) (asked : AskedPackage) (outcome : PackageOutcome) (gone : List (List ℕ)) (entries : List Admitted) (floor : ℕ)
+    → (without gone (told_outcome w asked outcome), record w { pool = entries; floor = floor; sessions = closed_for (closed_by w asked outcome) w.sessions })
+    ≡ left_by_package w asked (record { outcome = settled gone outcome; entries = entries; floor = floor })
+told_ending w (Call called) outcome gone entries floor = refl
+told_ending w (Pair pair) outcome gone entries floor = pair_ending w pair.peer outcome gone entries floor
+
+landed_by : (w : World) (asked : AskedPackage) (outcome : PackageOutcome) (stage : Staged) (meanwhile : List Admitted) (after : World) (gone : List (List ℕ))
+    → StagesAs (greatest_rate asked) (standing_of w) (second_of asked) (members_in asked) outcome stage meanwhile
+    → packaged_step w asked ≡ left_by_package w asked (landed (standing_of w) (second_of asked) w.budget (judged_of (greatest_rate asked) (standing_of w) (second_of asked) (members_in asked)))
+    → trimmed_by w (second_of asked) (drafted_or stage.draft meanwhile) ≡ record { entries = after.pool; floor = after.floor } → gone ≡ gone_from after.pool stage.held
+    → after ≡ record w { pool = after.pool; floor = after.floor; sessions = closed_for (closed_by w asked outcome) w.sessions }
+    → (without gone (told_outcome w asked outcome), after) ≡ packaged_step w asked
 unfolding landed
-landed_by w called outcome stage meanwhile after gone staged step left is same =
+landed_by w asked outcome stage meanwhile after gone staged step left is same =
     let judged : Judged = record { outcome = outcome; entries = drafted_or stage.draft meanwhile } in
-    ap (λ (v : World). (without gone (told_outcome called.id outcome), v)) same
-    ∙ (ap (λ (g : List (List ℕ)). (without g (told_outcome called.id outcome), record w { pool = after.pool; floor = after.floor })) (is ∙ ap (gone_from after.pool) staged.held)
-    ∙ (ap (ending w called judged) (sym left)
-    ∙ (ap (λ (j : Judged). ending w called j (trimmed_by w called.second j.entries)) (sym staged.judged)
-    ∙ ap (packaged called.id) (sym step))))
+    ap (λ (v : World). (without gone (told_outcome w asked outcome), v)) same
+    ∙ (told_ending w asked outcome gone after.pool after.floor
+    ∙ (ap (λ (g : List (List ℕ)). left_by_package w asked (record { outcome = settled g outcome; entries = after.pool; floor = after.floor })) (is ∙ ap (gone_from after.pool) staged.held)
+    ∙ (ap (ending w asked judged) (sym left)
+    ∙ (ap (λ (j : Judged). ending w asked j (trimmed_by w (second_of asked) j.entries)) (sym staged.judged)
+    ∙ sym step))))
 
 -- a package that lands
-pub landed_step : (w : World) (called : Called) (outcome : PackageOutcome) (stage : Staged) (meanwhile after : World) (reply told : Reply) (gone : List (List ℕ)) (second : ℕ)
-    → reply ≡ told_outcome called.id outcome → IsStaged w called outcome stage meanwhile → second ≡ called.second
+pub landed_step : (w : World) (asked : AskedPackage) (outcome : PackageOutcome) (stage : Staged) (closes : Option ℕ) (meanwhile after : World) (reply told : Reply) (gone : List (List ℕ)) (second : ℕ)
+    → reply ≡ told_outcome w asked outcome → closes ≡ closed_by w asked outcome → IsStaged w asked outcome stage meanwhile → second ≡ second_of asked
     → trimmed_by meanwhile second (drafted_or stage.draft meanwhile.pool) ≡ record { entries = after.pool; floor = after.floor } → gone ≡ gone_from after.pool stage.held
-    → after ≡ record meanwhile { pool = after.pool; floor = after.floor } → told ≡ without gone reply → (told, after) ≡ packaged_step w called
-landed_step w called outcome stage meanwhile after reply told gone second is staged at left lost same said =
+    → after ≡ record meanwhile { pool = after.pool; floor = after.floor; sessions = closed_for closes meanwhile.sessions } → told ≡ without gone reply → (told, after) ≡ packaged_step w asked
+landed_step w asked outcome stage closes meanwhile after reply told gone second is shut staged at left lost same said =
     let P : World → Type 0 =
-    λ m. trimmed_by m second (drafted_or stage.draft meanwhile.pool) ≡ record { entries = after.pool; floor = after.floor } → after ≡ record m { pool = after.pool; floor = after.floor }
-    → (without gone (told_outcome called.id outcome), after) ≡ packaged_step w called in
+    λ m. trimmed_by m second (drafted_or stage.draft meanwhile.pool) ≡ record { entries = after.pool; floor = after.floor }
+    → after ≡ record m { pool = after.pool; floor = after.floor; sessions = closed_for closes m.sessions }
+    → (without gone (told_outcome w asked outcome), after) ≡ packaged_step w asked in
     let Q : ℕ → Type 0 = λ s. trimmed_by w s (drafted_or stage.draft meanwhile.pool) ≡ record { entries = after.pool; floor = after.floor } in
+    let R : Option ℕ → Type 0 = λ o. after ≡ record w { pool = after.pool; floor = after.floor; sessions = closed_for o w.sessions } in
     ap (λ (r : Reply). (r, after)) (said ∙ ap (without gone) is)
-    ∙ subst P (sym staged.others) (λ l s. landed_by w called outcome stage meanwhile.pool after gone staged.staged staged.step (subst Q at l) lost s) left same
+    ∙ subst P (sym staged.others) (λ l s. landed_by w asked outcome stage meanwhile.pool after gone staged.staged staged.step (subst Q at l) lost (subst R shut s)) left same
 
 -- a package that is taken back
-pub taken_back : (w : World) (called : Called) (outcome : PackageOutcome) (stage : Staged) (meanwhile : World) (entries : List Admitted)
-    → IsStaged w called outcome stage meanwhile → entries ≡ without_all stage.entered meanwhile.pool → record meanwhile { pool = entries } ≡ w
-taken_back w called outcome stage meanwhile entries staged is =
+pub taken_back : (w : World) (asked : AskedPackage) (outcome : PackageOutcome) (stage : Staged) (meanwhile : World) (entries : List Admitted)
+    → IsStaged w asked outcome stage meanwhile → entries ≡ without_all stage.entered meanwhile.pool → record meanwhile { pool = entries } ≡ w
+taken_back w asked outcome stage meanwhile entries staged is =
     ap (λ (m : World). record m { pool = entries }) staged.others ∙ ap (λ (p : List Admitted). record w { pool = p }) (is ∙ staged.staged.back)
+
+-- a peer's package that was staged
+pub staged_pair : (w : World) (pair : Paired) (outcome : PackageOutcome) (stage : Staged) (meanwhile : World) (members : List Tx) → members ≡ pair.members
+    → first_failing (shape_rules w.chain w.policy members) ≡ None
+    → StagesAs 0 (standing_of w) pair.second members outcome stage meanwhile.pool → meanwhile ≡ record w { pool = meanwhile.pool } → IsStaged w (Pair pair) outcome stage meanwhile
+staged_pair w pair outcome stage meanwhile members are fits staged others = record {
+  staged = subst (λ (txs : List Tx). StagesAs 0 (standing_of w) pair.second txs outcome stage meanwhile.pool) are staged;
+  others = others;
+  step = judged_pair w pair (subst (λ (txs : List Tx). first_failing (shape_rules w.chain w.policy txs) ≡ None) are fits);
+}
 
 -- these are the texts of a call, and these the members that they stand for
 pub record AreMembers (called : Called) (texts : List (Option Tx)) (members : List Tx) : Type 0 where
@@ -110,15 +137,15 @@ pub record AreMembers (called : Called) (texts : List (Option Tx)) (members : Li
 -- a package that was staged
 pub staged_as : (w : World) (called : Called) (outcome : PackageOutcome) (stage : Staged) (meanwhile : World) (texts : List (Option Tx)) (members : List Tx) → AreMembers called texts members
     → first_failing (text_rules called.call.max_burn texts) ≡ None → first_failing (shape_rules w.chain w.policy members) ≡ None
-    → StagesAs called.call.max_rate (standing_of w) called.second members outcome stage meanwhile.pool → meanwhile ≡ record w { pool = meanwhile.pool } → IsStaged w called outcome stage meanwhile
+    → StagesAs called.call.max_rate (standing_of w) called.second members outcome stage meanwhile.pool → meanwhile ≡ record w { pool = meanwhile.pool } → IsStaged w (Call called) outcome stage meanwhile
 staged_as w called outcome stage meanwhile texts members these read fits staged others =
     let are : members ≡ members_of called.call.members = these.members_are ∙ ap members_of these.texts_are in
     record {
       staged = subst (λ (txs : List Tx). StagesAs called.call.max_rate (standing_of w) called.second txs outcome stage meanwhile.pool) are staged;
       others = others;
-      step =
+      step = ap (packaged called.id) (
           judged_step w called (subst (λ (l : List (Option Tx)). first_failing (text_rules called.call.max_burn l) ≡ None) these.texts_are read)
-          (subst (λ (txs : List Tx). first_failing (shape_rules w.chain w.policy txs) ≡ None) are fits);
+          (subst (λ (txs : List Tx). first_failing (shape_rules w.chain w.policy txs) ≡ None) are fits));
     }
 
 -- ---- results of calls

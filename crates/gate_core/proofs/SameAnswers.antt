@@ -1,12 +1,11 @@
 -- A transaction has one answer over two chains and two tables of verdicts that say the same where it asks.
-use Rattle.std.proofs.Common.{◌≡◌, ◌≢◌, ◌+◌, ◌-◌, ◌*◌, ◌<◌, ◌||◌, ◌&&◌, not, ℕ, suc, Bool, List, [], ◌∷◌, ◌++◌, Contains, length, Option, Some, None, Result, Ok, Err, refl, sym, ap, ◌∙◌, subst, arith, if◌then◌else◌}
+use Rattle.std.proofs.Common.{◌≡◌, ◌+◌, ◌-◌, ◌*◌, ◌<◌, ◌||◌, ◌&&◌, not, ℕ, suc, Bool, List, [], ◌∷◌, ◌++◌, Contains, length, Some, None, Result, Ok, Err, refl, sym, ap, ◌∙◌, subst, arith, if◌then◌else◌}
 use Rattle.std.specs.Prelude.{is_none, is_some, nat_le, nat_lt, unwrap_or, zip}
 use Rattle.std.specs.List.{flat_map, list_all, list_any}
 use Rattle.std.specs.Option.{option_or, option_to_list}
-use Rattle.gate_bytes.specs.Order.{Rule, first_failing}
+use Rattle.gate_bytes.specs.Order.{first_failing}
 use Rattle.gate_bytes.proofs.Members.{Contains-head, Contains-rest}
 use Rattle.gate_tx.specs.declared.Coin.{Coin}
-use Rattle.gate_tx.specs.declared.OutPoint.{OutPoint}
 use Rattle.gate_tx.specs.declared.TxIn.{TxIn}
 use Rattle.gate_tx.specs.declared.TxOut.{TxOut}
 use Rattle.gate_tx.specs.Ids.{txid_of, wtxid_of}
@@ -30,7 +29,7 @@ use Rattle.gate_admit.specs.Limits.{limit_rules}
 use Rattle.gate_admit.specs.Policies.{Policy, incremental_feerate}
 use Rattle.gate_admit.specs.Reports.{report_rules, reported, rules_of_verdict, sigop_cost, verdict_rules, vsize_of}
 use Rattle.gate_admit.specs.Rules.{admission_rules, balance_rules, coin_rules, coin_value_rules, coins_value, decision_of, denied_or, final_rules, grant_of, heights_of, is_chain_coin_from, lock_rules, outputs_value, payment_rules, pool_rules}
-use Rattle.gate_admit.specs.Standing.{Standing, standing}
+use Rattle.gate_admit.specs.Standing.{standing}
 use Rattle.gate_admit.specs.Submission.{submit_of, submitted_by}
 use Rattle.gate_admit.specs.Sweeping.{sweep_rules}
 use Rattle.gate_admit.specs.Truc.{sibling_of}

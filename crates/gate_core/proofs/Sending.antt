@@ -1,25 +1,23 @@
 -- What users send that is answered by a txid.
-use Rattle.std.proofs.Common.{◌≡◌, ℕ, Bool, true, false, if◌then◌else◌, List, Option, Some, None, Result, Ok, Err, refl, ap, ◌∙◌}
+use Rattle.std.proofs.Common.{◌≡◌, ℕ, Bool, true, false, if◌then◌else◌, List, Option, Some, None, Result, Ok, Err, refl}
 use Rattle.std.specs.Prelude.{is_none}
 use Rattle.std.specs.List.{list_any}
-use Rattle.gate_tx.specs.Ids.{txid_of}
 use Rattle.gate_tx.specs.Tx.{Tx}
 use Rattle.gate_rules.specs.declared.Denial.{Denial}
 use Rattle.gate_rules.specs.declared.Denial.TheVariants.{Decode}
 use Rattle.gate_bytes.specs.Order.{first_failing}
 use Rattle.gate_rules.specs.declared.PackageDenial.{PackageDenial}
-use Rattle.gate_rules.specs.declared.PackageDenial.TheVariants.{BurntAmount, NotChildWithParents, TooLarge, Duplicates, Conflicting, LacksParents, TrucViolation, FamilyLimits, Replaces, UnspentDust}
+use Rattle.gate_rules.specs.declared.PackageDenial.TheVariants.{BurntAmount, NotChildWithParents, TooLarge, Duplicates, NotSorted, Conflicting, LacksParents, TrucViolation, FamilyLimits, ReplacesAsOthers, HasAncestors, TooManyReplacements, LowerFee, LowerRateThanFirst, ConflictTopology, LowerDiagram, UnspentDust}
 use Rattle.gate_submission.specs.declared.PackageOutcome.{PackageOutcome}
 use Rattle.gate_submission.specs.PackageOutcomes.{unjudged}
 use Rattle.gate_package.specs.declared.Unfit.{Unfit}
 use Rattle.gate_package.specs.Shapes.{members_of, shape_rules, text_rules}
-use Rattle.gate_admit.specs.Standing.{Standing}
 use Rattle.gate_admit.specs.declared.Attempt.TheVariants.{First}
 use Rattle.gate_admit.specs.declared.Grant.{Grant}
 use Rattle.gate_admit.specs.Rules.{decision_of}
 use Rattle.gate_admit.specs.Submission.{submit_of}
 use Rattle.gate_admit.proofs.Submissions.{AreYoung, granted_young}
-use Rattle.gate_query.specs.Answers.{tested, tested_as}
+use Rattle.gate_query.specs.Answers.{tested_as}
 use Rattle.gate_query.specs.Queries.{outcomes_of}
 use Rattle.gate_rpc.specs.Calls.{request_of}
 use Rattle.gate_rpc.specs.declared.id.Id.{Id}
@@ -31,15 +29,15 @@ use Rattle.gate_rpc.specs.declared.error.RpcError.{RpcError}
 use Rattle.gate_rpc.specs.declared.error.RpcError.TheVariants.{Denied}
 use Rattle.gate_rpc.specs.declared.fault.CallError.{CallError}
 use Rattle.gate_rpc.specs.declared.fault.CallError.TheVariants.{ParseError, InvalidRequest, MethodNotFound, InvalidParams}
-use Rattle.gate_rpc.specs.declared.reply.RpcReply.{RpcReply}
 use Rattle.gate_rpc.specs.declared.reply.RpcReply.TheVariants.{NotAllowed, Answer, Failure}
-use Rattle.gate_rpc.specs.declared.result.RpcResult.{RpcResult}
-use Rattle.gate_rpc.specs.declared.result.RpcResult.TheVariants.{Sent, Allowed, Rejected, Txids, Entry, Info, Outcomes, Entries, Transaction, Spendings, Package}
+use Rattle.gate_rpc.specs.declared.result.RpcResult.TheVariants.{Sent, Txids, Entry, Info, Outcomes, Entries, Transaction, Spendings, Package}
 use Rattle.gate_rpc.specs.declared.items.KnownEntry.{KnownEntry}
 use Rattle.gate_rpc.specs.declared.items.Outcome.{Outcome}
+use Rattle.gate_package.specs.Listed.{listed_of}
+use Rattle.gate_package.specs.Shapes.{members_of}
+use Rattle.gate_core.specs.TestedLists.{outcomes_as}
 use Rattle.gate_rpc.specs.declared.items.Spending.{Spending}
 use Rattle.gate_rpc.specs.Faults.{reply_of}
-use Rattle.gate_message.specs.declared.event.Event.TheVariants.{Rpc as Calls}
 use Rattle.gate_message.specs.declared.reply.Reply.TheVariants.{Rpc}
 use Rattle.gate_core.specs.Packaging.{answer_of, error_of, packaged_by, served, unless_denied, unless_unread}
 use Rattle.gate_core.specs.RpcSteps.{is_barred, packaged, replied, of_entry, sent, sent_as, commanded, called_by, rpc_step}
@@ -78,10 +76,14 @@ module _ {X : Type 0} (id other : Id) (txid : List ℕ) where
   not_spendings : (spendings : List Spending) → Rpc (Answer id (Spendings spendings)) ≡ Rpc (Answer other (Sent txid)) → X
   not_spendings spendings h = cc
 
-  outcomes_or_not : (over : Standing) (now : ℕ) (transactions : List (Option Tx)) (b : Bool)
-      → Rpc (replied id (if b then Err (Denied Decode) else Ok (Outcomes (outcomes_of over now transactions)))) ≡ Rpc (Answer other (Sent txid)) → X
-  outcomes_or_not over now transactions true h = not_failed _ h
-  outcomes_or_not over now transactions false h = not_outcomes _ h
+  outcomes_or_not : (found : List Outcome) (b : Bool) → Rpc (replied id (if b then Err (Denied Decode) else Ok (Outcomes found))) ≡ Rpc (Answer other (Sent txid)) → X
+  outcomes_or_not found true h = not_failed _ h
+  outcomes_or_not found false h = not_outcomes _ h
+
+  tested_or_not : (together one_by_one : List Outcome) (packages b : Bool)
+      → Rpc (replied id (if packages then (if b then Err (Denied Decode) else Ok (Outcomes together)) else (if b then Err (Denied Decode) else Ok (Outcomes one_by_one)))) ≡ Rpc (Answer other (Sent txid)) → X
+  tested_or_not together one_by_one true b h = outcomes_or_not together b h
+  tested_or_not together one_by_one false b h = outcomes_or_not one_by_one b h
 
   transaction_or_not : (found : Option Tx) → Rpc (replied id (of_entry Transaction found)) ≡ Rpc (Answer other (Sent txid)) → X
   transaction_or_not None h = not_failed _ h
@@ -106,10 +108,17 @@ module _ {X : Type 0} (id other : Id) (txid : List ℕ) where
   not_unjudged TooLarge h = not_packaged (unjudged TooLarge) h
   not_unjudged Duplicates h = not_packaged (unjudged Duplicates) h
   not_unjudged Conflicting h = not_packaged (unjudged Conflicting) h
+  not_unjudged NotSorted h = not_packaged (unjudged NotSorted) h
   not_unjudged LacksParents h = not_packaged (unjudged LacksParents) h
   not_unjudged TrucViolation h = not_packaged (unjudged TrucViolation) h
   not_unjudged FamilyLimits h = not_packaged (unjudged FamilyLimits) h
-  not_unjudged Replaces h = not_packaged (unjudged Replaces) h
+  not_unjudged ReplacesAsOthers h = not_packaged (unjudged ReplacesAsOthers) h
+  not_unjudged HasAncestors h = not_packaged (unjudged HasAncestors) h
+  not_unjudged TooManyReplacements h = not_packaged (unjudged TooManyReplacements) h
+  not_unjudged LowerFee h = not_packaged (unjudged LowerFee) h
+  not_unjudged LowerRateThanFirst h = not_packaged (unjudged LowerRateThanFirst) h
+  not_unjudged ConflictTopology h = not_packaged (unjudged ConflictTopology) h
+  not_unjudged LowerDiagram h = not_packaged (unjudged LowerDiagram) h
   not_unjudged UnspentDust h = not_packaged (unjudged UnspentDust) h
 
   not_submitted : (w : World) (now : ℕ) (call : PackageCall) → (packaged id (packaged_by w now call)).0 ≡ Rpc (Answer other (Sent txid)) → X
@@ -139,7 +148,7 @@ module _ (w : World) (now : ℕ) (other : Id) (txid : List ℕ) where
   command_young id (SendRawTransaction transaction) h = sent_young w now id other transaction txid h
   command_young id (TestMempoolAccept None) h = not_failed id other txid _ h
   command_young id (TestMempoolAccept (Some tx)) h = not_tested id other txid tx (decision_of First (standing_of w) (Some tx)) h
-  command_young id (TestList transactions) h = outcomes_or_not id other txid (standing_of w) now transactions (list_any is_none transactions) h
+  command_young id (TestList transactions) h = tested_or_not id other txid (outcomes_as (members_of transactions) (listed_of (standing_of w) (members_of transactions))) (outcomes_of (standing_of w) now transactions) w.policy.packages (list_any is_none transactions) h
   command_young id GetRawMempool h = not_listed id other txid _ h
   command_young id GetRawMempoolVerbose h = not_entries id other txid _ h
   command_young id (GetMempoolEntry asked) h = known_or_not id other txid _ h

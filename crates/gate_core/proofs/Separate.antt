@@ -10,7 +10,7 @@ use Rattle.gate_admit.specs.declared.Grant.{Grant}
 use Rattle.gate_admit.specs.Submission.{submit_of}
 use Rattle.gate_message.specs.declared.caller.Caller.TheVariants.{Peer}
 use Rattle.gate_message.specs.declared.event.Event.{Event}
-use Rattle.gate_message.specs.declared.event.Event.TheVariants.{Enter, Leave, Tx as Submit, Mempool, GetBlock, Headers, FeeFilter, Rpc, SetFloor, Set as Turn, Chain as OfChain}
+use Rattle.gate_message.specs.declared.event.Event.TheVariants.{Enter, Leave, Tx as Submit, Package, Mempool, GetBlock, Headers, FeeFilter, Rpc, SetFloor, Set as Turn, Chain as OfChain}
 use Rattle.gate_rules.specs.declared.PeerDenial.{PeerDenial}
 use Rattle.gate_rules.specs.declared.PeerDenial.TheVariants.{Admission}
 use Rattle.gate_message.specs.declared.denial.Then.{Then}
@@ -25,7 +25,10 @@ use Rattle.gate_core.specs.PeerSteps.{sessions_after, then_for, decided, answere
 use Rattle.gate_core.specs.Steps.{step_of}
 use Rattle.gate_core.specs.Runs.{run_of}
 use Rattle.gate_rpc.specs.Calls.{request_of}
+use Rattle.gate_package.specs.Packages.{packaged_of}
+use Rattle.gate_core.specs.Pairing.{then_after}
 use Rattle.gate_core.proofs.Calls.{call_gives}
+use Rattle.gate_core.proofs.Pairs.{pair_gives}
 use Rattle.gate_core.proofs.Following.{chain_gives}
 
 differs : (a b : ℕ) → a ≢ b → nat_eq a b ≡ false
@@ -94,6 +97,10 @@ step_leaves w (Leave peer) other h =
 step_leaves w (Submit peer now transaction) other h =
     let apart = another peer other h in
     answered_leaves w peer other (submitted w peer now transaction) (first_failing (submission_rules w peer transaction)) apart (submitted_leaves w peer other now transaction apart)
+step_leaves w (Package peer now parent child) other h =
+    let apart = another peer other h in
+    pair_gives (λ p. session_of p.1.sessions other ≡ session_of w.sessions other) w peer now parent child (λ denial. after_leaves (then_for w peer denial) w.sessions peer other apart) (λ denial. refl)
+    (λ txs is. after_leaves (then_after w peer (packaged_of 0 (standing_of w) txs now w.budget).outcome.members) w.sessions peer other apart)
 step_leaves w (Mempool peer) other h = answered_leaves w peer other (listed w peer) (first_failing (listing_rules w peer)) (another peer other h) refl
 step_leaves w (GetBlock peer height) other h = answered_leaves w peer other (block_given w height) (first_failing (block_rules w peer height)) (another peer other h) refl
 step_leaves w (Headers peer height) other h = answered_leaves w peer other (headers_given w height) (first_failing (headers_rules w peer height)) (another peer other h) refl

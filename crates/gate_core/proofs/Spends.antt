@@ -26,7 +26,7 @@ use Rattle.gate_package.proofs.Membership.{among, course_keeps}
 use Rattle.gate_package.proofs.Once.{together_once}
 use Rattle.gate_reorg.proofs.Spending.{SpendOnce, below_once, beside_once, events_spend_once, part_once}
 use Rattle.gate_message.specs.declared.event.Event.{Event}
-use Rattle.gate_message.specs.declared.event.Event.TheVariants.{Enter, Leave, Tx as Submit, Mempool, GetBlock, Headers, FeeFilter, Rpc, SetFloor, Set as Turn, Chain as OfChain}
+use Rattle.gate_message.specs.declared.event.Event.TheVariants.{Enter, Leave, Tx as Submit, Package, Mempool, GetBlock, Headers, FeeFilter, Rpc, SetFloor, Set as Turn, Chain as OfChain}
 use Rattle.gate_rules.specs.declared.PeerDenial.{PeerDenial}
 use Rattle.gate_message.specs.declared.reply.Reply.{Reply}
 use Rattle.gate_core.specs.Access.{entering_rules, session_rules, submission_rules, listing_rules, block_rules, headers_rules}
@@ -35,8 +35,8 @@ use Rattle.gate_core.specs.Runs.{run_of}
 use Rattle.gate_core.specs.Steps.{step_of}
 use Rattle.gate_core.specs.World.{World, standing_of}
 use Rattle.gate_rpc.specs.Calls.{request_of}
-use Rattle.gate_rpc.specs.declared.request.PackageCall.{PackageCall}
 use Rattle.gate_core.proofs.Calls.{call_gives}
+use Rattle.gate_core.proofs.Pairs.{pair_gives}
 use Rattle.gate_core.proofs.Following.{chain_gives}
 
 entry_once : (policy : Policy) (budget : ℕ) (entries : List Entry) (sibling : Option (List ℕ)) (floor : ℕ) (e : Entry) → SpendOnce (entered_beside entries sibling e) → SpendOnce (entry_of policy budget entries sibling floor e).entries
@@ -57,14 +57,13 @@ unfolding submit_of
 after_once w now transaction h = submission_once (standing_of w) transaction now w.budget (decision_of First (standing_of w) transaction) (λ _. decision_of First (standing_of w) transaction) h
 
 -- the members of a package, one by one and those together, spend nothing that an entry spends which stays
-package_once : (w : World) (now : ℕ) (call : PackageCall) → SpendOnce w.pool → SpendOnce (packaged_of call.max_rate (standing_of w) (members_of call.members) now w.budget).entries
-package_once w now call h =
+package_once : (w : World) (now max_rate : ℕ) (txs : List Tx) → SpendOnce w.pool → SpendOnce (packaged_of max_rate (standing_of w) txs now w.budget).entries
+package_once w now max_rate txs h =
     let over = standing_of w in
-    let txs = members_of call.members in
-    package_keeps SpendOnce call.max_rate over now txs
-    (λ entries these prices is distinct apart within once. together_once call.max_rate (among over entries) now these prices is distinct apart once)
-    w.budget (λ entries once. below_once (is_stale w.policy.stay now) entries once) (λ entries txid once. part_once (λ (a : Entry). not (reaches (steps entries) txid (txid_of a.tx))) entries once)
-    (course_keeps SpendOnce (λ tx. Unit {0}) call.max_rate over now
+    package_keeps SpendOnce max_rate over now txs
+    (λ entries these prices is distinct apart within once. together_once max_rate (among over entries) now these prices is distinct apart once)
+    below_once w.budget (λ entries txid once. part_once (λ (a : Entry). not (reaches (steps entries) txid (txid_of a.tx))) entries once)
+    (course_keeps SpendOnce (λ tx. Unit {0}) max_rate over now
     (λ entries tx told passes once. beside_once (among over entries) (sibling_in (among over entries) tx) tx (grant_of First (among over entries) tx) now (rules_grant First (among over entries) tx passes) once) w.pool txs (λ tx m. tt))
     h
 
@@ -85,12 +84,14 @@ step_once w (Submit peer now transaction) h =
     let s = submit_of (standing_of w) transaction now w.budget in
     answered_once w peer (submitted w peer now transaction) (first_failing (submission_rules w peer transaction)) h
     (decided_once (record w { pool = s.entries; floor = s.floor }) peer transaction s.decision (after_once w now transaction h))
+step_once w (Package peer now parent child) h =
+    pair_gives (λ p. SpendOnce p.1.pool) w peer now parent child (λ denial. h) (λ denial. h) (λ txs is. package_once w now 0 txs h)
 step_once w (Mempool peer) h = answered_once w peer (listed w peer) (first_failing (listing_rules w peer)) h h
 step_once w (GetBlock peer height) h = answered_once w peer (block_given w height) (first_failing (block_rules w peer height)) h h
 step_once w (Headers peer height) h = answered_once w peer (headers_given w height) (first_failing (headers_rules w peer height)) h h
 step_once w (FeeFilter peer rate) h = answered_once w peer (filter_set w peer rate) (first_failing (session_rules w.sessions peer)) h h
 step_once w (Rpc call) h =
-    call_gives (λ p. SpendOnce p.1.pool) w call.time call.user (request_of call.json) (λ answer. h) (λ id transaction is. after_once w call.time transaction h) (λ id given is. package_once w call.time given h)
+    call_gives (λ p. SpendOnce p.1.pool) w call.time call.user (request_of call.json) (λ answer. h) (λ id transaction is. after_once w call.time transaction h) (λ id given is. package_once w call.time given.max_rate (members_of given.members) h)
 step_once w (SetFloor rate) h = h
 step_once w (Turn switch on) h = h
 step_once w (OfChain event) h =

@@ -10,9 +10,9 @@ use Rattle.gate_chain.specs.Times.{tip_of, time_of}
 use Rattle.gate_pool.specs.Pool.{Admitted, entry_by_wtxid}
 use Rattle.gate_net.specs.Permissions.{Permissions}
 use Rattle.gate_message.specs.declared.event.Event.{Event}
-use Rattle.gate_message.specs.declared.event.Event.TheVariants.{Enter, Leave, Tx as Submit, Mempool, GetBlock, Headers, FeeFilter, Rpc, SetFloor, Set, Chain as OfChain}
+use Rattle.gate_message.specs.declared.event.Event.TheVariants.{Enter, Leave, Tx as Submit, Package, Mempool, GetBlock, Headers, FeeFilter, Rpc, SetFloor, Set, Chain as OfChain}
 use Rattle.gate_rules.specs.declared.PeerDenial.{PeerDenial}
-use Rattle.gate_rules.specs.declared.PeerDenial.TheVariants.{PeerUnknown, PeerClosed, PeerKnown, BlocksOnly, AlreadyInMempool, MempoolNoBloom, MempoolUploadTarget, HeadersDuringDownload, UnknownBlock, HistoricalUploadTarget, Admission}
+use Rattle.gate_rules.specs.declared.PeerDenial.TheVariants.{PeerUnknown, PeerClosed, PeerKnown, BlocksOnly, AlreadyInMempool, MempoolNoBloom, MempoolUploadTarget, HeadersDuringDownload, UnknownBlock, HistoricalUploadTarget, NoPackages, Admission}
 use Rattle.gate_core.specs.Sessions.{Session, session_of, flags_in}
 use Rattle.gate_core.specs.World.{World}
 
@@ -81,6 +81,15 @@ submission_rules w peer transaction =
     ∷ (AlreadyInMempool, is_pooled w.pool transaction)
     ∷ []
 
+-- whether the peer's packages are taken at all is asked before the texts of this one are decoded
+abbrev pub package_rules : World → ℕ → Option Tx → Option Tx → List (Rule PeerDenial)
+package_rules w peer parent child =
+    session_rules w.sessions peer
+    ++ (BlocksOnly, lacks_relay w (flags_in w.sessions peer))
+    ∷ (NoPackages, not w.policy.packages)
+    ∷ (Admission Decode, is_none parent || is_none child)
+    ∷ []
+
 abbrev pub listing_rules : World → ℕ → List (Rule PeerDenial)
 listing_rules w peer =
     session_rules w.sessions peer
@@ -107,6 +116,7 @@ abbrev pub caller_rules : World → Event → List (Rule PeerDenial)
 caller_rules w (Enter peer address) = entering_rules w.sessions peer
 caller_rules w (Leave peer) = session_rules w.sessions peer
 caller_rules w (Submit peer now transaction) = submission_rules w peer transaction
+caller_rules w (Package peer now parent child) = package_rules w peer parent child
 caller_rules w (Mempool peer) = listing_rules w peer
 caller_rules w (GetBlock peer height) = block_rules w peer height
 caller_rules w (Headers peer height) = headers_rules w peer height

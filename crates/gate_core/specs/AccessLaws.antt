@@ -13,7 +13,7 @@ use Rattle.gate_rpc.specs.declared.fault.CallError.{CallError}
 use Rattle.gate_rpc.specs.declared.reply.RpcReply.TheVariants.{NotAllowed}
 use Rattle.gate_message.specs.declared.caller.Caller.TheVariants.{Peer}
 use Rattle.gate_message.specs.declared.event.Event.{Event}
-use Rattle.gate_message.specs.declared.event.Event.TheVariants.{Tx as Submit, Mempool, GetBlock, Headers, Rpc}
+use Rattle.gate_message.specs.declared.event.Event.TheVariants.{Tx as Submit, Package, Mempool, GetBlock, Headers, Rpc}
 use Rattle.gate_rules.specs.declared.PeerDenial.{PeerDenial}
 use Rattle.gate_rules.specs.declared.PeerDenial.TheVariants.{Admission, BlocksOnly}
 use Rattle.gate_message.specs.declared.denial.Then.TheVariants.{Close, Keep}
@@ -33,6 +33,7 @@ use Rattle.gate_core.specs.World.{World}
 -- what a peer without these flags is denied, so that its event leaves the pool as it was
 pub record Guards (w : World) (peer : ℕ) (flags : Permissions) : Type 0 where
   pub relay : w.blocksonly ≡ true → flags.relay ≡ false → (now : ℕ) (transaction : Option Tx) → IsDenied (step_of w (Submit peer now transaction)).0
+  pub packages : w.blocksonly ≡ true → flags.relay ≡ false → (now : ℕ) (parent child : Option Tx) → IsDenied (step_of w (Package peer now parent child)).0
   pub bloom : w.switches.bloom ≡ false → flags.bloomfilter ≡ false → flags.mempool ≡ false → IsDenied (step_of w (Mempool peer)).0
   pub upload : w.switches.upload ≡ true → flags.mempool ≡ false → IsDenied (step_of w (Mempool peer)).0
   pub headers : w.switches.download ≡ true → flags.download ≡ false → (height : ℕ) → IsDenied (step_of w (Headers peer height)).0

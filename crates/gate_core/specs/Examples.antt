@@ -1,14 +1,17 @@
 -- The step and what it rests on at small values, by computation.
 use Rattle.std.specs.Prelude.{◌≡◌, ℕ, ℤ, pos, Bool, true, false, List, [], ◌∷◌, None, Some, Result, Ok, Err, codes, replicate}
-use Rattle.gate_rules.specs.declared.Denial.TheVariants.{Decode, VinEmpty}
+use Rattle.gate_rules.specs.declared.Denial.{Denial}
+use Rattle.gate_rules.specs.declared.Denial.TheVariants.{Decode, MempoolFull, VinEmpty}
 use Rattle.gate_message.specs.declared.chain_event.ChainEvent.TheVariants.{LearnCoin, LearnVerdict, Forget}
-use Rattle.gate_message.specs.declared.event.Event.TheVariants.{Enter, Leave, Tx as Submit, Mempool, GetBlock, Headers as AskHeaders, FeeFilter, SetFloor, Set as Turn, Chain as OfChain}
+use Rattle.gate_message.specs.declared.event.Event.TheVariants.{Enter, Leave, Tx as Submit, Package, Mempool, GetBlock, Headers as AskHeaders, FeeFilter, SetFloor, Set as Turn, Chain as OfChain}
 use Rattle.gate_message.specs.declared.switch.Switch.TheVariants.{Download}
 use Rattle.gate_message.specs.declared.denial.Then.TheVariants.{Keep, Close, Relay}
-use Rattle.gate_rules.specs.declared.PeerDenial.TheVariants.{PeerUnknown, PeerClosed, PeerKnown, BlocksOnly, AlreadyInMempool, MempoolNoBloom, MempoolUploadTarget, HeadersDuringDownload, UnknownBlock, HistoricalUploadTarget, Admission}
+use Rattle.gate_rules.specs.declared.PeerDenial.TheVariants.{PeerUnknown, PeerClosed, PeerKnown, BlocksOnly, AlreadyInMempool, MempoolNoBloom, MempoolUploadTarget, HeadersDuringDownload, UnknownBlock, HistoricalUploadTarget, NoPackages, Admission}
 use Rattle.gate_message.specs.declared.reply.Reply.TheVariants.{Entered, Left, Listing, Block, Headers, Filter, Rpc, Denied, Set, Forgotten, Refused}
 use Rattle.gate_rules.specs.declared.ChainDenial.TheVariants.{CoinValue, CoinUnspendable, CoinAboveOpening, CoinKnown, NoUndo, VerdictKnown}
 use Rattle.gate_chain.specs.declared.OpeningCoin.{OpeningCoin}
+use Rattle.gate_submission.specs.declared.Fate.TheVariants as fates
+use Rattle.gate_submission.specs.declared.Member.{Member}
 use Rattle.gate_submission.specs.declared.Verdict.{Verdict}
 use Rattle.gate_submission.specs.declared.Verdict.TheVariants.{Good, Hard}
 use Rattle.gate_submission.specs.declared.VerdictRow.{VerdictRow}
@@ -20,8 +23,8 @@ use Rattle.gate_core.specs.Switching.{unswitched}
 use Rattle.gate_core.specs.Sessions.{Session, session}
 use Rattle.gate_core.specs.World.{World}
 use Rattle.gate_core.specs.PeerSteps.{denied}
+use Rattle.gate_core.specs.Pairing.{then_after}
 use Rattle.gate_core.specs.RpcSteps.{rpc_step}
-use Rattle.gate_rpc.specs.declared.id.Id.{Id}
 use Rattle.gate_rpc.specs.declared.id.Id.TheVariants.{Null, Unsigned}
 use Rattle.gate_rpc.specs.declared.request.Command.{Command}
 use Rattle.gate_rpc.specs.declared.request.Command.TheVariants.{SendRawTransaction, TestMempoolAccept, TestList, GetRawMempool, GetRawMempoolVerbose, GetMempoolEntry, GetMempoolInfo, GetRawTransaction, GetTxSpendingPrevout}
@@ -140,6 +143,27 @@ pub record GuardedSteps : Type 0 where
   pub old_by_download : step_of (all_on (0 ∷ 604801 ∷ []) download true) (GetBlock 7 0) ≡ (Block 0 0, all_on (0 ∷ 604801 ∷ []) download true)
   pub unknown_first : step_of (all_on (0 ∷ 604801 ∷ []) no_permissions true) (GetBlock 7 2) ≡ (Denied UnknownBlock Keep, all_on (0 ∷ 604801 ∷ []) no_permissions true)
   pub turns : step_of (one_peer noban true) (Turn Download true) ≡ (Set, record (one_peer noban true) { switches = record (unswitched false) { download = true } })
+
+-- peer 7 alone, where packages are taken
+abbrev pub taking_packages : Permissions → Bool → World
+taking_packages flags is_open = record (one_peer flags is_open) { policy = record usual_policy { packages = true } }
+
+-- a member that this rule denies
+abbrev pub denied_member : Denial → Member
+denied_member denial = record { txid = []; wtxid = []; fate = fates.Denied denial }
+
+abbrev pub held_member : Member
+held_member = record { txid = []; wtxid = []; fate = fates.Known 0 0 }
+
+-- packages that peers submit, and what closes a session then
+pub record OfferSteps : Type 0 where
+  pub not_taken : step_of (one_peer no_permissions true) (Package 7 5000 None None) ≡ (Denied NoPackages Keep, one_peer no_permissions true)
+  pub undecodable : step_of (taking_packages no_permissions true) (Package 7 5000 None None) ≡ (Denied (Admission Decode) Keep, taking_packages no_permissions true)
+  pub blocks_only_closes : step_of (blocks_only noban true) (Package 7 5000 None None) ≡ (Denied BlocksOnly Close, blocks_only noban false)
+  pub closed : step_of (taking_packages no_permissions false) (Package 7 5000 None None) ≡ (Denied PeerClosed Keep, taking_packages no_permissions false)
+  pub member_closes : then_after (one_peer no_permissions true) 7 (held_member ∷ denied_member VinEmpty ∷ []) ≡ Close
+  pub noban_is_kept : then_after (one_peer noban true) 7 (held_member ∷ denied_member VinEmpty ∷ []) ≡ Keep
+  pub full_keeps : then_after (one_peer no_permissions true) 7 (denied_member MempoolFull ∷ denied_member MempoolFull ∷ []) ≡ Keep
 
 -- a coin of this value, script and height
 abbrev pub small_coin : ℤ → List ℕ → ℕ → OpeningCoin

@@ -4,6 +4,7 @@ pub mod Opening
 pub mod World
 pub mod Access
 pub mod PeerSteps
+pub mod TestedLists
 pub mod RpcSteps
 pub mod ChainSteps
 pub mod Steps
@@ -17,4 +18,6 @@ pub mod AccessLaws
 pub mod ChainLaws
 pub mod Examples
 pub mod Packaging
+pub mod Pairing
+pub mod Asking
 pub mod PackageSteps

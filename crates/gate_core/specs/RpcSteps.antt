@@ -9,7 +9,7 @@ use Rattle.gate_pool.specs.Pool.{listing_of}
 use Rattle.gate_admit.specs.declared.Grant.{Grant}
 use Rattle.gate_admit.specs.Submission.{Submitted, submit_of}
 use Rattle.gate_query.specs.Answers.{info_of, ancestors_listed, descendants_listed, pool_info, tested}
-use Rattle.gate_query.specs.Queries.{entries_known, spendings_of, tested_list, transaction_of}
+use Rattle.gate_query.specs.Queries.{entries_known, spendings_of, transaction_of}
 use Rattle.gate_rpc.specs.declared.id.Id.{Id}
 use Rattle.gate_rpc.specs.declared.request.Command.{Command}
 use Rattle.gate_rpc.specs.declared.request.Command.TheVariants.{SendRawTransaction, TestMempoolAccept, TestList, GetRawMempool, GetRawMempoolVerbose, GetMempoolEntry, GetMempoolAncestors, GetMempoolDescendants, GetMempoolInfo, GetRawTransaction, GetTxSpendingPrevout, SubmitPackage}
@@ -28,6 +28,7 @@ use Rattle.gate_message.specs.declared.reply.Reply.TheVariants.{Rpc}
 use Rattle.gate_message.specs.UserCalls.{name_called}
 use Rattle.gate_core.specs.World.{World, standing_of}
 use Rattle.gate_core.specs.Packaging.{Answered, packaged_by, served}
+use Rattle.gate_core.specs.TestedLists.{list_tested}
 
 -- the answer to the call of this id
 abbrev pub replied : Id → Result RpcResult RpcError → RpcReply
@@ -60,7 +61,7 @@ packaged id a = told a.world id a.answer
 abbrev pub commanded : World → ℕ → Id → Command → Reply × World
 commanded w now id (SendRawTransaction transaction) = sent w id transaction (submit_of (standing_of w) transaction now w.budget)
 commanded w now id (TestMempoolAccept transaction) = told w id (tested (standing_of w) transaction)
-commanded w now id (TestList transactions) = told w id (tested_list (standing_of w) now transactions)
+commanded w now id (TestList transactions) = told w id (list_tested w now transactions)
 commanded w now id GetRawMempool = told w id (Ok (Txids (listing_of w.pool)))
 commanded w now id GetRawMempoolVerbose = told w id (Ok (Entries (entries_known w.pool)))
 commanded w now id (GetMempoolEntry txid) = told w id (of_entry Entry (info_of w.pool txid))

@@ -5,11 +5,11 @@ use Rattle.gate_tx.specs.Money.{max_money}
 use Rattle.gate_rules.specs.declared.Denial.TheVariants.{MempoolFull}
 use Rattle.gate_message.specs.declared.caller.Caller.TheVariants.{Peer}
 use Rattle.gate_message.specs.declared.event.Event.{Event}
-use Rattle.gate_message.specs.declared.event.Event.TheVariants.{Enter, Leave, Tx as Submit, Mempool, GetBlock, Headers, FeeFilter, Rpc, SetFloor, Set as Turn, Chain as OfChain}
+use Rattle.gate_message.specs.declared.event.Event.TheVariants.{Enter, Leave, Tx as Submit, Package, Mempool, GetBlock, Headers, FeeFilter, Rpc, SetFloor, Set as Turn, Chain as OfChain}
 use Rattle.gate_rules.specs.declared.PeerDenial.TheVariants.{PeerClosed, PeerKnown, Admission}
 use Rattle.gate_message.specs.declared.denial.Then.TheVariants.{Keep}
 use Rattle.gate_message.specs.declared.reply.Reply.{Reply}
-use Rattle.gate_message.specs.declared.reply.Reply.TheVariants.{Entered, Left, Admitted, Listing, Block, Headers, Filter, Rpc as Answered, Denied, Set, Moved, Forgotten, Refused}
+use Rattle.gate_message.specs.declared.reply.Reply.TheVariants.{Entered, Left, Admitted, Packaged, Listing, Block, Headers, Filter, Rpc as Answered, Denied, Set, Moved, Forgotten, Refused}
 use Rattle.gate_rpc.specs.declared.error.RpcError.{RpcError}
 use Rattle.gate_rpc.specs.declared.error.RpcError.TheVariants as errors
 use Rattle.gate_rpc.specs.declared.reply.RpcReply.{RpcReply}
@@ -26,6 +26,7 @@ abbrev pub closed_reply : Event → Option Reply
 closed_reply (Enter peer address) = Some (Denied PeerKnown Keep)
 closed_reply (Leave peer) = Some (Denied PeerClosed Keep)
 closed_reply (Submit peer now transaction) = Some (Denied PeerClosed Keep)
+closed_reply (Package peer now parent child) = Some (Denied PeerClosed Keep)
 closed_reply (Mempool peer) = Some (Denied PeerClosed Keep)
 closed_reply (GetBlock peer height) = Some (Denied PeerClosed Keep)
 closed_reply (Headers peer height) = Some (Denied PeerClosed Keep)
@@ -67,6 +68,7 @@ abbrev pub IsDenied : Reply → Type 0
 IsDenied (Entered flags) = ⊥
 IsDenied Left = ⊥
 IsDenied (Admitted txid fee vsize replaced) = ⊥
+IsDenied (Packaged then verdict members) = ⊥
 IsDenied (Listing txids) = ⊥
 IsDenied (Block height time) = ⊥
 IsDenied (Headers first count) = ⊥

@@ -10,7 +10,7 @@ use Rattle.gate_rpc.specs.declared.request.Request.{Request}
 use Rattle.gate_rpc.specs.declared.fault.CallError.{CallError}
 use Rattle.gate_rpc.specs.Calls.{request_of}
 use Rattle.gate_message.specs.declared.event.Event.{Event}
-use Rattle.gate_message.specs.declared.event.Event.TheVariants.{Enter, Leave, Tx as Submit, Mempool, GetBlock, Headers, FeeFilter, Rpc, SetFloor, Set, Chain as OfChain}
+use Rattle.gate_message.specs.declared.event.Event.TheVariants.{Enter, Leave, Tx as Submit, Package, Mempool, GetBlock, Headers, FeeFilter, Rpc, SetFloor, Set, Chain as OfChain}
 use Rattle.gate_core.specs.World.{World}
 
 -- what a command submits, to let it enter or to ask whether it would: one transaction, or what spells none. A list of several,
@@ -38,6 +38,7 @@ abbrev pub submission_of : Event → Option (Option Tx)
 submission_of (Enter peer address) = None
 submission_of (Leave peer) = None
 submission_of (Submit peer now submission) = Some submission
+submission_of (Package peer now parent child) = None
 submission_of (Mempool peer) = None
 submission_of (GetBlock peer height) = None
 submission_of (Headers peer height) = None

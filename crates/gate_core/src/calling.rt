@@ -8,7 +8,7 @@ ghost use Rattle.gate_core.specs.Packaging.{served};
 ghost use Rattle.gate_core.specs.RpcSteps.{is_barred, rpc_step, called_by, commanded, told, of_entry};
 ghost use Rattle.gate_rpc.specs.declared.result.RpcResult.TheVariants.{Txids, Entry, Transaction};
 ghost use Rattle.gate_query.specs.Answers.{tested};
-ghost use Rattle.gate_query.specs.Queries.{tested_list};
+ghost use Rattle.gate_core.specs.TestedLists.{list_tested};
 ghost use Rattle.gate_core.specs.World.{World, standing_of};
 ghost use Rattle.gate_core.specs.PackageSteps.{called_with, package_in};
 ghost use Rattle.gate_core.specs.Planning.{Fits, Plans, world_of};
@@ -17,6 +17,7 @@ ghost use Rattle.gate_pool.specs.Moves.{IsMarked};
 use crate::parts::StateParts;
 use crate::planning::{Change, Plan};
 use crate::submitting::standing_for;
+use crate::testing::test_together;
 use gate_admit::{Conditions, Prepared, plan_submission};
 use gate_bytes::{Boxed, Copied, Counted, Kept, Memory};
 use gate_message::{Call, Reply};
@@ -227,7 +228,7 @@ impl<S: BuildHasher + Copy + Drop> StateParts<S> {
         telling(alloc, id, outcome)
     }
 
-    /// The plan of `testmempoolaccept` for several transactions.
+    /// The plan of `testmempoolaccept` for several transactions, which are tested as one package where packages are taken.
     fn testing_list(
         &mut self,
         alloc: Global,
@@ -235,7 +236,7 @@ impl<S: BuildHasher + Copy + Drop> StateParts<S> {
         id: &Id,
         transactions: &[Prepared],
     ) -> Result<Plan, Memory>
-        ensures ok { IfOk result (Plans (world_of self.old) (told (world_of self.old) id.now (tested_list (standing_of (world_of self.old)) now transactions.now))) }
+        ensures ok { IfOk result (Plans (world_of self.old) (told (world_of self.old) id.now (list_tested (world_of self.old) now transactions.now))) }
         ensures change { IfOk result (λ plan. plan.change ≡ Change.Nothing) }
         ensures same { world_of self.new ≡ world_of self.old }
         ensures marked { IsMarked self.old.pool → OnOk result (IsMarked self.new.pool) }
@@ -248,7 +249,11 @@ impl<S: BuildHasher + Copy + Drop> StateParts<S> {
             second: now,
             budget: self.budget,
         };
-        let outcome = test_list(alloc, &under, &mut self.pool, transactions)?;
+        let outcome = if self.policy.packages() {
+            test_together(alloc, &under, &self.pool, transactions)?
+        } else {
+            test_list(alloc, &under, &mut self.pool, transactions)?
+        };
         self.pool.mark();
         telling(alloc, id, outcome)
     }

@@ -33,8 +33,8 @@ pub fn closed_sessions_change_nothing()
     ensures { ClosedSessionsChangeNothing }
 {}
 
-/// A call of a method that the user's list lacks is not allowed and changes nothing, and no call of a user who may not
-/// send transactions changes anything, whatever the calls say.
+/// A call of a method that the user's list lacks is not allowed and changes nothing, and no call of a user who may neither
+/// send transactions nor submit packages changes anything, whatever the calls say.
 pub fn lists_bar()
     ensures barred { ListsBar }
     ensures senders { OnlySendersChange }

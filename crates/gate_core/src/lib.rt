@@ -19,6 +19,7 @@ mod state;
 mod stepping;
 mod submitting;
 mod switches;
+mod testing;
 mod tracked;
 
 pub use gate_message::{Call, Caller, Event, PeerDenial, Replies, Reply, Switch, Then};

@@ -65,6 +65,12 @@ impl<S: BuildHasher + Copy + Drop> StateParts<S> {
                 now,
                 transaction,
             } => self.submission(alloc, *peer, *now, standing_for(prepared, transaction))?,
+            Event::Package {
+                peer,
+                now,
+                parent,
+                child,
+            } => self.refusing(*peer, *now, parent, child),
             Event::Mempool { peer } => self.listing(alloc, *peer)?,
             Event::GetBlock { peer, height } => self.giving_block(*peer, *height),
             Event::Headers { peer, height } => self.giving_headers(*peer, *height),

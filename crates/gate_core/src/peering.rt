@@ -37,7 +37,7 @@ impl<S: BuildHasher + Copy + Drop> StateParts<S> {
     }
 
     /// What follows from a denial for the peer's session.
-    fn then_for(&self, peer: u64, denial: PeerDenial) -> Then
+    pub(crate) fn then_for(&self, peer: u64, denial: PeerDenial) -> Then
         ensures { result ≡ then_for (world_of self.now) peer denial }
     {
         let then = Then::of(&denial, &self.sessions.flags(peer));
@@ -49,7 +49,7 @@ impl<S: BuildHasher + Copy + Drop> StateParts<S> {
 
     /// The plan of a denial to a peer, which closes the peer's session if that follows from the denial.
     #[inline(always)]
-    fn denying(&self, peer: u64, denial: PeerDenial) -> Plan
+    pub(crate) fn denying(&self, peer: u64, denial: PeerDenial) -> Plan
         ensures reply { Plans (world_of self.now) (denied (world_of self.now) peer denial) result }
         ensures fits { (sessions : Seated) (pool : Pooled) → Fits result.change sessions pool }
     {

@@ -7,7 +7,7 @@ ghost use Rattle.gate_core.specs.PackageSteps.{package_of, packaged_step};
 ghost use Rattle.gate_core.specs.Planning.{world_of};
 ghost use Rattle.gate_core.specs.Steps.{step_of};
 
-use crate::packaging::{CalledPackage, StagedReply};
+use crate::packaging::{AskedPackage, StagedReply};
 use crate::parts::StateParts;
 use crate::planning::{Plan, Step};
 use gate_admit::Prepared;
@@ -18,15 +18,19 @@ use std::hash::BuildHasher;
 
 impl<S: BuildHasher + Copy + Drop> StateParts<S> {
     /// The step of a package that may be submitted.
-    fn step_package(&mut self, alloc: Global, called: &CalledPackage<'_>) -> Result<Reply, Memory>
-        ensures ok { IfOk result (λ reply. (reply, world_of self.new) ≡ packaged_step (world_of self.old) called.now) }
+    fn step_package(&mut self, alloc: Global, asked: &AskedPackage<'_>) -> Result<Reply, Memory>
+        ensures ok { IfOk result (λ reply. (reply, world_of self.new) ≡ packaged_step (world_of self.old) asked.now) }
         ensures err { OnErr result (world_of self.new ≡ world_of self.old) }
         ensures before { self.old.pool.before ≡ self.old.pool.entries → OnOk result (self.new.pool.before ≡ self.old.pool.entries) }
     {
-        let StagedReply { reply, stage } = self.stage(alloc, called)?;
+        let StagedReply {
+            reply,
+            stage,
+            closes,
+        } = self.stage(alloc, asked)?;
         match stage {
             Some(stage) => {
-                let gone = self.land(stage, called.second());
+                let gone = self.land(stage, asked.second(), closes);
                 Ok(reply.without(gone.as_slice()))
             }
             None => Ok(reply),
@@ -35,22 +39,22 @@ impl<S: BuildHasher + Copy + Drop> StateParts<S> {
 
     /// The step of a package that may be submitted, with copies of the reply, which are made before it lands: without the
     /// memory for them it is taken back.
-    fn record_package(
-        &mut self,
-        alloc: Global,
-        called: &CalledPackage<'_>,
-    ) -> Result<Replies, Memory>
-        ensures ok { IfOk result (λ replies. (replies.reply, world_of self.new) ≡ packaged_step (world_of self.old) called.now) }
+    fn record_package(&mut self, alloc: Global, asked: &AskedPackage<'_>) -> Result<Replies, Memory>
+        ensures ok { IfOk result (λ replies. (replies.reply, world_of self.new) ≡ packaged_step (world_of self.old) asked.now) }
         ensures copies { IfOk result AreCopies }
         ensures err { OnErr result (world_of self.new ≡ world_of self.old) }
     {
-        let StagedReply { reply, stage } = self.stage(alloc, called)?;
+        let StagedReply {
+            reply,
+            stage,
+            closes,
+        } = self.stage(alloc, asked)?;
         let Some(stage) = stage else {
             return Replies::of(alloc, reply);
         };
         match Replies::of(alloc, reply) {
             Ok(replies) => {
-                let gone = self.land(stage, called.second());
+                let gone = self.land(stage, asked.second(), closes);
                 Ok(replies.without(gone.as_slice()))
             }
             Err(Memory) => {
@@ -67,8 +71,8 @@ impl<S: BuildHasher + Copy + Drop> StateParts<S> {
         ensures before { OnOk result (self.new.pool.before ≡ self.old.pool.entries) }
     {
         self.pool.mark();
-        if let Some(called) = self.package_of(event) {
-            return self.step_package(alloc, &called);
+        if let Some(asked) = self.package_of(event) {
+            return self.step_package(alloc, &asked);
         }
         match self.plan(alloc, event, None)? {
             Step::Planned(Plan { reply, change }) => {
@@ -96,8 +100,8 @@ impl<S: BuildHasher + Copy + Drop> StateParts<S> {
         ensures err { OnErr result (world_of self.new ≡ world_of self.old) }
     {
         self.pool.mark();
-        if let Some(called) = self.package_of(event) {
-            return self.record_package(alloc, &called);
+        if let Some(asked) = self.package_of(event) {
+            return self.record_package(alloc, &asked);
         }
         match self.plan(alloc, event, prepared)? {
             Step::Planned(Plan { reply, change }) => {

@@ -35,6 +35,14 @@ pub(crate) fn denial_in(reply: &Reply) -> Option<Denial> {
     }
 }
 
+/// The rule on packages that denies all transactions of a list.
+fn denial_of_all(outcomes: &[Outcome]) -> Option<PackageDenial> {
+    match outcomes.first() {
+        Some(Outcome::AllRejected { denial, .. }) => Some(*denial),
+        _ => None,
+    }
+}
+
 /// The rule on packages that an answer to a call names.
 fn denial_of_package(answer: &RpcReply) -> Option<PackageDenial> {
     match answer {
@@ -49,6 +57,18 @@ fn denial_of_package(answer: &RpcReply) -> Option<PackageDenial> {
             PackageVerdict::Denied(denial) => Some(denial),
             _ => None,
         },
+        RpcReply::Answer {
+            result: RpcResult::Outcomes(outcomes),
+            ..
+        } => denial_of_all(outcomes.get().as_slice()),
+        _ => None,
+    }
+}
+
+/// The rule on packages that decided on a package as a whole.
+fn rule_of_verdict(verdict: &PackageVerdict) -> Option<&'static Rule> {
+    match verdict {
+        PackageVerdict::Denied(denial) => Some(denial.row()),
         _ => None,
     }
 }
@@ -69,6 +89,7 @@ pub(crate) fn rule_in(reply: &Reply) -> Option<&'static Rule> {
     match reply {
         Reply::Denied { denial, .. } => Some(denial.row()),
         Reply::Refused(denial) => Some(denial.row()),
+        Reply::Packaged { verdict, .. } => rule_of_verdict(verdict),
         Reply::Rpc(answer) => answered_rule(answer.get()),
         _ => None,
     }
@@ -91,6 +112,7 @@ pub(crate) fn outcomes_in(reply: &Reply) -> &[Outcome] {
 /// What became of each member of a package, if a reply says it.
 pub(crate) fn members_in(reply: &Reply) -> &[Member] {
     match reply {
+        Reply::Packaged { members, .. } => members.as_slice(),
         Reply::Rpc(answer) => match answer.get() {
             RpcReply::Answer {
                 result: RpcResult::Package(outcome),

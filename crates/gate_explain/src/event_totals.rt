@@ -139,8 +139,8 @@ impl EventTotals {
         self.events.get()
     }
 
-    /// Counts an event by its reply, each transaction that a list was denied, and each member of a package. How many entries a user's transaction
-    /// replaced is known from the explanation alone.
+    /// Counts an event by its reply, each transaction that a list was denied, and each member of a package. How many entries
+    /// a user's transaction replaced is known from the explanation alone.
     pub(crate) fn count(&self, event: &Event, explained: &Option<Explained>, reply: &Reply) {
         add(&self.events, 1);
         self.learning.count(event, reply);

@@ -10,6 +10,7 @@ use std::hash::BuildHasher;
 pub(crate) fn second_of(event: &Event) -> Option<u64> {
     match event {
         Event::Tx { now, .. } => Some(*now),
+        Event::Package { now, .. } => Some(*now),
         Event::Rpc(call) => Some(call.get().time()),
         Event::Chain(ChainEvent::MoveTip { now, .. }) => Some(*now),
         _ => None,

@@ -77,6 +77,7 @@ reply_other (replies.Headers first count) = refl
 reply_other (replies.Filter rate) = refl
 reply_other (replies.Rpc answer) = refl
 reply_other (replies.Denied denial action) = refl
+reply_other (replies.Packaged action verdict members) = refl
 reply_other (replies.Forgotten blocks coins rows) = refl
 reply_other replies.Set = refl
 reply_other (replies.Moved moved) = refl

@@ -17,13 +17,13 @@ use Rattle.gate_rules.specs.declared.ChainDenial.{ChainDenial}
 use Rattle.gate_rules.specs.declared.ChainDenial.TheVariants.{BlockDecode}
 use Rattle.gate_message.specs.Following.{then_text}
 use Rattle.gate_rules.specs.Peers.{name_of, token_of}
-use Rattle.gate_message.specs.Texts.{reply_text}
+use Rattle.gate_message.specs.Texts.{admitted_text, fate_text, member_text, members_text as told_text, reply_text, verdict_text}
 use Rattle.gate_rules.specs.declared.PeerDenial.{PeerDenial}
-use Rattle.gate_rules.specs.declared.PeerDenial.TheVariants.{Admission}
+use Rattle.gate_rules.specs.declared.PeerDenial.TheVariants.{Admission, Package}
 use Rattle.gate_message.specs.declared.denial.Then.{Then}
 use Rattle.gate_message.specs.declared.denial.Then.TheVariants.{Keep, Close, Relay}
 use Rattle.gate_message.specs.declared.reply.Reply.{Reply}
-use Rattle.gate_message.specs.declared.reply.Reply.TheVariants.{Entered, Left, Admitted, Listing, Block, Headers, Filter, Rpc, Denied, Set, Moved, Forgotten, Refused}
+use Rattle.gate_message.specs.declared.reply.Reply.TheVariants.{Entered, Left, Admitted, Packaged, Listing, Block, Headers, Filter, Rpc, Denied, Set, Moved, Forgotten, Refused}
 use Rattle.gate_net.specs.Permissions.{Permissions, joined, named, names_of, permissions_text}
 use Rattle.gate_rpc.specs.Replies.{answer_json, error_json, id_json, result_json, reply_status, reply_text as answer_text}
 use Rattle.gate_rpc.specs.declared.reply.RpcReply.{RpcReply}
@@ -31,6 +31,14 @@ use Rattle.gate_rpc.specs.declared.reply.RpcReply.TheVariants.{NotAllowed, Answe
 use Rattle.gate_rules.specs.Denials.{name_of as admission_name, token_of as admission_token}
 use Rattle.gate_rules.specs.declared.Denial.{Denial}
 use Rattle.gate_rules.specs.declared.Denial.TheVariants.{Decode}
+use Rattle.gate_rules.specs.Packages.{name_of as package_name, token_of as package_token}
+use Rattle.gate_rules.specs.declared.PackageDenial.{PackageDenial}
+use Rattle.gate_rules.specs.declared.PackageDenial.TheVariants.{BurntAmount}
+use Rattle.gate_submission.specs.declared.Fate.{Fate}
+use Rattle.gate_submission.specs.declared.Fate.TheVariants as fates
+use Rattle.gate_submission.specs.declared.Member.{Member}
+use Rattle.gate_submission.specs.declared.PackageVerdict.{PackageVerdict}
+use Rattle.gate_submission.specs.declared.PackageVerdict.TheVariants as verdicts
 use Rattle.gate_tx.specs.Ids.{id_text}
 
 -- ---- texts without a newline
@@ -179,12 +187,22 @@ admission_token_plain : (denial : Denial) → plain (admission_token denial) ≡
 admission_token_plain Decode = refl
 admission_token_plain denial = refl
 
+package_name_plain : (denial : PackageDenial) → plain (package_name denial) ≡ true
+package_name_plain BurntAmount = refl
+package_name_plain denial = refl
+
+package_token_plain : (denial : PackageDenial) → plain (package_token denial) ≡ true
+package_token_plain BurntAmount = refl
+package_token_plain denial = refl
+
 name_plain : (denial : PeerDenial) → plain (name_of denial) ≡ true
 name_plain (Admission denial) = admission_name_plain denial
+name_plain (Package denial) = package_name_plain denial
 name_plain denial = refl
 
 token_plain : (denial : PeerDenial) → plain (token_of denial) ≡ true
 token_plain (Admission denial) = admission_token_plain denial
+token_plain (Package denial) = package_token_plain denial
 token_plain denial = refl
 
 chain_name_plain : (denial : ChainDenial) → plain (chain_name denial) ≡ true
@@ -250,13 +268,34 @@ listed_plain : (txids : List (List ℕ)) → plain (flat_map (λ txid. codes " "
 listed_plain [] = refl
 listed_plain (txid ∷ txids) = both (codes " " ++ id_text txid) (flat_map (λ id. codes " " ++ id_text id) txids) (id_plain txid) (listed_plain txids)
 
-reply_plain : (reply : Reply) → plain (reply_text reply) ≡ true
-reply_plain (Entered flags) = joined_plain (names_of flags) (names_plain flags)
-reply_plain Left = refl
-reply_plain (Admitted txid fee vsize replaced) =
+granted_plain : (txid : List ℕ) (fee vsize replaced : ℕ) → plain (admitted_text txid fee vsize replaced) ≡ true
+granted_plain txid fee vsize replaced =
     both (id_text txid) (codes " fee " ++ (decimal fee ++ (codes " vsize " ++ (decimal vsize ++ (codes " replaced " ++ decimal replaced))))) (id_plain txid)
     (both (decimal fee) (codes " vsize " ++ (decimal vsize ++ (codes " replaced " ++ decimal replaced))) (number_plain fee)
     (both (decimal vsize) (codes " replaced " ++ decimal replaced) (number_plain vsize) (number_plain replaced)))
+
+fate_plain : (txid : List ℕ) (fate : Fate) → plain (fate_text txid fate) ≡ true
+fate_plain txid (fates.Taken fee vsize together replaced) = granted_plain txid fee vsize (length replaced)
+fate_plain txid (fates.Known fee vsize) = id_plain txid
+fate_plain txid (fates.OtherWitness wtxid) = id_plain txid
+fate_plain txid (fates.Denied denial) = both (admission_name denial) (codes " " ++ admission_token denial) (admission_name_plain denial) (admission_token_plain denial)
+
+told_plain : (members : List Member) → plain (told_text members) ≡ true
+told_plain [] = refl
+told_plain (m ∷ members) = both (codes " | " ++ member_text m) (told_text members) (fate_plain m.txid m.fate) (told_plain members)
+
+verdict_plain : (verdict : PackageVerdict) → plain (verdict_text verdict) ≡ true
+verdict_plain verdicts.Success = refl
+verdict_plain verdicts.Failed = refl
+verdict_plain (verdicts.Denied denial) = both (package_name denial) (codes " " ++ package_token denial) (package_name_plain denial) (package_token_plain denial)
+
+reply_plain : (reply : Reply) → plain (reply_text reply) ≡ true
+reply_plain (Entered flags) = joined_plain (names_of flags) (names_plain flags)
+reply_plain Left = refl
+reply_plain (Admitted txid fee vsize replaced) = granted_plain txid fee vsize replaced
+reply_plain (Packaged followed verdict members) =
+    both (then_text followed) (codes " " ++ (verdict_text verdict ++ told_text members)) (then_plain followed)
+    (both (verdict_text verdict) (told_text members) (verdict_plain verdict) (told_plain members))
 reply_plain (Listing txids) = both (decimal (length txids)) (flat_map (λ txid. codes " " ++ id_text txid) txids) (number_plain (length txids)) (listed_plain txids)
 reply_plain (Block height time) = both (decimal height) (codes " " ++ decimal time) (number_plain height) (number_plain time)
 reply_plain (Headers first count) = both (decimal first) (codes " " ++ decimal count) (number_plain first) (number_plain count)

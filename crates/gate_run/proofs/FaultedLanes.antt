@@ -5,7 +5,7 @@ use Rattle.gate_message.specs.Texts.{reply_text}
 use Rattle.gate_core.specs.World.{World}
 use Rattle.gate_message.specs.declared.event.Event.{Event}
 use Rattle.gate_message.specs.declared.reply.Reply.{Reply}
-use Rattle.gate_message.specs.declared.reply.Reply.TheVariants.{Entered, Left, Admitted, Listing, Block, Headers, Filter, Rpc, Denied, Set, Moved, Forgotten, Refused}
+use Rattle.gate_message.specs.declared.reply.Reply.TheVariants.{Entered, Left, Admitted, Packaged, Listing, Block, Headers, Filter, Rpc, Denied, Set, Moved, Forgotten, Refused}
 use Rattle.gate_lines.specs.Lines.{count_limit, line_limit, is_skipped}
 use Rattle.gate_events.specs.EventLines.{line_event}
 use Rattle.gate_lines.specs.Refused.{line_too_long, too_many_lines}
@@ -39,6 +39,7 @@ text_is_no_fault (Filter rate) e = let h : 105 ≡ 97 = second_byte (reply_text 
 text_is_no_fault (Rpc answer) e = let h : 114 ≡ 102 = first_byte (reply_text (Rpc answer)) fault_memory e in omega (arith, h)
 text_is_no_fault (Denied refusal followed) e = let h : 100 ≡ 102 = first_byte (reply_text (Denied refusal followed)) fault_memory e in omega (arith, h)
 text_is_no_fault (Moved moved) e = let h : 99 ≡ 102 = first_byte (reply_text (Moved moved)) fault_memory e in omega (arith, h)
+text_is_no_fault (Packaged followed verdict members) e = let h : 112 ≡ 102 = first_byte (reply_text (Packaged followed verdict members)) fault_memory e in omega (arith, h)
 text_is_no_fault (Forgotten blocks coins rows) e = let h : 111 ≡ 97 = second_byte (reply_text (Forgotten blocks coins rows)) fault_memory e in omega (arith, h)
 text_is_no_fault (Refused denial) e = let h : 114 ≡ 102 = first_byte (reply_text (Refused denial)) fault_memory e in omega (arith, h)
 text_is_no_fault Set e = let h : 115 ≡ 102 = first_byte (reply_text Set) fault_memory e in omega (arith, h)

@@ -60,6 +60,18 @@ returns-clause-guarded c = record {
   turns = refl;
 }
 
+pub returns-clause-offers : goal.returns-clause-offers
+unfolding step_of
+returns-clause-offers c = record {
+  not_taken = refl;
+  undecodable = refl;
+  blocks_only_closes = refl;
+  closed = refl;
+  member_closes = refl;
+  noban_is_kept = refl;
+  full_keeps = refl;
+}
+
 pub returns-clause-calls : goal.returns-clause-calls
 unfolding submit_of decision_of
 returns-clause-calls c = record {

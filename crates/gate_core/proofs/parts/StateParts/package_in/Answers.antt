@@ -1,4 +1,4 @@
-use Rattle.std.proofs.Common.{◌≡◌, ℕ, true, false, sym, ap, ◌∙◌}
+use Rattle.std.proofs.Common.{◌≡◌, ℕ, false, sym, ap, ◌∙◌}
 use Rattle.gate_rpc.specs.Calls.{method_of}
 use Rattle.gate_rpc.specs.declared.request.Command.TheVariants.{SubmitPackage}
 use Rattle.gate_rpc.specs.declared.request.Request.{Request}

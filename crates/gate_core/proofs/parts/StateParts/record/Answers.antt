@@ -15,7 +15,7 @@ returns-in-Some-clause-ok g c =
     IfOk-weaker c.record_package.result _ _
     (λ replies is.
     is
-    ∙ (event_is marked c.in-Some.called c.args.event.now (sym c.in-Some.ensures)
+    ∙ (event_is marked c.in-Some.asked c.args.event.now (sym c.in-Some.ensures)
     ∙ ap (λ (p : List Admitted). step_of (record (world_of c.args.self.now) { pool = p }) c.args.event.now) c.mark.ensures.entries))
     c.record_package.ensures.ok
 

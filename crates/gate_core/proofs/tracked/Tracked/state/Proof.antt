@@ -7,7 +7,7 @@ use mir.Syntax.{Args, Body, Dict, Fn, named, a_type, dcons, dnil, seq, assign, p
 use mir.MapTy.{inst_fn}
 use mir.Val.{Val, vptr}
 use base.Logic.{SProp, ent, via, fst∗}
-use base.Fml.{Fml, Lft, Share, ftrue, flft, fsep}
+use base.Fml.{Lft, Share, ftrue, flft, fsep}
 use prog.Memory.{Memory}
 use prog.Routine.{Routine}
 use prog.Wp.{Env, Calls, Loops, WpFn, Tables}

@@ -13,12 +13,13 @@ use Rattle.gate_rpc.specs.declared.request.PackageCall.{PackageCall}
 use Rattle.gate_rpc.specs.declared.result.RpcResult.TheVariants.{Package}
 use Rattle.gate_message.specs.declared.reply.Reply.TheVariants.{Rpc}
 use Rattle.gate_core.specs.Packaging.{answer_of}
-use Rattle.gate_core.specs.PackageSteps.{Called}
+use Rattle.gate_core.specs.Asking.{Called}
+use Rattle.gate_core.specs.declared.packaging.AskedPackage.TheVariants.{Call}
 use Rattle.gate_core.specs.Planning.{world_of}
 use Rattle.gate_core.specs.RpcSteps.{replied}
 use Rattle.gate_core.specs.World.{World, standing_of}
 use Rattle.gate_core.proofs.Packages.{both, denied_step, err_at, ok_at, staged_as, unread_step, unstaged}
-use Rattle.gate_core.proofs.parts.StateParts.stage.Goals as goal
+use Rattle.gate_core.proofs.parts.StateParts.stage_called.Goals as goal
 
 pub returns-in-Err-clause-ok : goal.returns-in-Err-clause-ok
 returns-in-Err-clause-ok g c =
@@ -34,7 +35,7 @@ returns-in-Err-clause-ok g c =
     (subst (λ (l : List (Option Tx)). first_failing (text_rules c.called.inside.call.now.max_burn l) ≡ Some c.in-Err.unfit) texts found) in
     both c.unstaged.result _ _ _
     (λ staged told none.
-    unstaged w called staged.reply staged.stage none
+    unstaged w (Call called) staged.reply staged.stage staged.closes none
     (unread_step w called c.in-Err.unfit staged.reply fails
     (told ∙ (ap (λ (i : Id). Rpc (Failure i c.error_of-error.result)) id ∙ ap (λ (e : RpcError). Rpc (Failure called.id e)) c.error_of-error.ensures))))
     c.unstaged.ensures.reply c.unstaged.ensures.stage
@@ -57,7 +58,7 @@ returns-in-Some-clause-ok g c =
     subst (λ (txs : List Tx). first_failing (shape_rules w.chain w.policy txs) ≡ Some c.in-Some.denial) members (sym c.in-Some.ensures) in
     both c.unstaged-in-Some.result _ _ _
     (λ staged told none.
-    unstaged w called staged.reply staged.stage none
+    unstaged w (Call called) staged.reply staged.stage staged.closes none
     (denied_step w called c.in-Some.denial staged.reply passes found
     (told ∙ (ap Rpc c.unjudged.ensures ∙ ap (λ (i : Id). Rpc (replied i (answer_of c.in-Some.denial))) id))))
     c.unstaged-in-Some.ensures.reply c.unstaged-in-Some.ensures.stage
@@ -82,6 +83,7 @@ returns-clause-ok g c =
     c.as_slice-members.ensures.value ∙ ok_at _ _ (λ m. m.items ≡ members_of c.as_slice-texts.result.now) c.in-Ok.is c.in_ok-members.ensures.members in (
       outcome,
       ap (λ (answer : RpcReply). Rpc answer) c.replace-placeholder.ensures.after ∙ ap (λ (i : Id). Rpc (Answer i (Package outcome))) id,
+      refl,
       staged_as w called outcome c.in_ok-staged.staged.stage meanwhile c.as_slice-texts.result.now c.as_slice-members.result.now (record { texts_are = texts; members_are = members })
           (subst (λ (k : Called). first_failing (text_rules k.call.max_burn c.as_slice-texts.result.now) ≡ None) c.called.view_is read) (sym c.check_shape.ensures ∙ c.in_default.is)
           (subst (λ (k : Called). StagesAs k.call.max_rate (standing_of w) k.second c.as_slice-members.result.now outcome c.in_ok-staged.staged.stage meanwhile.pool) c.called.view_is c.in_ok-staged.ensures.ok) refl,
