@@ -167,7 +167,10 @@ def told_of_releases() -> dict[str, dict[str, int]]:
 
 def release_faults(known: dict[str, Option]) -> Iterator[str]:
     """Where docs/FORMATS.md and the help have not the releases of the sources."""
-    wanted, told = releases(known), told_of_releases()
+    usual = {it.word: it.default for it in known.values()}
+    # a release may take back what one before it had
+    told = {name: {word: value for word, value in it.items() if value != usual.get(word)} for name, it in told_of_releases().items()}
+    wanted = releases(known)
     for name in wanted.keys() | told.keys():
         if wanted.get(name) != told.get(name):
             yield "docs/FORMATS.md: the release %s has %s, and not %s" % (name, wanted.get(name), told.get(name))

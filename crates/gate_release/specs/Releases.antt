@@ -4,7 +4,7 @@ use Rattle.std.specs.List.{find}
 use Rattle.std.specs.Option.{unwrap_or}
 use Rattle.std.specs.Str.{bytes_eq}
 use Rattle.gate_register.specs.declared.Setting.{Setting}
-use Rattle.gate_register.specs.declared.Setting.TheVariants.{RelayRate, IncrementalRate, DataSize, DataOutputs, LeastSize, FullRbf, BareMultisig, FeesRoundUp, RelayFeeFirst, ReplacedParents, KeepInvalid, Anchors, LegacySigops, DataTotal, Truc, EphemeralDust}
+use Rattle.gate_register.specs.declared.Setting.TheVariants.{RelayRate, IncrementalRate, DataSize, DataOutputs, LeastSize, FullRbf, BareMultisig, FeesRoundUp, RelayFeeFirst, ReplacedParents, KeepInvalid, Anchors, LegacySigops, DataTotal, Truc, Packages, PackageAllParents, EphemeralDust}
 use Rattle.gate_register.specs.Settings.{place_of as place_of_setting}
 use Rattle.gate_register.specs.Policies.{policy_with}
 use Rattle.gate_release.specs.declared.release.Choice.{Choice}
@@ -46,6 +46,9 @@ choices =
     ∷ choice FullRbf 1 Core28 Knots29
     ∷ choice Anchors 1 Core28 Knots29
     ∷ choice Truc 1 Core28 Core30
+    ∷ choice Packages 1 Core28 Knots29
+    ∷ choice PackageAllParents 1 Core28 Core29
+    ∷ choice PackageAllParents 1 Knots29 Knots29
     ∷ choice ReplacedParents 1 Core28 Knots29
     ∷ choice RelayRate 100 Core29 Core30
     ∷ choice IncrementalRate 100 Core29 Core30

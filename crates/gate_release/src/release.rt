@@ -52,7 +52,7 @@ pub struct Choice {
 }
 
 /// What releases have otherwise than Bitcoin Core 22.0. Beside each stands where that can be read.
-static CHOICES: [Choice; 16] = [
+static CHOICES: [Choice; 19] = [
     // release notes of 25.0 (MIN_STANDARD_TX_NONWITNESS_SIZE)
     Choice {
         setting: Setting::LeastSize,
@@ -94,6 +94,26 @@ static CHOICES: [Choice; 16] = [
         number: 1,
         first: Release::Core28,
         last: Release::Core30,
+    },
+    // release notes of 28.0 (submitpackage on every network, replacement by a parent and its child)
+    Choice {
+        setting: Setting::Packages,
+        number: 1,
+        first: Release::Core28,
+        last: Release::Knots29,
+    },
+    // MemPoolAccept::AcceptPackage until 30.0 (package-not-child-with-unconfirmed-parents)
+    Choice {
+        setting: Setting::PackageAllParents,
+        number: 1,
+        first: Release::Core28,
+        last: Release::Core29,
+    },
+    Choice {
+        setting: Setting::PackageAllParents,
+        number: 1,
+        first: Release::Knots29,
+        last: Release::Knots29,
     },
     // since 28.0 a replacement may spend from what any replaced entry spends from
     Choice {
@@ -191,12 +211,15 @@ impl Release {
     /// What nodes of the release do that no line of an opening says, if there is such a thing.
     pub fn lacks(self) -> Option<&'static str> {
         match self {
-            Release::Core22 | Release::Core25 | Release::Core26 | Release::Core27 => None,
-            Release::Core28 | Release::Core29 | Release::Core30 => {
-                Some("packages of a parent and its child")
-            }
+            Release::Core22
+            | Release::Core25
+            | Release::Core26
+            | Release::Core27
+            | Release::Core28
+            | Release::Core29
+            | Release::Core30 => None,
             Release::Knots29 => Some(
-                "version 3 (A12), packages of a parent and its child, dust that a child spends (A17), and options of its own",
+                "version 3 (A12), dust that a child spends (A17), and options of its own",
             ),
         }
     }
