@@ -9,7 +9,7 @@ use std::alloc::Global;
 use std::hash::{BuildHasherDefault, FoldHasher};
 use std::test::Fail;
 
-type Hasher = BuildHasherDefault<FoldHasher>;
+pub(crate) type Hasher = BuildHasherDefault<FoldHasher>;
 
 /// An output to a key's hash.
 const SCRIPT: [u8; 22] = [
@@ -47,18 +47,18 @@ fn opened(alloc: Global, coins: Vec<OpeningCoin>) -> Result<Chain<Hasher>, Fail>
     Ok(Chain::open(alloc, BuildHasherDefault::new(), coins, times)?)
 }
 
-fn chain(alloc: Global) -> Result<Chain<Hasher>, Fail> {
+pub(crate) fn chain(alloc: Global) -> Result<Chain<Hasher>, Fail> {
     let coins = coins(alloc)?;
     opened(alloc, coins)
 }
 
-fn payment(alloc: Global) -> Result<Prepared, Fail> {
+pub(crate) fn payment(alloc: Global) -> Result<Prepared, Fail> {
     let bytes = hex::decode(alloc, PAYMENT)?;
     Ok(Prepared::new(alloc, &bytes)?)
 }
 
 /// What a submission gets at second 5,000, if each script is good.
-fn answer(
+pub(crate) fn answer(
     alloc: Global,
     chain: &Chain<Hasher>,
     pool: &mut Pool<Hasher>,
