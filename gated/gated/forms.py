@@ -300,9 +300,15 @@ class GateFees(TypedDict):
     base: int
 
 
-# what the gate says of a transaction that was tried
+# what the gate says of a transaction that was tried; one of a list that it judges as a package has no `allowed` if a rule denies all
+# of them, or if another one is denied
 GateTrial = TypedDict(
-    "GateTrial", {"txid": str, "wtxid": str, "allowed": bool, "vsize": int, "fees": GateFees, "rule": str, "reject-reason": str}, total=False
+    "GateTrial",
+    {
+        "txid": str, "wtxid": str, "allowed": bool, "vsize": int, "fees": GateFees, "rule": str, "reject-reason": str,
+        "package-error": str,
+    },
+    total=False,
 )
 # what it says of a member of a package that it took, or that it had; of one that it has with another witness; of one that it denies
 GateMemberFees = TypedDict("GateMemberFees", {"base": int, "effective-feerate": int, "effective-includes": list[str]}, total=False)
@@ -360,7 +366,7 @@ def _plain(value: Any) -> Any:
 
 def trial(told: dict[str, Any]) -> dict[str, Any]:
     """What the gate says of a transaction that was tried, with its fee in BTC."""
-    if not told["allowed"]:
+    if not told.get("allowed"):
         return told
     return {**told, "fees": {"base": amount(told["fees"]["base"])}}
 

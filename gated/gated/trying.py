@@ -320,7 +320,7 @@ class Trying:
             ours, shown = await self._by_gate(listed, ask)
         theirs = await self._by_node(listed, ours, rate)
         lines = [_verdicts_of(one, told) for one, told in zip(listed, theirs)]
-        unknown = [them for own, them in zip(ours, lines) if not own["allowed"]]
+        unknown = [them for own, them in zip(ours, lines) if not own.get("allowed")]
         return Judged(ours, theirs, shown, sum(unknown, []), sum(lines, []), any(map(_differ, listed, ours, theirs)))
 
     async def _has_been_given_all(self) -> None:
@@ -363,6 +363,9 @@ class Trying:
         """Whether one of these transactions lacked a parent that the node's pool has; the gate has been given it by now."""
         own = {it.txid for it in listed}
         lacking = [one for one, told in zip(listed, ours) if told.get("rule") == NO_COIN]
+        if lacking:
+            # of those that it says nothing of it may lack them, too
+            lacking += [one for one, told in zip(listed, ours) if "allowed" not in told]
         return await self.has_been_given(sorted({it.txid for one in lacking for it in one.spent} - own))
 
     async def has_been_given(self, txids: Sequence[str]) -> bool:
@@ -423,12 +426,12 @@ def _not_asked(one: Transaction, error: Refused) -> TrialInfo:
 
 def _is_for_node(ours: GateTrial) -> bool:
     """Whether the node's word is needed: the gate would take a transaction, or lacks nothing but a verdict on its scripts."""
-    return ours["allowed"] or ours.get("rule") == VERDICT_MISSING
+    return bool(ours.get("allowed")) or ours.get("rule") == VERDICT_MISSING
 
 
 def _differ(one: Transaction, ours: GateTrial, theirs: TrialInfo) -> bool:
     """Whether the node refuses a transaction, not for its scripts or for the caller's bound, and the gate wouldn't."""
-    is_judged = theirs.get("allowed") or theirs.get("reject-reason") == FEE_PAST or not ours["allowed"] and _verdicts_of(one, theirs)
+    is_judged = theirs.get("allowed") or theirs.get("reject-reason") == FEE_PAST or not ours.get("allowed") and _verdicts_of(one, theirs)
     return _is_for_node(ours) and not is_judged
 
 
@@ -444,7 +447,7 @@ def _verdicts_of(one: Transaction, theirs: TrialInfo) -> list[str]:
 def _with_what_the_node_says(ours: GateTrial, theirs: TrialInfo) -> dict[str, Any]:
     """An answer on a transaction, with what the node says of the caller's bound, or why it didn't run the scripts."""
     reason = theirs.get("reject-reason", "")
-    if ours["allowed"] and reason == FEE_PAST:
+    if ours.get("allowed") and reason == FEE_PAST:
         return {"txid": ours["txid"], "wtxid": ours["wtxid"], "allowed": False, "reject-reason": FEE_PAST}
     if ours.get("rule") == VERDICT_MISSING and reason:
         return {**ours, "reject-details": "%s, the node says: %s" % (ours["reject-reason"], reason)}

@@ -12,6 +12,7 @@ from bitcoin import Input, Output, Transaction
 from gate import Differs, same, true
 from hosting import until
 from live import NODES, TRUTHS, Live, script_of
+from model import releases
 from model_node import COIN_VALUE, WITHOUT_MEMBERS, Failure, RpcError, number_hash, payment_of
 from test_answering import failed, fresh
 from test_following import Beside
@@ -99,6 +100,24 @@ def test_a_parent_without_a_fee(gate):
         same("counted", it.gated.metric('gate_answers_total{rule="ok"}') >= 2, True)
         it.gated.end()
         it.gated.is_legal(1)
+
+
+def test_packages_of_a_release(gate):
+    """Beside a node of Bitcoin Core 28.0 packages are taken, and lists are packages, without a line; a line takes that away."""
+    for lines, said in (((), ["package-not-sorted"] * 2), (("--line", "packages 0"), ["missing-inputs", None])):
+        with Beside(gate, "--forward", *lines, release=280000, settings=releases()["core-28"]) as it:
+            it.open()
+            parent, child = family(it, fee=1000)
+            told = it.gated.rpc("testmempoolaccept", hex_of([child, parent]))
+            same("a child before its parent", [one.get("package-error", one.get("reject-reason")) for one in told], said)
+            members = family(it)
+            if lines:
+                same("no method", failed(lambda it=it, members=members: submits(it, members)), (404, -32601, "Method not found"))
+            else:
+                same("taken", submits(it, members)["package_msg"], "success")
+            it.is_alike()
+            it.gated.end()
+            it.gated.is_legal(1)
 
 
 def test_a_package_that_the_node_has_lost(gate):

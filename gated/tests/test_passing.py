@@ -136,6 +136,30 @@ def test_several_at_once(gate):
         it.gated.is_legal(1)
 
 
+def test_several_as_a_package(gate):
+    """With `packages 1` several are tried as one package: of one that is denied its reason is told, of those that are not judged
+    then their ids alone, and a rule on the package is told of each. Also if the node refuses its scripts, and its child with it."""
+    with Beside(gate, "--line", "packages 1") as it:
+        it.open()
+        parent, other, low = fresh(it, outputs=2), fresh(it), fresh(it, fee=1)
+        child, unproved = it.node.knows(payment_of((parent.hash(), 0), parent.outputs[0].value, 1000)), fresh(it, outputs=2)
+        below = it.node.knows(payment_of((unproved.hash(), 0), unproved.outputs[0].value, 1000))
+        it.node.model.opening.verdicts[(unproved.wtxid(), 0)] = "soft"
+
+        def tried(*them):
+            told = it.gated.rpc("testmempoolaccept", [tx.hex() for tx in them])
+            same("their ids", [(one["txid"], one["wtxid"]) for one in told], [(tx.txid(), tx.wtxid()) for tx in them])
+            return [one.get("reject-reason", one.get("package-error", one.get("allowed"))) for one in told]
+
+        same("a child behind its parent", tried(parent, child, other), [True, True, True])
+        same("before it", tried(child, parent), ["package-not-sorted"] * 2)
+        same("one that is denied", tried(parent, low, other), [None, "min relay fee not met", None])
+        same("one whose scripts fail", tried(other, unproved, below), [True, "non-mandatory-script-verify-flag", None])
+        same("nothing is in the pool", it.gated.rpc("getrawmempool"), [])
+        it.gated.end()
+        it.gated.is_legal(1)
+
+
 @long
 def test_a_verbose_listing_of_many(gate):
     """`getrawmempool true` of more than a thousand entries, by one line of the gate."""
