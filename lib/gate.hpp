@@ -59,23 +59,39 @@ public:
 };
 
 // What a reply says, by the first word of its line.
-enum class Kind { entered, left, admitted, listing, block, headers, filter, rpc, chain, set, forgotten, denied, refused, fault };
+enum class Kind { entered, left, admitted, packaged, listing, block, headers, filter, rpc, chain, set, forgotten, denied, refused, fault };
 
 // What follows a denial for the session of the peer: it stays; it is closed; it stays, and the transaction is to be relayed
 // once more.
 enum class Then { keep, close, relay };
 
+// What became of a member of a package: it came into the pool; it was there before, also with another witness; a rule denies it.
+enum class Fate { admitted, known, denied };
+
+// A member of a package. A part that it doesn't have is empty, or 0.
+struct Member {
+    Fate fate = Fate::known;
+    std::string txid;                // of admitted and known
+    uint64_t fee = 0;                // of admitted, with the next two
+    uint64_t vsize = 0;
+    uint64_t replaced = 0;           // how many entries it replaced
+    std::string rule;                // of denied, with the next one
+    std::string token;
+};
+
 // A reply line in its parts. A part that a line of this kind doesn't have is empty, or 0. Txids are hexadecimal as Bitcoin
 // prints them, amounts in satoshi, sizes in virtual bytes, feerates in satoshi per 1,000 virtual bytes.
 struct Reply {
     Kind kind = Kind::set;
-    std::string rule;                // of denied, refused, and an rpc that is denied: as "A35"
-    std::string token;               // of these and fault: the reason, as "min relay fee not met"
-    Then then = Then::keep;          // of denied
+    std::string rule;                // of denied, refused, and an rpc or a package that is denied: as "A35"
+    std::string token;               // of these and fault: the reason, as "min relay fee not met"; of packaged also "success" or
+                                     // "transaction failed"
+    Then then = Then::keep;          // of denied and packaged
     std::string txid;                // of admitted, with the next three
     uint64_t fee = 0;
     uint64_t vsize = 0;
     uint64_t replaced = 0;           // how many entries the transaction replaced
+    std::vector<Member> members;     // of packaged: the parent, and the child
     std::vector<std::string> flags;  // of entered: what the peer is permitted
     std::vector<std::string> txids;  // of listing
     uint64_t height = 0;             // of block; of headers that of the first header
@@ -109,13 +125,15 @@ namespace detail {
 constexpr uint64_t greatest_number = 9007199254740991;
 
 constexpr std::pair<std::string_view, Kind> kinds[] = {
-    {"entered", Kind::entered}, {"left", Kind::left},       {"admitted", Kind::admitted},   {"listing", Kind::listing},
-    {"block", Kind::block},     {"headers", Kind::headers}, {"filter", Kind::filter},       {"rpc", Kind::rpc},
-    {"chain", Kind::chain},     {"set", Kind::set},         {"forgotten", Kind::forgotten}, {"denied", Kind::denied},
-    {"refused", Kind::refused}, {"fault", Kind::fault},
+    {"entered", Kind::entered}, {"left", Kind::left},       {"admitted", Kind::admitted}, {"packaged", Kind::packaged},
+    {"listing", Kind::listing}, {"block", Kind::block},     {"headers", Kind::headers},   {"filter", Kind::filter},
+    {"rpc", Kind::rpc},         {"chain", Kind::chain},     {"set", Kind::set},           {"forgotten", Kind::forgotten},
+    {"denied", Kind::denied},   {"refused", Kind::refused}, {"fault", Kind::fault},
 };
 
 constexpr std::pair<std::string_view, Then> thens[] = {{"keep", Then::keep}, {"close", Then::close}, {"relay", Then::relay}};
+
+constexpr std::pair<std::string_view, Fate> fates[] = {{"admitted", Fate::admitted}, {"known", Fate::known}, {"denied", Fate::denied}};
 
 constexpr bool is_digit(char it) { return it >= '0' && it <= '9'; }
 constexpr bool is_lower(char it) { return it >= 'a' && it <= 'z'; }
@@ -211,6 +229,40 @@ public:
         return true;
     }
 
+    // What stands before the next bar, or all that is left.
+    bool piece(std::string_view &found) {
+        if (!left) return false;
+        const size_t bar = left->find(" | ");
+        found = left->substr(0, bar);
+        if (bar == std::string_view::npos) left.reset();
+        else left->remove_prefix(bar + 3);
+        return found.find('|') == std::string_view::npos;
+    }
+
+    bool verdict(Reply &reply) {
+        std::string_view found;
+        if (!piece(found)) return false;
+        if (found == "success" || found == "transaction failed") {
+            reply.token = found;
+            return true;
+        }
+        Words words(found);
+        return words.rule(reply.rule) && words.token(reply.token);
+    }
+
+    bool member(std::vector<Member> &members) {
+        std::string_view found;
+        if (!piece(found)) return false;
+        Words words(found);
+        Member &member = members.emplace_back();
+        if (!words.named(fates, member.fate)) return false;
+        if (member.fate == Fate::denied) return words.rule(member.rule) && words.token(member.token);
+        if (!words.txid(member.txid)) return false;
+        if (member.fate == Fate::known) return words.is_over();
+        return words.number_behind("fee", member.fee) && words.number_behind("vsize", member.vsize)
+            && words.number_behind("replaced", member.replaced) && words.is_over();
+    }
+
     bool answer(Reply &reply) {
         std::string_view found;
         if (!left) return false;
@@ -232,6 +284,8 @@ inline bool read(Words &words, Reply &reply) {
     case Kind::admitted:
         return words.txid(reply.txid) && words.number_behind("fee", reply.fee) && words.number_behind("vsize", reply.vsize)
             && words.number_behind("replaced", reply.replaced);
+    case Kind::packaged:
+        return words.named(thens, reply.then) && words.verdict(reply) && words.member(reply.members) && words.member(reply.members);
     case Kind::listing: return words.number(reply.count) && words.txids(reply.count, reply.txids);
     case Kind::block: return words.number(reply.height) && words.number(reply.time);
     case Kind::headers: return words.number(reply.height) && words.number(reply.count);

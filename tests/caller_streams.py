@@ -10,7 +10,7 @@ from gate import same, true
 from random_streams import Stream, compared, filter_rate
 
 STREAMS = 300
-EVENTS = 80
+EVENTS = 88
 ADDRESSES = ("192.0.2.1", "10.1.2.3", "10.255.0.1", "::ffff:a01:203", "2001:db8::1", "2001:DB8:0:0:8:800:200C:417A", "::1", "0.0.0.0", "255.255.255.255", "fe80::")
 SUBNETS = ("192.0.2.1", "192.0.2.0/24", "10.0.0.0/8", "10.1.2.3/255.255.0.0", "10.1.2.3/31", "0.0.0.0/0", "2001:db8::/32", "2001:db8::1", "::/0", "::1/128", "10.1.0.0/016")
 WORDS = ("bloomfilter", "bloom", "noban", "forcerelay", "relay", "mempool", "download", "addr", "all", "")
@@ -19,7 +19,7 @@ SWITCHES = ("bloom", "upload", "historic", "ibd")
 IDS = (None, 0, 1, 18446744073709551615, -1, -9223372036854775808, "", "x", "\u00e9\n", 7)
 # how often all streams together have to meet each of these
 FLOORS = {
-    "P1": 50, "P2": 300, "P3": 500, "P4": 100, "P5": 30, "P6": 50, "P7": 40, "P8": 50, "P9": 200, "P10": 10, "U1": 300,
+    "P1": 50, "P2": 300, "P3": 500, "P4": 100, "P5": 30, "P6": 50, "P7": 40, "P8": 50, "P9": 200, "P10": 10, "P11": 300, "U1": 300,
     "A23": 60, "A36": 5, "relay": 5, "close": 200, "admitted": 100, "block": 100, "headers": 100, "listing": 100, "filter": 300, "entered": 300, "set": 500,
     "200": 1000, "404": 50, "500": 500, "-22": 20, "-25": 20, "-26": 100, "-5": 200,
 }
@@ -74,7 +74,7 @@ class Callers(Stream):
     # --- events
 
     def event(self, model):
-        kind = self.random.choice(("enter", "peer", "submit", "submit", "block", "headers", "mempool", "fee_filter", "operator", "call", "call", "call"))
+        kind = self.random.choice(("enter", "peer", "submit", "submit", "package", "block", "headers", "mempool", "fee_filter", "operator", "call", "call", "call"))
         return getattr(self, kind)(model, self.caller(model))
 
     def caller(self, model):
@@ -93,6 +93,10 @@ class Callers(Stream):
     def submit(self, model, peer):
         tx, digits = self.submission(model)
         return "peer %d tx 5000 %s" % (peer, digits), model.submit(peer, 5000, tx)
+
+    def package(self, model, peer):
+        words = [self.submission(model)[1] for _ in range(2)]
+        return "peer %d package 5000 %s" % (peer, " ".join(words)), model.package(peer)
 
     def block(self, model, peer):
         height = self.height(model)

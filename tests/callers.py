@@ -131,8 +131,15 @@ class CallerModel(Model):
         return self.refused(peer, ("P9", height not in times), ("P10", old)) or "block %d %d" % (height, times[height])
 
     def submit(self, peer, now, tx):
-        shut = self.opening.blocksonly and "relay" not in self.flags(peer)
-        return self.refused(peer, ("P4", shut)) or super().submit(peer, now, tx)
+        return self.refused(peer, ("P4", self.is_shut(peer))) or super().submit(peer, now, tx)
+
+    def package(self, peer):
+        """No opening of a stream takes packages, whatever their texts are."""
+        return self.refused(peer, ("P4", self.is_shut(peer)), ("P11", True))
+
+    def is_shut(self, peer):
+        """Whether the peer's transactions are not wanted."""
+        return self.opening.blocksonly and "relay" not in self.flags(peer)
 
     def flags(self, peer):
         return self.sessions[peer].flags if peer in self.sessions else set()

@@ -23,10 +23,10 @@ LACKS = {
     "core-25": None,
     "core-26": None,
     "core-27": None,
-    "core-28": "packages of a parent and its child",
-    "core-29": "packages of a parent and its child",
-    "core-30": "packages of a parent and its child",
-    "knots-29": "version 3 (A12), packages of a parent and its child, dust that a child spends (A17), and options of its own",
+    "core-28": None,
+    "core-29": None,
+    "core-30": None,
+    "knots-29": "version 3 (A12), dust that a child spends (A17), and options of its own",
 }
 # what begins a line of an opening and is no setting
 LINES = ("budget", "policy", "from", "times", "coin", "verdict", "whitelist", "rpcwhitelist")
@@ -172,7 +172,7 @@ def test_events(gate):
     explains(gate, "Peer 1 leave", '"Peer" is unknown; is it peer?')
     explains(gate, "per 1 leave", '"per" is unknown; is it peer?')
     explains(gate, "peer 1 leaves", '"leaves" is unknown; is it leave?')
-    explains(gate, "peer 1", "ends before enter, leave, tx, mempool, getblock, headers or feefilter")
+    explains(gate, "peer 1", "ends before enter, leave, tx, package, mempool, getblock, headers or feefilter")
     explains(gate, "peer x leave", '"x" is not a number; expected the number of a peer, 0 to ' + MOST)
     explains(gate, "peer 9007199254740992 leave", '"9007199254740992" is too large; expected the number of a peer, 0 to ' + MOST)
     explains(gate, "peer 1 headers 4294967296", '"4294967296" is too large; expected a height, 0 to 4,294,967,295')

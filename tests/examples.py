@@ -172,6 +172,11 @@ def package():
         ),
         ("with 220 both come in, each at the feerate of both", call("a", 5000, "submitpackage", [parent.hex(), child.hex()]), packaged("success", *taken)),
         ("the same package again: both are known", call("a", 5001, "submitpackage", [parent.hex(), child.hex()]), packaged("success", *known)),
+        (
+            "a peer offers the same two, the parent first",
+            "peer 1 package 5002 %s %s" % (parent.hex(), child.hex()),
+            "packaged keep success | known %s | known %s" % (parent.txid(), child.txid()),
+        ),
         ("and both are in the pool", "peer 1 mempool", "listing 2 %s %s" % (parent.txid(), child.txid())),
     ]
 

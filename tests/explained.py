@@ -24,7 +24,7 @@ LONG_CHAIN = "A36 with it an entry would have more than %d descendants, itself a
 ROUNDED_UP = ["feesroundup 1", "minrelaytxfee 101", "incrementalrelayfee 101"]
 NO_VERDICT = " has no verdict; `verdict * ok` in the opening gives one for every input"
 METHODS = (
-    "sendrawtransaction, testmempoolaccept, getrawmempool, getmempoolentry, getmempoolancestors, getmempooldescendants, getmempoolinfo, getrawtransaction"
+    "sendrawtransaction, testmempoolaccept, submitpackage, getrawmempool, getmempoolentry, getmempoolancestors, getmempooldescendants, getmempoolinfo, getrawtransaction"
     " or gettxspendingprevout"
 )
 UNPAID = "A35 The fee is below the fee for the virtual size at the rate that minrelaytxfee says (1,000 satoshi per 1,000 virtual bytes)"
@@ -415,6 +415,10 @@ def test_calls(gate):
         ('user a rpc 0 {"method":"getbalance"}', 'there is no such method: "getbalance" is unknown; expected ' + METHODS),
         ('user a rpc 0 {"method":"getrawmempool","params":[1]}', "getrawmempool does not take these params; expected [], [false] or [true]"),
         ('user a rpc 0 {"method":"getmempoolentry","params":["%s"]}' % printed(number_hash(1)), "no transaction in the pool has this txid"),
+    ])
+    params = "[[hex, ..]], [[hex, ..], maxfeerate] or [[hex, ..], maxfeerate, maxburnamount] with 1 to 25 texts"
+    explains(gate, OPENING + ["packages 1"], [
+        ('user a rpc 0 {"method":"submitpackage","params":[]}', "submitpackage does not take these params; expected " + params),
     ])
 
 

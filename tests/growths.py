@@ -100,6 +100,23 @@ def test_a_package_that_replaces(gate):
     refused(gate, "replaced-by-two-members", 5, 40)
 
 
+def test_two_that_replace_together(gate):
+    """A parent that pays nothing, and its child: judged over the pool, and again over a copy."""
+    refused(gate, "package-replacement", 6, 40)
+
+
+def test_a_package_of_a_peer(gate):
+    """One that replaces an entry, and one whose peer is shut out for it."""
+    refused(gate, "package-replacement-by-a-peer", 4, 40)
+    refused(gate, "package-that-closes-a-session", 1, 3)
+
+
+def test_a_list_that_is_a_package(gate):
+    """Two that are allowed, and a list in which one is denied."""
+    refused(gate, "list-of-version-three", 3, 10)
+    refused(gate, "list-with-a-denial", 0, 5)
+
+
 def test_a_reorganisation(gate):
     """A disconnected parent comes back above its children."""
     refused(gate, "reorganisation-returns-a-parent", 5, 40)

@@ -105,8 +105,8 @@ IN_EVENTS = (
     # closed sets of words
     mistake("tx 02000000", '"tx"', "peer, user, chain or operator"),
     mistake("getmempoolinfo", '"getmempoolinfo"', "peer, user, chain or operator"),
-    mistake("peer 1", "ends before enter, leave, tx, mempool, getblock, headers or feefilter"),
-    mistake("peer 1 submit 5000 00", '"submit"', "enter, leave, tx, mempool, getblock, headers or feefilter"),
+    mistake("peer 1", "ends before enter, leave, tx, package, mempool, getblock, headers or feefilter"),
+    mistake("peer 1 submit 5000 00", '"submit"', "enter, leave, tx, package, mempool, getblock, headers or feefilter"),
     mistake("peer enter 192.0.2.1", "is not a number", "the number of a peer"),
     mistake("chain connect 1 5000", '"connect"', "coin, verdict, forget or how many blocks are disconnected"),
     mistake("chain 01 5000", "has a leading zero", "how many blocks are disconnected"),
@@ -129,6 +129,8 @@ IN_EVENTS = (
     mistake("peer 1 enter [::1]", "is not an IP address", "brackets"),
     mistake("peer 1 tx 5000", "ends before a transaction in hexadecimal digits"),
     mistake("peer 1 tx %s" % SIMPLE, "is not a number", "the second of the event"),
+    mistake("peer 1 package 5000 00", "ends before a transaction in hexadecimal digits"),
+    mistake("peer 1 package 5000 00 00 00", '"00" is one word too many'),
     mistake("peer 1 getblock 4294967296", "is too large", "a height, 0 to 4,294,967,295"),
     mistake("peer 1 feefilter 0.00001", "is not a whole number", "satoshi per 1,000 virtual bytes"),
     mistake('user a {"method":"getmempoolinfo"}', "expected rpc"),
@@ -169,7 +171,7 @@ NUMBERS_OF_OPENINGS = (
     "coin " + ID + " 0 1000 %s plain -", "verdict " + ID + " %s ok",
 )
 NUMBERS_OF_EVENTS = (
-    "peer %s leave", "peer 1 tx %s 00", "peer 1 getblock %s", "peer 1 headers %s", "peer 1 feefilter %s", "user a rpc %s {}", "chain %s 5000", "chain 0 %s",
+    "peer %s leave", "peer 1 tx %s 00", "peer 1 package %s 00 00", "peer 1 getblock %s", "peer 1 headers %s", "peer 1 feefilter %s", "user a rpc %s {}", "chain %s 5000", "chain 0 %s",
     "chain forget %s", "chain coin " + ID + " %s 1000 1 plain -", "chain coin " + ID + " 0 %s 1 plain -", "chain coin " + ID + " 0 1000 %s plain -",
     "chain verdict " + ID + " %s ok", "operator floor %s",
 )

@@ -23,6 +23,7 @@ FORMS = {
     "entered FLAGS": "flags",
     "left": "",
     "admitted TXID fee F vsize V replaced N": "txid fee vsize replaced",
+    "packaged THEN WHAT | MEMBER | MEMBER": "then what first second",
     "listing N TXID ..": "count txids",
     "block H TIME": "height time",
     "headers H+1 COUNT": "height count",
@@ -38,8 +39,12 @@ FORMS = {
 }
 # forms that do not stand in FORMATS as such: its lines `rpc 403 denied ..` and `fault ..` are of the first two
 NOT_ON_THE_PAGE = {"rpc STATUS denied RULE TOKEN", "fault TOKEN", "forgotten N C R"}
+# what stands on the page for a member of a package
+OF_MEMBERS = {"denied RULE TOKEN"}
 GREATEST_NUMBER = 9007199254740991
 TXID = "[0-9a-f]{64}"
+# a token between bars
+PLAIN = "[^ |]+(?: [^ |]+)*"
 # what stands for a word of a form in capitals; a number for each other one
 WORDS = {
     "FLAGS": "[a-z]+(?:,[a-z]+)*",
@@ -48,6 +53,8 @@ WORDS = {
     "RULE": "[A-Z][1-9][0-9]?",
     "THEN": "keep|close|relay",
     "TOKEN": "[^ ]+(?: [^ ]+)*",
+    "WHAT": "success|transaction failed|[A-Z][1-9][0-9]? " + PLAIN,
+    "MEMBER": "admitted %s fee %s vsize %s replaced %s|known %s|denied [A-Z][1-9][0-9]? %s" % (TXID, *3 * ["(?:0|[1-9][0-9]*)"], TXID, PLAIN),
 }
 NUMBER = "0|[1-9][0-9]*"
 
@@ -64,7 +71,19 @@ PATTERNS = {form: pattern(form) for form in FORMS}
 
 
 def is_number(name):
-    return name not in ("flags", "txid", "txids", "body", "rule", "then", "token")
+    return name not in ("flags", "txid", "txids", "body", "rule", "then", "token", "members")
+
+
+def of_package(given):
+    """The parts of a package: its rule and its token, or its token alone, and its members."""
+    rule, _, token = given["what"].partition(" ") if given["what"] not in ("success", "transaction failed") else ("", "", given["what"])
+    return dict(then=given["then"], rule=rule, token=token, members="%(first)s,%(second)s" % given)
+
+
+def numbers_of(given):
+    """The numbers of a reply, those of members too."""
+    members = re.findall(r"(?:^|,)admitted \w+ fee (\d+) vsize (\d+) replaced (\d+)", given.get("members", ""))
+    return [int(text) for name, text in given.items() if name != "kind" and is_number(name)] + [int(it) for member in members for it in member]
 
 
 def parts(line):
@@ -72,8 +91,9 @@ def parts(line):
     for form, names in FORMS.items():
         found = PATTERNS[form].fullmatch(line)
         if found:
-            given = dict(zip(names.split(), found.groups()), kind=form.split(" ")[0])
-            if any(is_number(name) and int(text) > GREATEST_NUMBER for name, text in given.items() if name != "kind"):
+            given = dict(zip(names.split(), found.groups()))
+            given = dict(of_package(given) if "what" in given else given, kind=form.split(" ")[0])
+            if any(number > GREATEST_NUMBER for number in numbers_of(given)):
                 return None
             if "txids" in given and len(given["txids"].split()) != int(given["count"]):
                 return None
@@ -133,6 +153,15 @@ def lines_at_ends():
         yield from ("denied A1 %s dust" % then, "denied A1 " + then)
     for token in ("dust", "two words", "two  words", " dust", "dust ", "", "\u00e9t\u00e9", "a\tb", "a\rb"):
         yield from ("denied A1 keep " + token, "refused C1 " + token, "fault " + token)
+    for what in ("success", "transaction failed", "J8 TRUC-violation", "J10 package RBF failed: package", "J8", "failed", "transaction", "success ", "J8 a|b", "J8 |", "", "success | known " + txid):
+        yield "packaged keep %s | known %s | known %s" % (what, txid, txid)
+    for member in ("known " + txid, "known", "known %s " % txid, "known " + txid.upper(), "denied A35 min relay fee not met", "denied A35", "denied A35 a|b", "denied A35 |", "denied keep A35 dust", "|", ""):
+        yield from ("packaged close success | %s | known %s" % (member, txid), "packaged keep transaction failed | known %s | %s" % (txid, member))
+        yield from ("packaged keep success | " + member, "packaged keep success | %s | %s | %s" % (member, member, member), "packaged relay success |%s | %s" % (member, member))
+    for number in ("0", "9007199254740991", "9007199254740992", "01", "-1", "", "1 "):
+        yield "packaged keep success | admitted %s fee %s vsize 1 replaced 0 | known %s" % (txid, number, txid)
+        yield "packaged keep success | known %s | admitted %s fee 1 vsize %s replaced 0" % (txid, txid, number)
+        yield "packaged keep success | known %s | admitted %s fee 1 vsize 1 replaced %s" % (txid, txid, number)
     for flags in ("none", "addr", "addr,relay", "addr,", ",addr", "addr,,relay", "Addr", "none,addr", "addr relay", "addr, relay", "", "a1"):
         yield "entered " + flags
     for body in ("{}", "{", "{} ", '{"a":"b c"}', "[]", " {}", "", '{"a":"\u00e9"}', "denied", "denied U1", "denied U1 rpc-whitelist"):
@@ -171,9 +200,10 @@ def test_the_forms_of_the_page(gate):
     page = text_of("docs", "FORMATS.md")
     events = page[page.index("\n## Events and replies\n") : page.index("\n## Lanes and rounds")]
     forms = re.findall(r"^\| `(?:peer|user|chain|operator) .*? \| `([^`]*)`[^|]*\|$", events, re.MULTILINE)
+    forms = [form.replace("\\|", "|") for form in forms]
     forms += re.findall(r"`((?:denied|refused) RULE[^`]*)`", events)
     true("few forms: %s" % forms, len(set(forms)) > 11)
-    same("forms that are not tried", sorted(set(forms) - set(FORMS)), [])
+    same("forms that are not tried", sorted(set(forms) - set(FORMS) - OF_MEMBERS), [])
     same("forms that the page lacks", sorted(set(FORMS) - set(forms) - NOT_ON_THE_PAGE), [])
     lines = re.findall(r"^\| `((?:refused|fault) [^`]*)` \|", page, re.MULTILINE)
     true("few lines: %s" % lines, len(lines) > 7)
@@ -185,7 +215,7 @@ def test_the_parts_on_the_page(gate):
     found = {kind: set(re.findall(r"`(\w+)`", text.partition(": for `")[0])) for kind, text in rows("LIBRARY.md", r"`[a-z]+`").items() for text in text[:1]}
     expected = {}
     for form, names in FORMS.items():
-        expected.setdefault(form.split(" ")[0], set()).update(names.split())
+        expected.setdefault(form.split(" ")[0], set()).update(("then rule token members" if "what" in names else names).split())
     same("kinds", sorted(found), sorted(expected))
     for kind, names in expected.items():
         same("parts of " + kind, sorted(found[kind]), sorted(names))

@@ -13,9 +13,9 @@ ALWAYS_CLOSED = "The session is closed, also with noban."
 RELAYED = "The session is kept, and for a peer with forcerelay the transaction is relayed once more."
 UNCHANGED, RUN_ENDS, PROGRAM_ENDS = "Nothing changes.", "The run ends there.", "The program ends with status 2."
 THENS = (KEPT, CLOSED, ALWAYS_CLOSED, RELAYED, UNCHANGED, RUN_ENDS, PROGRAM_ENDS)
-# the one beginning of tokens that has a colon itself
-PREFIX = "package RBF failed: "
-LINE = re.compile(r"(\S+) ((?:%s)?[^:]+): (.+)\. (%s)(?: Core: (.+)\.)?" % (PREFIX, "|".join(map(re.escape, THENS))))
+# the beginnings of tokens that have a colon themselves
+PREFIXES = "(?:package RBF failed: (?:insufficient feerate: )?)?"
+LINE = re.compile(r"(\S+) (%s[^:]+): (.+)\. (%s)(?: Core: (.+)\.)?" % (PREFIXES, "|".join(map(re.escape, THENS))))
 
 POLICY, FORMATS = text_of("docs", "POLICY.md"), text_of("docs", "FORMATS.md")
 LETTERS = "APJUNCL"

@@ -102,7 +102,7 @@ def test_each_reply_stands_before_its_explanation(gate):
 def test_no_reply_waits(gate):
     """Reply and explanation are both there before the next line is given, and nothing is held back that has no reply."""
     ours, theirs = terminal()
-    opening = OPENING + ["policy core-30"]
+    opening = OPENING + ["policy knots-29"]
     # by line what the terminal shows before the next one is given; nothing for None
     asked = [
         *((line, None) for line in opening[:-1]),

@@ -10,6 +10,20 @@ static std::string joined(const std::vector<std::string> &texts) {
     return all;
 }
 
+// The members as they stand in their reply.
+static std::string joined(const std::vector<gate_c::Member> &members) {
+    std::vector<std::string> texts;
+    for (const gate_c::Member &it : members) {
+        const std::string paid = " fee " + std::to_string(it.fee) + " vsize " + std::to_string(it.vsize) + " replaced " + std::to_string(it.replaced);
+        switch (it.fate) {
+        case gate_c::Fate::admitted: texts.push_back("admitted " + it.txid + paid); break;
+        case gate_c::Fate::known: texts.push_back("known " + it.txid); break;
+        case gate_c::Fate::denied: texts.push_back("denied " + it.rule + " " + it.token); break;
+        }
+    }
+    return joined(texts);
+}
+
 template <size_t size, typename Value>
 static std::string name_of(const std::pair<std::string_view, Value> (&names)[size], Value value) {
     for (const auto &it : names)
@@ -27,7 +41,7 @@ static std::string parts_of(const std::string &line) {
     const std::map<std::string, std::string> parts = {
         {"kind", name_of(gate_c::detail::kinds, reply.kind)}, {"then", name_of(gate_c::detail::thens, reply.then)},
         {"rule", reply.rule}, {"token", reply.token}, {"txid", reply.txid}, {"body", reply.body},
-        {"flags", joined(reply.flags)}, {"txids", joined(reply.txids)},
+        {"flags", joined(reply.flags)}, {"txids", joined(reply.txids)}, {"members", joined(reply.members)},
         {"fee", std::to_string(reply.fee)}, {"vsize", std::to_string(reply.vsize)}, {"replaced", std::to_string(reply.replaced)},
         {"height", std::to_string(reply.height)}, {"time", std::to_string(reply.time)}, {"count", std::to_string(reply.count)},
         {"rate", std::to_string(reply.rate)}, {"status", std::to_string(reply.status)}, {"tip", std::to_string(reply.tip)},

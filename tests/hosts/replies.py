@@ -13,7 +13,17 @@ import gate
 def text_of(value):
     if isinstance(value, enum.Enum):
         return value.value
-    return ",".join(value) if isinstance(value, tuple) else str(value)
+    if isinstance(value, gate.Member):
+        return member_text(value)
+    return ",".join(map(text_of, value)) if isinstance(value, tuple) else str(value)
+
+
+def member_text(member):
+    """A member as it stands in its reply."""
+    if member.fate is gate.Fate.DENIED:
+        return "denied %s %s" % (member.rule, member.token)
+    paid = " fee %d vsize %d replaced %d" % (member.fee, member.vsize, member.replaced)
+    return "%s %s" % (member.fate.value, member.txid) + (paid if member.fate is gate.Fate.ADMITTED else "")
 
 
 def parts_of(line):
@@ -27,7 +37,7 @@ def parts_of(line):
 
 
 def main():
-    assert len(dataclasses.fields(gate.Reply)) == 23
+    assert len(dataclasses.fields(gate.Reply)) == 24
     for line in sys.stdin.buffer:
         sys.stdout.buffer.write(("\t".join(parts_of(line)) + "\n").encode())
 

@@ -18,6 +18,7 @@ fn own_parts(reply: &Reply) -> (&'static str, Vec<(&'static str, String)>) {
         Reply::Entered { flags } => ("entered", vec![("flags", joined(flags))]),
         Reply::Left => ("left", vec![]),
         Reply::Admitted { replaced, .. } => ("admitted", vec![("replaced", replaced.to_string())]),
+        Reply::Packaged { members, .. } => ("packaged", vec![("members", joined(members))]),
         Reply::Listing { txids } => ("listing", vec![("count", txids.len().to_string()), ("txids", joined(txids))]),
         Reply::Block { height, time } => ("block", vec![("height", height.to_string()), ("time", time.to_string())]),
         Reply::Headers { height, count } => ("headers", vec![("height", height.to_string()), ("count", count.to_string())]),

@@ -19,16 +19,18 @@ from typing import Any, Callable, NamedTuple, Optional, Union
 
 from .changes import Changes
 from .library import EventHandle, Handle, Keys, Status, library
-from .replies import Kind, NotAReply, Reply, Then
+from .replies import Fate, Kind, Member, NotAReply, Reply, Then
 
 __all__ = [
     "Changes",
     "Check",
     "Event",
+    "Fate",
     "Gate",
     "GateError",
     "Kind",
     "LineTooLong",
+    "Member",
     "NotAReply",
     "NotOpen",
     "OpeningRefused",

@@ -16,6 +16,7 @@ class Kind(enum.Enum):
     ENTERED = "entered"
     LEFT = "left"
     ADMITTED = "admitted"
+    PACKAGED = "packaged"
     LISTING = "listing"
     BLOCK = "block"
     HEADERS = "headers"
@@ -27,6 +28,17 @@ class Kind(enum.Enum):
     DENIED = "denied"
     REFUSED = "refused"
     FAULT = "fault"
+
+
+class Fate(enum.Enum):
+    """What became of a member of a package."""
+
+    ADMITTED = "admitted"
+    """It came into the pool."""
+    KNOWN = "known"
+    """It was in the pool before, or was there with another witness."""
+    DENIED = "denied"
+    """A rule denies it."""
 
 
 class Then(enum.Enum):
@@ -45,6 +57,23 @@ class NotAReply(ValueError):
 
 
 @dataclass(frozen=True)
+class Member:
+    """What became of a member of a package. A part that it doesn't have is empty, or 0."""
+
+    fate: Fate
+    txid: str = ""
+    """Of ADMITTED and KNOWN."""
+    fee: int = 0
+    vsize: int = 0
+    replaced: int = 0
+    """Of ADMITTED, with the two before: how many entries it replaced."""
+    rule: str = ""
+    """Of DENIED."""
+    token: str = ""
+    """Of DENIED."""
+
+
+@dataclass(frozen=True)
 class Reply:
     """A reply line in its parts. A part that a line of this kind doesn't have is empty, or 0.
 
@@ -56,16 +85,18 @@ class Reply:
     """The line, without its newline."""
     kind: Kind
     rule: str = ""
-    """Of DENIED, REFUSED and an RPC that is denied: the rule, as `A35`."""
+    """Of DENIED, REFUSED and an RPC that is denied: the rule, as `A35`. Of PACKAGED that of the package, if one denies it."""
     token: str = ""
-    """Of these and FAULT: the reason, as `min relay fee not met`."""
+    """Of these and FAULT: the reason, as `min relay fee not met`. Of PACKAGED also `success` or `transaction failed`."""
     then: Then = Then.KEEP
-    """Of DENIED: what follows for the session of the peer."""
+    """Of DENIED and PACKAGED: what follows for the session of the peer."""
     txid: str = ""
     fee: int = 0
     vsize: int = 0
     replaced: int = 0
     """Of ADMITTED, with the three before: how many entries the transaction replaced."""
+    members: tuple[Member, ...] = ()
+    """Of PACKAGED: the parent, and the child."""
     flags: tuple[str, ...] = ()
     """Of ENTERED: what the peer is permitted."""
     txids: tuple[str, ...] = ()
@@ -106,7 +137,7 @@ class Reply:
         found = next(filter(None, (form.fullmatch(space + rest) for form in _FORMS.get(word, ()))), None)
         if not found:
             raise NotAReply("no reply line: " + _cut(text))
-        reply = cls(text, Kind(word), **{name: _READ.get(name, _number)(part) for name, part in found.groupdict().items()})
+        reply = cls(text, Kind(word), **{_FIELDS.get(name, name): _READ.get(name, _number)(part) for name, part in found.groupdict().items()})
         if reply.count != len(reply.txids) and reply.kind is Kind.LISTING:
             raise NotAReply("a listing of %d with %d txids" % (reply.count, len(reply.txids)))
         return reply
@@ -131,8 +162,31 @@ def _number(text: str) -> int:
     return number
 
 
+_MEMBER = "|".join(
+    (
+        "admitted [0-9a-f]{64} fee (?:0|[1-9][0-9]{0,15}) vsize (?:0|[1-9][0-9]{0,15}) replaced (?:0|[1-9][0-9]{0,15})",
+        "known [0-9a-f]{64}",
+        "denied [A-Z][1-9][0-9]? [^ |\n]+(?: [^ |\n]+)*",
+    )
+)
+
+
+def _member(text: str) -> Member:
+    word, _, rest = text.partition(" ")
+    fate = Fate(word)
+    if fate is Fate.DENIED:
+        rule, _, token = rest.partition(" ")
+        return Member(fate, rule=rule, token=token)
+    parts = rest.split(" ")
+    fee, vsize, replaced = [_number(it) for it in parts[2::2]] or [0, 0, 0]
+    return Member(fate, parts[0], fee, vsize, replaced)
+
+
 # how the parts are written; the others are numbers
 _WRITTEN = {
+    "success": "success|transaction failed",
+    "message": "[^ |\n]+(?: [^ |\n]+)*",
+    "members": r"(?: \| (?:%s)){2}" % _MEMBER,
     "rule": "[A-Z][1-9][0-9]?",
     "token": "[^ \n]+(?: [^ \n]+)*",
     "then": "|".join(it.value for it in Then),
@@ -147,9 +201,16 @@ _READ: dict[str, Callable[[str], Any]] = {
     "then": Then,
     "txid": str,
     "txids": lambda text: tuple(text.split()),
+    "success": str,
+    "message": str,
+    "members": lambda text: tuple(_member(it) for it in text.split(" | ")[1:]),
     "flags": lambda text: () if text == "none" else tuple(text.split(",")),
     "body": str,
 }
+
+
+# parts that are written in ways of their own, and the names that they have in a reply
+_FIELDS = {"success": "token", "message": "token"}
 
 
 def _part(found: re.Match[str]) -> str:
@@ -168,6 +229,7 @@ _FORMS = {
         Kind.ENTERED: [" {flags}"],
         Kind.LEFT: [""],
         Kind.ADMITTED: [" {txid} fee {fee} vsize {vsize} replaced {replaced}"],
+        Kind.PACKAGED: [" {then} {success}{members}", " {then} {rule} {message}{members}"],
         Kind.LISTING: [" {count}{txids}"],
         Kind.BLOCK: [" {height} {time}"],
         Kind.HEADERS: [" {height} {count}"],

@@ -19,7 +19,7 @@ mod reply;
 
 pub use calls::Keys;
 pub use changes::Changes;
-pub use reply::{NotAReply, Reply, Rule, Then, Txid};
+pub use reply::{Member, NotAReply, Reply, Rule, Then, Txid};
 
 use calls::{gate_answer, gate_answer_event, gate_changes, gate_check, gate_close, gate_copy};
 use calls::{gate_event_close, gate_explain, gate_explanation, gate_open, gate_read, gate_reply, gate_version};

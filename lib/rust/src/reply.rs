@@ -69,7 +69,7 @@ fn digit_of(byte: u8) -> Option<u8> {
 /// A rule of the policy: its letter and its number, as `A35`.
 #[derive(Clone, Copy, Debug, PartialEq, Eq, Hash, PartialOrd, Ord)]
 pub struct Rule {
-    /// `A` of admission, `P` of peers, `U` of users, `C` of the chain, `L` of lines.
+    /// `A` of admission, `J` of packages, `P` of peers, `U` of users, `C` of the chain, `L` of lines.
     pub letter: char,
     /// From 1.
     pub number: u8,
@@ -102,6 +102,32 @@ impl fmt::Display for Then {
     }
 }
 
+/// What became of a member of a package.
+///
+/// It is printed (`Display`) as it stands in its reply.
+#[derive(Clone, Debug, PartialEq, Eq)]
+#[allow(missing_docs)] // each variant is its text
+pub enum Member {
+    /// `admitted TXID fee F vsize V replaced N`
+    Admitted { txid: Txid, fee: u64, vsize: u64, replaced: u64 },
+    /// `known TXID`: it was in the pool before, also with another witness.
+    Known { txid: Txid },
+    /// `denied RULE TOKEN`
+    Denied { rule: Rule, token: String },
+}
+
+impl fmt::Display for Member {
+    fn fmt(&self, f: &mut fmt::Formatter<'_>) -> fmt::Result {
+        match self {
+            Member::Admitted { txid, fee, vsize, replaced } => {
+                write!(f, "admitted {} fee {} vsize {} replaced {}", txid, fee, vsize, replaced)
+            }
+            Member::Known { txid } => write!(f, "known {}", txid),
+            Member::Denied { rule, token } => write!(f, "denied {} {}", rule, token),
+        }
+    }
+}
+
 /// A reply. Amounts are in satoshi, sizes in virtual bytes, feerates in satoshi per 1,000 virtual bytes.
 ///
 /// It is read from its line (`FromStr`) and printed as that line (`Display`).
@@ -115,6 +141,9 @@ pub enum Reply {
     Left,
     /// `admitted TXID fee F vsize V replaced N`, with the number of entries that the transaction replaced.
     Admitted { txid: Txid, fee: u64, vsize: u64, replaced: u64 },
+    /// `packaged THEN WHAT | MEMBER | MEMBER`: WHAT is `success`, `transaction failed`, or a rule on packages with its token;
+    /// the members are the parent and the child.
+    Packaged { then: Then, rule: Option<Rule>, token: String, members: Vec<Member> },
     /// `listing N TXID ..`
     Listing { txids: Vec<Txid> },
     /// `block H TIME`
@@ -146,25 +175,27 @@ impl Reply {
     pub fn rule(&self) -> Option<Rule> {
         match self {
             Reply::Denied { rule, .. } | Reply::Refused { rule, .. } | Reply::RpcDenied { rule, .. } => Some(*rule),
+            Reply::Packaged { rule, .. } => *rule,
             _ => None,
         }
     }
 
-    /// The reason, of a reply that names one, as `min relay fee not met`.
+    /// The reason, of a reply that names one, as `min relay fee not met`; of a package also `success` or `transaction failed`.
     pub fn token(&self) -> Option<&str> {
         match self {
             Reply::Denied { token, .. }
             | Reply::Refused { token, .. }
             | Reply::RpcDenied { token, .. }
+            | Reply::Packaged { token, .. }
             | Reply::Fault { token } => Some(token),
             _ => None,
         }
     }
 
-    /// What follows for the session of the peer: but for a denial it stays as the event left it.
+    /// What follows for the session of the peer: but for a denial and a package it stays as the event left it.
     pub fn then(&self) -> Then {
         match self {
-            Reply::Denied { then, .. } => *then,
+            Reply::Denied { then, .. } | Reply::Packaged { then, .. } => *then,
             _ => Then::Keep,
         }
     }
@@ -218,6 +249,7 @@ fn reply_of(text: &str) -> Option<Reply> {
             vsize: words.number_behind("vsize")?,
             replaced: words.number_behind("replaced")?,
         },
+        "packaged" => words.packaged()?,
         "listing" => Reply::Listing { txids: words.txids()? },
         "block" => Reply::Block { height: words.number()?, time: words.number()? },
         "headers" => Reply::Headers { height: words.number()?, count: words.number()? },
@@ -299,6 +331,40 @@ impl<'a> Words<'a> {
         token.split(' ').all(|word| !word.is_empty()).then(|| token.to_string())
     }
 
+    /// What stands before the next bar, or all that is left.
+    fn piece(&mut self) -> Option<Words<'a>> {
+        let left = self.0.take()?;
+        let (piece, rest) = left.split_once(" | ").map_or((left, None), |(piece, rest)| (piece, Some(rest)));
+        self.0 = rest;
+        (!piece.contains('|')).then_some(Words(Some(piece)))
+    }
+
+    fn member(&mut self) -> Option<Member> {
+        let mut words = self.piece()?;
+        let member = match words.word()? {
+            "admitted" => Member::Admitted {
+                txid: txid_of(words.word()?)?,
+                fee: words.number_behind("fee")?,
+                vsize: words.number_behind("vsize")?,
+                replaced: words.number_behind("replaced")?,
+            },
+            "known" => Member::Known { txid: txid_of(words.word()?)? },
+            "denied" => Member::Denied { rule: words.rule()?, token: words.token()? },
+            _ => return None,
+        };
+        words.0.is_none().then_some(member)
+    }
+
+    fn packaged(&mut self) -> Option<Reply> {
+        let then = self.then()?;
+        let mut what = self.piece()?;
+        let (rule, token) = match what.0? {
+            text @ ("success" | "transaction failed") => (None, text.to_string()),
+            _ => (Some(what.rule()?), what.token()?),
+        };
+        Some(Reply::Packaged { then, rule, token, members: vec![self.member()?, self.member()?] })
+    }
+
     fn rpc(&mut self) -> Option<Reply> {
         let status = self.number()?;
         if self.0?.starts_with('{') {
@@ -320,6 +386,12 @@ impl fmt::Display for Reply {
             Reply::Left => f.write_str("left"),
             Reply::Admitted { txid, fee, vsize, replaced } => {
                 write!(f, "admitted {} fee {} vsize {} replaced {}", txid, fee, vsize, replaced)
+            }
+            Reply::Packaged { then, rule, token, members } => {
+                write!(f, "packaged {} ", then)?;
+                rule.iter().try_for_each(|rule| write!(f, "{} ", rule))?;
+                f.write_str(token)?;
+                members.iter().try_for_each(|member| write!(f, " | {}", member))
             }
             Reply::Listing { txids } => {
                 write!(f, "listing {}", txids.len())?;
