@@ -2,7 +2,7 @@
 
 import leaving
 from leaving import LIMITS
-from workloads import CHAIN, FLOOR, TAPROOT, Stream, WideParent, answered, at_once, beside_wide_conflicts, chains, last_link, opened, package_of, repeated
+from workloads import CHAIN, FLOOR, TAPROOT, Stream, WideParent, answered, at_once, beside_wide_conflicts, chains, last_link, offered, opened, package_of, repeated
 from texts import FEE, VALUE, block, call, coin, coins, count_of, hash_of, output, payment, paying, submission, transaction
 
 # the peer keeps its session whatever it sends
@@ -110,12 +110,12 @@ def below_chains(parents):
     return lambda events: (opened([PACKAGES, *coins(parents)], [*chains(numbers, CHAIN - 1), FLOOR]), repeated(event, events))
 
 
-def replacing_by_a_package(pool):
-    """A parent that replaces an entry, so that the package stands in a copy of the pool."""
+def replacing_by_a_package(pool, submit):
+    """A parent that replaces an entry, so that the package stands in a copy of the pool; `submit` gives its line."""
 
     def make(events):
         before = (submission(payment(it)) for it in range(1, pool + 1))
-        return opened([PACKAGES, *coins(pool)], before), (at_once(package_of([it], 5 * FEE))[0] for it in range(1, events + 1))
+        return opened([PACKAGES, *coins(pool)], before), (submit(package_of([it], 5 * FEE))[0] for it in range(1, events + 1))
 
     return make
 
@@ -215,7 +215,8 @@ def streams():
         Stream("A49: 1,300 outputs of a parent of 1,500 are spent, its dust is not", dust_left(1500, 1300), 2, 0, "denied A49"),
         Stream("A34: a package of 25, each by itself and together", below_the_floor(CHAIN - 1), 2, 0, answered("transaction failed")),
         Stream("J9: a package of 24 parents at the end of chains of 24", below_chains(CHAIN - 1), 2, 0, answered("package-mempool-limits")),
-        Stream("a package of two that replaces an entry of 10,000", replacing_by_a_package(10000), 1, 0, answered("success")),
+        Stream("a package of two that replaces an entry of 10,000", replacing_by_a_package(10000, at_once), 1, 0, answered("success")),
+        Stream("a peer's package that replaces an entry of 10,000", replacing_by_a_package(10000, offered), 1, 0, "packaged keep success"),
         Stream("trim: a newcomer for which 600 of 2,000 entries go", trimming_many(2000, 2100), 1, 0, "admitted"),
         Stream("an empty block goes, over 10,000 entries", empty_block_that_goes(10000), 1, 0, "chain"),
         Stream("a block that pays to 1,600 entries goes", payout_that_goes(1600), 1, 0, "chain"),

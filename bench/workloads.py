@@ -327,6 +327,11 @@ def at_once(members):
     return [call("submitpackage", members)]
 
 
+def offered(members):
+    """The same by a peer, who offers two."""
+    return ["peer 1 package 5000 %s\n" % " ".join(members)]
+
+
 def one_by_one(members):
     return (call("sendrawtransaction", member) for member in members)
 
