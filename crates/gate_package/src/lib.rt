@@ -9,6 +9,7 @@
 #![tactic(auto)]
 
 mod coins;
+mod entry;
 mod families;
 mod half;
 mod law;

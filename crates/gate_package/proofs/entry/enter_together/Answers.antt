@@ -3,7 +3,7 @@ use Rattle.gate_pool.specs.Pool.{Admitted}
 use Rattle.gate_package.specs.Packages.{AreNewcomers}
 use Rattle.gate_package.proofs.Entering.{entered_in_place, entered_plainly, none_listed}
 use Rattle.gate_package.proofs.Parting.{newcomers_beside}
-use Rattle.gate_package.proofs.submitting.enter_together.Goals as goal
+use Rattle.gate_package.proofs.entry.enter_together.Goals as goal
 
 pub enter_all-requires-clause-new : goal.enter_all-requires-clause-new
 enter_all-requires-clause-new g c =

@@ -7,7 +7,7 @@ use Rattle.gate_admit.specs.Bounds.{FitsEntry}
 use Rattle.gate_diagram.specs.declared.Price.{Price}
 use Rattle.gate_package.specs.Packages.{AreNewcomers, newcomers}
 use Rattle.gate_package.proofs.Arriving.{all_behind, enters_plainly, first_absent, first_alone, led_by, newcomers_first, others_behind}
-use Rattle.gate_package.proofs.submitting.+enter_all.Goals as goal
+use Rattle.gate_package.proofs.entry.+enter_all.Goals as goal
 
 pub enter-requires : goal.enter-requires
 enter-requires g t c =

@@ -1,5 +1,5 @@
 use Rattle.std.proofs.Common.{length}
-use Rattle.gate_package.proofs.submitting.+enter_all.Given as goal
+use Rattle.gate_package.proofs.entry.+enter_all.Given as goal
 
 abbrev pub decreases-enter_all : goal.decreases-enter_all
 decreases-enter_all g l = length l.these.now

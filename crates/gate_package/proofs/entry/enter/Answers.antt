@@ -3,7 +3,7 @@ use Rattle.gate_pool.specs.Counting.{entered_beside}
 use Rattle.gate_pool.specs.Pool.{Admitted, entry_by_txid}
 use Rattle.gate_package.specs.Staging.{without_all}
 use Rattle.gate_package.proofs.Taking.{absent_back, entered_back}
-use Rattle.gate_package.proofs.submitting.enter.Goals as goal
+use Rattle.gate_package.proofs.entry.enter.Goals as goal
 
 pub returns-in_err-reserve-clause-back : goal.returns-in_err-reserve-clause-back
 returns-in_err-reserve-clause-back g c = λ plain.
