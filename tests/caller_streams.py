@@ -95,8 +95,8 @@ class Callers(Stream):
         return "peer %d tx 5000 %s" % (peer, digits), model.submit(peer, 5000, tx)
 
     def package(self, model, peer):
-        words = [self.submission(model)[1] for _ in range(2)]
-        return "peer %d package 5000 %s" % (peer, " ".join(words)), model.package(peer)
+        made = [self.submission(model) for _ in range(2)]
+        return "peer %d package 5000 %s" % (peer, " ".join(digits for _, digits in made)), model.package(peer, 5000, [tx for tx, _ in made])
 
     def block(self, model, peer):
         height = self.height(model)

@@ -6,7 +6,7 @@ import re
 from dataclasses import dataclass, field
 
 from bitcoin import printed
-from model import CLOSING, TOKENS, Entry, Model, Opening, fees_of, size_of
+from model import TOKENS, Entry, Model, Opening, fees_of, size_of
 
 FLAGS = ("bloomfilter", "noban", "forcerelay", "relay", "mempool", "download", "addr")
 WORDS = {"": (), "bloom": ("bloomfilter",), "noban": ("noban", "download"), "forcerelay": ("forcerelay", "relay"), "all": FLAGS}
@@ -133,9 +133,9 @@ class CallerModel(Model):
     def submit(self, peer, now, tx):
         return self.refused(peer, ("P4", self.is_shut(peer))) or super().submit(peer, now, tx)
 
-    def package(self, peer):
-        """No opening of a stream takes packages, whatever their texts are."""
-        return self.refused(peer, ("P4", self.is_shut(peer)), ("P11", True))
+    def package(self, peer, now, made):
+        """The denial of a package whose texts aren't read; None where they are."""
+        return self.refused(peer, ("P4", self.is_shut(peer)), ("P11", not self.opening["packages"]))
 
     def is_shut(self, peer):
         """Whether the peer's transactions are not wanted."""
@@ -154,9 +154,12 @@ class CallerModel(Model):
         failing = [self.refusal(peer)] + [rule for rule, fails in rules if fails]
         return next((self.denied(rule, peer) for rule in failing if rule), None)
 
+    def closes_for(self, rule, peer):
+        """Whether a denial by this rule closes this peer's session."""
+        return self.closes(rule) and ("noban" not in self.flags(peer) or rule == "P4")
+
     def denied(self, rule, peer):
-        flags = self.flags(peer)
-        then = "close" if rule in CLOSING and ("noban" not in flags or rule == "P4") else "relay" if rule == "P5" and "forcerelay" in flags else "keep"
+        then = "close" if self.closes_for(rule, peer) else "relay" if rule == "P5" and "forcerelay" in self.flags(peer) else "keep"
         if then == "close":
             self.sessions[peer].is_open = False
         return "denied %s %s %s" % (rule, then, TOKENS[rule])
@@ -172,12 +175,16 @@ class CallerModel(Model):
         try:
             if not self.may_call(user, call["method"]):
                 return "rpc 403 denied U1 rpc-whitelist"
-            if call["method"] not in METHODS:
+            if call["method"] not in self.methods():
                 raise Error(404, -32601, "Method not found")
             found = getattr(self, call["method"])(now, *call.get("params", []))
             return "rpc 200 " + json_text({"error": None, "id": call.get("id"), "result": found})
         except Error as error:
             return "rpc %d %s" % (error.status, json_text({"error": error.error, "id": call.get("id"), "result": None}))
+
+    def methods(self):
+        """The methods that there are."""
+        return METHODS
 
     def may_call(self, user, method):
         entries, default = self.opening.rpcwhitelist, self.opening.default
@@ -236,7 +243,8 @@ class CallerModel(Model):
         return [{**point, **{"spendingtxid": spenders[at] for at in [(point["txid"], point["vout"])] if at in spenders}} for point in points]
 
     def getmempoolinfo(self, now):
-        return {"bytes": size_of(self.pool), "maxmempool": self.opening.budget, "mempoolminfee": max(1000, self.floor), "minrelaytxfee": 1000, "size": len(self.pool)}
+        relayed = self.opening["minrelaytxfee"]
+        return {"bytes": size_of(self.pool), "maxmempool": self.opening.budget, "mempoolminfee": max(relayed, self.floor), "minrelaytxfee": relayed, "size": len(self.pool)}
 
     def getmempoolentry(self, now, txid):
         entry = self.entry(txid)

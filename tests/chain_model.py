@@ -5,7 +5,7 @@ from dataclasses import dataclass
 from typing import List
 
 from bitcoin import Transaction, counted
-from model import HOUR, KILO, NULL, SMALL, TOKENS, Coin, Entry, Model, carries_data, outpoints, size_of
+from model import KILO, NULL, SMALL, TOKENS, Coin, Entry, Model, carries_data, outpoints, size_of
 
 GREATEST_DEPTH = 100
 GREATEST_HEIGHT = 10000000
@@ -139,7 +139,7 @@ class ChainModel(Model):
                 if tx.hash() not in confirmed:
                     self.try_again(tx, now)
         self.remove([entry for entry in self.pool if self.is_premature(entry.tx)], "premature")
-        self.remove([entry for entry in self.pool if entry.time + HOUR * self.opening["mempoolexpiry"] < now], "expired")
+        self.expire(now)
         self.trim()
 
     def try_again(self, tx, now):

@@ -45,7 +45,7 @@ def closing(policy):
 
 
 POLICY = text_of("docs", "POLICY.md")
-TOKENS = dict(re.findall(r"^\| ([APC]\d+) \| `([^`]+)` \|", POLICY, re.MULTILINE))
+TOKENS = dict(re.findall(r"^\| ([APCJ]\d+) \| `([^`]+)` \|", POLICY, re.MULTILINE))
 CLOSING = closing(POLICY)
 # the settings of admission and their defaults; a limit that no opening without its line has is None
 SETTINGS = text_of("docs", "FORMATS.md").partition("\n### Settings\n")[2].partition("\nWhat peers and users may do:\n")[0]
@@ -248,15 +248,20 @@ class Model:
         rule = self.refusal(peer) or self.failing(tx)
         if rule:
             return self.denied(rule, peer)
-        entry = Entry(tx, self.fee(tx), self.size(tx), now)
-        self.gone["evicted"] += len(self.sibling(tx))
-        replaced = self.remove(self.counted(tx), "replaced")
-        self.pool.append(entry)
-        self.remove([one for one in self.pool if one.time + HOUR * self.opening["mempoolexpiry"] < now], "expired")
+        entry, replaced = self.grant(tx, now)
+        self.expire(now)
         self.trim()
         if entry not in self.pool:
             return self.denied("A46", peer)
         return "admitted %s fee %d vsize %d replaced %d" % (tx.txid(), entry.fee, entry.size, len(replaced))
+
+    def grant(self, tx, now):
+        """Its entry at the end of the pool, and what it replaced."""
+        entry = Entry(tx, self.fee(tx), self.size(tx), now)
+        self.gone["evicted"] += len(self.sibling(tx))
+        replaced = self.remove(self.counted(tx), "replaced")
+        self.pool.append(entry)
+        return entry, replaced
 
     def remove(self, entries, why):
         """Takes out entries with all that is below them, and gives these."""
@@ -264,6 +269,9 @@ class Model:
         self.pool = [one for one in self.pool if one not in family]
         self.gone[why] += len(family)
         return family
+
+    def expire(self, now):
+        self.remove([entry for entry in self.pool if entry.time + HOUR * self.opening["mempoolexpiry"] < now], "expired")
 
     def trim(self):
         while size_of(self.pool) > self.opening.budget:
@@ -279,11 +287,14 @@ class Model:
         family = self.below([entry])
         return max(Fraction(entry.fee, entry.size), Fraction(fees_of(family), size_of(family)))
 
+    def closes(self, rule):
+        """Whether a denial by this rule closes a session."""
+        return rule in CLOSING and not (self.opening["keepinvalid"] and rule.startswith("A"))
+
     def denied(self, rule, peer):
-        closes = rule in CLOSING and not (self.opening["keepinvalid"] and rule.startswith("A"))
-        if closes:
+        if self.closes(rule):
             self.sessions[peer] = False
-        return "denied %s %s %s" % (rule, "close" if closes else "keep", TOKENS[rule])
+        return "denied %s %s %s" % (rule, "close" if self.closes(rule) else "keep", TOKENS[rule])
 
     def refusal(self, peer):
         if peer not in self.sessions:
@@ -299,8 +310,17 @@ class Model:
         wtxid = tx.wtxid()
         if any(entry.wtxid == wtxid for entry in self.pool):
             return "P5"
-        order = (self.alone, self.in_pool_and_chain, self.amounts, self.limited, self.family_of_version_three, self.conflicts_above, self.replacement, self.judged)
-        return next((rule for rules in order for rule in rules(tx)), None)
+        return next((rule for rules in (self.first_half, self.second_half) for rule in rules(tx)), None)
+
+    def first_half(self, tx):
+        """The rules that fail, up to A37."""
+        for rules in (self.alone, self.in_pool_and_chain, self.amounts, self.limited, self.family_of_version_three, self.conflicts_above):
+            yield from rules(tx)
+
+    def second_half(self, tx):
+        """Those behind A37."""
+        for rules in (self.sweeping, self.replacement, self.judged):
+            yield from rules(tx)
 
     def alone(self, tx):
         points = [(one.hash, one.index) for one in tx.inputs]
@@ -348,12 +368,12 @@ class Model:
         """How many outputs are dust."""
         return len([output for output in tx.outputs if output.value < dust(output, self.opening)])
 
-    def unswept(self, tx):
-        """Whether dust of a parent in the pool is left unspent."""
-        spent = {(one.hash, one.index) for one in tx.inputs}
+    def unswept(self, tx, parents):
+        """Whether dust of these parents is left unspent."""
+        spent = outpoints(tx)
         return any(
             output.value < dust(output, self.opening) and (entry.hash, index) not in spent
-            for entry in self.parents(tx)
+            for entry in parents
             for index, output in enumerate(entry.tx.outputs)
         )
 
@@ -367,7 +387,7 @@ class Model:
         hash = tx.hash()
         if any(entry.hash == hash for entry in self.pool):
             yield "A22"
-        if not self.opening["mempoolfullrbf"] and not all(entry.signals() or self.opening["truc"] and entry.is_truc() for entry in self.conflicts(tx)):
+        if not self.may_replace(self.conflicts(tx)):
             yield "A23"
         lacks = any(self.coin(one) is None for one in tx.inputs)
         own = any((hash, index) in self.chain_coins() for index in range(len(tx.outputs)))
@@ -377,6 +397,10 @@ class Model:
             yield "A25"
         if not all(self.lock_met(tx, one) for one in tx.inputs):
             yield "A26"
+
+    def may_replace(self, direct):
+        """Whether all direct conflicts may be replaced."""
+        return self.opening["mempoolfullrbf"] or all(entry.signals() or self.opening["truc"] and entry.is_truc() for entry in direct)
 
     def amounts(self, tx):
         total = 0
@@ -448,7 +472,9 @@ class Model:
         direct = self.conflicts(tx)
         if any(entry in direct for entry in self.above(tx)):
             yield "A37"
-        if self.opening["ephemeraldust"] and self.unswept(tx):
+
+    def sweeping(self, tx):
+        if self.opening["ephemeraldust"] and self.unswept(tx, self.parents(tx)):
             yield "A49"
 
     def replacement(self, tx):
