@@ -34,7 +34,7 @@ ROOMY = {"limitancestorcount": (25,), "limitdescendantcount": (25,), "mempoolexp
 MIXED = {"single": 28, "pair": 14, "family": 14, "replacing": 10, "dusty": 8, "above_dust": 8, "again": 6, "odd": 6, "burning": 3}
 PAIRS = {"single": 32, "pair": 20, "replacing": 20, "dusty": 8, "again": 6, "burning": 2, "overspending": 4}
 LISTED = {"single": 18, "pair": 10, "family": 10, "descent": 22, "replacing": 5, "dusty": 14, "again": 4, "odd": 12, "burning": 5}
-REPLACING = {"single": 36, "replacing": 50, "replacing_family": 10, "above_and_instead": 8}
+REPLACING = {"single": 36, "beside": 8, "replacing": 50, "replacing_family": 10, "above_and_instead": 8}
 LADDERS = {"step": 10, "instead_of_all": 40, "replacing": 3}
 FULL = {"single": 30, "pair": 20, "family": 10, "replacing": 20, "again": 8}
 FREE = {"minrelaytxfee": (0, 0, 0, 1000), "ephemeraldust": (0, 1, 1, 1)}
@@ -54,10 +54,10 @@ PEER_FLOORS = {
     "taken by itself": 250, "by itself and replaced": 12, "entered together": 100, "a pair of a peer and replaced": 20, "known": 20, "another witness": 11,
 }
 REPLACED_FLOORS = {
-    "J8": 50, "J10": 18, "J11": 24, "J13": 75, "J14": 13, "J15": 6, "J16": 15, "A38": 130, "A40": 30, "A41": 60, "A42": 33,
-    "by itself and replaced": 40, "entered together": 160, "together and replaced": 75, "a pair of a peer and replaced": 38,
+    "J8": 30, "J10": 9, "J11": 19, "J13": 50, "J14": 9, "J15": 8, "J16": 17, "A38": 100, "A40": 24, "A41": 35, "A42": 22,
+    "by itself and replaced": 32, "entered together": 125, "together and replaced": 60, "a pair of a peer and replaced": 30,
 }
-LADDER_FLOORS = {"J12": 17, "J13": 20, "J15": 28}
+LADDER_FLOORS = {"J12": 18, "J13": 23, "J15": 30}
 FULL_FLOORS = {
     "A34": 400, "A46": 220, "A50": 50, "J8": 40, "J9": 60, "J13": 10, "J14": 5, "J16": 8,
     "taken by itself": 110, "entered together": 65, "together and replaced": 17, "a pair of a peer and replaced": 12, "a pair of a peer trimmed": 55,
@@ -84,7 +84,7 @@ class Packages:
             self.opening.verdicts["*"] = "ok"
         self.opening.coins.update({(number_hash(number), 0): Coin(VALUE, 1, False) for number in range(1, COINS + 1)})
         self.model = PackageModel(self.opening)
-        self.peer, self.now = 0, 5000
+        self.peer, self.now, self.sequences = 0, 5000, SEQUENCES
         # what was made by its hash, the packages, and whose scripts were judged
         self.known, self.packages, self.told = {}, [], set()
         self.met = Counter()
@@ -113,7 +113,8 @@ class Packages:
         rises = "step" in self.kinds and len(self.model.pool) < STEPS
         kind = "step" if rises and self.random.random() < 0.9 else self.random.choices(list(self.kinds), list(self.kinds.values()))[0]
         found = getattr(self, kind)()
-        if kind in ("single", "step"):
+        if kind in ("single", "step", "beside"):
+            self.judge_scripts(found)
             return self.sent(found)
         made = self.mangled(found) if self.random.random() < 0.12 else found
         for tx in made:
@@ -122,7 +123,6 @@ class Packages:
         return self.asked_of(made, self.bounds(made))
 
     def sent(self, tx):
-        self.judge_scripts(tx)
         return "peer %d tx %d %s" % (self.peer, self.now, tx.hex()), self.model.submit(self.peer, self.now, tx)
 
     def entering(self):
@@ -235,7 +235,7 @@ class Packages:
 
     def spending(self, points, outputs=1, version=2, extra=()):
         """A transaction that spends these, and pays nothing yet."""
-        inputs = [Input(*point, sequence=self.random.choice(SEQUENCES)) for point in dict.fromkeys(points)]
+        inputs = [Input(*point, sequence=self.random.choice(self.sequences)) for point in dict.fromkeys(points)]
         return self.paying(Transaction(inputs, [Output(SHARE) for _ in range(outputs)] + list(extra), version, 0), 0)
 
     def paying(self, tx, fee):
@@ -276,6 +276,12 @@ class Packages:
         tx = self.spending(points or self.coins(self.random.choice((1, 1, 2))), self.random.choice((1, 2, 2, 3, 12)), version)
         enough = max(self.size(tx) // 10, self.model.fee_at(self.rate(), self.size(tx)))
         return self.paying(tx, enough * self.random.choice((1, 1, 2, 5, 30)) + self.random.choice((-1, 0, 0, 0, 1000)))
+
+    def beside(self):
+        """A child of an entry that has one already, and of a coin."""
+        parents = {hash for entry in self.model.pool for hash in entry.parents}
+        tx = self.spending(self.some(self.free([entry for entry in self.model.pool if entry.hash in parents])) + self.coins())
+        return self.paying(tx, 2 * self.size(tx))
 
     def step(self):
         """A transaction of the last entry and of a coin."""
@@ -390,9 +396,9 @@ class Packages:
         parent = self.spending(points or self.coins(), 1, TRUC)
         return [parent, self.child([parent], TRUC)]
 
-    def dusty(self):
+    def dusty(self, version=None):
         """A parent that pays nothing and has dust, and a child that spends this too, or doesn't."""
-        version = TRUC if self.opening["truc"] else 2
+        version = version or (TRUC if self.opening["truc"] else 2)
         parent = self.spending(self.coins(), self.random.choice((1, 2)), version, [Output(max(0, dust(Output(0), self.opening) - 1))])
         points = [(parent.hash(), index) for index in self.random.choice(((0,), (0, 1), range(len(parent.outputs))))]
         return [parent, self.paid([parent], self.spending(points, 1, version))]
@@ -402,7 +408,7 @@ class Packages:
         dusty = [entry for entry in self.model.pool if self.model.dusty(entry.tx)]
         free = self.free(dusty)
         if not free:
-            return self.dusty()[:1] if self.rate() == 0 else self.dusty()
+            return self.dusty(2)[:1] if self.rate() == 0 else self.dusty()
         parent = self.known[free[0][0]]
         left = [(parent.hash(), len(parent.outputs) - 1)] * self.random.choice((0, 1))
         return self.package([free[:1] + left], version=parent.version)
@@ -491,7 +497,6 @@ def filled(made, points, size, keys=0, fee=0):
     virtual size, by outputs and data in the last one."""
     plain = Output(dust(Output(0), made.opening))
     tx = made.spending(points, extra=[Output(1000, MULTISIG)] * keys)
-    tx.inputs = [Input(one.hash, one.index) for one in tx.inputs]
     tx.outputs += [plain] * ((0 if keys else size - made.size(tx) - 60) // len(plain.text()))
     if not keys:
         tx.outputs.append(Output(0, data(1)))
@@ -529,7 +534,7 @@ def test_packages_of_peers(gate):
 
 def test_replacements(gate):
     """Pairs that enter in place of entries if they pay enough, as two diagrams show."""
-    meets(sum((stream(gate, seed, 40, ("user", "peer")[seed % 2], REPLACING, REPLACED) for seed in range(60)), Counter()), REPLACED_FLOORS)
+    meets(sum((stream(gate, seed, 40, ("user", "peer")[seed % 2], REPLACING, REPLACED) for seed in range(48)), Counter()), REPLACED_FLOORS)
 
 
 def test_ladders(gate):
@@ -547,13 +552,32 @@ def test_lists(gate):
     meets(sum((stream(gate, seed, 40, "list", LISTED, FREE) for seed in range(60)), Counter()), LIST_FLOORS)
 
 
+def settled(seed, caller, **numbers):
+    """A stream without events of its own, in which nothing but these settings is in the way."""
+    made = Packages(seed, caller, {}, {**ROOMY, "packageallparents": (0,), "feesroundup": (0,), **numbers})
+    made.opening.blocksonly, made.opening.verdicts["*"], made.sequences = False, "ok", SEQUENCES[:1]
+    return made
+
+
+def test_dust_of_entries(gate):
+    """A pair above an entry that stands with its dust, which the parent spends or leaves."""
+    met = Counter()
+    for seed, (caller, is_swept) in enumerate(product(("user", "peer"), (False, True))):
+        made = settled(seed, caller, truc=(0,), ephemeraldust=(1,), minrelaytxfee=(0,))
+        entry = made.dusty(2)[0]
+        told = [made.entering(), made.sent(entry), ("operator floor 2000", made.model.set_floor(2000))]
+        parent = made.spending([(entry.hash(), 0)] + [(entry.hash(), len(entry.outputs) - 1)] * is_swept)
+        told.append(made.asked_of([parent, made.paying(made.spending([(parent.hash(), 0)]), 5000)]))
+        met += compared(gate, made, told)
+    meets(met, {"J17": 2, "entered together": 4})
+
+
 def test_sizes_of_packages(gate):
     """Three that fill what a family may have or are one byte too large, by themselves or below an entry, under each pair of
     limits."""
-    met, numbers = Counter(), {"minrelaytxfee": (0,), "packageallparents": (0,), "feesroundup": (0,), **ROOMY}
+    met = Counter()
     for seed, (above, below, more, is_below) in enumerate(product((101, 102), (101, 102), (0, 1), (False, True))):
-        made = Packages(seed, ("user", "list")[above == below == 102], {}, {**numbers, "limitancestorsize": (above,), "limitdescendantsize": (below,)})
-        made.opening.blocksonly, made.opening.verdicts["*"] = False, "ok"
+        made = settled(seed, ("user", "list")[above == below == 102], minrelaytxfee=(0,), limitancestorsize=(above,), limitdescendantsize=(below,))
         told, limit = [made.entering()], KILO * min(above, below)
         points, others = [[point] for point in made.coins(3)], 0
         if is_below:
@@ -576,8 +600,7 @@ def test_weights_of_packages(gate):
     """Two that have the greatest weight together, or more."""
     met = Counter()
     for seed, more in enumerate((0, 0, 1, 1)):
-        made = Packages(seed, ("user", "list")[seed % 2], {}, ROOMY)
-        made.opening.blocksonly, made.opening.verdicts["*"] = False, "ok"
+        made = settled(seed, ("user", "list")[seed % 2])
         parent = filled(made, made.coins(), 50000, fee=SHARE)
         child = filled(made, [(parent.hash(), 0)], MOST_WEIGHT // 4 - 50000 + more, fee=SHARE)
         met += compared(gate, made, [made.asked_of([parent, child])])
