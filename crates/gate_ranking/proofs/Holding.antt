@@ -1,14 +1,16 @@
 -- The least of what is held, and the edits of it.
-use Rattle.std.proofs.Common.{◌≡◌, ℕ, ◌<◌, ◌≤◌, true, false, List, [], ◌∷◌, ◌++◌, length, set, Option, Some, None, refl, sym, subst, ◌∙◌, ⊎_elim, arith}
+use Rattle.std.proofs.Common.{◌≡◌, ◌≢◌, ℕ, ◌+◌, ◌*◌, ◌<◌, ◌≤◌, true, false, List, [], ◌∷◌, ◌++◌, length, set, Option, Some, None, refl, sym, subst, ◌∙◌, ⊎_elim, arith}
 use Rattle.std.specs.declared.cmp.Ordering.{Ordering}
 use Rattle.std.specs.declared.cmp.Ordering.TheVariants.{Less, Equal, Greater}
 use Rattle.std.specs.Ordering.{nat_cmp, is_lt, is_gt, ordering_then}
 use Rattle.std.specs.Cmp.{IsTotalOrder}
 use Rattle.std.proofs.lemmas.Bool.Decides.{nat_tests}
-use Rattle.std.proofs.lemmas.Bool.{cases_lt, true≢false}
-use Rattle.std.proofs.lemmas.List.{get_or_append_left, get_or_past, length_push, get_or-set_other}
+use Rattle.std.proofs.lemmas.Bool.{cases_lt, cases_eq, true≢false}
+use Rattle.std.proofs.lemmas.List.{get_or_append_left, get_or_past, length_push, get_or-set_other, get_or-set_same}
 use Rattle.gate_ranking.specs.Ranking.{at, IsLeast, IsBare}
 use Rattle.gate_ranking.specs.Tournament.{place_of, held_cmp, rank, IsPlayed, DifferAt}
+use Rattle.std.proofs.lemmas.Cmp.{tied_itself}
+use Rattle.gate_ranking.proofs.Ranks.{held_total, first_alike}
 use Rattle.gate_ranking.proofs.Playing.{beats}
 
 not_after : (o : Ordering) (a b : ℕ) → is_gt (ordering_then o (nat_cmp b a)) ≡ false → is_gt o ≡ false
@@ -35,6 +37,18 @@ module _ {K : Type 0} where
 
   pub differ_set : (keys : List (Option K)) (place : ℕ) (key : Option K) → DifferAt place keys (set keys place key)
   differ_set keys place key = record { same = λ q ne. get_or-set_other keys place q key None ne }
+
+  -- a key written over its equal changes no match
+  pub played_alike : (R : K → K → Ordering) → IsTotalOrder R → (keys : List (Option K)) (place : ℕ) (key : K) (tree : List ℕ) → place < length keys → held_cmp R (at keys place) (Some key) ≡ Equal → IsPlayed R keys tree → IsPlayed R (set keys place (Some key)) tree
+  played_alike R o keys place key tree h e played = record {
+    won = λ node lo hi. played.won node lo hi ∙ sym (first_alike R o keys (set keys place (Some key)) alike (place_of tree (2 * node)) (place_of tree (2 * node + 1)));
+  }
+    where
+      alike : (q : ℕ) → held_cmp R (at keys q) (at (set keys place (Some key)) q) ≡ Equal
+      alike q = ⊎_elim
+          (λ (s : q ≡ place). subst (λ p. held_cmp R (at keys p) (at (set keys place (Some key)) p) ≡ Equal) (sym s) (subst (λ x. held_cmp R (at keys place) x ≡ Equal) (sym (get_or-set_same keys place (Some key) None h)) e))
+          (λ (ne : q ≢ place). subst (λ x. held_cmp R (at keys q) x ≡ Equal) (sym (get_or-set_other keys place q (Some key) None ne)) (tied_itself (held_total R o) (at keys q)))
+          (cases_eq q place)
 
   module _ (R : K → K → Ordering) (o : IsTotalOrder R) (keys : List (Option K)) (tree : List ℕ) (played : IsPlayed R keys tree) (long : length keys ≤ length tree) where
     within : (q : ℕ) (k : K) → at keys q ≡ Some k → q < length tree

@@ -1,8 +1,8 @@
 -- The order of places, and the first of two.
-use Rattle.std.proofs.Common.{◌≡◌, ℕ, Bool, true, false, List, Option, Some, None, refl, sym, ap, ◌⊎◌, inl, inr, arith, if◌then◌else◌, max}
+use Rattle.std.proofs.Common.{◌≡◌, ℕ, Bool, true, false, List, Option, Some, None, refl, sym, ap, ◌∙◌, ◌⊎◌, inl, inr, arith, if◌then◌else◌, max}
 use Rattle.std.specs.declared.cmp.Ordering.{Ordering}
 use Rattle.std.specs.declared.cmp.Ordering.TheVariants.{Less, Equal, Greater}
-use Rattle.std.specs.Ordering.{nat_cmp, is_lt, is_gt, ordering_reverse}
+use Rattle.std.specs.Ordering.{nat_cmp, is_lt, is_gt, ordering_reverse, ordering_then}
 use Rattle.std.specs.Cmp.{IsTotalOrder}
 use Rattle.std.proofs.lemmas.Cmp.{then_total, on_total, back_total, nat_cmp_total, tied_itself, upto}
 use Rattle.std.proofs.lemmas.Bool.Decides.{nat_tests}
@@ -21,7 +21,7 @@ lt_not_gt Equal h = refl
 lt_not_gt Greater h = absurd (false≢true h)
 
 module _ {K : Type 0} (R : K → K → Ordering) where
-  held_total : IsTotalOrder R → IsTotalOrder (held_cmp R)
+  pub held_total : IsTotalOrder R → IsTotalOrder (held_cmp R)
   held_total o = record { antisymm = opposite; trans = chain; congr = alike }
     where
       opposite : (x y : Option K) → held_cmp R x y ≡ ordering_reverse (held_cmp R y x)
@@ -55,6 +55,20 @@ module _ {K : Type 0} (R : K → K → Ordering) where
   pub first_same : (xs ys : List (Option K)) (a b : ℕ) → at ys a ≡ at xs a → at ys b ≡ at xs b → first_of R ys a b ≡ first_of R xs a b
   unfolding first_of
   first_same xs ys a b p q = rw (p, q) refl
+
+  -- where each key is equal to the one before it, so is the first
+  pub first_alike : IsTotalOrder R → (xs ys : List (Option K)) → ((q : ℕ) → held_cmp R (at xs q) (at ys q) ≡ Equal) → (a b : ℕ) → first_of R ys a b ≡ first_of R xs a b
+  unfolding first_of
+  first_alike o xs ys e a b =
+      let held = held_total o in
+      let x = at xs a in
+      let y = at xs b in
+      let z = at ys a in
+      let w = at ys b in
+      let left : held_cmp R z w ≡ held_cmp R x w = sym (held.congr x z w (e a)) in
+      let back : held_cmp R y x ≡ held_cmp R w x = held.congr y w x (e b) in
+      let right : held_cmp R x w ≡ held_cmp R x y = held.antisymm x w ∙ ap ordering_reverse (sym back) ∙ sym (held.antisymm x y) in
+      ap (λ r. if is_lt (ordering_then r (nat_cmp b a)) then a else b) (left ∙ right)
 
   -- the first of two places, by what is held there
   module _ (keys : List (Option K)) (a b : ℕ) where

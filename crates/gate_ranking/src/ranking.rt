@@ -3,7 +3,7 @@ ghost use Rattle.std.specs.Option.{option_map};
 ghost use Rattle.gate_ranking.specs.Ranking.{at, IsLeast, IsBare};
 ghost use Rattle.gate_ranking.specs.Lesser.{held_in, least_by};
 
-use crate::tournament::{key_at, place_of, play, replay, widen};
+use crate::tournament::{has_equal, key_at, place_of, play, replay, widen};
 use gate_bytes::Memory;
 use std::alloc::Global;
 use std::marker::Model;
@@ -90,14 +90,17 @@ impl<K: Ord + Copy> Ranking<K> {
         self.room -= 1;
     }
 
-    /// Writes a key at a place, whether a key is there or not.
+    /// Writes a key at a place, whether a key is there or not. In place of an equal key it plays no match.
     pub fn update(&mut self, place: usize, key: K)
         requires { place < length self.old.keys }
         ensures keys { self.new.keys ≡ slice_set self.old.keys place (Some key) }
         ensures room { self.new.room ≡ self.old.room }
     {
+        let is_equal = has_equal(&self.keys, place, &key);
         self.keys[place] = Some(key);
-        replay(&self.keys, &mut self.tree, place);
+        if !is_equal {
+            replay(&self.keys, &mut self.tree, place);
+        }
     }
 
     /// Leaves a place empty.

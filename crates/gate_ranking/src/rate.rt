@@ -1,13 +1,32 @@
-ghost use Rattle.std.specs.Prelude.{◌≡◌, ◌≤◌, ◌*◌, max};
+ghost use Rattle.std.specs.Prelude.{◌≡◌, ◌≤◌, ◌*◌, IfSome, max};
 ghost use Rattle.std.specs.Ordering.{nat_cmp};
 
 use std::cmp::Ordering;
 use std::marker::Model;
 
+/// What numbers of 64 bits are below.
+const SHORT: u128 = 1 << 64;
+
+/// The product of two numbers of 64 bits; none of others.
+fn short_product(a: u128, b: u128) -> Option<u128>
+    ensures { IfSome result (λ product. product ≡ a * b) }
+{
+    if a < SHORT && b < SHORT {
+        Some(u128::from(a as u64) * u128::from(b as u64))
+    } else {
+        None
+    }
+}
+
 /// Compares the product of `a` and `b` with that of `c` and `d`, either of which may exceed 128 bits.
 fn compare_products(a: u128, b: u128, c: u128, d: u128) -> Ordering
     ensures { result ≡ nat_cmp (a * b) (c * d) }
 {
+    if let Some(product) = short_product(a, b) {
+        if let Some(other) = short_product(c, d) {
+            return product.cmp(&other);
+        }
+    }
     let (low, high) = a.carrying_mul(b, 0);
     let (other_low, other_high) = c.carrying_mul(d, 0);
     if high == other_high {

@@ -1,7 +1,8 @@
-ghost use Rattle.std.specs.Prelude.{◌≡◌, ◌<◌, ◌≤◌, length, OnOk};
+ghost use Rattle.std.specs.Prelude.{◌≡◌, ◌<◌, ◌≤◌, Some, IsTrue, length, OnOk};
+ghost use Rattle.std.specs.declared.cmp.Ordering.TheVariants.{Equal};
 ghost use Rattle.std.specs.Option.{option_copied};
 ghost use Rattle.gate_ranking.specs.Ranking.{at};
-ghost use Rattle.gate_ranking.specs.Tournament.{place_of, first_of, IsPlayed, IsReplayed};
+ghost use Rattle.gate_ranking.specs.Tournament.{place_of, held_cmp, first_of, IsPlayed, IsReplayed};
 
 use gate_bytes::Memory;
 use std::cmp::Ordering;
@@ -13,6 +14,16 @@ pub(crate) fn key_at<K>(keys: &[Option<K>], place: usize) -> Option<&K>
     match keys.get(place) {
         Some(key) => key.as_ref(),
         None => None,
+    }
+}
+
+/// Whether the key at a place equals this one.
+pub(crate) fn has_equal<K: Ord>(keys: &[Option<K>], place: usize, key: &K) -> bool
+    ensures { IsTrue result → held_cmp K.cmp (at keys.now place) (Some key.now) ≡ Equal }
+{
+    match key_at(keys, place) {
+        Some(held) => held.cmp(key) == Ordering::Equal,
+        None => false,
     }
 }
 
