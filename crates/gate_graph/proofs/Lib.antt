@@ -37,3 +37,5 @@ pub mod Joining
 pub mod Childhood
 pub mod Least
 pub mod Copying
+pub mod Relocating
+pub mod Permuting

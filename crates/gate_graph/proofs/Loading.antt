@@ -1,5 +1,5 @@
 -- Nodes with what they carry.
-use Rattle.std.proofs.Common.{◌≡◌, ◌≤◌, ◌<◌, ◌+◌, ℕ, zero, suc, Bool, true, false, cond, List, [], ◌∷◌, ◌++◌, length, take, get_or, refl, sym, ap, ◌∙◌, subst, not, arith, Option, Some, None}
+use Rattle.std.proofs.Common.{◌≡◌, ◌≤◌, ◌<◌, ℕ, zero, suc, Bool, true, false, cond, List, [], ◌∷◌, ◌++◌, length, take, get_or, refl, sym, ap, ◌∙◌, subst, not, arith, Option, Some, None}
 use Rattle.std.specs.Prelude.{Contains, filter, find}
 use Rattle.std.specs.Option.{option_map}
 use Rattle.std.specs.Str.{bytes_eq}
@@ -7,7 +7,7 @@ use Rattle.std.proofs.lemmas.List.{length-map, map-append}
 use Rattle.gate_graph.specs.Family.{Node, steps_of, reaches}
 use Rattle.gate_graph.specs.Families.{has, are_apart}
 use Rattle.gate_graph.specs.declared.held.Held.{Held}
-use Rattle.gate_graph.specs.Holding.{has_id, node_of, nodes_of, nodes_in, loaded, load_of, load_in, without_below}
+use Rattle.gate_graph.specs.Holding.{has_id, node_of, nodes_of, nodes_in, loaded, load_of, load_in, names_of, names_in, without_below, without_one}
 use Rattle.gate_graph.specs.Slots.{entries_of}
 use Rattle.gate_graph.specs.Weighing.{totals_of, AreSmall, IsWeighed}
 use Rattle.gate_graph.proofs.Apart.{apart_before}
@@ -29,6 +29,9 @@ module _ {T : Type 0} where
   -- no more are left
   pub fewer_left : (hs hs' : List (Held T)) (x : Id) → loaded hs' ≡ without_below (loaded hs) x → length hs' ≤ length hs
   fewer_left hs hs' x e = omega (arith, length_loaded hs, length_loaded hs', ap length e, shorter (λ (p : Node × T). not (reaches (steps_of (nodes_in (loaded hs))) x p.0.id)) (loaded hs))
+
+  pub fewer_alone : (hs hs' : List (Held T)) (x : Id) → loaded hs' ≡ without_one (loaded hs) x → length hs' ≤ length hs
+  fewer_alone hs hs' x e = omega (arith, length_loaded hs, length_loaded hs', ap length e, shorter (λ (p : Node × T). not (bytes_eq p.0.id x)) (loaded hs))
 
   -- the totals of what is found
   pub totals_found : (hs : List (Held T)) (x : Id) (h : Held T) → IsWeighed hs → find (λ h. has_id h x) hs ≡ Some h → h.totals ≡ totals_of (nodes_in (loaded hs)) x
@@ -58,6 +61,16 @@ module _ {T : Type 0} where
     where
       by : (b : Bool) → load_of hs x ≡ load_in (loaded hs) x
           → option_map (λ (k : Held T). k.load) (cond b (Some h) (find (λ k. has_id k x) hs)) ≡ option_map (λ (p : Node × T). p.1) (cond b (Some (node_of h, h.load)) (find (λ p. bytes_eq p.0.id x) (loaded hs)))
+      by true ih = refl
+      by false ih = ih
+
+  -- and the ids that it names
+  pub names_loaded : (hs : List (Held T)) (x : Id) → names_of hs x ≡ names_in (loaded hs) x
+  names_loaded [] x = refl
+  names_loaded (h ∷ hs) x = by (bytes_eq h.id x) (names_loaded hs x)
+    where
+      by : (b : Bool) → names_of hs x ≡ names_in (loaded hs) x
+          → option_map (λ (k : Held T). k.parents.items) (cond b (Some h) (find (λ k. has_id k x) hs)) ≡ option_map (λ (p : Node × T). p.0.parents) (cond b (Some (node_of h, h.load)) (find (λ p. bytes_eq p.0.id x) (loaded hs)))
       by true ih = refl
       by false ih = ih
 

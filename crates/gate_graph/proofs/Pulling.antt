@@ -2,7 +2,6 @@
 use Rattle.std.proofs.Common.{◌≡◌, ℕ, ◌<◌, ◌≤◌, Bool, true, false, not, ◌&&◌, ◌||◌, cond, List, [], ◌∷◌, ◌++◌, length, Option, Some, None, refl, sym, ap, ◌∙◌, subst, inl, inr, arith, true≢false}
 use Rattle.std.specs.Prelude.{Contains, filter, find}
 use Rattle.std.specs.List.{cons_option}
-use Rattle.std.specs.Option.{option_map}
 use Rattle.std.specs.Str.{bytes_eq}
 use Rattle.std.specs.Cmp.Lexicographic.{bytes_decides}
 use Rattle.std.proofs.lemmas.Bool.{not-true, false_from_ne_true}
@@ -13,8 +12,9 @@ use Rattle.gate_bytes.proofs.Members.{Contains-cons_cases, Contains-head, not_in
 use Rattle.gate_graph.proofs.Apart.{among-push, are_apart-filter}
 use Rattle.gate_graph.proofs.Steps.{step_node, node_step}
 use Rattle.gate_graph.proofs.Filters.{filter_same_on, filter-map, filter_all, Contains-filter, Contains-from_filter}
+use Rattle.gate_graph.specs.declared.held.Gone.{Gone}
 use Rattle.gate_graph.specs.declared.held.Held.{Held}
-use Rattle.gate_graph.specs.Holding.{has_id, id_at, node_of, nodes_of, left_of, load_of, gone_from, all_gone}
+use Rattle.gate_graph.specs.Holding.{has_id, node_of, nodes_of, left_of, gone_from, all_gone}
 use Rattle.gate_graph.specs.Linking.{Lists, IsLinked, IsWithout, AreWithout, listing}
 use Rattle.gate_graph.proofs.Leaving.{filter_filter}
 use Rattle.gate_graph.proofs.Holdings.{up_listed}
@@ -136,13 +136,8 @@ module _ {T : Type 0} (hs : List (Held T)) where
           at false b s t ih = ap (λ c. cond c (Some h) (find (λ h. has_id h x) (left_of ids hs))) t ∙ ap (cond b (Some h)) ih
 
   -- what one more place gives, while what is left is searched
-  pub gone_more : (spots : List (Option Id)) (places : List ℕ) (p : ℕ) (load : T) → load_of hs (id_at spots p) ≡ Some load → all_gone spots hs places ++ (record { place = p; load = load }) ∷ [] ≡ all_gone spots hs (places ++ p ∷ [])
-  gone_more spots places p load e =
-      ap (λ o. all_gone spots hs places ++ cons_option o []) (sym (ap (option_map (λ l. record { place = p; load = l })) e))
-      ∙ sym (filter_map-append (gone_from spots hs) places (p ∷ []))
-
-  pub load_left : (ids : List Id) (x : Id) → among ids x ≡ false → load_of (left_of ids hs) x ≡ load_of hs x
-  load_left ids x new = ap (option_map (λ (h : Held T). h.load)) (find_left ids x new)
+  pub gone_more : (spots : List (Option Id)) (places : List ℕ) (p : ℕ) (x : Gone T) → gone_from spots hs p ≡ Some x → all_gone spots hs places ++ x ∷ [] ≡ all_gone spots hs (places ++ p ∷ [])
+  gone_more spots places p x e = ap (λ o. all_gone spots hs places ++ cons_option o []) (sym e) ∙ sym (filter_map-append (gone_from spots hs) places (p ∷ []))
 
   pub left_apart : (ids : List Id) → are_apart (nodes_of hs) ≡ true → are_apart (nodes_of (left_of ids hs)) ≡ true
   left_apart ids a = ap are_apart (sym (filter-map node_of (λ n. not (among ids n.id)) hs)) ∙ are_apart-filter (λ n. not (among ids n.id)) (nodes_of hs) a

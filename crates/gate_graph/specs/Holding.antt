@@ -1,5 +1,5 @@
 -- What the slots hold.
-use Rattle.std.specs.Prelude.{◌≡◌, ◌≢◌, ◌<◌, ◌++◌, ℕ, Bool, true, not, List, [], Contains, Option, None, Some, length, cond, map, filter, find, if◌then◌else◌}
+use Rattle.std.specs.Prelude.{◌≡◌, ◌≢◌, ◌≤◌, ◌<◌, ◌+◌, ◌++◌, ℕ, Bool, true, not, List, [], Contains, Option, None, Some, length, cond, map, filter, find, if◌then◌else◌}
 use Rattle.std.specs.List.{filter_map, AllPairs}
 use Rattle.std.specs.Option.{option_map, unwrap_or}
 use Rattle.gate_graph.specs.Families.{among}
@@ -72,9 +72,14 @@ module _ {T : Type 0} where
   abbrev pub load_of : List (Held T) → List ℕ → Option T
   load_of hs id = option_map (λ h. h.load) (find (λ h. has_id h id) hs)
 
-  -- what the node at a place carries, with the place; and what those at some places carry, in the order of the places
+  -- the ids that the node of an id names
+  abbrev pub names_of : List (Held T) → List ℕ → Option (List (List ℕ))
+  names_of hs id = option_map (λ h. h.parents.items) (find (λ h. has_id h id) hs)
+
+  -- what the node at a place carries, with the place and the ids that it names; and what those at some places carry, in the
+  -- order of the places
   abbrev pub gone_from : List (Option (List ℕ)) → List (Held T) → ℕ → Option (Gone T)
-  gone_from spots hs place = option_map (λ load. record { place = place; load = load }) (load_of hs (id_at spots place))
+  gone_from spots hs place = option_map (λ h. record { place = place; parents = h.parents; load = h.load }) (find (λ h. has_id h (id_at spots place)) hs)
 
   abbrev pub all_gone : List (Option (List ℕ)) → List (Held T) → List ℕ → List (Gone T)
   all_gone spots hs places = filter_map (gone_from spots hs) places
@@ -97,28 +102,33 @@ pub record Stored (T : Type 0) : Type 0 where
   pub spots : List (Option (List ℕ))
   pub room : ℕ
 
--- if there is room, one more node has a place in the index, among the slots and among the places that are kept beside them
+-- `room` nodes more have a place in the index, among the slots and among the places that are kept beside them
 pub record HasSpot (room spare len capacity near_len near_capacity : ℕ) : Type 0 where
-  pub place : 0 < room → 0 < spare
-  pub slot : 0 < room → len < capacity
-  pub near : 0 < room → near_len < near_capacity
+  pub place : room ≤ spare
+  pub slot : 0 < room → len + room ≤ capacity
+  pub near : 0 < room → near_len + room ≤ near_capacity
 
--- a graph: its nodes in the order of adding, each with what it carries, which id stands at each place, and the room that was
--- taken beforehand: a node that names fewer than `room` parents is put without memory
+-- a graph: its nodes in the order of their places, each with what it carries, which id stands at each place, and the room that
+-- was taken beforehand: `room` nodes that name `names` parents together are put without memory
 pub record Carried (T : Type 0) : Type 0 where
   pub nodes : List (Node × T)
   pub places : List (Option (List ℕ))
   pub room : ℕ
+  pub names : ℕ
 
 -- what a node carries
 abbrev pub load_in : {T : Type 0} → List (Node × T) → List ℕ → Option T
 load_in g id = option_map (λ p. p.1) (find (λ p. bytes_eq p.0.id id) g)
 
--- a list that grew by what the node of an id and those below it carry, each with the place at which it stood, and by nothing
--- else
+-- the ids that a node names
+abbrev pub names_in : {T : Type 0} → List (Node × T) → List ℕ → Option (List (List ℕ))
+names_in g id = option_map (λ p. p.0.parents) (find (λ p. bytes_eq p.0.id id) g)
+
+-- a list that grew by what the node of an id and those below it carry, each with the ids that it named and the place at which
+-- it stood, and by nothing else
 pub record AreGone {T : Type 0} (g : List (Node × T)) (places : List (Option (List ℕ))) (id : List ℕ) (before after : List (Gone T)) : Type 0 where
   pub more : List (Gone T)
   pub is : after ≡ before ++ more
-  pub all : (p : Node × T) → Contains g p → reaches (steps_of (nodes_in g)) id p.0.id ≡ true → (x : Gone T) × Contains more x × (at places x.place ≡ Some p.0.id) × (x.load ≡ p.1)
-  pub only : (x : Gone T) → Contains more x → (p : Node × T) × Contains g p × (reaches (steps_of (nodes_in g)) id p.0.id ≡ true) × (at places x.place ≡ Some p.0.id) × (x.load ≡ p.1)
+  pub all : (p : Node × T) → Contains g p → reaches (steps_of (nodes_in g)) id p.0.id ≡ true → (x : Gone T) × Contains more x × (at places x.place ≡ Some p.0.id) × (x.parents.items ≡ p.0.parents) × (x.load ≡ p.1)
+  pub only : (x : Gone T) → Contains more x → (p : Node × T) × Contains g p × (reaches (steps_of (nodes_in g)) id p.0.id ≡ true) × (at places x.place ≡ Some p.0.id) × (x.parents.items ≡ p.0.parents) × (x.load ≡ p.1)
   pub once : AllPairs (λ (x : Gone T) (y : Gone T). x.place ≢ y.place) more

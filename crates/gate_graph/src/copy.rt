@@ -32,7 +32,7 @@ fn put_copy<T: Copied, S: BuildHasher + Copy + Drop>(
 {
     let parents = Vec::from_slice(alloc, held.parents.as_slice())?;
     let load = held.load.copy(alloc)?;
-    slots.reserve()?;
+    slots.reserve(1)?;
     links.reserve(parents.len())?;
     link(links, parents.as_slice(), &held.id);
     let _place = slots.put(Held {

@@ -44,11 +44,13 @@ pub struct Held<T: Drop> {
     pub load: T,
 }
 
-/// What a node that was taken out carried, and the place at which it stood.
+/// What a node that was taken out carried, with the ids that it named and the place at which it stood.
 #[derive(Drop)]
 pub struct Gone<T: Drop> {
     /// Where it stood among the nodes, holes counted.
     pub place: usize,
+    /// The ids that it named as its parents.
+    pub parents: Vec<NodeId>,
     /// What it carried.
     pub load: T,
 }

@@ -26,6 +26,7 @@ mod places;
 mod put;
 mod refresh;
 mod slots;
+mod table;
 mod take;
 mod walk;
 mod weigh;

@@ -4,7 +4,7 @@ ghost use Rattle.std.specs.Vec.{vec_capacity};
 ghost use Rattle.gate_graph.specs.Families.{are_apart};
 ghost use Rattle.gate_graph.specs.Holding.{id_at, nodes_of, loaded};
 ghost use Rattle.gate_graph.specs.Slots.{at};
-ghost use Rattle.gate_graph.specs.Keeping.{AreTables};
+ghost use Rattle.gate_graph.specs.Keeping.{AreTables, IsAsRoomy};
 ghost use Rattle.gate_graph.specs.Linking.{IsLinked};
 ghost use Rattle.gate_graph.specs.Walking.{AreClear};
 ghost use Rattle.gate_graph.specs.Merging.{AddsNoChain, GainsOne};
@@ -93,6 +93,7 @@ pub(crate) fn adds_no_chain<T: Drop, S: BuildHasher + Drop>(
     requires last { IsNewLast slots.now.held (id_at slots.now.spots place) }
     ensures adds { IsTrue result → AddsNoChain slots.now.held (id_at slots.now.spots place) }
     ensures tables { AreTables slots.now links.now scratch.new }
+    ensures room { IsAsRoomy slots.now slots.now scratch.old scratch.new }
 {
     let parents = slots.at(place).parents.as_slice();
     each_gains_one(
@@ -119,6 +120,7 @@ pub(crate) fn settle_between<T: Drop, S: BuildHasher + Drop>(
     ensures spots { slots.new.spots ≡ slots.old.spots }
     ensures weighed { IsWeighed slots.new.held }
     ensures tables { AreTables slots.new links.now scratch.new }
+    ensures room { IsAsRoomy slots.old slots.new scratch.old scratch.new }
 {
     let _count = slots.count();
     let held = slots.at(place);

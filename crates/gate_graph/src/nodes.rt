@@ -1,10 +1,11 @@
-ghost use Rattle.std.specs.Prelude.{◌≡◌, ◌≤◌, ◌<◌, ◌+◌, ◌++◌, ◌∷◌, [], Some, false, ℕ, List, Contains, sum_by, IfOk, OnOk, IfSome, IfNone, length, vec_len, is_some};
+ghost use Rattle.std.specs.Prelude.{◌≡◌, ◌≤◌, ◌<◌, ◌+◌, ◌++◌, ◌∷◌, [], Some, None, false, ℕ, List, Contains, slice_set, sum_by, IfOk, OnOk, IfSome, IfNone, length, vec_len, is_some};
 ghost use Rattle.std.specs.Option.{option_copied, option_map};
 ghost use Rattle.std.specs.Vec.{vec_capacity};
+ghost use Rattle.std.specs.List.Sorted.{IsPermutation};
 ghost use Rattle.gate_graph.specs.Families.{among, children_of, has};
 ghost use Rattle.std.specs.Str.{bytes_eq};
 ghost use Rattle.gate_graph.specs.Family.{reaches, steps_of};
-ghost use Rattle.gate_graph.specs.Holding.{without_below, without_one, node_of, nodes_in, load_in, loaded, spots_of, vacated, AreGone};
+ghost use Rattle.gate_graph.specs.Holding.{without_below, without_one, node_of, nodes_in, load_in, names_in, loaded, spots_of, vacated, AreGone};
 ghost use Rattle.gate_graph.specs.Ranks.{least_of};
 ghost use Rattle.gate_graph.specs.Slots.{at, entries_of};
 ghost use Rattle.gate_graph.specs.Weighing.{totals_of};
@@ -31,7 +32,10 @@ pub struct Nodes<T: Drop, S: BuildHasher + Copy + Drop> {
     slots: Slots<T, S>,
     links: Links<S>,
     scratch: Scratch,
+    /// How many nodes there is room for.
     room: usize,
+    /// How many parents these may name together.
+    names: usize,
 }
 
 impl<T: Drop, S: BuildHasher + Copy + Drop> Model for Nodes<T, S> {
@@ -40,9 +44,9 @@ impl<T: Drop, S: BuildHasher + Copy + Drop> Model for Nodes<T, S> {
 
     ghost Value = { Carried T };
 
-    ghost view = { λ g. record { nodes = loaded g.slots.held; places = g.slots.spots; room = g.room } };
+    ghost view = { λ g. record { nodes = loaded g.slots.held; places = g.slots.spots; room = g.room; names = g.names } };
 
-    ghost invariant = { λ g. AreKept g.slots g.links g.scratch g.room };
+    ghost invariant = { λ g. AreKept g.slots g.links g.scratch g.room g.names };
 }
 
 impl<T: Drop, S: BuildHasher + Copy + Drop> Nodes<T, S> {
@@ -60,6 +64,7 @@ impl<T: Drop, S: BuildHasher + Copy + Drop> Nodes<T, S> {
                 above: Vec::new(alloc),
             },
             room: 0,
+            names: 0,
         }
     }
 
@@ -81,8 +86,20 @@ impl<T: Drop, S: BuildHasher + Copy + Drop> Nodes<T, S> {
         ensures found { is_some result ≡ has (nodes_in self.now.nodes) id.now }
         ensures totals { IfSome result (λ totals. totals.now ≡ totals_of (nodes_in self.now.nodes) id.now) }
     {
-        match self.slots.place(id) {
-            Some(place) => Some(&self.slots.at(place).totals),
+        self.totals_near(id, &mut None)
+    }
+
+    /// The totals of a node, as `totals` finds them. If the node stands at the place `near`, this is no look-up. Where a
+    /// parent of it may stand is written over `near`, for a walk up.
+    pub fn totals_near(&self, id: &NodeId, near: &mut Option<usize>) -> Option<&Totals>
+        ensures found { is_some result ≡ has (nodes_in self.now.nodes) id.now }
+        ensures totals { IfSome result (λ totals. totals.now ≡ totals_of (nodes_in self.now.nodes) id.now) }
+    {
+        match self.slots.place_near(id, *near) {
+            Some(place) => {
+                *near = self.slots.near(place);
+                Some(&self.slots.at(place).totals)
+            }
             None => None,
         }
     }
@@ -98,8 +115,19 @@ impl<T: Drop, S: BuildHasher + Copy + Drop> Nodes<T, S> {
     pub fn load(&self, id: &NodeId) -> Option<&T>
         ensures { option_copied result ≡ load_in self.now.nodes id.now }
     {
-        match self.slots.place(id) {
-            Some(place) => Some(&self.slots.at(place).load),
+        self.load_near(id, &mut None)
+    }
+
+    /// What a node carries, as `load` finds it. If the node stands at the place `near`, this is no look-up. Where a parent
+    /// of it may stand is written over `near`, for a walk up.
+    pub fn load_near(&self, id: &NodeId, near: &mut Option<usize>) -> Option<&T>
+        ensures { option_copied result ≡ load_in self.now.nodes id.now }
+    {
+        match self.slots.place_near(id, *near) {
+            Some(place) => {
+                *near = self.slots.near(place);
+                Some(&self.slots.at(place).load)
+            }
             None => None,
         }
     }
@@ -162,40 +190,46 @@ impl<T: Drop, S: BuildHasher + Copy + Drop> Nodes<T, S> {
         ensures { self.new.nodes ≡ self.old.nodes }
     {
         self.room = 0;
+        self.names = 0;
         tidy(&mut self.slots, &mut self.scratch.marks);
     }
 
-    /// Takes the memory to put one node that names this many parents.
-    pub fn reserve(&mut self, parents: usize) -> Result<(), Memory>
+    /// Takes the memory to put this many nodes, which name this many parents together. If memory runs out, there is as
+    /// much room as before.
+    pub fn reserve(&mut self, nodes: usize, parents: usize) -> Result<(), Memory>
         ensures nodes { self.new.nodes ≡ self.old.nodes }
         ensures places { self.new.places ≡ self.old.places }
-        ensures room { OnOk result (parents < self.new.room) }
+        ensures kept { self.old.room ≤ self.new.room }
+        ensures names_kept { self.old.names ≤ self.new.names }
+        ensures room { OnOk result (nodes ≤ self.new.room) }
+        ensures names { OnOk result (parents ≤ self.new.names) }
     {
-        self.room = 0;
-        let Some(room) = parents.checked_add(1) else {
+        let Some(places) = self.slots.count().checked_add(nodes) else {
             return Err(Memory);
         };
-        let Some(places) = self.slots.count().checked_add(1) else {
-            return Err(Memory);
-        };
-        self.scratch.reserve(places)?;
+        self.scratch.reserve(nodes, places)?;
         self.links.reserve(parents)?;
-        self.slots.reserve()?;
-        self.room = room;
+        self.slots.reserve(nodes)?;
+        self.room = self.room.max(nodes);
+        self.names = self.names.max(parents);
         Ok(())
     }
 
     /// Puts a node at the end, below those that it names and above those that name it. It takes no memory, and uses up
-    /// the room that was taken. If nothing names the node, this takes a walk over its ancestors; else, if it names no
+    /// its own of the room that was taken. If nothing names the node, this takes a walk over its ancestors; else, if it names no
     /// node, one over its descendants; else, if all that is below it was below each of its parents before, a walk over
     /// both and one below each parent; else the totals of all its ancestors and descendants are found afresh.
     pub fn put(&mut self, id: NodeId, parents: Vec<NodeId>, size: u64, fee: u64, load: T)
-        requires room { length parents.items < self.old.room }
+        requires room { 0 < self.old.room }
+        requires names { length parents.items ≤ self.old.names }
         requires new { has (nodes_in self.old.nodes) id ≡ false }
         ensures nodes { self.new.nodes ≡ self.old.nodes ++ (record { id = id; size = size; fee = fee; parents = parents.items }, load) ∷ [] }
         ensures places { self.new.places ≡ self.old.places ++ Some id ∷ [] }
+        ensures room { self.new.room + 1 ≡ self.old.room }
+        ensures names { self.new.names + length parents.items ≡ self.old.names }
     {
-        self.room = 0;
+        self.room -= 1;
+        self.names -= parents.len();
         let none = Sums {
             count: 0,
             size: 0,
@@ -215,12 +249,39 @@ impl<T: Drop, S: BuildHasher + Copy + Drop> Nodes<T, S> {
         put_node(&mut self.slots, &mut self.links, &mut self.scratch, held);
     }
 
+    /// Puts a node at a place that is a hole, as `put` puts one at the end, where it leaves a hole. It takes no memory,
+    /// and uses up its own of the room that was taken.
+    pub fn put_back(
+        &mut self,
+        place: usize,
+        id: NodeId,
+        parents: Vec<NodeId>,
+        size: u64,
+        fee: u64,
+        load: T,
+    )
+        requires room { 0 < self.old.room }
+        requires names { length parents.items ≤ self.old.names }
+        requires new { has (nodes_in self.old.nodes) id ≡ false }
+        requires hole { at self.old.places place ≡ None }
+        requires within { place < length self.old.places }
+        ensures nodes { IsPermutation (self.old.nodes ++ (record { id = id; size = size; fee = fee; parents = parents.items }, load) ∷ []) self.new.nodes }
+        ensures places { self.new.places ≡ slice_set self.old.places place (Some id) ++ None ∷ [] }
+        ensures room { self.new.room + 1 ≡ self.old.room }
+        ensures names { self.new.names + length parents.items ≡ self.old.names }
+    {
+        let end = self.slots.len();
+        self.put(id, parents, size, fee, load);
+        self.slots.relocate(end, place);
+    }
+
     /// Takes out the node of an id, if there is one, and all nodes below that id, and puts what they carry at the end
-    /// of a list with room, each with the place at which it stood. Their places are empty then, and the others stand
+    /// of a list with room, each with the ids that it named and the place at which it stood. Their places are empty then, and the others stand
     /// where they stood. It takes no memory, and keeps the room that was taken.
     pub fn take_family(&mut self, id: &NodeId, gone: &mut Vec<Gone<T>>)
         requires { vec_len gone.old + length self.old.nodes ≤ vec_capacity gone.old }
         ensures room { self.new.room ≡ self.old.room }
+        ensures names { self.new.names ≡ self.old.names }
         ensures left { self.new.nodes ≡ without_below self.old.nodes id.now }
         ensures places { self.new.places ≡ vacated (reaches (steps_of (nodes_in self.old.nodes)) id.now) self.old.places }
         ensures gone { AreGone self.old.nodes self.old.places id.now gone.old.items gone.new.items }
@@ -235,16 +296,18 @@ impl<T: Drop, S: BuildHasher + Copy + Drop> Nodes<T, S> {
         );
     }
 
-    /// Takes out a node alone, and returns what it carries, with the place at which it stood, which is empty then:
-    /// nodes that name it stay. It takes no memory, and gives up the room that was taken. If the node names no node,
+    /// Takes out a node alone, and returns what it carries, with the ids that it named and the place at which it stood,
+    /// which is empty then: nodes that name it stay. It takes no memory, and keeps the room that was taken. If the node names no node,
     /// this takes a walk over its descendants; else the totals of all its ancestors and descendants are found afresh.
     pub fn take_one(&mut self, id: &NodeId) -> Option<Gone<T>>
         ensures left { self.new.nodes ≡ without_one self.old.nodes id.now }
         ensures places { self.new.places ≡ vacated (λ x. bytes_eq x id.now) self.old.places }
         ensures load { option_map (λ gone. gone.load) result ≡ load_in self.old.nodes id.now }
+        ensures parents { option_map (λ gone. gone.parents.items) result ≡ names_in self.old.nodes id.now }
         ensures place { IfSome result (λ gone. at self.old.places gone.place ≡ Some id.now) }
+        ensures room { self.new.room ≡ self.old.room }
+        ensures names { self.new.names ≡ self.old.names }
     {
-        self.room = 0;
         take_one(&mut self.slots, &mut self.links, &mut self.scratch, id)
     }
 }
@@ -266,6 +329,7 @@ impl<T: Drop, S: BuildHasher + Copy + Drop> Nodes<T, S> {
             links,
             scratch,
             room: 0,
+            names: 0,
         })
     }
 }

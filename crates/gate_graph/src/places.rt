@@ -1,4 +1,4 @@
-ghost use Rattle.std.specs.Prelude.{◌≡◌, None, Some, true, is_some, filter, slice_set, vec_len};
+ghost use Rattle.std.specs.Prelude.{◌≡◌, ◌<◌, None, Some, true, is_some, filter, slice_set, vec_len};
 ghost use Rattle.std.specs.Vec.{vec_capacity};
 ghost use Rattle.std.specs.Option.{option_map};
 ghost use Rattle.std.specs.Str.{bytes_eq};
@@ -38,6 +38,17 @@ pub(crate) fn empty<T: Drop>(slots: &mut Vec<Option<Held<T>>>, place: usize) -> 
     ensures capacity { vec_capacity slots.new ≡ vec_capacity slots.old }
 {
     slots[place].take().unwrap()
+}
+
+/// Puts a node at a place that is a hole.
+pub(crate) fn fill<T: Drop>(slots: &mut Vec<Option<Held<T>>>, place: usize, held: Held<T>)
+    requires hole { at slots.old.items place ≡ None }
+    requires within { place < vec_len slots.old }
+    ensures filled { slots.new.items ≡ slice_set slots.old.items place (Some held) }
+    ensures len { vec_len slots.new ≡ vec_len slots.old }
+    ensures capacity { vec_capacity slots.new ≡ vec_capacity slots.old }
+{
+    slots[place] = Some(held);
 }
 
 /// Writes the totals of the node at a place, if one stands there.

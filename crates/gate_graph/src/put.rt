@@ -4,7 +4,7 @@ ghost use Rattle.std.specs.Vec.{vec_capacity};
 ghost use Rattle.gate_graph.specs.Families.{has};
 ghost use Rattle.gate_graph.specs.Holding.{id_at, nodes_of, loaded};
 ghost use Rattle.gate_graph.specs.Slots.{at};
-ghost use Rattle.gate_graph.specs.Keeping.{AreTables};
+ghost use Rattle.gate_graph.specs.Keeping.{AreTables, IsAsRoomy};
 ghost use Rattle.gate_graph.specs.Linking.{AreWith};
 ghost use Rattle.gate_graph.specs.Weighing.{IsLeafLast, IsNewLast, IsRoot, IsWeighed};
 
@@ -23,7 +23,8 @@ use std::hash::BuildHasher;
 /// a parent is named.
 pub(crate) fn link<S: BuildHasher + Drop>(links: &mut Links<S>, parents: &[NodeId], child: &NodeId)
     requires { length parents.now ≤ links.old.room }
-    ensures { AreWith parents.now child.now links.old links.new }
+    ensures lists { AreWith parents.now child.now links.old links.new }
+    ensures room { links.old.room ≤ links.new.room + length parents.now }
 {
     for parent in parents {
         links.put(parent, child);
@@ -55,6 +56,7 @@ pub(crate) fn settle<T: Drop, S: BuildHasher + Drop>(
     ensures spots { slots.new.spots ≡ slots.old.spots }
     ensures weighed { IsWeighed slots.new.held }
     ensures tables { AreTables slots.new links.now scratch.new }
+    ensures room { IsAsRoomy slots.old slots.new scratch.old scratch.new }
 {
     let _count = slots.count();
     walk(
@@ -104,6 +106,7 @@ fn settle_root<T: Drop, S: BuildHasher + Drop>(
     ensures spots { slots.new.spots ≡ slots.old.spots }
     ensures weighed { IsWeighed slots.new.held }
     ensures tables { AreTables slots.new links.now scratch.new }
+    ensures room { IsAsRoomy slots.old slots.new scratch.old scratch.new }
 {
     let _count = slots.count();
     let held = slots.at(place);
@@ -158,6 +161,7 @@ fn settle_named<T: Drop, S: BuildHasher + Drop>(
     ensures spots { slots.new.spots ≡ slots.old.spots }
     ensures weighed { IsWeighed slots.new.held }
     ensures tables { AreTables slots.new links.now scratch.new }
+    ensures room { IsAsRoomy slots.old slots.new scratch.old scratch.new }
 {
     if is_root(slots, place) {
         settle_root(slots, links, scratch, place);
@@ -192,6 +196,11 @@ pub(crate) fn put_node<T: Drop, S: BuildHasher + Drop>(
     ensures spots { slots.new.spots ≡ slots.old.spots ++ Some held.id ∷ [] }
     ensures weighed { IsWeighed slots.new.held }
     ensures tables { AreTables slots.new links.new scratch.new }
+    ensures slots_room { slots.new.room + 1 ≡ slots.old.room }
+    ensures links_room { links.old.room ≤ links.new.room + length held.parents.items }
+    ensures marks_room { vec_capacity scratch.new.marks ≡ vec_capacity scratch.old.marks }
+    ensures found_room { vec_capacity scratch.new.found ≡ vec_capacity scratch.old.found }
+    ensures above_room { vec_capacity scratch.new.above ≡ vec_capacity scratch.old.above }
 {
     let _count = slots.count();
     let id = held.id;

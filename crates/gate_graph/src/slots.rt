@@ -1,5 +1,6 @@
-ghost use Rattle.std.specs.Prelude.{◌≡◌, ◌<◌, ◌+◌, ◌^◌, [], ◌∷◌, ◌++◌, ℕ, not, true, false, Some, None, is_some, map, filter, find, length, slice_set, sum_by, vec_len, OnOk, IfSome};
+ghost use Rattle.std.specs.Prelude.{◌≡◌, ◌<◌, ◌≤◌, ◌+◌, ◌^◌, [], ◌∷◌, ◌++◌, ℕ, not, true, false, Some, None, is_some, map, filter, find, length, slice_set, sum_by, vec_len, OnOk, IfSome};
 ghost use Rattle.std.specs.Vec.{vec_capacity};
+ghost use Rattle.std.specs.List.Sorted.{IsPermutation};
 ghost use Rattle.indexmap.specs.IndexMap.{get, spare, index_map_len};
 ghost use Rattle.std.specs.Str.{bytes_eq};
 ghost use Rattle.std.specs.Option.{option_copied};
@@ -12,7 +13,8 @@ ghost use Rattle.gate_ranking.specs.Lesser.{least_by};
 
 use crate::held::{Held, Totals};
 use crate::id::NodeId;
-use crate::places::{close, empty, renumber, standing, stands_at, write};
+use crate::places::{close, empty, fill, renumber, standing, stands_at, write};
+use crate::table::overwrite;
 use gate_bytes::Memory;
 use gate_ranking::{Ranking, Rate};
 use indexmap::IndexMap;
@@ -20,27 +22,33 @@ use std::alloc::Global;
 use std::hash::BuildHasher;
 use std::marker::Model;
 
-/// Takes the memory for one more node in each table.
-fn reserve_one<T: Drop, S: BuildHasher>(
+/// Takes the memory for this many more nodes in each table.
+fn reserve_each<T: Drop, S: BuildHasher>(
     slots: &mut Vec<Option<Held<T>>>,
     places: &mut IndexMap<NodeId, usize, S>,
     near: &mut Vec<Option<u32>>,
     ranking: &mut Ranking<Rate>,
+    more: usize,
 ) -> Result<(), Memory>
     ensures items { slots.new.items ≡ slots.old.items }
     ensures len { vec_len slots.new ≡ vec_len slots.old }
     ensures look { get bytes_eq places.new ≡ get bytes_eq places.old }
     ensures count { index_map_len places.new ≡ index_map_len places.old }
     ensures keys { ranking.new.keys ≡ ranking.old.keys }
-    ensures slots_room { OnOk result (vec_len slots.new < vec_capacity slots.new) }
-    ensures places_room { OnOk result (0 < spare places.new) }
-    ensures near_room { OnOk result (vec_len near.new < vec_capacity near.new) }
-    ensures ranks_room { OnOk result (0 < ranking.new.room) }
+    ensures near_len { vec_len near.new ≡ vec_len near.old }
+    ensures slots_kept { vec_capacity slots.old ≤ vec_capacity slots.new }
+    ensures places_kept { spare places.old ≤ spare places.new }
+    ensures near_kept { vec_capacity near.old ≤ vec_capacity near.new }
+    ensures ranks_kept { ranking.old.room ≤ ranking.new.room }
+    ensures slots_room { OnOk result (vec_len slots.new + more ≤ vec_capacity slots.new) }
+    ensures places_room { OnOk result (more ≤ spare places.new) }
+    ensures near_room { OnOk result (vec_len near.new + more ≤ vec_capacity near.new) }
+    ensures ranks_room { OnOk result (more ≤ ranking.new.room) }
 {
-    places.reserve(1)?;
-    near.reserve(1)?;
-    ranking.reserve(1)?;
-    slots.reserve(1)?;
+    places.reserve(more)?;
+    near.reserve(more)?;
+    ranking.reserve(more)?;
+    slots.reserve(more)?;
     Ok(())
 }
 
@@ -66,6 +74,16 @@ fn find_near<T: Drop, S: BuildHasher>(
             Some(Some(held)) => first_place(places, held.parents.as_slice()),
             _ => None,
         };
+    }
+}
+
+/// Has a parent of a node that is moved be looked for where it was looked for before.
+fn move_near(near: &mut Vec<Option<u32>>, from: usize, to: usize)
+    ensures len { vec_len near.new ≡ vec_len near.old }
+    ensures capacity { vec_capacity near.new ≡ vec_capacity near.old }
+{
+    if from < near.len() && to < near.len() {
+        near[to] = near[from];
     }
 }
 
@@ -243,20 +261,21 @@ impl<T: Drop, S: BuildHasher + Drop> Slots<T, S> {
         held
     }
 
-    /// Takes the memory for one more node.
-    pub(crate) fn reserve(&mut self) -> Result<(), Memory>
+    /// Takes the memory for this many more nodes. If memory runs out, there is as much room as before.
+    pub(crate) fn reserve(&mut self, more: usize) -> Result<(), Memory>
         ensures held { self.new.held ≡ self.old.held }
         ensures spots { self.new.spots ≡ self.old.spots }
-        ensures room { OnOk result (0 < self.new.room) }
+        ensures kept { self.old.room ≤ self.new.room }
+        ensures room { OnOk result (more ≤ self.new.room) }
     {
-        self.room = 0;
-        reserve_one(
+        reserve_each(
             &mut self.slots,
             &mut self.places,
             &mut self.near,
             &mut self.ranking,
+            more,
         )?;
-        self.room = 1;
+        self.room = self.room.max(more);
         Ok(())
     }
 
@@ -268,8 +287,9 @@ impl<T: Drop, S: BuildHasher + Drop> Slots<T, S> {
         ensures held { self.new.held ≡ self.old.held ++ held ∷ [] }
         ensures spots { self.new.spots ≡ self.old.spots ++ Some held.id ∷ [] }
         ensures place { result ≡ length self.old.spots }
+        ensures room { self.new.room + 1 ≡ self.old.room }
     {
-        self.room = 0;
+        self.room -= 1;
         let place = self.slots.as_slice().len();
         let put: Result<_, _> = self.places.insert(held.id, place);
         let _ = put.unwrap();
@@ -278,6 +298,23 @@ impl<T: Drop, S: BuildHasher + Drop> Slots<T, S> {
         self.near.push_reserved(None);
         self.slots.push_reserved(Some(held));
         place
+    }
+
+    /// Moves a node to a hole, and leaves a hole where it stood.
+    pub(crate) fn relocate(&mut self, from: usize, to: usize)
+        requires stands { is_some (at self.old.spots from) ≡ true }
+        requires hole { at self.old.spots to ≡ None }
+        requires within { to < length self.old.spots }
+        ensures held { IsPermutation self.old.held self.new.held }
+        ensures spots { self.new.spots ≡ slice_set (slice_set self.old.spots from None) to (at self.old.spots from) }
+        ensures room { self.new.room ≡ self.old.room }
+    {
+        let held = empty(&mut self.slots, from);
+        overwrite(&mut self.places, &held.id, to);
+        self.ranking.remove(from);
+        self.ranking.update(to, held.rate());
+        fill(&mut self.slots, to, held);
+        move_near(&mut self.near, from, to);
     }
 
     /// Closes the holes, so that nodes have other places, in the same order.

@@ -6,9 +6,9 @@ ghost use Rattle.std.specs.Str.{bytes_eq};
 ghost use Rattle.gate_graph.specs.Family.{reaches, steps_of};
 ghost use Rattle.gate_graph.specs.Families.{among, has, are_apart};
 ghost use Rattle.std.specs.List.{list_all};
-ghost use Rattle.gate_graph.specs.Holding.{has_id, id_at, ids_at, nodes_of, loaded, left_of, load_of, all_gone, vacated, without_below, without_one, AreGone};
+ghost use Rattle.gate_graph.specs.Holding.{has_id, id_at, ids_at, nodes_of, loaded, left_of, load_of, names_of, gone_from, all_gone, vacated, without_below, without_one, AreGone};
 ghost use Rattle.gate_graph.specs.Slots.{at};
-ghost use Rattle.gate_graph.specs.Keeping.{AreTables};
+ghost use Rattle.gate_graph.specs.Keeping.{AreTables, IsAsRoomy};
 ghost use Rattle.gate_graph.specs.Linking.{IsLinked, AreWithout};
 ghost use Rattle.gate_graph.specs.Walking.{AreClear, AreStanding};
 ghost use Rattle.gate_graph.specs.Weighing.{AreSmall, IsRoot, IsWeighed};
@@ -32,16 +32,16 @@ fn unlink<S: BuildHasher + Drop>(links: &mut Links<S>, parents: &[NodeId], child
     }
 }
 
-/// Takes out a node, and returns what it carries. No totals change.
+/// Takes out a node, and returns what it carries, with its place. No totals change.
 fn pull_one<T: Drop, S: BuildHasher + Drop>(
     slots: &mut Slots<T, S>,
     links: &mut Links<S>,
     place: usize,
-) -> T
+) -> Gone<T>
     requires stands { is_some (at slots.old.spots place) ≡ true }
     requires apart { are_apart (nodes_of slots.old.held) ≡ true }
     requires linked { IsLinked (nodes_of slots.old.held) links.old }
-    ensures load { load_of slots.old.held (id_at slots.old.spots place) ≡ Some result }
+    ensures gone { gone_from slots.old.spots slots.old.held place ≡ Some result }
     ensures left { slots.new.held ≡ filter (λ h. not (has_id h (id_at slots.old.spots place))) slots.old.held }
     ensures fewer { length slots.new.held < length slots.old.held }
     ensures linked { IsLinked (nodes_of slots.new.held) links.new }
@@ -59,7 +59,11 @@ fn pull_one<T: Drop, S: BuildHasher + Drop>(
         ..
     } = held;
     unlink(links, parents.as_slice(), &id);
-    load
+    Gone {
+        place,
+        parents,
+        load,
+    }
 }
 
 /// Takes out each of these nodes, and puts what it carries at the end of a list with room, with its place. No totals
@@ -83,11 +87,8 @@ fn pull_each<T: Drop, S: BuildHasher + Drop>(
     ensures capacity { vec_capacity gone.new ≡ vec_capacity gone.old }
 {
     for place in places {
-        let load = pull_one(slots, links, *place);
-        gone.push_reserved(Gone {
-            place: *place,
-            load,
-        });
+        let one = pull_one(slots, links, *place);
+        gone.push_reserved(one);
     }
 }
 
@@ -150,15 +151,17 @@ fn take_alone<T: Drop, S: BuildHasher + Drop>(
     links: &mut Links<S>,
     scratch: &mut Scratch,
     place: usize,
-) -> T
+) -> Gone<T>
     requires tables { AreTables slots.old links.old scratch.old }
     requires weighed { IsWeighed slots.old.held }
     requires stands { is_some (at slots.old.spots place) ≡ true }
     ensures left { loaded slots.new.held ≡ without_one (loaded slots.old.held) (id_at slots.old.spots place) }
-    ensures load { load_of slots.old.held (id_at slots.old.spots place) ≡ Some result }
+    ensures gone { gone_from slots.old.spots slots.old.held place ≡ Some result }
     ensures spots { slots.new.spots ≡ vacated (λ x. bytes_eq x (id_at slots.old.spots place)) slots.old.spots }
     ensures weighed { IsWeighed slots.new.held }
     ensures tables { AreTables slots.new links.new scratch.new }
+    ensures room { IsAsRoomy slots.old slots.new scratch.old scratch.new }
+    ensures links_room { links.new.room ≡ links.old.room }
 {
     let id = slots.at(place).id;
     walk(
@@ -171,7 +174,7 @@ fn take_alone<T: Drop, S: BuildHasher + Drop>(
             way: Way::Up,
         },
     );
-    let load = pull_one(slots, links, place);
+    let gone = pull_one(slots, links, place);
     leave_out(&mut scratch.above, place);
     refresh_each(
         slots,
@@ -188,7 +191,7 @@ fn take_alone<T: Drop, S: BuildHasher + Drop>(
         &mut scratch.found,
         scratch.above.as_slice(),
     );
-    load
+    gone
 }
 
 /// Takes out a node that names no node, alone, and returns what it carries: nodes that name it stay. It is subtracted
@@ -198,16 +201,18 @@ fn take_root<T: Drop, S: BuildHasher + Drop>(
     links: &mut Links<S>,
     scratch: &mut Scratch,
     place: usize,
-) -> T
+) -> Gone<T>
     requires tables { AreTables slots.old links.old scratch.old }
     requires weighed { IsWeighed slots.old.held }
     requires stands { is_some (at slots.old.spots place) ≡ true }
     requires root { IsRoot (nodes_of slots.old.held) (id_at slots.old.spots place) }
     ensures left { loaded slots.new.held ≡ without_one (loaded slots.old.held) (id_at slots.old.spots place) }
-    ensures load { load_of slots.old.held (id_at slots.old.spots place) ≡ Some result }
+    ensures gone { gone_from slots.old.spots slots.old.held place ≡ Some result }
     ensures spots { slots.new.spots ≡ vacated (λ x. bytes_eq x (id_at slots.old.spots place)) slots.old.spots }
     ensures weighed { IsWeighed slots.new.held }
     ensures tables { AreTables slots.new links.new scratch.new }
+    ensures room { IsAsRoomy slots.old slots.new scratch.old scratch.new }
+    ensures links_room { links.new.room ≡ links.old.room }
 {
     let held = slots.at(place);
     let weight = Weight {
@@ -258,15 +263,17 @@ fn take_standing<T: Drop, S: BuildHasher + Drop>(
     links: &mut Links<S>,
     scratch: &mut Scratch,
     place: usize,
-) -> T
+) -> Gone<T>
     requires tables { AreTables slots.old links.old scratch.old }
     requires weighed { IsWeighed slots.old.held }
     requires stands { is_some (at slots.old.spots place) ≡ true }
     ensures left { loaded slots.new.held ≡ without_one (loaded slots.old.held) (id_at slots.old.spots place) }
-    ensures load { load_of slots.old.held (id_at slots.old.spots place) ≡ Some result }
+    ensures gone { gone_from slots.old.spots slots.old.held place ≡ Some result }
     ensures spots { slots.new.spots ≡ vacated (λ x. bytes_eq x (id_at slots.old.spots place)) slots.old.spots }
     ensures weighed { IsWeighed slots.new.held }
     ensures tables { AreTables slots.new links.new scratch.new }
+    ensures room { IsAsRoomy slots.old slots.new scratch.old scratch.new }
+    ensures links_room { links.new.room ≡ links.old.room }
 {
     if is_root(slots, place) {
         take_root(slots, links, scratch, place)
@@ -285,18 +292,18 @@ pub(crate) fn take_one<T: Drop, S: BuildHasher + Drop>(
     requires tables { AreTables slots.old links.old scratch.old }
     requires weighed { IsWeighed slots.old.held }
     ensures left { loaded slots.new.held ≡ without_one (loaded slots.old.held) id.now }
+    ensures parents { option_map (λ gone. gone.parents.items) result ≡ names_of slots.old.held id.now }
     ensures load { option_map (λ gone. gone.load) result ≡ load_of slots.old.held id.now }
     ensures place { IfSome result (λ gone. at slots.old.spots gone.place ≡ Some id.now) }
     ensures spots { slots.new.spots ≡ vacated (λ x. bytes_eq x id.now) slots.old.spots }
     ensures weighed { IsWeighed slots.new.held }
     ensures tables { AreTables slots.new links.new scratch.new }
+    ensures room { IsAsRoomy slots.old slots.new scratch.old scratch.new }
+    ensures links_room { links.new.room ≡ links.old.room }
 {
     let _len = slots.len();
     match slots.place(id) {
-        Some(place) => {
-            let load = take_standing(slots, links, scratch, place);
-            Some(Gone { place, load })
-        }
+        Some(place) => Some(take_standing(slots, links, scratch, place)),
         None => None,
     }
 }

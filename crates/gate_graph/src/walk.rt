@@ -41,16 +41,17 @@ pub(crate) struct Scratch {
 }
 
 impl Scratch {
-    /// Takes the memory for the mark of one more slot, and for this many places in each list.
-    pub(crate) fn reserve(&mut self, places: usize) -> Result<(), Memory>
+    /// Takes the memory for the marks of this many more slots, and for this many places in each list.
+    pub(crate) fn reserve(&mut self, slots: usize, places: usize) -> Result<(), Memory>
         ensures marks { self.new.marks.items ≡ self.old.marks.items }
         ensures found { vec_capacity self.old.found ≤ vec_capacity self.new.found }
         ensures above { vec_capacity self.old.above ≤ vec_capacity self.new.above }
-        ensures mark { OnOk result (length self.old.marks.items < vec_capacity self.new.marks) }
+        ensures kept { vec_capacity self.old.marks ≤ vec_capacity self.new.marks }
+        ensures mark { OnOk result (length self.old.marks.items + slots ≤ vec_capacity self.new.marks) }
         ensures found_room { OnOk result (places ≤ vec_capacity self.new.found) }
         ensures above_room { OnOk result (places ≤ vec_capacity self.new.above) }
     {
-        self.marks.reserve(1)?;
+        self.marks.reserve(slots)?;
         self.found.reserve(places)?;
         self.above.reserve(places)?;
         Ok(())

@@ -10,7 +10,7 @@ use Rattle.gate_graph.proofs.Refreshing.{nodes_refreshed, refreshed_none, refres
 use Rattle.gate_graph.proofs.refresh.refresh_each.Goals as goal
 
 pub loop-place-init : goal.loop-place-init
-loop-place-init g c = record { all = refreshed_none (nodes_of c.args.slots.now.held) c.args.slots.now.held; spots = refl; clear = c.requires.clear; marks = refl; capacity = refl }
+loop-place-init g c = record { all = refreshed_none (nodes_of c.args.slots.now.held) c.args.slots.now.held; spots = refl; clear = c.requires.clear; marks = refl; capacity = refl; room = refl }
 
 pub refresh-requires-clause-room : goal.refresh-requires-clause-room
 refresh-requires-clause-room g c =
@@ -59,6 +59,7 @@ loop-place-preserved g c =
       clear = subst (λ s. AreClear (length s) c.refresh.new.marks.items) c.loop-place.invariant.spots c.refresh.ensures.clear;
       marks = c.refresh.ensures.marks ∙ c.loop-place.invariant.marks;
       capacity = c.refresh.ensures.capacity ∙ c.loop-place.invariant.capacity;
+      room = c.refresh.ensures.slots_room ∙ c.loop-place.invariant.room;
     }
 
 pub returns-clause-refreshed : goal.returns-clause-refreshed

@@ -12,4 +12,5 @@ invariant-loop-place g l = record {
   clear : AreClear (length l.initial.slots.spots) l.marks.items;
   marks : vec_capacity l.marks ≡ vec_capacity l.initial.marks;
   capacity : vec_capacity l.found ≡ vec_capacity l.initial.found;
+  room : l.slots.room ≡ l.initial.slots.room;
 }

@@ -2,6 +2,7 @@ use Rattle.std.proofs.Common.{sym, ap, subst, arith, length, ◌≡◌, ◌∙�
 use Rattle.std.specs.Option.{option_map}
 use Rattle.gate_graph.specs.Holding.{id_at, nodes_of}
 use Rattle.gate_graph.specs.Linking.{IsLinked, AreWithout}
+use Rattle.gate_graph.proofs.Going.{leaving}
 use Rattle.gate_graph.proofs.Holdings.{find_is}
 use Rattle.gate_graph.proofs.Placing.{spot_some}
 use Rattle.gate_graph.proofs.Pulling.{IsLinked-pulled, pulled_fewer}
@@ -22,8 +23,8 @@ pub returns-clause-fewer : goal.returns-clause-fewer
 returns-clause-fewer g c =
     omega (arith, pulled_fewer c.args.slots.now.held (id_at c.args.slots.now.spots c.args.place) c.pull-held.result c.pull-held.ensures.taken, ap length c.pull-held.ensures.left)
 
-pub returns-clause-load : goal.returns-clause-load
-returns-clause-load g c = ap (option_map (λ h. h.load)) c.pull-held.ensures.taken
+pub returns-clause-gone : goal.returns-clause-gone
+returns-clause-gone g c = ap (option_map (leaving c.args.place)) c.pull-held.ensures.taken
 
 pub returns-clause-vacated : goal.returns-clause-vacated
 returns-clause-vacated g c =

@@ -33,10 +33,10 @@ invariant_of-result g c =
         above_room = omega (arith, c.in_ok-scratch.ensures.above, c.count.ensures);
       },
       record {
-        slot = λ l. absurd (omega (arith, l));
+        slots_room = omega arith;
         lists_room = omega arith;
-        found_more = λ l. absurd (omega (arith, l));
-        above_more = λ l. absurd (omega (arith, l));
+        found_more = omega (arith, c.in_ok-scratch.ensures.found, c.count.ensures);
+        above_more = omega (arith, c.in_ok-scratch.ensures.above, c.count.ensures);
       },
       record {
         clear = subst (λ n. AreClear n c.in_ok-scratch.scratch.marks.items) c.len.ensures.len c.in_ok-scratch.ensures.marks;

@@ -19,10 +19,10 @@ invariant_of-result g c =
         above_room = omega (arith, ap length c.new.ensures.held);
       },
       record {
-        slot = λ l. absurd (omega (arith, l));
+        slots_room = omega arith;
         lists_room = omega arith;
-        found_more = λ l. absurd (omega (arith, l));
-        above_more = λ l. absurd (omega (arith, l));
+        found_more = omega (arith, ap length c.new.ensures.held);
+        above_more = omega (arith, ap length c.new.ensures.held);
       },
       record {
         clear = record { len = ap length c.new-3.ensures.items ∙ sym (ap length c.new.ensures.spots); clear = λ p. ap (λ l. get_or l p false) c.new-3.ensures.items };

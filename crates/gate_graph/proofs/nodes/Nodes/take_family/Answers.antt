@@ -17,10 +17,10 @@ invariant_of-self g c =
         above_room = omega (arith, fewer, c.self.invariant.0.above_room, c.take_family.ensures.above);
       },
       record {
-        slot = λ l. omega (arith, c.self.invariant.1.slot l, c.take_family.ensures.slots_room);
+        slots_room = omega (arith, c.self.invariant.1.slots_room, c.take_family.ensures.slots_room);
         lists_room = omega (arith, c.self.invariant.1.lists_room, c.take_family.ensures.links_room);
-        found_more = λ l. omega (arith, c.self.invariant.1.found_more l, fewer, c.take_family.ensures.found);
-        above_more = λ l. omega (arith, c.self.invariant.1.above_more l, fewer, c.take_family.ensures.above);
+        found_more = omega (arith, c.self.invariant.1.found_more, fewer, c.take_family.ensures.found);
+        above_more = omega (arith, c.self.invariant.1.above_more, fewer, c.take_family.ensures.above);
       },
       record {
         clear = c.take_family.ensures.clear;

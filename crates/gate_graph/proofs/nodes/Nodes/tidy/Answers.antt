@@ -17,10 +17,10 @@ invariant_of-self g c =
         above_room = omega (arith, c.self.invariant.0.above_room, ap length same);
       },
       record {
-        slot = λ l. absurd (omega (arith, l));
+        slots_room = omega arith;
         lists_room = omega arith;
-        found_more = λ l. absurd (omega (arith, l));
-        above_more = λ l. absurd (omega (arith, l));
+        found_more = omega (arith, c.self.invariant.0.found_room, ap length same);
+        above_more = omega (arith, c.self.invariant.0.above_room, ap length same);
       },
       record {
         clear = c.tidy.ensures.clear;

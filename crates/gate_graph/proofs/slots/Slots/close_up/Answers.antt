@@ -20,7 +20,7 @@ invariant_of-self g c =
         count = c.renumber.ensures.count ∙ c.self.invariant.0.count ∙ ap length (sym closed);
       },
       record {
-        place = λ l. absurd (omega (arith, l));
+        place = omega arith;
         slot = λ l. absurd (omega (arith, l));
         near = λ l. absurd (omega (arith, l));
       },

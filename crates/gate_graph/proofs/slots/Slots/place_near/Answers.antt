@@ -1,4 +1,4 @@
-use Rattle.std.proofs.Common.{◌≡◌, true, Some, ap, sym, ◌∙◌, is_some}
+use Rattle.std.proofs.Common.{◌≡◌, Some, ap, sym, ◌∙◌, is_some}
 use Rattle.std.specs.Str.{bytes_eq}
 use Rattle.indexmap.specs.IndexMap.{get}
 use Rattle.gate_graph.specs.Families.{has}

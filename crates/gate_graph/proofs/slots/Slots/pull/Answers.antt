@@ -32,7 +32,7 @@ invariant_of-self g c =
     let len = sym (ap (λ o. index_map_len c.swap_remove.new.self + (if is_some o then 1 else 0)) (c.swap_remove.ensures.value ∙ look)) ∙ c.swap_remove.ensures.len in (
       IsPlaced-taken c.self.invariant.0 x p c.empty-held.new.slots.items _ _ look c.empty-held.ensures.emptied (λ k. c.swap_remove.ensures.updates.0 k) len,
       record {
-        place = λ l. omega (arith, c.self.invariant.1.place l, c.swap_remove.ensures.room.0);
+        place = omega (arith, c.self.invariant.1.place, c.swap_remove.ensures.room.0);
         slot = λ l. omega (arith, c.self.invariant.1.slot l, c.empty-held.ensures.len, c.empty-held.ensures.capacity);
         near = c.self.invariant.1.near;
       },

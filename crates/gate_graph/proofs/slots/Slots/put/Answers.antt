@@ -27,7 +27,9 @@ invariant_of-self g c =
     let old = c.self.inside.places in
     let updates = rw c.unwrap.ensures at c.insert-put.ensures.updates in
     let len = rw c.unwrap.ensures at c.insert-put.ensures.len in
-    let before = rw c.unwrap.ensures at c.insert-put.ensures.old in (
+    let before = rw c.unwrap.ensures at c.insert-put.ensures.old in
+    let room = ap (λ (s : Stored g.row.T.Denot). s.room) c.self.view_is in
+    let spare_is = c.insert-put.ensures.spare in (
       IsPlaced-put h (length c.as_slice-place.result.now) c.push_reserved-2.new.self.items (index_map_len c.insert-put.new.self) (get bytes_eq c.insert-put.new.self) c.self.invariant.0
           (ap (λ (s : Stored g.row.T.Denot). has (nodes_of s.held) h.id) c.self.view_is ∙ c.requires.new)
           (ap length c.as_slice-place.ensures.value)
@@ -35,13 +37,13 @@ invariant_of-self g c =
           (λ k. updates.0 k)
           (λ absent. len ∙ ap (λ o. index_map_len old + (if is_some o then 0 else 1)) (before ∙ absent)),
       record {
-        place = λ l. absurd (omega (arith, l));
-        slot = λ l. absurd (omega (arith, l));
-        near = λ l. absurd (omega (arith, l));
+        place = omega (arith, room, c.self.invariant.1.place, c.requires.room, spare_is);
+        slot = λ l. omega (arith, room, c.self.invariant.1.slot (omega (arith, room, c.requires.room)), c.push_reserved-2.ensures.len, c.push_reserved-2.ensures.capacity);
+        near = λ l. omega (arith, room, c.self.invariant.1.near (omega (arith, room, c.requires.room)), c.push_reserved.ensures.len, c.push_reserved.ensures.capacity);
       },
       record {
         keys = pushed_keys c.self.inside.slots.items c.push_reserved-2.new.self.items h c.rate.result c.self.inside.ranking.keys c.push.new.self.keys c.self.invariant.2.keys c.push_reserved-2.ensures.items c.rate.ensures c.push.ensures.keys;
-        ranks_room = omega arith;
+        ranks_room = omega (arith, room, c.self.invariant.2.ranks_room, c.requires.room, c.push.ensures.room);
         sum = omega (arith, total-push c.self.inside.slots.items h, c.self.invariant.2.sum, ap total c.push_reserved-2.ensures.items, c.from.ensures);
       },
     )

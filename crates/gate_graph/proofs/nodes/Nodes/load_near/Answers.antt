@@ -6,7 +6,7 @@ use Rattle.gate_graph.specs.Holding.{Carried, has_id, load_in}
 use Rattle.gate_graph.proofs.Holdings.{found_has}
 use Rattle.gate_graph.proofs.Loading.{load_loaded}
 use Rattle.gate_graph.proofs.Marking.{id_from, filled, none_from}
-use Rattle.gate_graph.proofs.nodes.Nodes.load.Goals as goal
+use Rattle.gate_graph.proofs.nodes.Nodes.load_near.Goals as goal
 
 pub at-requires : goal.at-requires
 at-requires g c = filled c.self.inside.slots.spots c.in-Some.place c.args.id.now c.in-Some.ensures.sound

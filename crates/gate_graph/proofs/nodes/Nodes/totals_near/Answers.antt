@@ -5,7 +5,7 @@ use Rattle.gate_graph.specs.Holding.{Carried, has_id, nodes_in}
 use Rattle.gate_graph.specs.Weighing.{totals_of}
 use Rattle.gate_graph.proofs.Loading.{nodes_loaded, totals_found}
 use Rattle.gate_graph.proofs.Marking.{id_from, filled}
-use Rattle.gate_graph.proofs.nodes.Nodes.totals.Goals as goal
+use Rattle.gate_graph.proofs.nodes.Nodes.totals_near.Goals as goal
 
 pub at-requires : goal.at-requires
 at-requires g c = filled c.self.inside.slots.spots c.in-Some.place c.args.id.now c.in-Some.ensures.sound
