@@ -80,7 +80,7 @@ module _ (slots : List Slot) (own : (h : Held Admitted) → Contains (entries_of
 
   -- an id of those before is found
   known : (e : Admitted) → Contains old e → is_none (entry_by_txid old (txid_of e.tx)) ≡ false
-  known e m = ap is_none (found_by_id old l.txids e m)
+  known e m = ap is_none (found_by_id old l.distinct.txids e m)
 
   -- what stands below the mark stood there
   front : (e : Admitted) → Contains (standing (take mark slots)) e → was_none e ≡ false

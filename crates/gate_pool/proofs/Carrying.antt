@@ -6,10 +6,12 @@ use Rattle.std.specs.Str.{bytes_eq}
 use Rattle.std.proofs.lemmas.List.{map-append, length-map}
 use Rattle.std.proofs.lemmas.List.Elements.{Contains-append_cases}
 use Rattle.std.proofs.lemmas.List.Sums.{sum_by-cons}
+use Rattle.std.proofs.lemmas.Option.{same_Some}
 use Rattle.gate_tx.specs.Ids.{txid_of}
 use Rattle.gate_graph.specs.Family.{Node, steps_of, reaches}
 use Rattle.gate_graph.specs.Families.{has, ancestors_of as nodes_above, descendants_of as nodes_below}
-use Rattle.gate_graph.specs.Holding.{nodes_in, load_in, without_below as nodes_left, without_one}
+use Rattle.gate_graph.specs.declared.held.Gone.{Gone}
+use Rattle.gate_graph.specs.Holding.{nodes_in, load_in, names_in, without_below as nodes_left, without_one}
 use Rattle.gate_graph.proofs.Filters.{filter-map, Contains-from_filter}
 use Rattle.gate_bytes.proofs.Members.{Contains-cons_cases, not_in_none}
 use Rattle.gate_pool.specs.Pool.{Admitted, IsBounded, entry_by_txid, has_txid, size_of}
@@ -40,6 +42,15 @@ load_carried (e ∷ es) x = by (bytes_eq (txid_of e.tx) x) (load_carried es x)
     by true ih = refl
     by false ih = ih
 
+names_carried : (es : List Admitted) (x : Id) → names_in (carried es) x ≡ option_map (λ e. parents_of e.tx.inputs) (entry_by_txid es x)
+names_carried [] x = refl
+names_carried (e ∷ es) x = by (bytes_eq (txid_of e.tx) x) (names_carried es x)
+  where
+    by : (b : Bool) → names_in (carried es) x ≡ option_map (λ d. parents_of d.tx.inputs) (entry_by_txid es x)
+        → option_map (λ (p : Node × Admitted). p.0.parents) (cond b (Some (node_of e, e)) (find (λ p. bytes_eq p.0.id x) (carried es))) ≡ option_map (λ d. parents_of d.tx.inputs) (cond b (Some e) (entry_by_txid es x))
+    by true ih = refl
+    by false ih = ih
+
 has_found : (es : List Admitted) (x : Id) → has (map node_of es) x ≡ is_some (entry_by_txid es x)
 has_found [] x = refl
 has_found (e ∷ es) x = by (bytes_eq (txid_of e.tx) x) (has_found es x)
@@ -55,6 +66,13 @@ module _ (nodes : Nodes) (k : IsCarried nodes) where
 
   pub load_is : (x : Id) → load_in nodes x ≡ entry_by_txid (entries_in nodes) x
   load_is x = ap (λ l. load_in l x) k.is ∙ load_carried (entries_in nodes) x
+
+  -- what was taken out names the parents of its entry
+  pub named_parents : (x : Id) (g : Gone Admitted) → load_in nodes x ≡ Some g.load → names_in nodes x ≡ Some g.parents.items → g.parents.items ≡ parents_of g.load.tx.inputs
+  named_parents x g load names =
+      let found : entry_by_txid (entries_in nodes) x ≡ Some g.load = sym (load_is x) ∙ load in
+      same_Some g.parents.items (parents_of g.load.tx.inputs)
+      (sym names ∙ ap (λ l. names_in l x) k.is ∙ names_carried (entries_in nodes) x ∙ ap (option_map (λ e. parents_of e.tx.inputs)) found)
 
   pub has_is : (x : Id) → has (nodes_in nodes) x ≡ is_some (entry_by_txid (entries_in nodes) x)
   has_is x = ap (λ l. has l x) nodes_are ∙ has_found (entries_in nodes) x

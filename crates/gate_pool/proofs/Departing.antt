@@ -66,7 +66,7 @@ seat_in (Some d ∷ xs) zero e k = subst (Contains (d ∷ entries_of xs)) (same_
 seat_in (Some d ∷ xs) (suc p) e k = Contains-rest d (entries_of xs) e (seat_in xs p e k)
 
 -- the ids at seats
-abbrev ids_in : List (Option Admitted) → Spots
+abbrev pub ids_in : List (Option Admitted) → Spots
 ids_in xs = map (option_map (λ e. txid_of e.tx)) xs
 
 ids_listed : (xs : List (Option Admitted)) → entries_of (ids_in xs) ≡ listing_of (entries_of xs)
@@ -93,7 +93,7 @@ module _ (es : List Admitted) (spots : Spots) (listed : entries_of spots ≡ lis
   abbrev pub before : List Admitted
   before = before_of es spots log mark
 
-  abbrev seat_at : ℕ → Option Admitted
+  abbrev pub seat_at : ℕ → Option Admitted
   seat_at = seat es spots log
 
   -- what left stood at its place
@@ -147,14 +147,14 @@ module _ (es : List Admitted) (spots : Spots) (listed : entries_of spots ≡ lis
       let lt : w.0 < mark = omega (arith, w.1, seats_length seat_at mark) in
       (w.0, lt, sym (seats_at seat_at mark w.0 lt) ∙ w.2)
 
-  spots_before : entries_of (ids_in (seats seat_at mark)) ≡ listing_of before
+  pub spots_before : entries_of (ids_in (seats seat_at mark)) ≡ listing_of before
   unfolding before_of
   spots_before = ids_listed (seats seat_at mark)
 
-  abbrev old_spots : Spots
+  abbrev pub old_spots : Spots
   old_spots = ids_in (seats seat_at mark)
 
-  old_spot : (p : ℕ) (e : Admitted) → p < mark → seat_at p ≡ Some e → at old_spots p ≡ Some (txid_of e.tx)
+  pub old_spot : (p : ℕ) (e : Admitted) → p < mark → seat_at p ≡ Some e → at old_spots p ≡ Some (txid_of e.tx)
   old_spot p e lt k = id_at_seat (seats seat_at mark) p ∙ ap (option_map (λ d. txid_of d.tx)) (seats_at seat_at mark p lt ∙ k)
 
   -- the ids of what left are those of the entries before that no entry has
@@ -202,7 +202,7 @@ module _ (es : List Admitted) (spots : Spots) (listed : entries_of spots ≡ lis
           let one : txid_of e.load.tx ≡ txid_of f.load.tx =
           sym (get_or-map (λ (x : Gone Admitted). txid_of x.load.tx) xs i _ d (omega (arith, lt, within, n))) ∙ same ∙ get_or-map (λ (x : Gone Admitted). txid_of x.load.tx) xs j _ d (omega (arith, within, n)) in
           apart i j _ lt (omega (arith, within, n))
-          (same_place before old_spots spots_before l.txids e.place f.place (txid_of e.load.tx)
+          (same_place before old_spots spots_before l.distinct.txids e.place f.place (txid_of e.load.tx)
           (old_spot e.place e.load v.1 (left_seat e v.0)) (old_spot f.place f.load w.1 (left_seat f w.0) ∙ ap Some (sym one)))
         where
           ids_length : (xs : Log) → length (map (λ (x : Gone Admitted). txid_of x.load.tx) xs) ≡ length xs
@@ -216,7 +216,7 @@ module _ (es : List Admitted) (spots : Spots) (listed : entries_of spots ≡ lis
   -- sorted by their places they are in order of admission
   pub departed_are : (sorted : List Seated) → IsPermutation (map seated gone) sorted → IsNonDecreasingBy (λ (s : Seated). s.place) sorted → map (λ s. s.txid) sorted ≡ departed before es
   departed_are sorted moved up =
-      in_order before old_spots spots_before l.txids has_none (map (λ s. s.txid) (map seated gone)) (map (λ s. s.txid) sorted)
+      in_order before old_spots spots_before l.distinct.txids has_none (map (λ s. s.txid) (map seated gone)) (map (λ s. s.txid) sorted)
       (IsPermutation-map (λ (s : Seated). s.txid) (map seated gone) sorted moved) rises gone_ids
     where
       placed : (s : Seated) → Contains sorted s → number_in old_spots s.txid ≡ s.place
@@ -224,7 +224,7 @@ module _ (es : List Admitted) (spots : Spots) (listed : entries_of spots ≡ lis
           let v = Contains-from_map seated gone s (Contains-permutation sorted (map seated gone) s (IsPermutation-sym (map seated gone) sorted moved) m) in
           let w = in_gone v.item v.among in
           ap (λ (z : Seated). number_in old_spots z.txid) (sym v.is)
-          ∙ number_at before old_spots spots_before l.txids v.item.place (txid_of v.item.load.tx) (old_spot v.item.place v.item.load w.1 (left_seat v.item w.0))
+          ∙ number_at before old_spots spots_before l.distinct.txids v.item.place (txid_of v.item.load.tx) (old_spot v.item.place v.item.load w.1 (left_seat v.item w.0))
           ∙ ap (λ (z : Seated). z.place) v.is
 
       rises : IsNonDecreasingBy (number_in old_spots) (map (λ s. s.txid) sorted)

@@ -1,14 +1,23 @@
 -- The earliest of some arrivals, and the arrivals of the first slots.
-use Rattle.std.proofs.Common.{◌≡◌, ◌<◌, ◌≤◌, ◌+◌, ℕ, List, [], ◌∷◌, ◌++◌, length, sym, ap, ◌∙◌, subst, inl, inr, arith}
-use Rattle.std.specs.Prelude.{Contains}
+use Rattle.std.proofs.Common.{◌≡◌, ◌<◌, ◌≤◌, ℕ, false, None, List, [], ◌∷◌, ◌++◌, length, sym, ap, ◌∙◌, subst, inl, inr, arith}
+use Rattle.std.specs.Prelude.{Contains, find, nat_lt}
 use Rattle.std.specs.List.Sorted.{IsPermutation}
+use Rattle.std.proofs.lemmas.Bool.Decides.{nat_tests}
 use Rattle.std.proofs.lemmas.List.Elements.{Contains-append_cases}
 use Rattle.std.proofs.lemmas.List.Sorted.{Contains-permutation, length_permutation}
 use Rattle.gate_tx.specs.Ids.{txid_of}
 use Rattle.gate_bytes.proofs.Members.{Contains-cons_cases, Contains-head, Contains-rest, not_in_none}
-use Rattle.gate_pool.specs.Pool.{Admitted}
+use Rattle.gate_pool.specs.Pool.{Admitted, is_before}
 use Rattle.gate_pool.specs.Arrivals.{arrival_of, HaveArrived, IsTaken}
 use Rattle.gate_pool.specs.declared.arrivals.Arrival.{Arrival}
+use Rattle.gate_pool.proofs.Conflicts.{find_absent}
+
+not_before : (m n : ℕ) → n ≤ m → nat_lt m n ≡ false
+not_before m n h = grind (arith, nat_tests)
+
+-- where no arrival was before a second, no entry was
+pub all_late : (entries : List Admitted) (list : List Arrival) (time : ℕ) → HaveArrived entries list → ((a : Arrival) → Contains list a → time ≤ a.time) → find (is_before time) entries ≡ None
+all_late entries list time have late = find_absent (is_before time) entries (λ e m. not_before e.time time (late (arrival_of e) (have.all e m)))
 
 -- one entry more has arrived
 pub HaveArrived-more : {entries more : List Admitted} {list after : List Arrival} (e : Admitted) → HaveArrived entries list → more ≡ entries ++ e ∷ [] → IsPermutation (arrival_of e ∷ list) after → HaveArrived more after

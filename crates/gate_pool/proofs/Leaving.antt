@@ -1,5 +1,5 @@
 -- Those that go with an id, or alone, and the children of an id.
-use Rattle.std.proofs.Common.{◌≡◌, Bool, true, false, not, ◌||◌, List, [], ◌∷◌, map, Some, None, refl, sym, ap, ◌∙◌, subst, inl, inr, true≢false, arith}
+use Rattle.std.proofs.Common.{◌≡◌, Bool, true, false, not, ◌||◌, List, [], ◌∷◌, Some, None, refl, sym, ap, ◌∙◌, subst, inl, inr, true≢false, arith}
 use Rattle.std.specs.Prelude.{Contains}
 use Rattle.std.specs.List.{list_any}
 use Rattle.std.specs.Str.{bytes_eq}
@@ -18,6 +18,8 @@ use Rattle.gate_pool.specs.Pool.{Admitted, entry_by_txid, has_txid, has_point, s
 use Rattle.gate_pool.specs.Family.{node_of, steps, without_family, without_below}
 use Rattle.gate_pool.specs.Distinct.{AreDistinct}
 use Rattle.gate_pool.specs.Keeping.{entries_in, IsCarried}
+use Rattle.gate_pool.specs.Log.{loads_of}
+use Rattle.gate_pool.specs.Search.{parents_of}
 use Rattle.gate_pool.proofs.Carrying.{steps_are}
 use Rattle.gate_pool.proofs.Conflicts.{find_absent}
 use Rattle.gate_pool.proofs.Entries.{Id, find_some, find_none}
@@ -30,18 +32,14 @@ was_true : (b : Bool) → not b ≡ false → b ≡ true
 was_true true h = refl
 was_true false h = sym h
 
--- the entries in a log
-abbrev pub loads_in : Log → List Admitted
-loads_in log = map (λ x. x.load) log
-
-pub any_loads : (t : Admitted → Bool) (log : Log) → list_any (λ x. t x.load) log ≡ list_any t (loads_in log)
+pub any_loads : (t : Admitted → Bool) (log : Log) → list_any (λ x. t x.load) log ≡ list_any t (loads_of log)
 any_loads t [] = refl
 any_loads t (x ∷ log) = ap (λ b. t x.load || b) (any_loads t log)
 
 -- what was taken with its places is what leaves
-pub leaving_taken : (test : Id → Bool) (es : List Admitted) (spots : Spots) (more : Log) → AreTaken test es spots more → AreLeaving (λ e. not (test (txid_of e.tx))) es (loads_in more)
+pub leaving_taken : (test : Id → Bool) (es : List Admitted) (spots : Spots) (more : Log) → AreTaken test es spots more → AreLeaving (λ e. not (test (txid_of e.tx))) es (loads_of more)
 leaving_taken test es spots more taken = record {
-  all = λ e c n. let w = taken.all e c (was_true _ n) in subst (Contains (loads_in more)) w.3 (Contains-map (λ (x : Gone Admitted). x.load) more w.0 w.1);
+  all = λ e c n. let w = taken.all e c (was_true _ n) in subst (Contains (loads_of more)) w.3 (Contains-map (λ (x : Gone Admitted). x.load) more w.0 w.1);
   only = λ e c.
       let v = Contains-from_map (λ (x : Gone Admitted). x.load) more e c in
       let w = taken.only v.0 v.1 in
@@ -54,21 +52,26 @@ pub taken_family : (nodes : List (Node × Admitted)) (places : Spots) (x : Id) (
 taken_family nodes places x before after k gone = record {
   all = λ e c t.
       let there : Contains nodes (node_of e, e) = subst (λ l. Contains l (node_of e, e)) (sym k.is) (Contains-map (λ (d : Admitted). (node_of d, d)) es e c) in
-      gone.all (node_of e, e) there (ap (λ s. reaches s x (txid_of e.tx)) (steps_are nodes k) ∙ t);
+      let w = gone.all (node_of e, e) there (ap (λ s. reaches s x (txid_of e.tx)) (steps_are nodes k) ∙ t) in
+      (w.0, w.1, w.2, w.4);
   only = λ y c.
       let w = gone.only y c in
       let v = Contains-from_map (λ (d : Admitted). (node_of d, d)) es w.0 (subst (λ l. Contains l w.0) k.is w.1) in
       let id : txid_of v.0.tx ≡ w.0.0.id = ap (λ (p : Node × Admitted). p.0.id) v.2 in
-      (v.0, v.1, ap (reaches (steps es) x) id ∙ ap (λ s. reaches s x w.0.0.id) (sym (steps_are nodes k)) ∙ w.2, w.3 ∙ ap Some (sym id), w.4 ∙ sym (ap (λ (p : Node × Admitted). p.1) v.2));
+      (v.0, v.1, ap (reaches (steps es) x) id ∙ ap (λ s. reaches s x w.0.0.id) (sym (steps_are nodes k)) ∙ w.2, w.3 ∙ ap Some (sym id), w.5 ∙ sym (ap (λ (p : Node × Admitted). p.1) v.2));
   once = gone.once;
+  named = λ y c.
+      let w = gone.only y c in
+      let v = Contains-from_map (λ (d : Admitted). (node_of d, d)) es w.0 (subst (λ l. Contains l w.0) k.is w.1) in
+      w.4 ∙ ap (λ (p : Node × Admitted). p.0.parents) (sym v.2) ∙ ap (λ (d : Admitted). parents_of d.tx.inputs) (ap (λ (p : Node × Admitted). p.1) v.2 ∙ sym w.5);
 }
   where
     es : List Admitted
     es = entries_in nodes
 
 -- one that goes alone
-pub taken_one : (es : List Admitted) (places : Spots) (x : Id) (g : Gone Admitted) → AreDistinct es → entry_by_txid es x ≡ Some g.load → at places g.place ≡ Some x → AreTaken (λ y. bytes_eq y x) es places (g ∷ [])
-taken_one es places x g distinct found place = record {
+pub taken_one : (es : List Admitted) (places : Spots) (x : Id) (g : Gone Admitted) → AreDistinct es → entry_by_txid es x ≡ Some g.load → at places g.place ≡ Some x → g.parents.items ≡ parents_of g.load.tx.inputs → AreTaken (λ y. bytes_eq y x) es places (g ∷ [])
+taken_one es places x g distinct found place named = record {
   all = λ e c t.
       let same : txid_of e.tx ≡ x = (bytes_decides (txid_of e.tx) x).0 t in
       (g, Contains-head g [], place ∙ ap Some (sym same), same_entry es distinct g.load e w.0 c ((bytes_decides (txid_of g.load.tx) x).0 w.1 ∙ sym same));
@@ -79,6 +82,7 @@ taken_one es places x g distinct found place = record {
         | inr n ↦ not_in_none y n
       ];
   once = λ i j d lt within. absurd (omega (arith, lt, within));
+  named = λ y c. elim (Contains-cons_cases g [] y c) [ inl same ↦ subst (λ (z : Gone Admitted). z.parents.items ≡ parents_of z.load.tx.inputs) same named | inr n ↦ not_in_none y n ];
 }
   where
     w : Contains es g.load × (has_txid g.load x ≡ true)
@@ -90,6 +94,7 @@ taken_none es places x none = record {
   all = λ e c t. absurd (true≢false (sym t ∙ find_none (λ (d : Admitted). has_txid d x) es none e c));
   only = λ y c. not_in_none y c;
   once = λ i j d lt within. absurd (omega (arith, within));
+  named = λ y c. not_in_none y c;
 }
 
 -- with the family of its spender an outpoint has none

@@ -23,5 +23,7 @@ pub mod Children
 pub mod Readiness
 pub mod Earliest
 pub mod Seats
+pub mod Weights
 pub mod Departing
+pub mod Returning
 pub mod Arriving

@@ -15,8 +15,8 @@ use Rattle.gate_graph.specs.Holding.{nodes_in, node_of as held_node}
 use Rattle.gate_graph.specs.Ranks.{rate_in, rate_with, least_of as least_node}
 use Rattle.gate_graph.specs.Weighing.{sums_of as node_sums, totals_of}
 use Rattle.gate_graph.proofs.Least.{least_in, least_map}
-use Rattle.gate_pool.specs.Pool.{Admitted, IsBounded, size_of}
-use Rattle.gate_pool.specs.Family.{node_of, descendants_of, sums_of, fees_of}
+use Rattle.gate_pool.specs.Pool.{Admitted, IsBounded}
+use Rattle.gate_pool.specs.Family.{node_of, descendants_of, sums_of}
 use Rattle.gate_pool.specs.Keeping.{carried}
 use Rattle.gate_pool.specs.Scores.{AreBounded, rate_of, score_from, score_of, least_entry, least_of}
 use Rattle.gate_pool.proofs.Bounding.{family_bounded}

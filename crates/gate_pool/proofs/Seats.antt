@@ -5,7 +5,7 @@ use Rattle.std.specs.List.{AllPairs}
 use Rattle.std.specs.Option.{option_and_then, option_or}
 use Rattle.std.proofs.Math.Seq.{take-suc}
 use Rattle.std.proofs.lemmas.Bool.{eqb-true, eq-eqb, false_from_ne_true}
-use Rattle.std.proofs.lemmas.List.{take_more, take_all, map-append, length-map, length-append, get_or_append_left}
+use Rattle.std.proofs.lemmas.List.{take_more, map-append, length-map, length-append, get_or_append_left}
 use Rattle.std.proofs.lemmas.List.Elements.{filter-append, Contains-append_cases, Contains-get_or}
 use Rattle.std.proofs.lemmas.List.Folds.{find-append}
 use Rattle.std.proofs.lemmas.List.Kept.{AllPairs-cons, AllPairs-filter}
@@ -18,7 +18,9 @@ use Rattle.gate_graph.proofs.Marking.{within}
 use Rattle.gate_graph.proofs.Vacating.{stands_among}
 use Rattle.gate_bytes.proofs.Members.{Contains-head, Contains-rest, not_in_none}
 use Rattle.gate_pool.specs.Pool.{Admitted, entry_by_txid, has_txid, listing_of}
+use Rattle.gate_pool.specs.Distinct.{AreDistinct}
 use Rattle.gate_pool.specs.Log.{left_or, seat, seats, before_of, IsLog}
+use Rattle.gate_pool.specs.Search.{parents_of}
 use Rattle.gate_pool.proofs.Adding.{DifferById, found_by_id, pairs_head, pairs_tail}
 use Rattle.gate_pool.proofs.Admission.{one_place}
 use Rattle.gate_pool.proofs.Conflicts.{find_absent}
@@ -70,6 +72,24 @@ seats_take : (xs : List (Option Admitted)) (f : ℕ → Option Admitted) → ((p
 seats_take xs f h zero le = refl
 seats_take xs f h (suc n) le = (λ i. seats_take xs f h n (omega (arith, le)) i ++ h n i ∷ []) ∙ sym (take-suc xs n None (omega (arith, le)))
 
+-- nothing stands past the first places
+none_all : {E : Type 0} (xs : List (Option E)) → ((p : ℕ) → at xs p ≡ None) → entries_of xs ≡ []
+none_all [] h = refl
+none_all (None ∷ xs) h = none_all xs (λ p. h (suc p))
+none_all (Some x ∷ xs) h = absurd (none-some x (sym (h 0)))
+
+entries_take : {E : Type 0} (xs : List (Option E)) (n : ℕ) → ((p : ℕ) → n ≤ p → at xs p ≡ None) → entries_of (take n xs) ≡ entries_of xs
+entries_take [] zero h = refl
+entries_take [] (suc n) h = refl
+entries_take (x ∷ xs) zero h = sym (none_all (x ∷ xs) (λ p. h p (omega arith)))
+entries_take (None ∷ xs) (suc n) h = entries_take xs n (λ p l. h (suc p) (omega (arith, l)))
+entries_take (Some x ∷ xs) (suc n) h = ap (λ l. x ∷ l) (entries_take xs n (λ p l. h (suc p) (omega (arith, l))))
+
+pub past : {E : Type 0} (xs : List (Option E)) (p : ℕ) → length xs ≤ p → at xs p ≡ None
+past [] p l = refl
+past (x ∷ xs) zero l = absurd (omega (arith, l))
+past (x ∷ xs) (suc p) l = past xs p (omega (arith, l))
+
 -- no place is there before the first
 pub before_none : (es : List Admitted) (spots : Spots) (log : Log) → before_of es spots log 0 ≡ []
 unfolding before_of
@@ -89,11 +109,12 @@ module _ (es : List Admitted) (spots : Spots) (listed : entries_of spots ≡ lis
   pub same_place : (i j : ℕ) (x : Id) → at spots i ≡ Some x → at spots j ≡ Some x → i ≡ j
   same_place = one_place es spots listed distinct
 
-  -- the log begins
-  pub before_marked : before_of es spots [] (length spots) ≡ es
+  -- nothing has left, and nothing has come to a place past the first
+  pub before_early : (mark : ℕ) → mark ≤ length spots → ((p : ℕ) → mark ≤ p → at spots p ≡ None) → before_of es spots [] mark ≡ es
   unfolding before_of
-  before_marked =
-      ap entries_of (seats_take (map look spots) (seat es spots []) at_map (length spots) (omega (arith, length-map spots look)) ∙ take_all (length spots) (map look spots) (omega (arith, length-map spots look)))
+  before_early mark le early =
+      ap entries_of (seats_take (map look spots) (seat es spots []) at_map mark (omega (arith, le, length-map spots look)))
+      ∙ entries_take (map look spots) mark (λ p l. sym (at_map p) ∙ ap look (early p l))
       ∙ standing es spots listed (λ e c. found_by_id es distinct e c)
     where
       look : Option Id → Option Admitted
@@ -118,6 +139,10 @@ module _ (es : List Admitted) (spots : Spots) (listed : entries_of spots ≡ lis
           ap (λ o. entries_of (o ∷ map look ss)) (ap (entry_by_txid es) head ∙ h d (Contains-head d ds))
           ∙ ap (λ l. d ∷ l) (standing ds ss rest (λ c m. h c (Contains-rest d ds c m)))
 
+  -- the log begins
+  pub before_marked : before_of es spots [] (length spots) ≡ es
+  before_marked = before_early (length spots) (omega arith) (λ p l. past spots p l)
+
   -- one more at the end
   pub seat_put : (e : Admitted) (x : Id) (log : Log) (p : ℕ) → p < length spots → seat (es ++ e ∷ []) (spots ++ Some x ∷ []) log p ≡ seat es spots log p
   seat_put e x log p lt =
@@ -136,7 +161,8 @@ module _ (es : List Admitted) (spots : Spots) (listed : entries_of spots ≡ lis
     apart = l.apart;
     within = λ y m. omega (arith, l.within y m, length-append spots (Some x ∷ []));
     empty = λ y m. get_or_append_left spots (Some x ∷ []) None y.place (l.within y m) ∙ l.empty y m;
-    txids = subst (AllPairs DifferById) (sym (before_same es (es ++ e ∷ []) spots (spots ++ Some x ∷ []) log log mark (λ p lt. seat_put e x log p (omega (arith, lt, l.marked))))) l.txids;
+    named = l.named;
+    distinct = subst AreDistinct (sym (before_same es (es ++ e ∷ []) spots (spots ++ Some x ∷ []) log log mark (λ p lt. seat_put e x log p (omega (arith, lt, l.marked))))) l.distinct;
   }
 
 -- what left, and nothing else: the entries whose ids pass a test, each with its place
@@ -144,8 +170,9 @@ pub record AreTaken (test : Id → Bool) (es : List Admitted) (spots : Spots) (m
   pub all : (e : Admitted) → Contains es e → test (txid_of e.tx) ≡ true → (x : Gone Admitted) × Contains more x × (at spots x.place ≡ Some (txid_of e.tx)) × (x.load ≡ e)
   pub only : (x : Gone Admitted) → Contains more x → (e : Admitted) × Contains es e × (test (txid_of e.tx) ≡ true) × (at spots x.place ≡ Some (txid_of e.tx)) × (x.load ≡ e)
   pub once : AllPairs (λ (x : Gone Admitted) (y : Gone Admitted). x.place ≢ y.place) more
+  pub named : (x : Gone Admitted) → Contains more x → x.parents.items ≡ parents_of x.load.tx.inputs
 
-at_vacated : (test : Id → Bool) (spots : Spots) (p : ℕ) → at (vacated test spots) p ≡ unless test (at spots p)
+pub at_vacated : (test : Id → Bool) (spots : Spots) (p : ℕ) → at (vacated test spots) p ≡ unless test (at spots p)
 at_vacated test [] p = refl
 at_vacated test (s ∷ spots) zero = refl
 at_vacated test (s ∷ spots) (suc p) = at_vacated test spots p
@@ -254,17 +281,19 @@ module _ (es : List Admitted) (spots : Spots) (listed : entries_of spots ≡ lis
           | inl c ↦ ap (unless test) (l.empty x c)
           | inr k ↦ let w = taken.only x k in ap (unless test) w.3 ∙ ap (λ b. if b then None else Some (txid_of w.0.tx)) w.2
         ];
-    txids = subst (AllPairs DifferById) (sym (before_taken mark)) l.txids;
+    named = λ x m. elim (Contains-append_cases log more x m) [ inl c ↦ l.named x c | inr k ↦ taken.named x k ];
+    distinct = subst AreDistinct (sym (before_taken mark)) l.distinct;
   }
 
 -- the log begins
-pub IsLog-marked : (es : List Admitted) (spots : Spots) → entries_of spots ≡ listing_of es → AllPairs DifferById es → IsLog es spots [] (length spots)
+pub IsLog-marked : (es : List Admitted) (spots : Spots) → entries_of spots ≡ listing_of es → AreDistinct es → IsLog es spots [] (length spots)
 IsLog-marked es spots listed distinct = record {
   marked = omega arith;
   apart = λ i j d lt within. absurd (omega (arith, within));
   within = λ x m. not_in_none x m;
   empty = λ x m. not_in_none x m;
-  txids = subst (AllPairs DifferById) (sym (before_marked es spots listed distinct)) distinct;
+  named = λ x m. not_in_none x m;
+  distinct = subst AreDistinct (sym (before_marked es spots listed distinct.txids)) distinct;
 }
 
 -- the same entries at the same places

@@ -1,5 +1,5 @@
 -- What a pool keeps beside its entries.
-use Rattle.std.specs.Prelude.{◌≡◌, ℕ, ◌+◌, ◌<◌, ◌≤◌, None, List, Option, length, map, Contains, IfSome}
+use Rattle.std.specs.Prelude.{◌≡◌, ℕ, ◌+◌, ◌≤◌, None, List, Option, length, map, Contains, IfSome}
 use Rattle.std.specs.Option.{option_map}
 use Rattle.gate_tx.specs.declared.TxIn.{TxIn}
 use Rattle.gate_tx.specs.declared.OutPoint.{OutPoint}
@@ -31,23 +31,24 @@ pub record IsIndexed (entries : List Admitted) (by_wtxid : List ℕ → Option (
   pub points : (point : OutPoint) → by_point point ≡ option_map (λ e. txid_of e.tx) (spender_of entries point)
   pub distinct : AreDistinct entries
 
--- there is room for all `count` entries in the log of `left` ones that have left; one more, of fewer inputs than `room`, has a
--- place in each index and among the nodes, and there too
-pub record HasRoom (room count nodes wtxid_spare point_spare parents left log : ℕ) : Type 0 where
-  pub log_room : count + left ≤ log
-  pub next : 0 < room → count + left + 1 ≤ log
+-- `room` entries more, of `inputs` inputs together, have places among the nodes, which have room for `names` parents, and in
+-- each index
+pub record HasPlaces (room inputs nodes names wtxid_spare point_spare : ℕ) : Type 0 where
   pub nodes_room : room ≤ nodes
-  pub wtxids : 0 < room → 0 < wtxid_spare
-  pub points : room ≤ point_spare + 1
-  pub parents_room : room ≤ parents + 1
+  pub names_room : inputs ≤ names
+  pub wtxids : room ≤ wtxid_spare
+  pub points : inputs ≤ point_spare
 
--- there is room to list all entries, and one more, whose arrival has a place too; the arrivals of all are there, and the least
--- score is kept
+-- there is room for all `count` entries, and for `room` more, in the log of `left` ones that have left
+abbrev pub HasLogRoom : ℕ → ℕ → ℕ → ℕ → Type 0
+HasLogRoom room count left log = count + left + room ≤ log
+
+-- there is room to list all entries, and `room` more, whose arrivals have places too; the arrivals of all are there, and the
+-- least score is kept
 pub record IsReady (entries : List Admitted) (room chosen : ℕ) (arrivals : Arrived) (least : Option Score) : Type 0 where
-  pub chosen_room : length entries ≤ chosen
-  pub next : 0 < room → length entries + 1 ≤ chosen
+  pub chosen_room : length entries + room ≤ chosen
   pub arrived : HaveArrived entries arrivals.list
-  pub arrivals_room : 0 < room → 0 < arrivals.room
+  pub arrivals_room : room ≤ arrivals.room
   pub score : least ≡ least_of entries
   pub bounded : IfSome least (λ score. AreBounded score.family)
 

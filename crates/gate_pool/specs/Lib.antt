@@ -10,4 +10,5 @@ pub mod Keeping
 pub mod Places
 pub mod Log
 pub mod Leaving
+pub mod Rewinding
 pub mod Arrivals

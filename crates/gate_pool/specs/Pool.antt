@@ -1,5 +1,5 @@
 -- The pool: its entries in order of admission, and what a search of them finds.
-use Rattle.std.specs.Prelude.{◌≤◌, ℕ, nat_lt, Bool, List, Option, find, map, sum_by}
+use Rattle.std.specs.Prelude.{◌≤◌, ◌+◌, ℕ, nat_lt, Bool, List, Option, Some, None, find, length, map, sum_by}
 use Rattle.std.specs.List.{flat_map}
 use Rattle.std.specs.Str.{bytes_eq}
 use Rattle.gate_tx.specs.declared.OutPoint.{OutPoint}
@@ -30,13 +30,39 @@ pub record IsBounded (entry : Admitted) : Type 0 where
 abbrev pub is_before : ℕ → Admitted → Bool
 is_before time e = nat_lt e.time time
 
--- a pool: its entries in order of admission, those that it had when its log began, and the room that was taken beforehand: an
--- entry of fewer inputs than `room` enters without memory. Room is no part of what a pool holds: only a call that says so keeps
--- it, and one that fails may lose it
+-- how many entries, and how many inputs they have together
+pub record Room : Type 0 where
+  pub entries : ℕ
+  pub inputs : ℕ
+
+-- the room that entries take
+abbrev pub room_of : List Admitted → Room
+room_of entries = record { entries = length entries; inputs = sum_by (λ e. length e.tx.inputs) entries }
+
+-- there is no less room than before
+pub record IsNotLess (old new : Room) : Type 0 where
+  pub entries : old.entries ≤ new.entries
+  pub inputs : old.inputs ≤ new.inputs
+
+-- a pool: its entries in order of admission, those that it had when its log began, the room that was taken beforehand, and what
+-- has left since the log began, also of what had come since. So many entries with so many inputs together as `room` says are
+-- put in without memory; of these the next newcomer has no more than `next` inputs. Room is no part of what a pool holds: only
+-- a call that says so keeps it
 pub record Pooled : Type 0 where
   pub entries : List Admitted
   pub before : List Admitted
-  pub room : ℕ
+  pub room : Room
+  pub next : ℕ
+  pub left : Room
+
+-- what a pool has and what has left it since its log began, together
+abbrev pub all_of : Pooled → Room
+all_of pool = record { entries = pool.left.entries + length pool.entries; inputs = pool.left.inputs + (room_of pool.entries).inputs }
+
+-- there is room for all that has left since the log began
+pub record IsRewindable (pool : Pooled) : Type 0 where
+  pub entries : pool.left.entries ≤ pool.room.entries
+  pub inputs : pool.left.inputs ≤ pool.room.inputs
 
 -- the outpoints that a transaction spends, input by input
 abbrev pub spends_of : Tx → List OutPoint
@@ -72,3 +98,12 @@ listing_of entries = map (λ e. txid_of e.tx) entries
 -- the sum of the virtual sizes
 abbrev pub size_of : List Admitted → ℕ
 size_of entries = sum_by (λ e. e.vsize) entries
+
+-- the inputs of an entry, if there is one
+abbrev pub inputs_in : Option Admitted → ℕ
+inputs_in None = 0
+inputs_in (Some e) = length e.tx.inputs
+
+-- the inputs of the entries of some ids, added up
+abbrev pub inputs_of : List Admitted → List (List ℕ) → ℕ
+inputs_of entries txids = sum_by (λ txid. inputs_in (entry_by_txid entries txid)) txids

@@ -1,5 +1,5 @@
 //! When entries were admitted, of which the earliest is known at once.
-ghost use Rattle.std.specs.Prelude.{◌≡◌, ◌<◌, ◌≤◌, ◌+◌, [], ◌∷◌, length, Contains, IfOk, IfSome, IfNone, OnOk};
+ghost use Rattle.std.specs.Prelude.{◌≡◌, ◌<◌, ◌≤◌, ◌+◌, [], ◌∷◌, false, length, Contains, IfOk, IfSome, IfNone, OnOk};
 ghost use Rattle.std.specs.List.Sorted.{IsPermutation};
 ghost use Rattle.gate_pool.specs.Arrivals.{arrival_of, HaveArrived, IsTaken};
 ghost use Rattle.gate_pool.specs.Places.{standing};
@@ -114,13 +114,13 @@ impl Arrivals {
         self.heap.len()
     }
 
-    /// Takes the memory for one more.
-    pub(crate) fn reserve(&mut self) -> Result<(), Memory>
+    /// Takes the memory for this many more.
+    pub(crate) fn reserve(&mut self, more: usize) -> Result<(), Memory>
         ensures list { self.new.list ≡ self.old.list }
         ensures kept { self.old.room ≤ self.new.room }
-        ensures room { OnOk result (0 < self.new.room) }
+        ensures room { OnOk result (more ≤ self.new.room) }
     {
-        self.heap.reserve(1)?;
+        self.heap.reserve(more)?;
         Ok(())
     }
 
@@ -136,6 +136,16 @@ impl Arrivals {
         };
         let put: Result<_, _> = self.heap.push(arrival);
         let _ = put.unwrap();
+    }
+
+    /// Whether an arrival was before a second.
+    pub(crate) fn has_before(&self, time: u64) -> bool
+        ensures { result ≡ false → (a : Came) → Contains self.now.list a → time ≤ a.time }
+    {
+        match self.heap.peek() {
+            Some(earliest) => earliest.time < time,
+            None => false,
+        }
     }
 
     /// Takes out the earliest arrival if it was before a second, and returns its id.

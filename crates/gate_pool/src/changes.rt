@@ -41,7 +41,7 @@ impl<S: BuildHasher + Copy + Drop> Pool<S> {
         ensures err { OnErr result (self.new.entries ≡ self.old.entries) }
         ensures before { self.new.before ≡ self.old.before }
     {
-        self.reserve(entry.transaction().inputs().len())?;
+        self.reserve(1, entry.transaction().inputs().len())?;
         self.replace(entry);
         Ok(())
     }

@@ -1,5 +1,7 @@
 //! Families over any view of a pool: found by walking from entry to entry, so that no search goes through the pool.
 ghost use Rattle.std.specs.Prelude.{◌≡◌, ◌<◌, ◌^◌, ◌≤◌, None, [], ◌∷◌, IfOk, IfSome, OnOk, length, vec_len};
+ghost use Rattle.std.specs.List.{list_any};
+ghost use Rattle.std.specs.Str.{bytes_eq};
 ghost use Rattle.gate_tx.specs.Ids.{txid_of};
 ghost use Rattle.gate_tx.specs.Money.{max_money};
 ghost use Rattle.gate_pool.specs.Pool.{largest_vsize};
@@ -14,6 +16,9 @@ use gate_tx::{TxIn, Txid};
 use std::alloc::Global;
 use std::marker::Model;
 
+/// How many entries a list of a family has room for from the start: as many as a family may have by default.
+const FAMILY: usize = 25;
+
 /// Entries above a transaction: their ids, each once, and their sums.
 #[derive(Drop)]
 pub struct Above {
@@ -25,6 +30,8 @@ pub struct Above {
 #[derive(Drop)]
 pub struct Lent<'a> {
     entry: &'a Entry,
+    /// Where an entry that it spends from is looked for first.
+    near: Option<usize>,
 }
 
 impl<'a> Model for Lent<'a> {
@@ -39,7 +46,14 @@ impl<'a> Lent<'a> {
     pub fn of(entry: &'a Entry) -> Lent<'a>
         ensures { result ≡ entry.now }
     {
-        Lent { entry }
+        Lent::beside(entry, None)
+    }
+
+    /// Lends an entry, and keeps where one that it spends from is to be looked for first.
+    fn beside(entry: &'a Entry, near: Option<usize>) -> Lent<'a>
+        ensures { result ≡ entry.now }
+    {
+        Lent { entry, near }
     }
 
     pub fn entry(&self) -> &'a Entry
@@ -75,6 +89,20 @@ impl<'a> Lent<'a> {
     }
 }
 
+/// Whether two ids are the same: most that are not differ in their first byte.
+fn is_same(a: &Txid, b: &Txid) -> bool
+    ensures { result ≡ bytes_eq a.now b.now }
+{
+    a.as_bytes()[0] == b.as_bytes()[0] && *a == *b
+}
+
+/// Whether an id was found.
+fn is_among(found: &[Txid], txid: &Txid) -> bool
+    ensures { result ≡ list_any (λ id. bytes_eq id txid.now) found.now }
+{
+    found.iter().any(|id| is_same(id, txid))
+}
+
 /// Adds an id, if an entry has it and it was not found before. Returns whether no more than `most` are found.
 fn add<V: FamilyView>(
     pool: &V,
@@ -84,28 +112,30 @@ fn add<V: FamilyView>(
 ) -> Result<bool, Memory>
     ensures { IfOk result (λ few. IsFound most (V.entries pool.now) (txid.now ∷ []) found.old.items found.new.items few) }
 {
-    if !found.contains(txid) && pool.entry(txid).is_some() {
+    if !is_among(found, txid) && pool.entry(txid).is_some() {
         found.push(*txid)?;
     }
     Ok(found.len() <= most)
 }
 
-/// Adds an id, and the entry that has it, if there is one and it was not found before. Returns whether no more than
-/// `most` are found.
+/// Adds an id, and the entry that has it, if there is one and it was not found before. It is looked for at the place `near`
+/// first. Returns whether no more than `most` are found.
 fn add_lent<'a, V: FamilyView>(
     pool: &'a V,
     found: &mut Vec<Txid>,
     lent: &mut Vec<Lent<'a>>,
     txid: &Txid,
+    near: Option<usize>,
     most: usize,
 ) -> Result<bool, Memory>
     ensures found { IfOk result (λ few. IsFound most (V.entries pool.now) (txid.now ∷ []) found.old.items found.new.items few) }
     ensures lent { AreLent (V.entries pool.now) found.old.items lent.old.items → OnOk result (AreLent (V.entries pool.now) found.new.items lent.new.items) }
 {
-    if !found.contains(txid) {
-        if let Some(entry) = pool.entry(txid) {
+    if !is_among(found, txid) {
+        let mut next = near;
+        if let Some(entry) = pool.entry_near(txid, &mut next) {
             found.push(*txid)?;
-            lent.push(Lent::of(entry))?;
+            lent.push(Lent::beside(entry, next))?;
         }
     }
     Ok(found.len() <= most)
@@ -128,20 +158,21 @@ fn add_all<V: FamilyView>(
     Ok(true)
 }
 
-/// Adds the ids of the entries whose outputs the inputs spend, each with its entry, until more than `most` are found.
-/// Returns whether no more are.
+/// Adds the ids of the entries whose outputs the inputs spend, each with its entry, until more than `most` are found. Each
+/// is looked for at the place `near` first. Returns whether no more are.
 fn add_parents<'a, V: FamilyView>(
     pool: &'a V,
     found: &mut Vec<Txid>,
     lent: &mut Vec<Lent<'a>>,
     inputs: &[TxIn],
+    near: Option<usize>,
     most: usize,
 ) -> Result<bool, Memory>
     ensures found { IfOk result (λ few. IsFound most (V.entries pool.now) (parents_of inputs.now) found.old.items found.new.items few) }
     ensures lent { AreLent (V.entries pool.now) found.old.items lent.old.items → OnOk result (AreLent (V.entries pool.now) found.new.items lent.new.items) }
 {
     for input in inputs {
-        if !add_lent(pool, found, lent, &input.prevout.txid, most)? {
+        if !add_lent(pool, found, lent, &input.prevout.txid, near, most)? {
             return Ok(false);
         }
     }
@@ -181,15 +212,17 @@ pub fn family_above<V: FamilyView>(
     ensures many { IfOk result (λ found. found ≡ None → most < length (ancestors_above (V.entries pool.now) inputs.now)) }
 {
     pool.recall_apart();
-    let mut found = Vec::new(alloc);
-    let mut lent = Vec::new(alloc);
-    if !add_parents(pool, &mut found, &mut lent, inputs, most)? {
+    let mut found = Vec::with_capacity(alloc, FAMILY)?;
+    let mut lent = Vec::with_capacity(alloc, FAMILY)?;
+    if !add_parents(pool, &mut found, &mut lent, inputs, None, most)? {
         return Ok(None);
     }
     let mut opened = 0;
     while opened < lent.len() {
-        let parents = lent[opened].inputs();
-        if !add_parents(pool, &mut found, &mut lent, parents, most)? {
+        let next = &lent[opened];
+        let near = next.near;
+        let parents = next.inputs();
+        if !add_parents(pool, &mut found, &mut lent, parents, near, most)? {
             return Ok(None);
         }
         opened += 1;

@@ -1,5 +1,5 @@
 //! The indexes of entries by witness id and by spent outpoint.
-ghost use Rattle.std.specs.Prelude.{◌≡◌, ◌<◌, ◌≤◌, cond, Some, None, List, ℕ, length};
+ghost use Rattle.std.specs.Prelude.{◌≡◌, ◌<◌, ◌≤◌, ◌+◌, cond, Some, None, List, ℕ, length};
 ghost use Rattle.std.specs.List.{list_any};
 ghost use Rattle.std.specs.Str.{bytes_eq};
 ghost use Rattle.gate_tx.specs.Coins.{point_eq, spends};
@@ -18,7 +18,8 @@ use std::hash::BuildHasher;
 /// Writes an id at each outpoint that the inputs spend.
 fn put_points<S: BuildHasher>(spent: &mut IndexMap<OutPoint, Txid, S>, inputs: &[TxIn], txid: Txid)
     requires { length inputs.now ≤ spare spent.old }
-    ensures { (point : Point) → get point_eq spent.new point ≡ cond (spends inputs.now point) (Some txid) (get point_eq spent.old point) }
+    ensures points { (point : Point) → get point_eq spent.new point ≡ cond (spends inputs.now point) (Some txid) (get point_eq spent.old point) }
+    ensures room { spare spent.old ≤ spare spent.new + length inputs.now }
 {
     for input in inputs {
         let put: Result<_, _> = spent.insert(input.prevout, txid);
@@ -36,6 +37,8 @@ pub(crate) fn put_entry<S: BuildHasher>(
     requires point_room { length entry.now.tx.inputs ≤ spare spent.old }
     ensures wtxids { (id : List ℕ) → get bytes_eq wtxids.new id ≡ written entry.now (has_wtxid entry.now id) (get bytes_eq wtxids.old id) }
     ensures points { (point : Point) → get point_eq spent.new point ≡ written entry.now (has_point entry.now point) (get point_eq spent.old point) }
+    ensures wtxid_room { spare wtxids.old ≤ spare wtxids.new + 1 }
+    ensures point_room { spare spent.old ≤ spare spent.new + length entry.now.tx.inputs }
 {
     let txid = entry.txid();
     let put: Result<_, _> = wtxids.insert(entry.wtxid(), txid);

@@ -1,9 +1,9 @@
-ghost use Rattle.std.specs.Prelude.{◌≡◌, ◌<◌, ◌^◌, ◌&&◌, Bool, None, [], not, filter, length, is_some, IfOk, IfSome, OnOk};
+ghost use Rattle.std.specs.Prelude.{◌≡◌, ◌<◌, ◌≤◌, ◌+◌, ◌^◌, ◌&&◌, None, [], not, filter, length, is_some, IfOk, IfSome, OnOk};
 ghost use Rattle.std.specs.List.{list_any};
 ghost use Rattle.std.specs.List.Sorted.{IsPermutation};
 ghost use Rattle.std.specs.Option.{option_copied};
 ghost use Rattle.gate_tx.specs.Ids.{txid_of, wtxid_of};
-ghost use Rattle.gate_pool.specs.Pool.{Admitted, entry_by_txid, entry_by_wtxid, spender_of, has_txid, listing_of, size_of, is_before};
+ghost use Rattle.gate_pool.specs.Pool.{IsNotLess, IsRewindable, all_of, entry_by_txid, entry_by_wtxid, inputs_of, spender_of, has_txid, listing_of, room_of, size_of, is_before};
 ghost use Rattle.gate_pool.specs.Family.{names, spends_one_of, totals_of, without_family, without_below, entered, OfThese};
 ghost use Rattle.gate_pool.specs.Counting.{entered_beside};
 ghost use Rattle.gate_pool.specs.Scores.{AreBounded, least_of};
@@ -45,7 +45,7 @@ impl<S: BuildHasher + Copy + Drop> Model for Pool<S> {
 
     ghost view = { λ p. p.store };
 
-    ghost invariant = { λ p. IsReady p.store.entries p.store.room (vec_capacity p.chosen) p.arrivals p.least };
+    ghost invariant = { λ p. IsReady p.store.entries p.store.room.entries (vec_capacity p.chosen) p.arrivals p.least };
 }
 
 impl<S: BuildHasher + Copy + Drop> Pool<S> {
@@ -66,6 +66,14 @@ impl<S: BuildHasher + Copy + Drop> Pool<S> {
         ensures { option_copied result ≡ entry_by_txid self.now.entries txid.now }
     {
         self.store.entry(txid)
+    }
+
+    /// Whether an entry has an id. The one that came last is asked first: if it has the id, this is no look-up.
+    pub fn contains(&self, txid: &Txid) -> bool
+        ensures { result ≡ is_some (entry_by_txid self.now.entries txid.now) }
+    {
+        let mut near = self.store.last_place();
+        self.store.entry_near(txid, &mut near).is_some()
     }
 
     pub fn by_wtxid(&self, wtxid: &Wtxid) -> Option<&Entry>
@@ -89,6 +97,16 @@ impl<S: BuildHasher + Copy + Drop> Pool<S> {
         ensures small { IfSome result (λ totals. totals.now.below.size < 2 ^ 100) }
     {
         self.store.totals(txid)
+    }
+
+    /// The totals of an entry, as `totals` finds them. It is looked for at the place `near` first, over which is written
+    /// where an entry that it spends from may stand: so a walk up a chain needs one look-up.
+    pub fn totals_near(&self, txid: &Txid, near: &mut Option<usize>) -> Option<&Totals>
+        ensures found { is_some result ≡ is_some (entry_by_txid self.now.entries txid.now) }
+        ensures totals { IfSome result (λ totals. totals.now ≡ totals_of self.now.entries txid.now) }
+        ensures small { IfSome result (λ totals. totals.now.below.size < 2 ^ 100) }
+    {
+        self.store.totals_near(txid, near)
     }
 
     pub fn count(&self) -> usize
@@ -132,48 +150,104 @@ impl<S: BuildHasher + Copy + Drop> Pool<S> {
         self.store.recall_distinct();
     }
 
-    /// Takes the memory for an entry of this many inputs. If memory runs out, the room that was taken before may be
-    /// lost.
-    pub fn reserve(&mut self, inputs: usize) -> Result<(), Memory>
+    /// Takes the memory for this many entries more, of this many inputs together, of which the next newcomer may have all.
+    /// If memory runs out, there is as much room as before.
+    pub fn reserve(&mut self, entries: usize, inputs: usize) -> Result<(), Memory>
         ensures entries { self.new.entries ≡ self.old.entries }
         ensures before { self.new.before ≡ self.old.before }
-        ensures room { OnOk result (inputs < self.new.room) }
+        ensures left { self.new.left ≡ self.old.left }
+        ensures kept { IsNotLess self.old.room self.new.room }
+        ensures next_kept { self.old.next ≤ self.new.next }
+        ensures room { OnOk result (entries ≤ self.new.room.entries) }
+        ensures inputs { OnOk result (inputs ≤ self.new.room.inputs) }
+        ensures next { OnOk result (inputs ≤ self.new.next) }
     {
-        let Some(places) = self.store.count().checked_add(1) else {
+        self.take_room(entries, inputs, inputs)
+    }
+
+    /// Takes the memory for this many entries more, of this many inputs together, of which the next newcomer may have all,
+    /// and for all that has left since the log began and what leaves with the entries of some ids, so that the pool can
+    /// still be rewound then. If memory runs out, there is as much room as before. It looks at each entry that has left.
+    pub fn reserve_to_rewind(
+        &mut self,
+        leaving: &[Txid],
+        entries: usize,
+        inputs: usize,
+    ) -> Result<(), Memory>
+        ensures entries { self.new.entries ≡ self.old.entries }
+        ensures before { self.new.before ≡ self.old.before }
+        ensures left { self.new.left ≡ self.old.left }
+        ensures kept { IsNotLess self.old.room self.new.room }
+        ensures next_kept { self.old.next ≤ self.new.next }
+        ensures room { OnOk result (self.old.left.entries + length leaving.now + entries ≤ self.new.room.entries) }
+        ensures inputs { OnOk result (self.old.left.inputs + inputs_of self.old.entries leaving.now + inputs ≤ self.new.room.inputs) }
+        ensures next { OnOk result (inputs ≤ self.new.next) }
+    {
+        let leave = self.store.entries_left(leaving.len())?;
+        let enter = leave.checked_add(entries).ok_or(Memory)?;
+        let spend = self.store.inputs_left(leaving, inputs)?;
+        self.take_room(enter, spend, inputs)
+    }
+
+    /// Takes the memory for this many entries more, of this many inputs together, of which the next newcomer has no more
+    /// than `next`. If memory runs out, there is as much room as before.
+    fn take_room(&mut self, entries: usize, inputs: usize, next: usize) -> Result<(), Memory>
+        ensures entries { self.new.entries ≡ self.old.entries }
+        ensures before { self.new.before ≡ self.old.before }
+        ensures left { self.new.left ≡ self.old.left }
+        ensures kept { IsNotLess self.old.room self.new.room }
+        ensures next_kept { self.old.next ≤ self.new.next }
+        ensures room { OnOk result (entries ≤ self.new.room.entries) }
+        ensures inputs { OnOk result (inputs ≤ self.new.room.inputs) }
+        ensures next { OnOk result (next ≤ self.new.next) }
+    {
+        let Some(places) = self.store.count().checked_add(entries) else {
             return Err(Memory);
         };
         self.chosen.clear();
         self.chosen.reserve(places)?;
-        self.store.reserve_arrival(&mut self.arrivals)?;
-        self.store.reserve(inputs)
+        self.store.reserve_arrivals(&mut self.arrivals, entries)?;
+        self.store.reserve(entries, inputs, next)
     }
 
     /// Puts an entry at the end, in place of all entries that conflict with it and of all that are below these. It
-    /// takes no memory, and uses up the room that was taken.
+    /// takes no memory, and uses up its own of the room that was taken.
     pub fn replace(&mut self, entry: Entry)
-        requires room { length entry.tx.inputs < self.old.room }
+        requires room { 0 < self.old.room.entries }
+        requires inputs { length entry.tx.inputs ≤ self.old.room.inputs }
+        requires next { length entry.tx.inputs ≤ self.old.next }
         requires txid { entry_by_txid self.old.entries (txid_of entry.tx) ≡ None }
         requires wtxid { entry_by_wtxid self.old.entries (wtxid_of entry.tx) ≡ None }
         ensures entries { self.new.entries ≡ entered self.old.entries entry }
         ensures before { self.new.before ≡ self.old.before }
+        ensures room { self.old.room.entries ≤ self.new.room.entries + 1 }
+        ensures room_inputs { self.old.room.inputs ≤ self.new.room.inputs + length entry.tx.inputs }
+        ensures left { (all_of self.new).entries ≡ (all_of self.old).entries + 1 }
+        ensures left_inputs { (all_of self.new).inputs ≡ (all_of self.old).inputs + length entry.tx.inputs }
     {
         self.replace_beside(None, entry);
     }
 
     /// Puts an entry at the end, in place of all entries that conflict with it, of the entry of this id, and of all that
-    /// are below these. It takes no memory, and uses up the room that was taken.
+    /// are below these. It takes no memory, and uses up its own of the room that was taken.
     pub fn replace_beside(&mut self, sibling: Option<Txid>, entry: Entry)
-        requires room { length entry.tx.inputs < self.old.room }
+        requires room { 0 < self.old.room.entries }
+        requires inputs { length entry.tx.inputs ≤ self.old.room.inputs }
+        requires next { length entry.tx.inputs ≤ self.old.next }
         requires txid { entry_by_txid self.old.entries (txid_of entry.tx) ≡ None }
         requires wtxid { entry_by_wtxid self.old.entries (wtxid_of entry.tx) ≡ None }
         ensures entries { self.new.entries ≡ entered_beside self.old.entries sibling entry }
         ensures before { self.new.before ≡ self.old.before }
+        ensures room { self.old.room.entries ≤ self.new.room.entries + 1 }
+        ensures room_inputs { self.old.room.inputs ≤ self.new.room.inputs + length entry.tx.inputs }
+        ensures left { (all_of self.new).entries ≡ (all_of self.old).entries + 1 }
+        ensures left_inputs { (all_of self.new).inputs ≡ (all_of self.old).inputs + length entry.tx.inputs }
     {
         self.arrivals.push(&entry);
         self.store.take_sibling(sibling);
         self.store.take_conflicts(entry.transaction().inputs());
         self.store.put(entry);
-        self.least = self.store.settle();
+        self.least = self.store.least();
     }
 
     /// Takes out the entry of an id and all that is below the id. It takes no memory, and gives up the room that was
@@ -197,13 +271,16 @@ impl<S: BuildHasher + Copy + Drop> Pool<S> {
     }
 
     /// Takes out the entries that spend what one of the inputs spends, and all that is below them. It takes no memory,
-    /// and gives up the room that was taken. The entries are found by index, not by a search of the pool.
+    /// and keeps the room that was taken. The entries are found by index, not by a search of the pool.
     pub fn take_spenders(&mut self, inputs: &[TxIn])
         ensures entries { self.new.entries ≡ without_below (spends_one_of inputs.now) self.old.entries }
         ensures before { self.new.before ≡ self.old.before }
+        ensures room { self.new.room ≡ self.old.room }
+        ensures next { self.new.next ≡ self.old.next }
+        ensures left { all_of self.new ≡ all_of self.old }
     {
         self.store.take_conflicts(inputs);
-        self.least = self.store.settle();
+        self.least = self.store.least();
     }
 
     /// Takes out the entries that spend outputs of a transaction, whether that is an entry or not, and all that is
@@ -229,13 +306,16 @@ impl<S: BuildHasher + Copy + Drop> Pool<S> {
     }
 
     /// Takes out the entries that were admitted before a second and all that is below them. It takes no memory, and
-    /// gives up the room that was taken. The oldest entry is known at once, so that this costs what is taken out.
+    /// gives up the room that was taken if anything is taken out. The oldest entry is known at once, so that this costs
+    /// what is taken out.
     pub fn take_before(&mut self, time: u64)
         ensures entries { self.new.entries ≡ without_below (is_before time) self.old.entries }
         ensures before { self.new.before ≡ self.old.before }
     {
-        self.store.take_before(&mut self.arrivals, time);
-        self.least = self.store.settle();
+        if self.arrivals.has_before(time) {
+            self.store.take_before(&mut self.arrivals, time);
+            self.least = self.store.settle();
+        }
     }
 
     /// Whether the entry with the id `child` spends outputs of a transaction. It is one look-up, however many children
@@ -261,8 +341,20 @@ impl<S: BuildHasher + Copy + Drop> Pool<S> {
     pub fn mark(&mut self)
         ensures entries { self.new.entries ≡ self.old.entries }
         ensures before { self.new.before ≡ self.old.entries }
+        ensures left { self.new.left ≡ room_of [] }
     {
         self.store.mark();
+    }
+
+    /// Takes the pool back to what it was when its log began: what has come since leaves, and what has left comes back to
+    /// its place. It takes no memory, and gives up the room that was taken. It costs what has left and come since.
+    pub fn rewind(&mut self)
+        requires { IsRewindable self.old }
+        ensures entries { self.new.entries ≡ self.old.before }
+        ensures before { self.new.before ≡ self.old.before }
+    {
+        self.store.rewind(&mut self.arrivals);
+        self.least = self.store.least();
     }
 
     /// The ids of the entries that were there when the log began and that no entry has now, in order of admission. It
@@ -304,6 +396,10 @@ impl<S: BuildHasher + Copy + Drop> FamilyView for Pool<S> {
 
     fn entry(&self, txid: &Txid) -> Option<&Entry> {
         self.store.entry(txid)
+    }
+
+    fn entry_near(&self, txid: &Txid, near: &mut Option<usize>) -> Option<&Entry> {
+        self.store.entry_near(txid, near)
     }
 
     fn children(&self, alloc: Global, txid: &Txid) -> Result<Vec<Txid>, Memory> {

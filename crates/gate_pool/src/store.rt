@@ -1,21 +1,16 @@
-ghost use Rattle.std.specs.Prelude.{◌≡◌, ◌<◌, ◌≤◌, ◌^◌, ◌++◌, ◌∷◌, ◌&&◌, Bool, List, ℕ, [], not, filter, length, is_some, IfOk, IfSome, IfNone, OnOk, Contains, None, true, false};
+ghost use Rattle.std.specs.Prelude.{◌≡◌, ◌<◌, ◌≤◌, ◌+◌, ◌^◌, ◌++◌, ◌∷◌, ◌&&◌, [], max, not, filter, length, is_some, IfOk, IfSome, IfNone, OnOk, OnErr, Contains, None, false};
 ghost use Rattle.std.specs.List.{list_any};
 ghost use Rattle.std.specs.List.Sorted.{IsPermutation};
 ghost use Rattle.std.specs.Option.{option_copied};
 ghost use Rattle.std.specs.Vec.{vec_capacity};
-ghost use Rattle.gate_tx.specs.declared.TxIn.{TxIn as Input};
-ghost use Rattle.gate_tx.specs.declared.OutPoint.{OutPoint as Point};
 ghost use Rattle.gate_tx.specs.Coins.{spends};
-ghost use Rattle.gate_tx.specs.Ids.{txid_of};
-ghost use Rattle.gate_pool.specs.Pool.{Admitted, entry_by_txid, entry_by_wtxid, spender_of, has_txid, is_before, listing_of, size_of};
+ghost use Rattle.gate_pool.specs.Pool.{Admitted, IsNotLess, IsRewindable, all_of, entry_by_txid, entry_by_wtxid, inputs_in, inputs_of, spender_of, has_txid, listing_of, room_of, size_of};
 ghost use Rattle.gate_pool.specs.Arrivals.{HaveArrived};
 ghost use Rattle.gate_pool.specs.Keeping.{IsNew};
-ghost use Rattle.gate_pool.specs.Family.{names, children_of, spends_one_of, totals_of, without_family, without_below, AreIdsOf, OfThese};
-ghost use Rattle.gate_pool.specs.Counting.{is_sibling};
+ghost use Rattle.gate_pool.specs.Family.{names, children_of, totals_of, without_family, AreIdsOf, OfThese};
 ghost use Rattle.gate_pool.specs.Scores.{AreBounded, least_of};
 ghost use Rattle.gate_pool.specs.Distinct.{AreDistinct};
 ghost use Rattle.gate_pool.specs.Moves.{departed, arrived};
-ghost use Rattle.gate_pool.specs.Removal.{PassesSpenders};
 ghost use Rattle.gate_pool.specs.Search.{IsChild};
 
 use crate::arrivals::Arrivals;
@@ -25,10 +20,11 @@ use crate::moves::{sort_by_seat, txids_at, txids_beside, txids_left};
 use crate::naming::{list_parents, node_id, txids_of};
 use crate::places::{drop_each, drop_entry, put_entry};
 use crate::reading::{choose, index_each, sort_by_place, txids_in};
+use crate::rewinding::{inputs_gone, put_each_back, take_late};
 use crate::scores::Score;
 use gate_bytes::{Kept, Memory};
 use gate_graph::{Gone, NodeId, Nodes, Totals};
-use gate_tx::{OutPoint, TxIn, Txid, Wtxid};
+use gate_tx::{OutPoint, Txid, Wtxid};
 use indexmap::IndexMap;
 use std::alloc::Global;
 use std::hash::BuildHasher;
@@ -50,7 +46,10 @@ pub(crate) struct Store<S: BuildHasher + Copy + Drop> {
     gone: Vec<Gone<Entry>>,
     /// How many places there were when the log began. Places stay where they are until it begins anew.
     mark: usize,
+    /// How many entries there is room for.
     room: usize,
+    /// How many inputs these may have together.
+    inputs: usize,
 }
 
 impl<S: BuildHasher + Copy + Drop> Model for Store<S> {
@@ -59,23 +58,25 @@ impl<S: BuildHasher + Copy + Drop> Model for Store<S> {
     ghost use Rattle.std.specs.Vec.{vec_len, vec_capacity};
     ghost use Rattle.gate_tx.specs.Coins.{point_eq};
     ghost use Rattle.indexmap.specs.IndexMap.{get, spare};
-    ghost use Rattle.gate_pool.specs.Pool.{Pooled};
-    ghost use Rattle.gate_pool.specs.Keeping.{entries_in, IsCarried, IsIndexed, HasRoom};
-    ghost use Rattle.gate_pool.specs.Log.{before_of, IsLog};
+    ghost use Rattle.gate_pool.specs.Pool.{Pooled, room_of};
+    ghost use Rattle.gate_pool.specs.Keeping.{entries_in, IsCarried, IsIndexed, HasPlaces, HasLogRoom};
+    ghost use Rattle.gate_pool.specs.Log.{before_of, loads_of, IsLog};
 
     ghost Value = { Pooled };
 
     ghost view = { λ s. record {
       entries = entries_in s.nodes.nodes;
       before = before_of (entries_in s.nodes.nodes) s.nodes.places s.gone.items s.mark;
-      room = s.room;
+      room = record { entries = s.room; inputs = s.inputs };
+      next = vec_capacity s.parents;
+      left = room_of (loads_of s.gone.items);
     } };
 
     ghost invariant = { λ s.
         IsCarried s.nodes.nodes
         × IsIndexed (entries_in s.nodes.nodes) (get bytes_eq s.wtxids) (get point_eq s.spent)
-        × HasRoom s.room (length (entries_in s.nodes.nodes)) s.nodes.room (spare s.wtxids) (spare s.spent)
-        (vec_capacity s.parents) (vec_len s.gone) (vec_capacity s.gone)
+        × HasPlaces s.room s.inputs s.nodes.room s.nodes.names (spare s.wtxids) (spare s.spent)
+        × HasLogRoom s.room (length (entries_in s.nodes.nodes)) (vec_len s.gone) (vec_capacity s.gone)
         × IsLog (entries_in s.nodes.nodes) s.nodes.places s.gone.items s.mark };
 }
 
@@ -84,7 +85,7 @@ impl<S: BuildHasher + Copy + Drop> Store<S> {
     pub(crate) fn new(alloc: Global, hasher: S) -> Store<S>
         ensures entries { result.entries ≡ [] }
         ensures before { result.before ≡ [] }
-        ensures room { result.room ≡ 0 }
+        ensures room { result.room.entries ≡ 0 }
     {
         Store {
             nodes: Nodes::new(alloc, hasher),
@@ -94,6 +95,7 @@ impl<S: BuildHasher + Copy + Drop> Store<S> {
             gone: Vec::new(alloc),
             mark: 0,
             room: 0,
+            inputs: 0,
         }
     }
 
@@ -101,6 +103,19 @@ impl<S: BuildHasher + Copy + Drop> Store<S> {
         ensures { option_copied result ≡ entry_by_txid self.now.entries txid.now }
     {
         self.nodes.load(&node_id(txid))
+    }
+
+    /// The entry of an id, as `entry` finds it. It is looked for at the place `near` first, over which is written where an
+    /// entry that it spends from may stand.
+    pub(crate) fn entry_near(&self, txid: &Txid, near: &mut Option<usize>) -> Option<&Entry>
+        ensures { option_copied result ≡ entry_by_txid self.now.entries txid.now }
+    {
+        self.nodes.load_near(&node_id(txid), near)
+    }
+
+    /// Where the entry that came last stands, if it has not left.
+    pub(crate) fn last_place(&self) -> Option<usize> {
+        self.nodes.as_slice().len().checked_sub(1)
     }
 
     pub(crate) fn by_wtxid(&self, wtxid: &Wtxid) -> Option<&Entry>
@@ -127,6 +142,16 @@ impl<S: BuildHasher + Copy + Drop> Store<S> {
         ensures small { IfSome result (λ totals. totals.now.below.size < 2 ^ 100) }
     {
         self.nodes.totals(&node_id(txid))
+    }
+
+    /// The totals of an entry, as `totals` finds them. It is looked for at the place `near` first, over which is written
+    /// where an entry that it spends from may stand.
+    pub(crate) fn totals_near(&self, txid: &Txid, near: &mut Option<usize>) -> Option<&Totals>
+        ensures found { is_some result ≡ is_some (entry_by_txid self.now.entries txid.now) }
+        ensures totals { IfSome result (λ totals. totals.now ≡ totals_of self.now.entries txid.now) }
+        ensures small { IfSome result (λ totals. totals.now.below.size < 2 ^ 100) }
+    {
+        self.nodes.totals_near(&node_id(txid), near)
     }
 
     pub(crate) fn count(&self) -> usize
@@ -181,23 +206,27 @@ impl<S: BuildHasher + Copy + Drop> Store<S> {
         Ok(arrivals)
     }
 
-    /// Takes the memory for one arrival more. If more than half of the arrivals are of entries that have left, all are
-    /// listed anew, which takes none.
-    pub(crate) fn reserve_arrival(&self, arrivals: &mut Arrivals) -> Result<(), Memory>
+    /// Takes the memory for this many arrivals more. If more than half of the arrivals are of entries that have left, all
+    /// are listed anew, which takes none.
+    pub(crate) fn reserve_arrivals(
+        &self,
+        arrivals: &mut Arrivals,
+        more: usize,
+    ) -> Result<(), Memory>
         requires { HaveArrived self.now.entries arrivals.old.list }
         ensures arrived { HaveArrived self.now.entries arrivals.new.list }
-        ensures kept { 0 < arrivals.old.room → 0 < arrivals.new.room }
-        ensures room { OnOk result (0 < arrivals.new.room) }
+        ensures kept { arrivals.old.room ≤ arrivals.new.room }
+        ensures room { OnOk result (more ≤ arrivals.new.room) }
     {
         self.drop_gone(arrivals);
-        arrivals.reserve()
+        arrivals.reserve(more)
     }
 
     /// Lists the arrivals anew if more than half of them are of entries that have left.
     fn drop_gone(&self, arrivals: &mut Arrivals)
         requires { HaveArrived self.now.entries arrivals.old.list }
         ensures arrived { HaveArrived self.now.entries arrivals.new.list }
-        ensures kept { 0 < arrivals.old.room → 0 < arrivals.new.room }
+        ensures kept { arrivals.old.room ≤ arrivals.new.room }
     {
         if arrivals.len() / 2 > self.count() {
             arrivals.list_anew(self.nodes.as_slice());
@@ -205,7 +234,7 @@ impl<S: BuildHasher + Copy + Drop> Store<S> {
     }
 
     /// The least score of all entries, of equal ones that of the entry that was admitted last.
-    fn least(&self) -> Option<Score>
+    pub(crate) fn least(&self) -> Option<Score>
         ensures value { result ≡ least_of self.now.entries }
         ensures bounded { IfSome result (λ score. AreBounded score.family) }
     {
@@ -255,36 +284,82 @@ impl<S: BuildHasher + Copy + Drop> Store<S> {
         let _room = self.room;
     }
 
-    /// Takes the memory for an entry of this many inputs.
-    pub(crate) fn reserve(&mut self, inputs: usize) -> Result<(), Memory>
+    /// How many entries have left since the log began, with this many more.
+    pub(crate) fn entries_left(&self, more: usize) -> Result<usize, Memory>
+        ensures { IfOk result (λ sum. sum ≡ self.now.left.entries + more) }
+    {
+        self.gone.len().checked_add(more).ok_or(Memory)
+    }
+
+    /// How many inputs all that has left since the log began has together, with this many more and those of the entries of
+    /// some ids.
+    pub(crate) fn inputs_left(&self, leaving: &[Txid], more: usize) -> Result<usize, Memory>
+        ensures { IfOk result (λ sum. sum ≡ self.now.left.inputs + inputs_of self.now.entries leaving.now + more) }
+    {
+        let mut sum = inputs_gone(self.gone.as_slice(), more)?;
+        for txid in leaving {
+            sum = sum.checked_add(self.inputs_at(txid)).ok_or(Memory)?;
+        }
+        Ok(sum)
+    }
+
+    /// How many inputs the entry of an id has; none if no entry has the id.
+    fn inputs_at(&self, txid: &Txid) -> usize
+        ensures { result ≡ inputs_in (entry_by_txid self.now.entries txid.now) }
+    {
+        match self.entry(txid) {
+            Some(entry) => entry.transaction().inputs().len(),
+            None => 0,
+        }
+    }
+
+    /// Takes the memory for this many entries more, of this many inputs together, of which the next newcomer has no more
+    /// than `next`. If memory runs out, there is as much room as before.
+    pub(crate) fn reserve(
+        &mut self,
+        entries: usize,
+        inputs: usize,
+        next: usize,
+    ) -> Result<(), Memory>
         ensures entries { self.new.entries ≡ self.old.entries }
         ensures before { self.new.before ≡ self.old.before }
-        ensures room { OnOk result (inputs < self.new.room) }
+        ensures left { self.new.left ≡ self.old.left }
+        ensures kept { IsNotLess self.old.room self.new.room }
+        ensures next_kept { self.old.next ≤ self.new.next }
+        ensures most { OnErr result (self.new.room ≡ self.old.room) }
+        ensures room { OnOk result (self.new.room.entries ≡ max self.old.room.entries entries) }
+        ensures inputs { OnOk result (inputs ≤ self.new.room.inputs) }
+        ensures next { OnOk result (next ≤ self.new.next) }
     {
-        self.room = 0;
-        let Some(room) = inputs.checked_add(1) else {
+        let Some(places) = self.nodes.count().checked_add(entries) else {
             return Err(Memory);
         };
-        let count = self.nodes.count();
-        self.gone.reserve(count + 1)?;
+        self.gone.reserve(places)?;
         self.parents.clear();
-        self.parents.reserve(inputs)?;
-        self.wtxids.reserve(1)?;
+        self.parents.reserve(next)?;
+        self.wtxids.reserve(entries)?;
         self.spent.reserve(inputs)?;
-        self.nodes.reserve(inputs)?;
-        self.room = room;
+        self.nodes.reserve(entries, inputs)?;
+        self.room = self.room.max(entries);
+        self.inputs = self.inputs.max(inputs);
         Ok(())
     }
 
     /// Puts an entry at the end, for which there is room.
     pub(crate) fn put(&mut self, entry: Entry)
-        requires room { length entry.tx.inputs < self.old.room }
+        requires room { 0 < self.old.room.entries }
+        requires inputs { length entry.tx.inputs ≤ self.old.room.inputs }
+        requires next { length entry.tx.inputs ≤ self.old.next }
         requires new { IsNew self.old.entries entry }
         ensures entries { self.new.entries ≡ self.old.entries ++ entry ∷ [] }
         ensures before { self.new.before ≡ self.old.before }
+        ensures left { self.new.left ≡ self.old.left }
+        ensures room { self.new.room.entries + 1 ≡ self.old.room.entries }
+        ensures room_inputs { self.new.room.inputs + length entry.tx.inputs ≡ self.old.room.inputs }
     {
         let _slots = self.nodes.as_slice();
-        self.room = 0;
+        self.room -= 1;
+        self.inputs -= entry.transaction().inputs().len();
         entry.recall_bounds();
         put_entry(&mut self.wtxids, &mut self.spent, &entry);
         list_parents(&mut self.parents, entry.transaction().inputs());
@@ -301,6 +376,8 @@ impl<S: BuildHasher + Copy + Drop> Store<S> {
         ensures rest { self.new.entries ≡ without_family self.old.entries id.now }
         ensures before { self.new.before ≡ self.old.before }
         ensures room { self.new.room ≡ self.old.room }
+        ensures next { self.new.next ≡ self.old.next }
+        ensures all { all_of self.new ≡ all_of self.old }
     {
         let _slots = self.nodes.as_slice();
         let count = self.gone.len();
@@ -308,123 +385,12 @@ impl<S: BuildHasher + Copy + Drop> Store<S> {
         drop_each(&mut self.wtxids, &mut self.spent, &self.gone[count..]);
     }
 
-    /// Takes out the entry that spends an outpoint, and all below it.
-    fn take_spender(&mut self, point: &OutPoint)
-        ensures rest { (test : Admitted → Bool) → PassesSpenders test point.now → without_below test self.new.entries ≡ without_below test self.old.entries }
-        ensures gone { spender_of self.new.entries point.now ≡ None }
-        ensures still { (p : Point) → spender_of self.old.entries p ≡ None → spender_of self.new.entries p ≡ None }
-        ensures before { self.new.before ≡ self.old.before }
-        ensures room { self.new.room ≡ self.old.room }
-    {
-        self.recall_distinct();
-        match self.spender(point) {
-            Some(entry) => {
-                let id = node_id(&entry.txid());
-                self.take_out(&id);
-            }
-            None => {}
-        }
-    }
-
-    /// Takes out the entries that spend what the inputs spend, and all below them.
-    pub(crate) fn take_conflicts(&mut self, inputs: &[TxIn])
-        ensures rest { self.new.entries ≡ without_below (spends_one_of inputs.now) self.old.entries }
-        ensures gone { (i : Input) → Contains inputs.now i → spender_of self.new.entries i.prevout ≡ None }
-        ensures before { self.new.before ≡ self.old.before }
-        ensures room { self.new.room ≡ self.old.room }
-    {
-        for input in inputs {
-            self.take_spender(&input.prevout);
-        }
-    }
-
-    /// Takes out the entry of an id, if there is one, and all below it.
-    fn take_entry(&mut self, txid: &Txid)
-        ensures rest { self.new.entries ≡ without_below (λ e. has_txid e txid.now) self.old.entries }
-        ensures before { self.new.before ≡ self.old.before }
-        ensures room { self.new.room ≡ self.old.room }
-    {
-        match self.entry(txid) {
-            Some(entry) => {
-                let id = node_id(&entry.txid());
-                self.take_out(&id);
-            }
-            None => {}
-        }
-    }
-
-    /// Takes out the entry that makes room, if there is one of its id, and all below it.
-    pub(crate) fn take_sibling(&mut self, sibling: Option<Txid>)
-        ensures rest { self.new.entries ≡ without_below (is_sibling sibling) self.old.entries }
-        ensures before { self.new.before ≡ self.old.before }
-        ensures room { self.new.room ≡ self.old.room }
-    {
-        match sibling {
-            Some(txid) => {
-                self.take_entry(&txid);
-            }
-            None => {}
-        }
-    }
-
     /// The id of an entry that spends outputs of a transaction, whether that is an entry or not.
-    fn child(&self, id: &NodeId) -> Option<NodeId>
+    pub(crate) fn child(&self, id: &NodeId) -> Option<NodeId>
         ensures some { IfSome result (λ child. IsChild self.now.entries id.now child) }
         ensures none { IfNone result ((e : Admitted) → Contains self.now.entries e → names e id.now ≡ false) }
     {
         self.nodes.child(id).copied()
-    }
-
-    /// Takes out the entries that spend outputs of a transaction, whether that is an entry or not, and all below them.
-    pub(crate) fn take_children(&mut self, txid: &Txid)
-        ensures entries { self.new.entries ≡ without_below (λ e. names e txid.now) self.old.entries }
-        ensures before { self.new.before ≡ self.old.before }
-    {
-        let id = node_id(txid);
-        while let Some(child) = self.child(&id) {
-            self.take_out(&child);
-        }
-    }
-
-    /// Takes out the entries that were chosen, and all below them.
-    pub(crate) fn take_chosen(&mut self, chosen: &[NodeId])
-        ensures entries { (test : Admitted → Bool) → chosen.now ≡ listing_of (filter test self.old.entries) → self.new.entries ≡ without_below test self.old.entries }
-        ensures before { self.new.before ≡ self.old.before }
-    {
-        for id in chosen {
-            self.take_out(id);
-        }
-    }
-
-    /// Takes out the entry of an id and all below it, if it was admitted before a second.
-    fn take_early(&mut self, txid: &Txid, time: u64)
-        ensures rest { without_below (is_before time) self.new.entries ≡ without_below (is_before time) self.old.entries }
-        ensures fewer { (e : Admitted) → Contains self.new.entries e → Contains self.old.entries e }
-        ensures late { (e : Admitted) → Contains self.new.entries e → txid_of e.tx ≡ txid.now → time ≤ e.time }
-        ensures before { self.new.before ≡ self.old.before }
-    {
-        self.recall_distinct();
-        match self.entry(txid) {
-            Some(entry) => {
-                if entry.time() < time {
-                    self.take_out(&node_id(txid));
-                }
-            }
-            None => {}
-        }
-    }
-
-    /// Takes out the entries that were admitted before a second, and all below them. Their arrivals go, and those of
-    /// other entries stay.
-    pub(crate) fn take_before(&mut self, arrivals: &mut Arrivals, time: u64)
-        requires { HaveArrived self.old.entries arrivals.old.list }
-        ensures rest { self.new.entries ≡ without_below (is_before time) self.old.entries }
-        ensures arrived { HaveArrived self.new.entries arrivals.new.list }
-        ensures before { self.new.before ≡ self.old.before }
-    {
-        while let Some(txid) = arrivals.take_before(time) {
-            self.take_early(&txid, time);
-        }
     }
 
     /// Takes out the entry of an id alone.
@@ -433,7 +399,6 @@ impl<S: BuildHasher + Copy + Drop> Store<S> {
         ensures before { self.new.before ≡ self.old.before }
     {
         let _slots = self.nodes.as_slice();
-        self.room = 0;
         match self.nodes.take_one(&node_id(txid)) {
             Some(gone) => {
                 drop_entry(&mut self.wtxids, &mut self.spent, &gone.load);
@@ -447,11 +412,12 @@ impl<S: BuildHasher + Copy + Drop> Store<S> {
     pub(crate) fn settle(&mut self) -> Option<Score>
         ensures entries { self.new.entries ≡ self.old.entries }
         ensures before { self.new.before ≡ self.old.before }
-        ensures room { self.new.room ≡ 0 }
+        ensures room { self.new.room.entries ≡ 0 }
         ensures value { result ≡ least_of self.old.entries }
         ensures bounded { IfSome result (λ score. AreBounded score.family) }
     {
         self.room = 0;
+        self.inputs = 0;
         self.least()
     }
 
@@ -460,19 +426,53 @@ impl<S: BuildHasher + Copy + Drop> Store<S> {
     pub(crate) fn mark(&mut self)
         ensures entries { self.new.entries ≡ self.old.entries }
         ensures before { self.new.before ≡ self.old.entries }
-        ensures room { self.new.room ≡ 0 }
+        ensures room { self.new.room.entries ≡ 0 }
+        ensures left { self.new.left ≡ room_of [] }
     {
         self.room = 0;
+        self.inputs = 0;
         self.gone.clear();
         self.nodes.tidy();
         self.mark = self.nodes.as_slice().len();
+    }
+
+    /// Takes the entries back to those that there were when the log began, each to its place, and gives up the room that
+    /// was taken.
+    pub(crate) fn rewind(&mut self, arrivals: &mut Arrivals)
+        requires room { IsRewindable self.old }
+        requires arrived { HaveArrived self.old.entries arrivals.old.list }
+        requires arrivals_room { self.old.left.entries ≤ arrivals.old.room }
+        ensures entries { self.new.entries ≡ self.old.before }
+        ensures before { self.new.before ≡ self.old.before }
+        ensures room { self.new.room.entries ≡ 0 }
+        ensures few { length self.new.entries ≤ length self.old.entries + self.old.left.entries }
+        ensures arrived { HaveArrived self.new.entries arrivals.new.list }
+    {
+        let _slots = self.nodes.as_slice();
+        self.room = 0;
+        self.inputs = 0;
+        take_late(
+            &mut self.nodes,
+            &mut self.wtxids,
+            &mut self.spent,
+            self.mark,
+        );
+        put_each_back(
+            &mut self.nodes,
+            &mut self.wtxids,
+            &mut self.spent,
+            arrivals,
+            &mut self.gone,
+            self.mark,
+        );
+        let _rewound = self.nodes.as_slice();
     }
 
     /// A copy of the entries, in tables that hash alike. The transactions are shared, and the totals are copied.
     pub(crate) fn copy(&self, alloc: Global) -> Result<Store<S>, Memory>
         ensures entries { IfOk result (λ copy. copy.entries ≡ self.now.entries) }
         ensures before { IfOk result (λ copy. copy.before ≡ self.now.entries) }
-        ensures room { IfOk result (λ copy. copy.room ≡ 0) }
+        ensures room { IfOk result (λ copy. copy.room.entries ≡ 0) }
     {
         let mut wtxids = IndexMap::with_hasher(alloc, self.hasher());
         let mut spent = IndexMap::with_hasher(alloc, self.hasher());
@@ -489,6 +489,7 @@ impl<S: BuildHasher + Copy + Drop> Store<S> {
             gone,
             mark,
             room: 0,
+            inputs: 0,
         })
     }
 }

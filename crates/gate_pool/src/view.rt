@@ -17,6 +17,11 @@ pub trait FamilyView {
     fn entry(&self, txid: &Txid) -> Option<&Entry>
         ensures { option_copied result ≡ entry_by_txid (entries self.now) txid.now };
 
+    /// The entry of an id, as `entry` finds it. It is looked for at the place `near` first, over which is written where an
+    /// entry that it spends from may stand.
+    fn entry_near(&self, txid: &Txid, near: &mut Option<usize>) -> Option<&Entry>
+        ensures { option_copied result ≡ entry_by_txid (entries self.now) txid.now };
+
     /// The ids of the entries that spend outputs of a transaction, whether that is an entry or not.
     fn children(&self, alloc: Global, txid: &Txid) -> Result<Vec<Txid>, Memory>
         ensures { IfOk result (λ ids. AreIdsOf ids.items (children_of (entries self.now) txid.now)) };

@@ -11,14 +11,14 @@ use Rattle.gate_pool.proofs.closures.family_above.Goals as goal
 
 pub returns-then-not-branch-clause-many : goal.returns-then-not-branch-clause-many
 returns-then-not-branch-clause-many g c = λ none.
-    WalkUp-over (g.V.FamilyView.entries c.args.pool.now) c.args.inputs.now c.new-found.ensures.items c.in_ok-add_parents.ensures.found c.if-not-branch.true
+    WalkUp-over (g.V.FamilyView.entries c.args.pool.now) c.args.inputs.now c.in_ok-found.ensures.items c.in_ok-add_parents.ensures.found c.if-not-branch.true
 
 pub loop-opened-init : goal.loop-opened-init
 loop-opened-init g c =
-    let few : length c.add_parents.new.found.items ≤ c.args.most = c.in_ok-add_parents.ensures.found.few c.if-not-branch.false (subst (λ l. length l ≤ c.args.most) (sym c.new-found.ensures.items) (omega arith)) in
+    let few : length c.add_parents.new.found.items ≤ c.args.most = c.in_ok-add_parents.ensures.found.few c.if-not-branch.false (subst (λ l. length l ≤ c.args.most) (sym c.in_ok-found.ensures.items) (omega arith)) in
     record {
-      walk = WalkUp-start (g.V.FamilyView.entries c.args.pool.now) c.args.inputs.now c.new-found.ensures.items c.in_ok-add_parents.ensures.found c.if-not-branch.false;
-      lent = c.in_ok-add_parents.ensures.lent (AreLent-none c.new-found.ensures.items c.new-lent.ensures.items);
+      walk = WalkUp-start (g.V.FamilyView.entries c.args.pool.now) c.args.inputs.now c.in_ok-found.ensures.items c.in_ok-add_parents.ensures.found c.if-not-branch.false;
+      lent = c.in_ok-add_parents.ensures.lent (AreLent-none c.in_ok-found.ensures.items c.in_ok-lent.ensures.items);
       few = omega (arith, few, c.add_parents.new.found.ok);
     }
 
@@ -28,9 +28,9 @@ loop-opened-smaller g c = omega (arith, IsSound-le c.loop-opened.invariant.walk.
 pub returns-then-not-branch-2-clause-many : goal.returns-then-not-branch-2-clause-many
 returns-then-not-branch-2-clause-many g c = λ none.
     let entries = g.V.FamilyView.entries c.args.pool.now in
-    let e = c.index.result.now in
+    let e = c.index-next.result.now in
     let lt : c.loop-opened.opened < length c.loop-opened.lent.items = omega (arith, c.loop-opened-test.true, c.len.ensures, c.loop-opened.lent.ok) in
-    let next = lent_next entries c.recall_apart.ensures c.loop-opened.invariant.lent c.loop-opened.opened e lt c.index.ensures in
+    let next = lent_next entries c.recall_apart.ensures c.loop-opened.invariant.lent c.loop-opened.opened e lt c.index-next.ensures in
     let found : IsFound c.args.most entries (parents_of e.tx.inputs) c.loop-opened.found.items c.add_parents-in-loop-opened.new.found.items c.in_ok-add_parents-2.field-0 =
     subst (λ (is : List TxIn). IsFound c.args.most entries (parents_of is) c.loop-opened.found.items c.add_parents-in-loop-opened.new.found.items c.in_ok-add_parents-2.field-0) c.inputs-parents.ensures c.in_ok-add_parents-2.ensures.found in
     WalkUp-over_next entries c.args.inputs.now c.loop-opened.invariant.walk (txid_of e.tx) next.0 next.1 e next.2 found c.if-not-branch-2.true
@@ -38,9 +38,9 @@ returns-then-not-branch-2-clause-many g c = λ none.
 pub loop-opened-preserved : goal.loop-opened-preserved
 loop-opened-preserved g c =
     let entries = g.V.FamilyView.entries c.args.pool.now in
-    let e = c.index.result.now in
+    let e = c.index-next.result.now in
     let lt : c.loop-opened.opened < length c.loop-opened.lent.items = omega (arith, c.loop-opened-test.true, c.len.ensures, c.loop-opened.lent.ok) in
-    let next = lent_next entries c.recall_apart.ensures c.loop-opened.invariant.lent c.loop-opened.opened e lt c.index.ensures in
+    let next = lent_next entries c.recall_apart.ensures c.loop-opened.invariant.lent c.loop-opened.opened e lt c.index-next.ensures in
     let found : IsFound c.args.most entries (parents_of e.tx.inputs) c.loop-opened.found.items c.add_parents-in-loop-opened.new.found.items c.in_ok-add_parents-2.field-0 =
     subst (λ (is : List TxIn). IsFound c.args.most entries (parents_of is) c.loop-opened.found.items c.add_parents-in-loop-opened.new.found.items c.in_ok-add_parents-2.field-0) c.inputs-parents.ensures c.in_ok-add_parents-2.ensures.found in
     let few : length c.add_parents-in-loop-opened.new.found.items ≤ c.args.most = found.few c.if-not-branch-2.false (omega (arith, c.loop-opened.invariant.few, c.loop-opened.found.ok)) in

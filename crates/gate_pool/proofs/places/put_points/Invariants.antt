@@ -1,4 +1,4 @@
-use Rattle.std.proofs.Common.{◌≡◌, ◌≤◌, ◌+◌, cond, Some, length, take}
+use Rattle.std.proofs.Common.{◌≡◌, ◌≤◌, ◌+◌, cond, Some, take}
 use Rattle.gate_tx.specs.Coins.{point_eq}
 use Rattle.gate_tx.specs.declared.OutPoint.{OutPoint}
 use Rattle.indexmap.specs.IndexMap.{get, spare}
@@ -8,5 +8,5 @@ use Rattle.gate_pool.proofs.places.put_points.Given as goal
 abbrev pub invariant-loop-input : goal.invariant-loop-input
 invariant-loop-input g l = record {
   put : (point : OutPoint) → get point_eq l.spent point ≡ cond (spends (take l.input-index l.inputs) point) (Some l.txid) (get point_eq l.fn.spent point);
-  room : length l.inputs ≤ spare l.spent + l.input-index;
+  room : spare l.fn.spent ≤ spare l.spent + l.input-index;
 }

@@ -1,4 +1,4 @@
-use Rattle.std.proofs.Common.{◌≡◌, ◌<◌, ◌+◌, [], ◌∷◌, length, take, refl, sym, ap, subst, ◌∙◌, arith, length-append}
+use Rattle.std.proofs.Common.{◌+◌, [], ◌∷◌, length, take, sym, ap, subst, arith, length-append}
 use Rattle.std.proofs.lemmas.List.{take_all}
 use Rattle.gate_bytes.proofs.Members.{not_in_none}
 use Rattle.gate_pool.specs.Arrivals.{Arrived, HaveArrived}

@@ -33,7 +33,7 @@ returns g c =
     let places : spots_of slots ≡ spots = c.as_slice-slots.ensures.places in
     let listed : entries_of (spots_of slots) ≡ listing_of (standing slots) = spots_listed slots (spots_of slots) es carried refl ∙ ap listing_of (sym are) in
     let distinct : AllPairs DifferById (standing slots) = subst (AllPairs DifferById) (sym are) c.self.invariant.1.distinct.txids in
-    let whole = arrived_are slots (own_ids (entries_of slots) es carried) listed distinct log mark (IsLog-same c.self.invariant.3 are places refl refl)
+    let whole = arrived_are slots (own_ids (entries_of slots) es carried) listed distinct log mark (IsLog-same c.self.invariant.4 are places refl refl)
     (contains bytes_eq c.in_ok-left.left) (λ id. c.in_ok-left.ensures id ∙ ap (list_any (has_left mark id)) c.as_slice.ensures.value) in
     let test = λ (e : Admitted). not (contains bytes_eq c.in_ok-left.left (txid_of e.tx)) in
     let size = length slots - mark in

@@ -27,6 +27,6 @@ returns g c =
     let moved : IsPermutation (map seated (filter (has_gone es mark) log)) sorted = subst (λ l. IsPermutation l sorted) found c.sort_by_seat.ensures.same in
     let long : seats.len ≡ length sorted = omega (arith, seats.ok, length_permutation c.as_mut_slice.result.now sorted c.sort_by_seat.ensures.same, ap length c.as_mut_slice.ensures.value) in
     let told : c.as_slice-2.result.now ≡ sorted = c.as_slice-2.ensures.value ∙ ap (λ n. take n (sorted ++ drop (length sorted) seats.items)) long ∙ take-append_seam sorted (drop (length sorted) seats.items) in
-    let are = departed_are es spots (spots_listed c.as_slice-slots.result.now spots es (c.as_slice-slots.ensures.nodes ∙ c.self.invariant.0.is) c.as_slice-slots.ensures.places) c.self.invariant.1.distinct.txids log mark c.self.invariant.3 sorted moved c.sort_by_seat.ensures.order in
+    let are = departed_are es spots (spots_listed c.as_slice-slots.result.now spots es (c.as_slice-slots.ensures.nodes ∙ c.self.invariant.0.is) c.as_slice-slots.ensures.places) c.self.invariant.1.distinct.txids log mark c.self.invariant.4 sorted moved c.sort_by_seat.ensures.order in
     IfOk-weaker c.txids_at.result (λ txids. txids.items ≡ map (λ s. s.txid) c.as_slice-2.result.now) (λ txids. txids.items ≡ departed c.args.self.now.before c.args.self.now.entries)
     (λ txids is. is ∙ ap (map (λ (s : Seated). s.txid)) told ∙ are ∙ ap (λ (p : Pooled). departed p.before p.entries) c.self.view_is) c.txids_at.ensures

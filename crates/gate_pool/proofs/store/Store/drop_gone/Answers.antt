@@ -1,4 +1,4 @@
-use Rattle.std.proofs.Common.{◌≡◌, length, sym, ap, ◌∙◌, arith}
+use Rattle.std.proofs.Common.{sym, ap, ◌∙◌}
 use Rattle.gate_pool.specs.Pool.{Pooled}
 use Rattle.gate_pool.proofs.Readiness.{HaveArrived-same}
 use Rattle.gate_pool.proofs.Standing.{standing_in}

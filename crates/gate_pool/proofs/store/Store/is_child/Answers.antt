@@ -1,4 +1,4 @@
-use Rattle.std.proofs.Common.{◌≡◌, ◌&&◌, ap, ◌∙◌}
+use Rattle.std.proofs.Common.{◌&&◌, ap, ◌∙◌}
 use Rattle.std.specs.List.{list_any}
 use Rattle.gate_graph.specs.Families.{among, children_of as nodes_naming}
 use Rattle.gate_graph.specs.Holding.{nodes_in}

@@ -23,6 +23,6 @@ returns-in-None-clause-value g c =
 pub returns-in-Some-clause-bounded : goal.returns-in-Some-clause-bounded
 returns-in-Some-clause-bounded g c =
     let nodes = c.self.inside.nodes.nodes in
-    let few : length (entries_in nodes) < 2 ^ 64 = omega (arith, c.self.invariant.2.log_room, c.self.inside.gone.small) in
+    let few : length (entries_in nodes) < 2 ^ 64 = omega (arith, c.self.invariant.3, c.self.inside.gone.small) in
     subst (λ (s : Score). AreBounded s.family) (sym c.of.ensures)
     (least_bounded (entries_in nodes) c.self.invariant.0.bounded few c.in-Some.held.now (c.in-Some.ensures.node ∙ ap least_node c.self.invariant.0.is) (c.in-Some.ensures.totals ∙ ap (λ l. totals_of l c.in-Some.held.now.id) (nodes_are nodes c.self.invariant.0)))

@@ -1,13 +1,12 @@
 use Rattle.std.proofs.Common.{◌≡◌, refl, sym, ap, subst, ◌∙◌, arith, length}
-use Rattle.std.specs.List.{AllPairs}
 use Rattle.gate_graph.specs.Slots.{entries_of}
 use Rattle.gate_graph.proofs.Placing.{length-spots}
-use Rattle.gate_pool.specs.Pool.{Pooled, listing_of}
+use Rattle.gate_pool.specs.Pool.{Pooled, listing_of, room_of}
 use Rattle.gate_pool.specs.Keeping.{entries_in, IsCarried}
-use Rattle.gate_pool.specs.Log.{before_of}
-use Rattle.gate_pool.proofs.Adding.{DifferById}
+use Rattle.gate_pool.specs.Log.{before_of, loads_of}
+use Rattle.gate_pool.specs.Distinct.{AreDistinct}
 use Rattle.gate_pool.proofs.Found.{IsIndexed-same}
-use Rattle.gate_pool.proofs.Readiness.{HasRoom-none}
+use Rattle.gate_pool.proofs.Readiness.{HasPlaces-none}
 use Rattle.gate_pool.proofs.Seats.{IsLog-marked, IsLog-same, before_marked}
 use Rattle.gate_pool.proofs.Standing.{spots_listed}
 use Rattle.gate_pool.proofs.store.Store.mark.Given.{Over}
@@ -20,8 +19,8 @@ listed g c =
     let carried = subst IsCarried (sym c.tidy.ensures) c.self.invariant.0 in
     spots_listed c.as_slice.result.now c.tidy.new.self.places (entries_in c.tidy.new.self.nodes) (c.as_slice.ensures.nodes ∙ carried.is) c.as_slice.ensures.places
 
-distinct : (g : Over) (c : After-as_slice g) → AllPairs DifferById (entries_in c.tidy.new.self.nodes)
-distinct g c = subst (λ ns. AllPairs DifferById (entries_in ns)) (sym c.tidy.ensures) c.self.invariant.1.distinct.txids
+distinct : (g : Over) (c : After-as_slice g) → AreDistinct (entries_in c.tidy.new.self.nodes)
+distinct g c = subst (λ ns. AreDistinct (entries_in ns)) (sym c.tidy.ensures) c.self.invariant.1.distinct
 
 places : (g : Over) (c : After-as_slice g) → length c.as_slice.result.now ≡ length c.tidy.new.self.places
 places g c = sym (length-spots c.as_slice.result.now) ∙ ap length c.as_slice.ensures.places
@@ -29,11 +28,11 @@ places g c = sym (length-spots c.as_slice.result.now) ∙ ap length c.as_slice.e
 pub invariant_of-self : goal.invariant_of-self
 invariant_of-self g c =
     let d = (goal.at.invariant_of-self g c).After-as_slice in
-    let same = c.tidy.ensures in
-    let room = c.self.invariant.2 in (
+    let same = c.tidy.ensures in (
       subst IsCarried (sym same) c.self.invariant.0,
       IsIndexed-same c.self.invariant.1 (ap entries_in same) (λ id. refl) (λ point. refl),
-      HasRoom-none (omega (arith, room.log_room, ap (λ l. length (entries_in l)) same, c.clear.ensures.len, c.clear.ensures.capacity)),
+      HasPlaces-none,
+      omega (arith, c.self.invariant.3, ap (λ l. length (entries_in l)) same, c.clear.ensures.len, c.clear.ensures.capacity),
       IsLog-same (IsLog-marked (entries_in c.tidy.new.self.nodes) c.tidy.new.self.places (listed g d) (distinct g d)) refl refl c.clear.ensures.items (places g d),
     )
 
@@ -45,5 +44,8 @@ returns-clause-before g c =
     let d = (goal.at.returns-clause-before g c).After-as_slice in
     let es = entries_in c.tidy.new.self.nodes in
     (λ i. before_of es c.tidy.new.self.places (c.clear.ensures.items i) (places g d i))
-    ∙ before_marked es c.tidy.new.self.places (listed g d) (distinct g d)
+    ∙ before_marked es c.tidy.new.self.places (listed g d) (distinct g d).txids
     ∙ ap entries_in c.tidy.ensures ∙ ap (λ (p : Pooled). p.entries) c.self.view_is
+
+pub returns-clause-left : goal.returns-clause-left
+returns-clause-left g c = ap (λ l. room_of (loads_of l)) c.clear.ensures.items

@@ -1,4 +1,4 @@
-use Rattle.std.proofs.Common.{◌≡◌, Some, ◌<◌, is_some, length, refl, sym, ap, subst, ◌∙◌, ◌++◌, ◌∷◌, [], arith, length-append}
+use Rattle.std.proofs.Common.{◌≡◌, Some, is_some, length, refl, sym, ap, subst, ◌∙◌, ◌++◌, ◌∷◌, [], arith, length-append}
 use Rattle.std.proofs.lemmas.List.{length-map}
 use Rattle.gate_tx.specs.declared.TxIn.{TxIn}
 use Rattle.gate_tx.specs.Ids.{txid_of}
@@ -11,35 +11,11 @@ use Rattle.gate_pool.specs.Log.{before_of}
 use Rattle.gate_pool.specs.Search.{parents_of}
 use Rattle.gate_pool.proofs.Carrying.{has_is, one_more, same_node, entries_are, IsCarried-of, bounded_more}
 use Rattle.gate_pool.proofs.Found.{IsIndexed-push, IsIndexed-same}
-use Rattle.gate_pool.proofs.Readiness.{HasRoom-none}
 use Rattle.gate_pool.proofs.Seats.{IsLog-put, IsLog-same, before_same, seat_put}
 use Rattle.gate_pool.proofs.Standing.{spots_listed}
 use Rattle.gate_pool.proofs.store.Store.put.Given.{Over}
 use Rattle.gate_pool.proofs.store.Store.put.Goals.{After-put}
 use Rattle.gate_pool.proofs.store.Store.put.Goals as goal
-
-pub put_entry-requires-clause-wtxid_room : goal.put_entry-requires-clause-wtxid_room
-put_entry-requires-clause-wtxid_room g c = c.self.invariant.2.wtxids (omega (arith, c.requires.room, ap (λ (p : Pooled). p.room) c.self.view_is))
-
-pub put_entry-requires-clause-point_room : goal.put_entry-requires-clause-point_room
-put_entry-requires-clause-point_room g c = omega (arith, c.self.invariant.2.points, c.requires.room, ap (λ (p : Pooled). p.room) c.self.view_is)
-
-pub list_parents-requires : goal.list_parents-requires
-list_parents-requires g c =
-    omega (arith, c.self.invariant.2.parents_room, c.requires.room, ap (λ (p : Pooled). p.room) c.self.view_is, ap length (c.inputs.ensures ∙ ap (λ t. t.inputs) c.transaction.ensures))
-
-pub put-requires-clause-room : goal.put-requires-clause-room
-put-requires-clause-room g c =
-    omega (
-      arith,
-      c.self.invariant.2.nodes_room,
-      c.requires.room,
-      ap (λ (p : Pooled). p.room) c.self.view_is,
-      ap (λ v. length v.items) c.replace-parents.ensures.value,
-      ap length c.list_parents.ensures,
-      ap length (c.inputs.ensures ∙ ap (λ t. t.inputs) c.transaction.ensures),
-      length-map c.inputs.result.now (λ (i : TxIn). i.prevout.txid),
-    )
 
 pub put-requires-clause-new : goal.put-requires-clause-new
 put-requires-clause-new g c =
@@ -51,7 +27,7 @@ put-requires-clause-new g c =
 more : (g : Over) (c : After-put g) → c.put.new.self.nodes ≡ carried (entries_in c.self.inside.nodes.nodes ++ c.args.entry ∷ [])
 more g c =
     let e = c.args.entry in
-    let parents = ap (λ v. v.items) c.replace-parents.ensures.value ∙ c.list_parents.ensures ∙ ap parents_of (c.inputs.ensures ∙ ap (λ t. t.inputs) c.transaction.ensures) in
+    let parents = ap (λ v. v.items) c.replace-parents.ensures.value ∙ c.list_parents.ensures ∙ ap parents_of (c.inputs-2.ensures ∙ ap (λ t. t.inputs) c.transaction-2.ensures) in
     let own = same_node c.node_id-id.result c.vsize-size.result c.fee-fee.result c.replace-parents.result.items e (c.node_id-id.ensures ∙ c.txid.ensures) c.vsize-size.ensures.value c.fee-fee.ensures.value parents in
     one_more c.self.inside.nodes.nodes c.self.invariant.0 c.put.new.self.nodes _ e own c.put.ensures.nodes
 
@@ -70,11 +46,20 @@ invariant_of-self g c =
     let es = entries_in nodes in
     let e = c.args.entry in
     let new = subst (λ (p : Pooled). IsNew p.entries e) (sym c.self.view_is) c.requires.new in
-    let room : 0 < c.self.inside.room = omega (arith, c.requires.room, ap (λ (p : Pooled). p.room) c.self.view_is) in (
+    let room = ap (λ (p : Pooled). p.room.entries) c.self.view_is in
+    let inputs = ap length (c.inputs.ensures ∙ ap (λ t. t.inputs) c.transaction.ensures) in
+    let names = ap length (ap (λ v. v.items) c.replace-parents.ensures.value ∙ c.list_parents.ensures ∙ ap parents_of (c.inputs-2.ensures ∙ ap (λ t. t.inputs) c.transaction-2.ensures)) in
+    let parents = length-map e.tx.inputs (λ (i : TxIn). i.prevout.txid) in (
       IsCarried-of c.put.new.self.nodes (es ++ e ∷ []) (more g d) (bounded_more nodes e c.self.invariant.0 c.recall_bounds.ensures),
       IsIndexed-same (IsIndexed-push e c.self.invariant.1 new c.put_entry.ensures.wtxids c.put_entry.ensures.points) (are g d) (λ id. refl) (λ point. refl),
-      HasRoom-none (omega (arith, c.self.invariant.2.next room, ap length (are g d), length-append es (e ∷ []))),
-      IsLog-same (IsLog-put es c.self.inside.nodes.places (listed g d) c.self.invariant.1.distinct.txids e c.node_id-id.result c.self.inside.gone.items c.self.inside.mark c.self.invariant.3) (are g d) c.put.ensures.places refl refl,
+      record {
+        nodes_room = omega (arith, c.self.invariant.2.nodes_room, c.put.ensures.room);
+        names_room = omega (arith, c.self.invariant.2.names_room, c.put.ensures.names, inputs, names, parents);
+        wtxids = omega (arith, c.self.invariant.2.wtxids, c.put_entry.ensures.wtxid_room);
+        points = omega (arith, c.self.invariant.2.points, c.put_entry.ensures.point_room, inputs);
+      },
+      omega (arith, c.self.invariant.3, room, c.requires.room, ap length (are g d), length-append es (e ∷ [])),
+      IsLog-same (IsLog-put es c.self.inside.nodes.places (listed g d) c.self.invariant.1.distinct.txids e c.node_id-id.result c.self.inside.gone.items c.self.inside.mark c.self.invariant.4) (are g d) c.put.ensures.places refl refl,
     )
 
 pub returns-clause-entries : goal.returns-clause-entries
@@ -90,5 +75,5 @@ returns-clause-before g c =
     let log = c.self.inside.gone.items in
     let mark = c.self.inside.mark in
     (λ i. before_of (are g d i) (c.put.ensures.places i) log mark)
-    ∙ before_same es (es ++ e ∷ []) spots (spots ++ Some id ∷ []) log log mark (λ p lt. seat_put es spots (listed g d) c.self.invariant.1.distinct.txids e id log p (omega (arith, lt, c.self.invariant.3.marked)))
+    ∙ before_same es (es ++ e ∷ []) spots (spots ++ Some id ∷ []) log log mark (λ p lt. seat_put es spots (listed g d) c.self.invariant.1.distinct.txids e id log p (omega (arith, lt, c.self.invariant.4.marked)))
     ∙ ap (λ (p : Pooled). p.before) c.self.view_is

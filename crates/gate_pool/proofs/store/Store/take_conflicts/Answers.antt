@@ -26,6 +26,8 @@ loop-input-preserved g c =
           ];
       before = taken.before ∙ inv.before;
       room = taken.room ∙ inv.room;
+      next = taken.next ∙ inv.next;
+      all = taken.all ∙ inv.all;
     }
 
 pub returns-clause-gone : goal.returns-clause-gone

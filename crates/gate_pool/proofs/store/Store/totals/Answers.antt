@@ -26,4 +26,4 @@ returns-clause-small g c =
     small_totals c.totals.result (entries_in nodes) c.args.txid.now
     (same_totals c.totals.result (node_totals (nodes_in nodes) c.node_id.result) (totals_of (entries_in nodes) c.args.txid.now)
     ((λ i. node_totals (nodes_are nodes c.self.invariant.0 i) (c.node_id.ensures i)) ∙ totals_are (entries_in nodes) c.args.txid.now) c.totals.ensures.totals)
-    c.self.invariant.0.bounded (omega (arith, c.self.invariant.2.log_room, c.self.inside.gone.small))
+    c.self.invariant.0.bounded (omega (arith, c.self.invariant.3, c.self.inside.gone.small))
