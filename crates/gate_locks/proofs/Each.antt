@@ -1,10 +1,10 @@
 -- What a loop over inputs and the heights of their coins keeps.
-use Rattle.std.proofs.Common.{◌≡◌, ℕ, ◌≤◌, Bool, true, false, ◌&&◌, ◌||◌, ◌⊎◌, inl, inr, List, [], ◌∷◌, All, zip, refl, sym, ap, subst, ◌∙◌}
+use Rattle.std.proofs.Common.{◌≡◌, ℕ, ◌≤◌, Bool, true, false, ◌&&◌, ◌||◌, ◌⊎◌, inl, inr, List, [], ◌∷◌, All, zip, refl, sym, ap, subst, ◌∙◌, not, true≢false}
 use Rattle.std.proofs.lemmas.List.Elements.{All-head, All-tail}
-use Rattle.std.specs.List.{list_all}
+use Rattle.std.specs.List.{list_all, list_any}
 use Rattle.gate_tx.specs.declared.TxIn.{TxIn}
 use Rattle.gate_chain.specs.History.{History}
-use Rattle.gate_locks.specs.Locks.{is_lock_met_by}
+use Rattle.gate_locks.specs.Locks.{is_disabled, is_lock_met_by}
 
 -- whether each lock is met, of inputs and heights side by side
 abbrev pub all_met : History → List TxIn → List ℕ → Bool
@@ -38,6 +38,20 @@ pub none_left : (chain : History) (most : ℕ) (inputs : List TxIn) (heights : L
     → (left ≡ []) ⊎ (left_heights ≡ []) → IsLeft chain most inputs heights left left_heights → all_met chain inputs heights ≡ true
 none_left chain most inputs heights left left_heights (inl e) is = is.decides ∙ ap (λ (xs : List TxIn). all_met chain xs left_heights) e
 none_left chain most inputs heights left left_heights (inr e) is = is.decides ∙ (ap (all_met chain left) e ∙ none_paired chain left)
+
+disabled_met : (chain : History) (sequence height : ℕ) → is_disabled sequence ≡ true → is_lock_met_by chain sequence height ≡ true
+unfolding is_lock_met_by
+disabled_met chain sequence height e = rw e refl
+
+-- no sequence says that there is a lock
+pub none_enabled : (chain : History) (inputs : List TxIn) (heights : List ℕ) → list_any (λ (i : TxIn). not (is_disabled i.sequence)) inputs ≡ false → all_met chain inputs heights ≡ true
+none_enabled chain [] heights e = refl
+none_enabled chain (i ∷ inputs) [] e = refl
+none_enabled chain (i ∷ inputs) (h ∷ heights) e = go (is_disabled i.sequence) refl e (none_enabled chain inputs heights)
+  where
+    go : (b : Bool) → is_disabled i.sequence ≡ b → (not b || list_any (λ (j : TxIn). not (is_disabled j.sequence)) inputs) ≡ false → (list_any (λ (j : TxIn). not (is_disabled j.sequence)) inputs ≡ false → all_met chain inputs heights ≡ true) → (is_lock_met_by chain i.sequence h && all_met chain inputs heights) ≡ true
+    go true d f rest = ap (λ b. b && all_met chain inputs heights) (disabled_met chain i.sequence h d) ∙ rest f
+    go false d f rest = absurd (true≢false f)
 
 pub or_true : (b c : Bool) → c ≡ true → true ≡ (b || c)
 or_true true c e = refl

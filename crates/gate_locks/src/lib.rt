@@ -9,4 +9,4 @@ mod finality;
 mod relative;
 
 pub use finality::is_final;
-pub use relative::sequence_locks_met;
+pub use relative::{has_relative_lock, sequence_locks_met};

@@ -1,9 +1,11 @@
-ghost use Rattle.std.specs.Prelude.{◌≡◌, ◌<◌, ◌≤◌, ◌+◌, ◌^◌, length, All};
+ghost use Rattle.std.specs.Prelude.{◌≡◌, ◌<◌, ◌≤◌, ◌+◌, ◌^◌, ℕ, List, true, false, not, length, All};
+ghost use Rattle.std.specs.List.{list_any};
+ghost use Rattle.gate_chain.specs.History.{History};
 ghost use Rattle.gate_chain.specs.Times.{tip_of};
-ghost use Rattle.gate_locks.specs.Locks.{is_later_by, median_at, is_lock_met_by, sequence_locks_met_by};
+ghost use Rattle.gate_locks.specs.Locks.{is_disabled, is_later_by, median_at, is_lock_met_by, sequence_locks_met_by};
 
 use gate_chain::Chain;
-use gate_tx::Transaction;
+use gate_tx::{Transaction, TxIn};
 use std::hash::BuildHasher;
 
 /// The bit of a sequence that says that there is no relative lock (Bitcoin Core's `SEQUENCE_LOCKTIME_DISABLE_FLAG`).
@@ -18,6 +20,23 @@ const SPAN: u32 = 0xffff;
 /// The unit of a lock by time, in seconds.
 const SECONDS: u64 = 512;
 
+/// The first version of a transaction, read as unsigned, whose inputs have relative locks (BIP 68).
+const FIRST_LOCKED: u32 = 2;
+
+/// Whether an input of the transaction may have a relative lock (BIP 68).
+pub fn has_relative_lock(tx: &Transaction) -> bool
+    ensures { result ≡ false → (heights : List ℕ) (chain : History) → sequence_locks_met_by tx.now heights chain ≡ true }
+{
+    tx.version().cast_unsigned() >= FIRST_LOCKED && has_enabled(tx.inputs())
+}
+
+/// Whether a sequence of these inputs says that there is a relative lock.
+fn has_enabled(inputs: &[TxIn]) -> bool
+    ensures { result ≡ list_any (λ i. not (is_disabled i.sequence)) inputs.now }
+{
+    inputs.iter().any(|input| input.sequence & DISABLED == 0)
+}
+
 /// Whether the relative lock of each input is met in the next block (BIP 68). The heights are those of the inputs'
 /// coins, one for each input; a coin of an unconfirmed transaction has the height of the next block. A lock by time whose
 /// coin is too old for the chain to know the median time past before it is not met.
@@ -31,7 +50,7 @@ pub fn sequence_locks_met<S: BuildHasher + Copy + Drop>(
     requires within { All (λ h. h ≤ tip_of chain.now + 1) heights.now }
     ensures { result ≡ sequence_locks_met_by tx.now heights.now chain.now }
 {
-    if tx.version().cast_unsigned() < 2 {
+    if tx.version().cast_unsigned() < FIRST_LOCKED {
         return true;
     }
     for (input, height) in tx.inputs().iter().zip(heights) {

@@ -250,13 +250,22 @@ pub(crate) fn txids_json(alloc: Global, txids: &[Txid]) -> Result<String, Memory
     }
 }
 
+/// Appends the digits of an id in quotes, after a comma.
+fn push_later_txid(text: &mut String, txid: &Txid) -> Result<(), Memory>
+    ensures { OnOk result (string_bytes text.new ≡ string_bytes text.old ++ 44 ∷ quoted (id_text txid.now)) }
+{
+    recall_bytes(txid.as_bytes());
+    text.push_str(",\"")?;
+    write!(text, "{txid}")?;
+    Ok(text.push_str("\"")?)
+}
+
 fn some_txids_json(alloc: Global, first: &Txid, others: &[Txid]) -> Result<String, Memory>
     ensures { IfOk result (λ text. string_bytes text ≡ compact_text (txids_json (first.now ∷ others.now))) }
 {
     let mut text = txid_after(alloc, "[", first)?;
     for txid in others {
-        let later = txid_after(alloc, ",", txid)?;
-        text.push_str(later.as_str())?;
+        push_later_txid(&mut text, txid)?;
     }
     text.push_str("]")?;
     Ok(text)
