@@ -91,17 +91,17 @@ def test_a_submission_that_trims(gate):
 
 
 def test_a_package(gate):
-    """Its members stand in the pool itself, and what they push out is trimmed."""
+    """Its members stand in the pool, and what they push out is trimmed."""
     refused(gate, "trim-behind-a-package", 3, 15)
 
 
 def test_a_package_that_replaces(gate):
-    """Its members stand in a copy of the pool."""
+    """What its members replace comes back."""
     refused(gate, "replaced-by-two-members", 5, 40)
 
 
 def test_two_that_replace_together(gate):
-    """A parent that pays nothing, and its child: judged over the pool, and again over a copy."""
+    """A parent that pays nothing, and its child: judged by themselves, and then together."""
     refused(gate, "package-replacement", 6, 40)
 
 

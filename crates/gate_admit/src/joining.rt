@@ -61,6 +61,14 @@ impl<'a, V: FamilyView> FamilyView for Joined<'a, V> {
         }
     }
 
+    fn entry_near(&self, txid: &Txid, near: &mut Option<usize>) -> Option<&Entry> {
+        if self.newcomer.txid() == *txid {
+            Some(self.newcomer)
+        } else {
+            self.pool.entry_near(txid, near)
+        }
+    }
+
     fn children(&self, alloc: Global, txid: &Txid) -> Result<Vec<Txid>, Memory> {
         let mut children = self.pool.children(alloc, txid)?;
         if names(self.newcomer, txid) {

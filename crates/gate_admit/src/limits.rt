@@ -66,16 +66,18 @@ fn first_limits<S: BuildHasher + Copy + Drop>(
     }
 }
 
-/// Whether a transaction of this size can join the descendants of the entry with this id.
+/// Whether a transaction of this size can join the descendants of the entry with this id. It is looked for at the place
+/// `near` first, over which is written where an entry that it spends from may stand.
 fn has_room_below<S: BuildHasher + Copy + Drop>(
     pool: &Pool<S>,
     txid: &Txid,
+    near: &mut Option<usize>,
     vsize: u64,
     limits: FamilyLimits,
 ) -> bool
     ensures { (a : Admitted) → Contains pool.now.entries a → txid_of a.tx ≡ txid.now → result ≡ has_room_below limits pool.now.entries vsize a }
 {
-    match pool.totals(txid) {
+    match pool.totals_near(txid, near) {
         Some(totals) => {
             let size = totals.below.size + u128::from(vsize);
             (totals.below.count < limits.descendants as u64) & (size <= limits.descendants_size)
@@ -93,8 +95,9 @@ fn each_has_room<S: BuildHasher + Copy + Drop>(
 ) -> bool
     ensures { OfThese pool.now.entries above.now (λ these. result ≡ list_all (has_room_below limits pool.now.entries vsize) these) }
 {
+    let mut near = None;
     for txid in above {
-        if !has_room_below(pool, txid, vsize, limits) {
+        if !has_room_below(pool, txid, &mut near, vsize, limits) {
             return false;
         }
     }

@@ -8,7 +8,7 @@ ghost use Rattle.gate_admit.specs.Rules.{final_rules, lock_rules, heights_of};
 use crate::coins::LentCoin;
 use gate_bytes::Memory;
 use gate_chain::Chain;
-use gate_locks::{is_final, sequence_locks_met};
+use gate_locks::{has_relative_lock, is_final, sequence_locks_met};
 use gate_standard::Denial;
 use gate_tx::Transaction;
 use std::alloc::Global;
@@ -58,6 +58,9 @@ pub fn check_locks<S: BuildHasher + Copy + Drop>(
     requires within { All (λ c. c.height ≤ tip_of chain.now + 1) coins.now }
     ensures { IfOk result (λ found. found ≡ first_failing (lock_rules chain.now coins.now tx.now)) }
 {
+    if !has_relative_lock(tx) {
+        return Ok(None);
+    }
     let heights = heights_of(alloc, coins)?;
     if sequence_locks_met(tx, &heights, chain) {
         Ok(None)

@@ -52,7 +52,7 @@ pub fn readmit<S: BuildHasher + Copy + Drop>(
     if let Ok(grant) = decision {
         let identified = candidate.identified().copy(alloc)?;
         let entry = Entry::new(identified, grant.fee, grant.vsize, now);
-        pool.reserve(entry.transaction().inputs().len())?;
+        pool.reserve(1, entry.transaction().inputs().len())?;
         pool.replace(entry);
     }
     Ok(decision)

@@ -106,6 +106,10 @@ impl<S: BuildHasher + Copy> Verdicts<S> {
     pub fn on(&self, wtxid: &Wtxid, input: u32) -> Option<Verdict>
         ensures { result ≡ verdict_of self.now wtxid.now input }
     {
+        // Without rows, as where scripts are checked elsewhere, there is nothing to look up.
+        if self.verdicts.is_empty() {
+            return self.other;
+        }
         let subject = Subject {
             wtxid: *wtxid,
             input,

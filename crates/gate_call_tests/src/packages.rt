@@ -1,11 +1,12 @@
 //! A package that is submitted by one call, which no part of the gate makes: a parent that pays nothing comes in with its
-//! child, also in place of an entry.
+//! child, also in place of an entry. And a package that is taken back, which the gate does only where memory runs out.
 use crate::submitting::{Hasher, answer, chain, payment};
-use gate_admit::{Chain, Floor, Policy, Pool, Prepared, Verdict, Verdicts};
+use gate_admit::{Chain, Conditions, Floor, Policy, Pool, Prepared, Verdict, Verdicts};
 use gate_bytes::Memory;
-use gate_package::submit_package;
+use gate_package::{StagedPackage, check_shape, stage_package, submit_package};
 use gate_register::Setting;
 use gate_rules::PackageDenial;
+use gate_standard::Denial;
 use gate_submission::{Candidate, PackageVerdict};
 use std::alloc::Global;
 use std::hash::BuildHasherDefault;
@@ -145,6 +146,94 @@ fn are_answered_in_place(alloc: Global, chain: &Chain<Hasher>) -> Result<bool, F
     are_answered_in(alloc, chain, &mut pool, &IN_PLACE)
 }
 
+/// Stages a package at second 5,000, if each script is good, and takes it back. It tells how many entries there were
+/// meanwhile; nothing if its members don't belong together.
+fn count_staged(
+    alloc: Global,
+    chain: &Chain<Hasher>,
+    pool: &mut Pool<Hasher>,
+    members: &[Candidate<'_>],
+) -> Result<Option<usize>, Memory> {
+    let mut verdicts = Verdicts::new(alloc, BuildHasherDefault::new());
+    verdicts.answer_others(Verdict::Good);
+    let floor = Floor::new(0);
+    let policy = policy();
+    if let Some(_denial) = check_shape(chain, &policy, members) {
+        return Ok(None);
+    }
+    let under = Conditions {
+        chain,
+        floor: &floor,
+        verdicts: &verdicts,
+        policy: &policy,
+        second: 5_000,
+        budget: 1_000_000,
+    };
+    let StagedPackage {
+        outcome: _outcome,
+        stage,
+    } = stage_package(alloc, &under, pool, members, 0)?;
+    let count = pool.count();
+    stage.take_back(pool);
+    Ok(Some(count))
+}
+
+fn count_staged_pair(
+    alloc: Global,
+    chain: &Chain<Hasher>,
+    pool: &mut Pool<Hasher>,
+    parent: &Prepared,
+    child: &Prepared,
+) -> Result<Option<usize>, Memory> {
+    let Some(parent) = parent.candidate() else {
+        return Ok(None);
+    };
+    let Some(child) = child.candidate() else {
+        return Ok(None);
+    };
+    count_staged(alloc, chain, pool, &[parent, child])
+}
+
+/// Whether the pair that pays enough stands in the pool meanwhile, without what it replaces.
+fn stands_meanwhile(
+    alloc: Global,
+    chain: &Chain<Hasher>,
+    pool: &mut Pool<Hasher>,
+) -> Result<bool, Fail> {
+    let [_, (text, _, count)] = IN_PLACE;
+    let parent = read(alloc, PARENT)?;
+    let child = read(alloc, text)?;
+    let staged = count_staged_pair(alloc, chain, pool, &parent, &child)?;
+    Ok(staged == Some(count))
+}
+
+/// Whether the payment is the one entry, nothing has moved, and the pair can still take its place.
+fn is_as_before(
+    alloc: Global,
+    chain: &Chain<Hasher>,
+    pool: &mut Pool<Hasher>,
+) -> Result<bool, Fail> {
+    let departed = pool.departed(alloc)?;
+    let arrived = pool.arrived(alloc)?;
+    if pool.count() != 1 || !departed.is_empty() || !arrived.is_empty() {
+        return Ok(false);
+    }
+    let payment = payment(alloc)?;
+    let again = answer(alloc, chain, pool, &payment)?;
+    if again != Err(Denial::AlreadyInMempool) {
+        return Ok(false);
+    }
+    are_answered_in(alloc, chain, pool, &IN_PLACE)
+}
+
+fn is_taken_back(alloc: Global, chain: &Chain<Hasher>) -> Result<bool, Fail> {
+    let mut pool = Pool::new(alloc, BuildHasherDefault::new())?;
+    if !is_entered(alloc, chain, &mut pool)? || !stands_meanwhile(alloc, chain, &mut pool)? {
+        return Ok(false);
+    }
+    is_as_before(alloc, chain, &mut pool)
+}
+
 #[test]
 fn a_parent_comes_in_with_its_child(rt: HostRuntime) -> Result<(), Fail> {
     let chain = chain(rt.alloc())?;
@@ -156,5 +245,12 @@ fn a_parent_comes_in_with_its_child(rt: HostRuntime) -> Result<(), Fail> {
 fn a_pair_takes_the_place_of_an_entry(rt: HostRuntime) -> Result<(), Fail> {
     let chain = chain(rt.alloc())?;
     assert!(rt; are_answered_in_place(rt.alloc(), &chain)?);
+    Ok(())
+}
+
+#[test]
+fn a_pair_that_is_taken_back_gives_the_entry_its_place_again(rt: HostRuntime) -> Result<(), Fail> {
+    let chain = chain(rt.alloc())?;
+    assert!(rt; is_taken_back(rt.alloc(), &chain)?);
     Ok(())
 }

@@ -6,13 +6,13 @@ use Rattle.gate_tx.specs.Tx.{Tx}
 use Rattle.gate_rules.specs.declared.PackageDenial.{PackageDenial}
 use Rattle.gate_submission.specs.declared.PackageOutcome.{PackageOutcome}
 use Rattle.gate_submission.specs.PackageOutcomes.{settled}
-use Rattle.gate_pool.specs.Pool.{Admitted}
+use Rattle.gate_pool.specs.Pool.{Admitted, Pooled}
 use Rattle.gate_trim.specs.Expiry.{expired}
 use Rattle.gate_trim.specs.Trimming.{Trimmed, trim_of}
 use Rattle.gate_package.specs.declared.Unfit.{Unfit}
 use Rattle.gate_package.specs.Packages.{Judged, gone_from, judged_of, landed, landed_as, packaged_of, unless_unfit}
 use Rattle.gate_package.specs.Shapes.{members_of, shape_rules, text_rules}
-use Rattle.gate_package.specs.Staging.{Staged, StagesAs, drafted_or, without_all}
+use Rattle.gate_package.specs.Staging.{Staged, StagesAs}
 use Rattle.gate_rpc.specs.declared.reply.RpcReply.TheVariants.{Failure}
 use Rattle.gate_message.specs.declared.reply.Reply.{Reply}
 use Rattle.gate_message.specs.declared.reply.Reply.TheVariants.{Rpc}
@@ -21,7 +21,7 @@ use Rattle.gate_core.specs.Packaging.{Answered, answer_of, error_of, left_by, pa
 use Rattle.gate_core.specs.declared.packaging.AskedPackage.{AskedPackage}
 use Rattle.gate_core.specs.declared.packaging.AskedPackage.TheVariants.{Call, Pair}
 use Rattle.gate_core.specs.Asking.{Called, Paired}
-use Rattle.gate_core.specs.PackageSteps.{IsStaged, Stages, closed_by, closed_for, greatest_rate, left_by_package, members_in, packaged_step, second_of, told_outcome}
+use Rattle.gate_core.specs.PackageSteps.{CanBeTakenBack, IsStaged, Stages, closed_by, closed_for, greatest_rate, left_by_package, members_in, packaged_step, second_of, told_outcome}
 use Rattle.gate_core.specs.RpcSteps.{packaged, replied}
 use Rattle.gate_core.specs.World.{World, standing_of}
 use Rattle.gate_core.proofs.Calls.{left_behind}
@@ -75,6 +75,11 @@ pub unstaged : (w : World) (asked : AskedPackage) (reply : Reply) (stage : Optio
 unstaged w asked reply None closes is step = (refl, step)
 unstaged w asked reply (Some stage) closes is step = absurd (cc)
 
+-- and needs no way back
+pub none_back : (stage : Option Staged) (pool : Pooled) (entries : List Admitted) → stage ≡ None → CanBeTakenBack stage pool entries
+none_back None pool entries is = tt
+none_back (Some stage) pool entries is = absurd (cc)
+
 -- what is told of a package that lands, and the state after it
 told_ending : (w : World) (asked : AskedPackage) (outcome : PackageOutcome) (gone : List (List ℕ)) (entries : List Admitted) (floor : ℕ)
     → (without gone (told_outcome w asked outcome), record w { pool = entries; floor = floor; sessions = closed_for (closed_by w asked outcome) w.sessions })
@@ -85,12 +90,12 @@ told_ending w (Pair pair) outcome gone entries floor = pair_ending w pair.peer o
 landed_by : (w : World) (asked : AskedPackage) (outcome : PackageOutcome) (stage : Staged) (meanwhile : List Admitted) (after : World) (gone : List (List ℕ))
     → StagesAs (greatest_rate asked) (standing_of w) (second_of asked) (members_in asked) outcome stage meanwhile
     → packaged_step w asked ≡ left_by_package w asked (landed (standing_of w) (second_of asked) w.budget (judged_of (greatest_rate asked) (standing_of w) (second_of asked) (members_in asked)))
-    → trimmed_by w (second_of asked) (drafted_or stage.draft meanwhile) ≡ record { entries = after.pool; floor = after.floor } → gone ≡ gone_from after.pool stage.held
+    → trimmed_by w (second_of asked) meanwhile ≡ record { entries = after.pool; floor = after.floor } → gone ≡ gone_from after.pool stage.held
     → after ≡ record w { pool = after.pool; floor = after.floor; sessions = closed_for (closed_by w asked outcome) w.sessions }
     → (without gone (told_outcome w asked outcome), after) ≡ packaged_step w asked
 unfolding landed
 landed_by w asked outcome stage meanwhile after gone staged step left is same =
-    let judged : Judged = record { outcome = outcome; entries = drafted_or stage.draft meanwhile } in
+    let judged : Judged = record { outcome = outcome; entries = meanwhile } in
     ap (λ (v : World). (without gone (told_outcome w asked outcome), v)) same
     ∙ (told_ending w asked outcome gone after.pool after.floor
     ∙ (ap (λ (g : List (List ℕ)). left_by_package w asked (record { outcome = settled g outcome; entries = after.pool; floor = after.floor })) (is ∙ ap (gone_from after.pool) staged.held)
@@ -101,23 +106,23 @@ landed_by w asked outcome stage meanwhile after gone staged step left is same =
 -- a package that lands
 pub landed_step : (w : World) (asked : AskedPackage) (outcome : PackageOutcome) (stage : Staged) (closes : Option ℕ) (meanwhile after : World) (reply told : Reply) (gone : List (List ℕ)) (second : ℕ)
     → reply ≡ told_outcome w asked outcome → closes ≡ closed_by w asked outcome → IsStaged w asked outcome stage meanwhile → second ≡ second_of asked
-    → trimmed_by meanwhile second (drafted_or stage.draft meanwhile.pool) ≡ record { entries = after.pool; floor = after.floor } → gone ≡ gone_from after.pool stage.held
+    → trimmed_by meanwhile second meanwhile.pool ≡ record { entries = after.pool; floor = after.floor } → gone ≡ gone_from after.pool stage.held
     → after ≡ record meanwhile { pool = after.pool; floor = after.floor; sessions = closed_for closes meanwhile.sessions } → told ≡ without gone reply → (told, after) ≡ packaged_step w asked
 landed_step w asked outcome stage closes meanwhile after reply told gone second is shut staged at left lost same said =
     let P : World → Type 0 =
-    λ m. trimmed_by m second (drafted_or stage.draft meanwhile.pool) ≡ record { entries = after.pool; floor = after.floor }
+    λ m. trimmed_by m second meanwhile.pool ≡ record { entries = after.pool; floor = after.floor }
     → after ≡ record m { pool = after.pool; floor = after.floor; sessions = closed_for closes m.sessions }
     → (without gone (told_outcome w asked outcome), after) ≡ packaged_step w asked in
-    let Q : ℕ → Type 0 = λ s. trimmed_by w s (drafted_or stage.draft meanwhile.pool) ≡ record { entries = after.pool; floor = after.floor } in
+    let Q : ℕ → Type 0 = λ s. trimmed_by w s meanwhile.pool ≡ record { entries = after.pool; floor = after.floor } in
     let R : Option ℕ → Type 0 = λ o. after ≡ record w { pool = after.pool; floor = after.floor; sessions = closed_for o w.sessions } in
     ap (λ (r : Reply). (r, after)) (said ∙ ap (without gone) is)
     ∙ subst P (sym staged.others) (λ l s. landed_by w asked outcome stage meanwhile.pool after gone staged.staged staged.step (subst Q at l) lost (subst R shut s)) left same
 
 -- a package that is taken back
 pub taken_back : (w : World) (asked : AskedPackage) (outcome : PackageOutcome) (stage : Staged) (meanwhile : World) (entries : List Admitted)
-    → IsStaged w asked outcome stage meanwhile → entries ≡ without_all stage.entered meanwhile.pool → record meanwhile { pool = entries } ≡ w
+    → IsStaged w asked outcome stage meanwhile → entries ≡ w.pool → record meanwhile { pool = entries } ≡ w
 taken_back w asked outcome stage meanwhile entries staged is =
-    ap (λ (m : World). record m { pool = entries }) staged.others ∙ ap (λ (p : List Admitted). record w { pool = p }) (is ∙ staged.staged.back)
+    ap (λ (m : World). record m { pool = entries }) staged.others ∙ ap (λ (p : List Admitted). record w { pool = p }) is
 
 -- a peer's package that was staged
 pub staged_pair : (w : World) (pair : Paired) (outcome : PackageOutcome) (stage : Staged) (meanwhile : World) (members : List Tx) → members ≡ pair.members

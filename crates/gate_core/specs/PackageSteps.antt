@@ -3,6 +3,7 @@ use Rattle.std.specs.Prelude.{◌≡◌, ℕ, if◌then◌else◌, List, Option,
 use Rattle.std.specs.List.{list_any}
 use Rattle.gate_bytes.specs.Order.{first_failing}
 use Rattle.gate_tx.specs.Tx.{Tx}
+use Rattle.gate_pool.specs.Pool.{Admitted, IsRewindable, Pooled}
 use Rattle.gate_rules.specs.declared.PeerDenial.{PeerDenial}
 use Rattle.gate_submission.specs.declared.PackageOutcome.{PackageOutcome}
 use Rattle.gate_package.specs.Packages.{Packaged, judged_of, landed}
@@ -125,6 +126,11 @@ pub record IsStaged (w : World) (asked : AskedPackage) (outcome : PackageOutcome
   pub staged : StagesAs (greatest_rate asked) (standing_of w) (second_of asked) (members_in asked) outcome stage meanwhile.pool
   pub others : meanwhile ≡ record w { pool = meanwhile.pool }
   pub step : packaged_step w asked ≡ left_by_package w asked (landed (standing_of w) (second_of asked) w.budget (judged_of (greatest_rate asked) (standing_of w) (second_of asked) (members_in asked)))
+
+-- a package with this stage can be taken back from the pool, which has these entries then: a rewind of it takes no memory
+abbrev pub CanBeTakenBack : Option Staged → Pooled → List Admitted → Type 0
+CanBeTakenBack None pool entries = Unit {0}
+CanBeTakenBack (Some stage) pool entries = (pool.before ≡ entries) × IsRewindable pool
 
 -- the reply to a package, its stage if its members were judged, and the peer whose session is closed once it lands: without a stage
 -- the reply is the step's, and nothing has changed

@@ -1,9 +1,8 @@
 //! Packages that users and peers submit.
-ghost use Rattle.std.specs.Prelude.{◌≡◌, if◌then◌else◌, IfOk, None, Some, OnErr};
+ghost use Rattle.std.specs.Prelude.{◌≡◌, if◌then◌else◌, IfOk, None, Some, OnOk, OnErr};
 ghost use Rattle.std.specs.List.{list_any};
 ghost use Rattle.gate_bytes.specs.Order.{first_failing};
 ghost use Rattle.gate_package.specs.Packages.{gone_from};
-ghost use Rattle.gate_package.specs.Staging.{drafted_or, log_of};
 ghost use Rattle.gate_trim.specs.Expiry.{expired};
 ghost use Rattle.gate_trim.specs.Trimming.{trim_of};
 ghost use Rattle.gate_message.specs.Replies.{packaged_as};
@@ -12,9 +11,10 @@ ghost use Rattle.gate_message.specs.declared.reply.Reply.TheVariants.{Denied, Rp
 ghost use Rattle.gate_core.specs.Packaging.{answer_of, error_of, lacks_method};
 ghost use Rattle.gate_core.specs.Access.{package_rules};
 ghost use Rattle.gate_core.specs.Pairing.{both_of, closes, package_step};
-ghost use Rattle.gate_core.specs.PackageSteps.{Stages, closed_for, package_in, package_of, pair_in, pair_with, second_of};
+ghost use Rattle.gate_core.specs.PackageSteps.{CanBeTakenBack, Stages, closed_for, package_in, package_of, pair_in, pair_with, second_of};
 ghost use Rattle.gate_core.specs.Planning.{Fits, Plans, world_of};
 ghost use Rattle.gate_core.specs.Sessions.{Seated};
+ghost use Rattle.gate_pool.specs.Moves.{IsMarked};
 ghost use Rattle.gate_pool.specs.Pool.{Pooled};
 ghost use Rattle.gate_core.specs.declared.packaging.AskedPackage.TheVariants.{Call as Asked, Pair as Offered};
 ghost use Rattle.gate_core.specs.RpcSteps.{replied};
@@ -37,9 +37,9 @@ use std::marker::Model;
 
 /// The reply to a package, whose members stand in the pool, unless it was not judged.
 #[derive(Drop)]
-pub(crate) struct StagedReply<S: BuildHasher + Copy + Drop> {
+pub(crate) struct StagedReply {
     pub(crate) reply: Reply,
-    pub(crate) stage: Option<Stage<S>>,
+    pub(crate) stage: Option<Stage>,
     /// The peer whose session is closed once the package lands.
     pub(crate) closes: Option<u64>,
 }
@@ -86,10 +86,7 @@ pub(crate) enum AskedPackage<'a> {
 }
 
 /// The reply of a call that is not judged, and so changes nothing.
-fn unstaged<S: BuildHasher + Copy + Drop>(
-    alloc: Global,
-    answer: RpcReply,
-) -> Result<StagedReply<S>, Memory>
+fn unstaged(alloc: Global, answer: RpcReply) -> Result<StagedReply, Memory>
     ensures reply { IfOk result (λ staged. staged.reply ≡ Rpc answer) }
     ensures stage { IfOk result (λ staged. staged.stage ≡ None) }
 {
@@ -101,7 +98,7 @@ fn unstaged<S: BuildHasher + Copy + Drop>(
 }
 
 /// The reply to a peer whose package is not judged, and so changes nothing.
-fn unjudged_pair<S: BuildHasher + Copy + Drop>(denial: PackageDenial) -> StagedReply<S>
+fn unjudged_pair(denial: PackageDenial) -> StagedReply
     ensures reply { result.reply ≡ Denied (PeerDenial.Package denial) Keep }
     ensures stage { result.stage ≡ None }
 {
@@ -116,12 +113,7 @@ fn unjudged_pair<S: BuildHasher + Copy + Drop>(denial: PackageDenial) -> StagedR
 }
 
 /// The reply to a peer whose package stands in the pool, and whose session it closes once it lands, or doesn't.
-fn judged_pair<S: BuildHasher + Copy + Drop>(
-    peer: u64,
-    is_closed: bool,
-    outcome: PackageOutcome,
-    stage: Stage<S>,
-) -> StagedReply<S>
+fn judged_pair(peer: u64, is_closed: bool, outcome: PackageOutcome, stage: Stage) -> StagedReply
     ensures reply { result.reply ≡ packaged_as (if is_closed then Close else Keep) outcome }
     ensures stage { result.stage ≡ Some stage }
     ensures closes { result.closes ≡ (if is_closed then Some peer else None) }
@@ -299,9 +291,10 @@ impl<S: BuildHasher + Copy + Drop> StateParts<S> {
         &mut self,
         alloc: Global,
         asked: &AskedPackage<'_>,
-    ) -> Result<StagedReply<S>, Memory>
+    ) -> Result<StagedReply, Memory>
         ensures ok { IfOk result (λ staged. Stages (world_of self.old) asked.now staged.reply staged.stage staged.closes (world_of self.new)) }
-        ensures before { self.new.pool.before ≡ self.old.pool.before }
+        ensures back { IfOk result (λ staged. CanBeTakenBack staged.stage self.new.pool self.old.pool.entries) }
+        ensures before { IsMarked self.old.pool → OnOk result (self.new.pool.before ≡ self.old.pool.entries) }
         ensures err { OnErr result (world_of self.new ≡ world_of self.old) }
     {
         match asked {
@@ -311,13 +304,10 @@ impl<S: BuildHasher + Copy + Drop> StateParts<S> {
     }
 
     /// Stages a peer's package.
-    fn stage_pair(
-        &mut self,
-        alloc: Global,
-        pair: &PairedPackage<'_>,
-    ) -> Result<StagedReply<S>, Memory>
+    fn stage_pair(&mut self, alloc: Global, pair: &PairedPackage<'_>) -> Result<StagedReply, Memory>
         ensures ok { IfOk result (λ staged. Stages (world_of self.old) (Offered pair.now) staged.reply staged.stage staged.closes (world_of self.new)) }
-        ensures before { self.new.pool.before ≡ self.old.pool.before }
+        ensures back { IfOk result (λ staged. CanBeTakenBack staged.stage self.new.pool self.old.pool.entries) }
+        ensures before { IsMarked self.old.pool → OnOk result (self.new.pool.before ≡ self.old.pool.entries) }
         ensures err { OnErr result (world_of self.new ≡ world_of self.old) }
     {
         let members = [pair.parent.again(), pair.child.again()];
@@ -343,9 +333,10 @@ impl<S: BuildHasher + Copy + Drop> StateParts<S> {
         &mut self,
         alloc: Global,
         called: &CalledPackage<'_>,
-    ) -> Result<StagedReply<S>, Memory>
+    ) -> Result<StagedReply, Memory>
         ensures ok { IfOk result (λ staged. Stages (world_of self.old) (Asked called.now) staged.reply staged.stage staged.closes (world_of self.new)) }
-        ensures before { self.new.pool.before ≡ self.old.pool.before }
+        ensures back { IfOk result (λ staged. CanBeTakenBack staged.stage self.new.pool self.old.pool.entries) }
+        ensures before { IsMarked self.old.pool → OnOk result (self.new.pool.before ≡ self.old.pool.entries) }
         ensures err { OnErr result (world_of self.new ≡ world_of self.old) }
     {
         let id = called.id.copy(alloc)?;
@@ -387,11 +378,11 @@ impl<S: BuildHasher + Copy + Drop> StateParts<S> {
 
     /// Lands a package at this second, closes the session of this peer, if there is one, and returns the txids of the
     /// members that have left the pool again. It takes no memory.
-    pub(crate) fn land(&mut self, stage: Stage<S>, second: u64, closes: Option<u64>) -> Vec<Txid>
-        ensures left { trim_of self.old.policy.incremental_rate self.old.budget (expired self.old.policy.stay second (drafted_or stage.draft self.old.pool.entries)) self.old.floor ≡ record { entries = self.new.pool.entries; floor = self.new.floor } }
+    pub(crate) fn land(&mut self, stage: Stage, second: u64, closes: Option<u64>) -> Vec<Txid>
+        ensures left { trim_of self.old.policy.incremental_rate self.old.budget (expired self.old.policy.stay second self.old.pool.entries) self.old.floor ≡ record { entries = self.new.pool.entries; floor = self.new.floor } }
         ensures gone { result.items ≡ gone_from self.new.pool.entries stage.held }
         ensures others { world_of self.new ≡ record (world_of self.old) { pool = self.new.pool.entries; floor = self.new.floor; sessions = closed_for closes self.old.sessions.all } }
-        ensures before { self.new.pool.before ≡ log_of stage.draft self.old.pool.before }
+        ensures before { self.new.pool.before ≡ self.old.pool.before }
     {
         let gone = stage.land(
             &mut self.pool,

@@ -1,11 +1,11 @@
 -- Those that enter together, one after another: each is new, and replaces nothing.
 use Rattle.std.proofs.Common.{◌≡◌, ℕ, Bool, false, ◌||◌, List, [], ◌∷◌, ◌++◌, length, Some, None, Ok, refl, sym, ap, ◌∙◌, subst, append_assoc, ⊎_elim}
-use Rattle.std.specs.Prelude.{◌+◌, ◌==◌, Contains, find, is_some}
+use Rattle.std.specs.Prelude.{◌+◌, ◌==◌, ◌&&◌, Contains, find, is_some}
 use Rattle.std.specs.List.{list_any}
 use Rattle.std.specs.Option.{option_or}
 use Rattle.std.specs.Str.{bytes_eq}
 use Rattle.std.specs.Cmp.Lexicographic.{bytes_decides}
-use Rattle.std.proofs.lemmas.Bool.{cond-false, false_from_ne_true, or_parts, true≢false}
+use Rattle.std.proofs.lemmas.Bool.{and_parts, cond-false, false_from_ne_true, or_parts, true≢false}
 use Rattle.std.proofs.lemmas.List.Elements.{All-contains}
 use Rattle.std.proofs.lemmas.List.Folds.{find-append}
 use Rattle.gate_bytes.specs.Order.{first_failing}
@@ -14,9 +14,11 @@ use Rattle.gate_tx.specs.declared.TxIn.{TxIn}
 use Rattle.gate_tx.specs.Coins.{spends}
 use Rattle.gate_tx.specs.Ids.{txid_of, wtxid_of}
 use Rattle.gate_tx.specs.Tx.{Tx}
-use Rattle.gate_pool.specs.Counting.{is_counted, is_sibling}
-use Rattle.gate_pool.specs.Family.{is_conflict}
-use Rattle.gate_pool.specs.Pool.{Admitted, entry_by_txid, entry_by_wtxid, has_txid, has_wtxid, spender_of}
+use Rattle.gate_pool.specs.Counting.{entered_beside, is_counted, is_sibling, replaced_beside}
+use Rattle.gate_graph.proofs.Filters.{filter_none}
+use Rattle.gate_graph.specs.Family.{reaches}
+use Rattle.gate_pool.specs.Family.{is_below_some, is_conflict, steps}
+use Rattle.gate_pool.specs.Pool.{Admitted, entry_by_txid, entry_by_wtxid, has_txid, has_wtxid, listing_of, spender_of}
 use Rattle.gate_pool.proofs.Entries.{find_none}
 use Rattle.gate_pool.proofs.Removals.{without_below-none}
 use Rattle.gate_admit.specs.Standing.{Standing}
@@ -26,7 +28,6 @@ use Rattle.gate_package.specs.declared.role.Role.TheVariants.{Together}
 use Rattle.gate_package.specs.Judging.{fee_beside, half_rules, replaces_one, vsize_beside}
 use Rattle.gate_package.specs.Packages.{AreAbsent, AreNewcomers, IsAbsent, newcomers}
 use Rattle.gate_package.specs.Shapes.{has_conflict, has_duplicates, has_same_id, shares_input}
-use Rattle.gate_package.specs.Staging.{StaysPlain}
 use Rattle.gate_package.specs.Together.{halves_of, replaces_some, together_of}
 use Rattle.gate_package.proofs.Joining.{StandsFree, checked, none_there, not_found, priced}
 use Rattle.gate_package.proofs.Belonging.{half_absent, half_passes, neither}
@@ -48,9 +49,17 @@ conflicts_none entries tx a h c =
 unopposed : (entries : List Admitted) (tx : Tx) (a : Admitted) → replaces_one entries tx ≡ false → Contains entries a → is_counted None tx a ≡ false
 unopposed entries tx a h c = neither (is_sibling None a) (is_conflict tx a) refl (conflicts_none entries tx a h c)
 
-pub enters_plainly : (entries : List Admitted) (e : Admitted) → replaces_one entries e.tx ≡ false → StaysPlain entries None e
+pub enters_plainly : (entries : List Admitted) (e : Admitted) → replaces_one entries e.tx ≡ false → entered_beside entries None e ≡ entries ++ e ∷ []
 enters_plainly entries e h =
     ap (λ l. l ++ e ∷ []) (without_below-none (is_counted None e.tx) entries (not_found (is_counted None e.tx) entries (λ a c. unopposed entries e.tx a h c)))
+
+-- it replaces none
+pub replaces_nothing : (entries : List Admitted) (e : Admitted) → replaces_one entries e.tx ≡ false → [] ≡ listing_of (replaced_beside entries None e.tx)
+replaces_nothing entries e h =
+    sym (ap listing_of (filter_none (is_below_some (is_counted None e.tx) entries) entries (λ a c.
+    false_from_ne_true _ (λ t.
+    let w = any_is (λ b. is_counted None e.tx b && reaches (steps entries) (txid_of b.tx) (txid_of a.tx)) entries t in
+    true≢false (sym (and_parts _ _ w.2).0 ∙ unopposed entries e.tx w.0 h w.1)))))
 
 -- ---- the first of them, and the others behind it
 

@@ -15,7 +15,7 @@ use Rattle.gate_trim.specs.Trimming.{trim_of}
 use Rattle.gate_admit.specs.Standing.{Standing}
 use Rattle.gate_package.specs.Packages.{Judged, course_of, denied_count, denied_of, gone_from, has_failed, judged_as, judged_from, judged_of, landed, landed_as, packaged_of, reconsidered_by, unless_unfit}
 use Rattle.gate_package.specs.Shapes.{shape_rules}
-use Rattle.gate_package.specs.Staging.{drafted_or, Staged, StagesAs}
+use Rattle.gate_package.specs.Staging.{Staged, StagesAs}
 
 -- ---- how many are denied
 
@@ -85,11 +85,11 @@ left_out max_rate over txs now budget denial outcome entries h told stay =
 -- a package that was staged lands as what it is judged to be
 pub lands_staged : (max_rate : ℕ) (over : Standing) (txs : List Tx) (now budget : ℕ) (outcome settles : PackageOutcome) (stage : Staged) (meanwhile after : List Admitted) (floor : ℕ) (gone : List (List ℕ))
     → first_failing (shape_rules over.chain over.policy txs) ≡ None → StagesAs max_rate over now txs outcome stage meanwhile
-    → trim_of over.policy.incremental_rate budget (expired over.policy.stay now (drafted_or stage.draft meanwhile)) over.floor ≡ record { entries = after; floor = floor }
+    → trim_of over.policy.incremental_rate budget (expired over.policy.stay now meanwhile) over.floor ≡ record { entries = after; floor = floor }
     → gone ≡ gone_from after stage.held → settles ≡ settled gone outcome → packaged_of max_rate over txs now budget ≡ record { outcome = settles; entries = after; floor = floor }
 unfolding packaged_of landed
 lands_staged max_rate over txs now budget outcome settles stage meanwhile after floor gone fit staged trimmed left told =
     ap (λ found. unless_unfit found over (landed over now budget (judged_of max_rate over now txs))) fit
     ∙ (ap (λ j. landed over now budget j) staged.judged
-    ∙ (ap (λ t. landed_as (record { outcome = outcome; entries = drafted_or stage.draft meanwhile }) t) trimmed
+    ∙ (ap (λ t. landed_as (record { outcome = outcome; entries = meanwhile }) t) trimmed
     ∙ ap (λ (o : PackageOutcome). record { outcome = o; entries = after; floor = floor }) (sym (told ∙ ap (λ l. settled l outcome) (left ∙ ap (gone_from after) staged.held)))))

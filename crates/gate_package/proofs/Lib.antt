@@ -2,7 +2,7 @@ pub mod Shaping
 pub mod Concluding
 pub mod Halves
 pub mod Coursing
-pub mod Taking
+pub mod Rewinding
 pub mod Finding
 pub mod Landing
 pub mod Crowding
@@ -10,7 +10,6 @@ pub mod Placing
 pub mod Spenders
 pub mod Chunking
 pub mod Parting
-pub mod Entering
 pub mod Raising
 pub mod Pricing
 pub mod Asking

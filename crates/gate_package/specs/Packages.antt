@@ -1,5 +1,5 @@
 -- A package: its members one by one, those together that are denied, and what pool, floor and outcome are then.
-use Rattle.std.specs.Prelude.{◌≡◌, ℕ, suc, nat_le, nat_lt, ◌==◌, Bool, true, false, not, ◌||◌, if◌then◌else◌, List, [], ◌∷◌, ◌++◌, filter, length, map, Contains, is_none, unwrap_or, Option, Some, None, Result, Ok, Err}
+use Rattle.std.specs.Prelude.{◌≡◌, ℕ, suc, nat_le, ◌==◌, Bool, true, false, not, ◌||◌, if◌then◌else◌, List, [], ◌∷◌, ◌++◌, filter, map, Contains, is_none, unwrap_or, Option, Some, None, Result, Ok, Err}
 use Rattle.std.specs.List.{count_by}
 use Rattle.gate_bytes.specs.Order.{first_failing}
 use Rattle.gate_tx.specs.Ids.{txid_of, wtxid_of}
@@ -60,12 +60,12 @@ abbrev pub fate_of : ℕ → Standing → Tx → Fate
 fate_of max_rate over tx =
     fate_unless_known (entry_by_wtxid over.entries (wtxid_of tx)) (entry_by_txid over.entries (txid_of tx)) (fate_by over.entries (sibling_in over tx) tx (member_decision max_rate over tx))
 
--- a member has replaced entries
-abbrev pub replaces : Fate → Bool
-replaces (Taken fee vsize together replaced) = nat_lt 0 (length replaced)
-replaces (Known fee vsize) = false
-replaces (OtherWitness wtxid) = false
-replaces (Denied denial) = false
+-- the ids of what a member has replaced
+abbrev pub replaced_by : Fate → List (List ℕ)
+replaced_by (Taken fee vsize together replaced) = replaced
+replaced_by (Known fee vsize) = []
+replaced_by (OtherWitness wtxid) = []
+replaced_by (Denied denial) = []
 
 -- the entry of a member, if it was taken at this second
 abbrev pub entry_as : ℕ → Tx → Fate → Option Admitted

@@ -38,7 +38,7 @@ fn made_by<'a>(others: &'a [Candidate<'_>], point: &OutPoint, height: u32) -> Op
 
 /// The coin of an outpoint: the output of one of these others, as though these were in the next block, else of an entry,
 /// else the chain's unspent coin.
-fn view_beside<'a, S: BuildHasher + Copy + Drop>(
+pub fn view_beside<'a, S: BuildHasher + Copy + Drop>(
     chain: &'a Chain<S>,
     pool: &'a Pool<S>,
     others: &'a [Candidate<'_>],

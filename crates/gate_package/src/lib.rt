@@ -4,8 +4,7 @@
 //!
 //! The main clause is that of `submit_package`: the outcome, and the pool and the floor after it. A package is staged, which
 //! takes all memory and lets its members stand in the pool, and is then landed, which takes none: between the two it can be
-//! taken back. A package that replaces nothing stands in the pool itself; one that replaces entries stands in a copy, which
-//! takes the pool's place.
+//! taken back. What it replaces leaves the pool meanwhile, with the memory taken for its return.
 #![tactic(auto)]
 
 mod coins;
@@ -24,6 +23,7 @@ mod sweeping;
 mod together;
 mod truc;
 
+pub use coins::view_beside;
 pub use law::{
     known_again, package_keeps_good, package_keeps_truc, package_of_one, replacement_pays,
     together_all_or_none,

@@ -1,23 +1,19 @@
 //! A package as a whole: each of its members by itself, those together that are denied, and its landing.
-ghost use Rattle.std.specs.Prelude.{◌≡◌, ◌∷◌, ◌++◌, [], All, None, false, true, map, IfErr, IfOk, OnOk, OnErr};
-ghost use Rattle.gate_admit.specs.Bounds.{FitsEntry};
+ghost use Rattle.std.specs.Prelude.{◌≡◌, ◌∷◌, ◌++◌, [], None, false, map, IfOk, OnOk, OnErr};
 ghost use Rattle.gate_admit.specs.Lending.{lent_with};
 ghost use Rattle.gate_admit.specs.Standing.{standing};
-ghost use Rattle.gate_pool.specs.Counting.{entered_beside};
-ghost use Rattle.gate_pool.specs.Pool.{listing_of};
+ghost use Rattle.gate_pool.specs.Pool.{IsRewindable};
 ghost use Rattle.gate_tx.specs.Ids.{wtxid_of};
-ghost use Rattle.gate_package.specs.Packages.{AreAbsent, AreNewcomers, IsAbsent, Leaves, all_together, course_behind, course_of, denied_count, denied_of, entered_together, fate_of, granted, has_failed, held_txids, is_denied, is_lost, judged_as, judged_of, member_with, newcomers, reconsidered_by, refused, replaces};
-ghost use Rattle.gate_rivals.specs.Rivals.{replaced_together};
+ghost use Rattle.gate_package.specs.Packages.{Leaves, all_together, course_behind, course_of, denied_count, denied_of, fate_of, granted, has_failed, held_txids, is_denied, is_lost, judged_as, judged_of, member_with, reconsidered_by, refused, replaced_by};
 ghost use Rattle.gate_package.specs.Shapes.{has_conflict, has_duplicates};
-ghost use Rattle.gate_package.specs.Staging.{StagesAs, StaysPlain, without_all};
-ghost use Rattle.gate_package.specs.declared.entry.Stop.TheVariants.{Memory as OutOfMemory};
+ghost use Rattle.gate_package.specs.Staging.{StagesAs};
 
-use crate::entry::{Stop, enter, enter_together};
+use crate::entry::{enter, enter_together};
 use crate::members::{JudgedMember, is_reconsiderable, judge};
 use crate::shape::check_shape;
-use crate::staging::{Stage, take_out};
+use crate::staging::Stage;
 use crate::together::{DeniedOne, judge_together};
-use gate_admit::{Chain, Conditions, Entry, Floor, Policy, Pool, Verdicts};
+use gate_admit::{Chain, Conditions, Floor, Policy, Pool, Verdicts};
 use gate_bytes::{Copied, Kept, Memory};
 use gate_diagram::{Price, sum_of};
 use gate_submission::{Candidate, Fate, Member, PackageOutcome, PackageVerdict, Together};
@@ -28,10 +24,10 @@ use std::mem;
 
 /// A package that stands in the pool, and can still be taken back.
 #[derive(Drop)]
-pub struct StagedPackage<S: BuildHasher + Copy + Drop> {
+pub struct StagedPackage {
     /// What became of it if no member leaves the pool again.
     pub outcome: PackageOutcome,
-    pub stage: Stage<S>,
+    pub stage: Stage,
 }
 
 /// What becomes of a package as a whole: the verdict, and those that were judged together, if they came in.
@@ -54,13 +50,13 @@ impl Conclusion {
     }
 }
 
-/// Whether a member has replaced entries.
-fn replaces(fate: &Fate) -> bool
-    ensures { result ≡ replaces fate.now }
+/// The ids of what a member has replaced.
+fn replaced_by(fate: &Fate) -> &[Txid]
+    ensures { result.now ≡ replaced_by fate.now }
 {
     match fate {
-        Fate::Taken { replaced, .. } => !replaced.as_slice().is_empty(),
-        _ => false,
+        Fate::Taken { replaced, .. } => replaced.as_slice(),
+        _ => &[],
     }
 }
 
@@ -82,36 +78,29 @@ fn with_room(alloc: Global, count: usize) -> Result<Vec<Member>, Memory>
     Ok(Vec::with_capacity(alloc, count)?)
 }
 
-/// Judges a member by itself, and lets it stand in the pool if it is taken: where it replaces entries only if it may.
+/// Judges a member by itself, and lets it stand in the pool if it is taken.
 fn judge_next<S: BuildHasher + Copy + Drop>(
     alloc: Global,
     under: &Conditions<'_, S>,
     pool: &mut Pool<S>,
-    entered: &mut Vec<Txid>,
-    replacing: bool,
     max_rate: u64,
     candidate: &Candidate<'_>,
     judged: &mut Vec<Member>,
-) -> Result<(), Stop>
+) -> Result<(), Memory>
     ensures members { OnOk result (judged.new.items ≡ judged.old.items ++ member_with candidate.now (fate_of max_rate (lent_with under.now pool.old.entries) candidate.now) ∷ []) }
     ensures entries { OnOk result (pool.new.entries ≡ course_behind max_rate (lent_with under.now pool.old.entries) under.now.second candidate.now) }
     ensures before { pool.new.before ≡ pool.old.before }
-    ensures back { replacing ≡ false → without_all entered.new.items pool.new.entries ≡ without_all entered.old.items pool.old.entries }
-    ensures stop { replacing ≡ true → IfErr result (λ stop. stop ≡ OutOfMemory) }
+    ensures rewindable { IsRewindable pool.old → IsRewindable pool.new }
 {
     let JudgedMember {
         fate,
         sibling,
         entry,
     } = judge(alloc, under, pool, max_rate, candidate)?;
-    if !replacing && replaces(&fate) {
-        return Err(Stop::Replaces);
+    if let Some(entry) = entry {
+        enter(pool, replaced_by(&fate), sibling, entry)?;
     }
-    put(judged, candidate, fate)?;
-    match entry {
-        Some(entry) => Ok(enter(pool, entered, sibling, entry)?),
-        None => Ok(()),
-    }
+    put(judged, candidate, fate)
 }
 
 /// Judges each member by itself, in the order of the package.
@@ -119,22 +108,17 @@ fn judge_each<S: BuildHasher + Copy + Drop>(
     alloc: Global,
     under: &Conditions<'_, S>,
     pool: &mut Pool<S>,
-    entered: &mut Vec<Txid>,
-    replacing: bool,
     max_rate: u64,
     members: &[Candidate<'_>],
     judged: &mut Vec<Member>,
-) -> Result<(), Stop>
+) -> Result<(), Memory>
     ensures members { OnOk result (judged.new.items ≡ judged.old.items ++ (course_of max_rate (lent_with under.now pool.old.entries) under.now.second members.now).members) }
     ensures entries { OnOk result (pool.new.entries ≡ (course_of max_rate (lent_with under.now pool.old.entries) under.now.second members.now).entries) }
     ensures before { pool.new.before ≡ pool.old.before }
-    ensures back { replacing ≡ false → without_all entered.new.items pool.new.entries ≡ without_all entered.old.items pool.old.entries }
-    ensures stop { replacing ≡ true → IfErr result (λ stop. stop ≡ OutOfMemory) }
+    ensures rewindable { IsRewindable pool.old → IsRewindable pool.new }
 {
     for candidate in members {
-        judge_next(
-            alloc, under, pool, entered, replacing, max_rate, candidate, judged,
-        )?;
+        judge_next(alloc, under, pool, max_rate, candidate, judged)?;
     }
     Ok(())
 }
@@ -280,24 +264,20 @@ fn refuse_denied(members: &mut Vec<Member>, one: Option<DeniedOne>)
     }
 }
 
-/// Judges those members together that are denied by themselves, and lets them stand in the pool if they may enter: where
-/// they replace entries only if these may be replaced there.
+/// Judges those members together that are denied by themselves, and lets them stand in the pool if they may enter.
 fn reconsider<S: BuildHasher + Copy + Drop>(
     alloc: Global,
     under: &Conditions<'_, S>,
     pool: &mut Pool<S>,
-    entered: &mut Vec<Txid>,
-    replacing: bool,
     max_rate: u64,
     candidates: &[Candidate<'_>],
     members: &mut Vec<Member>,
-) -> Result<Conclusion, Stop>
+) -> Result<Conclusion, Memory>
     requires distinct { has_duplicates candidates.now ≡ false }
     requires apart { has_conflict candidates.now ≡ false }
     ensures ok { IfOk result (λ c. judged_as c.verdict members.new.items c.together pool.new.entries ≡ reconsidered_by max_rate (lent_with under.now pool.old.entries) under.now.second members.old.items (denied_of candidates.now members.old.items)) }
     ensures before { pool.new.before ≡ pool.old.before }
-    ensures back { replacing ≡ false → without_all entered.new.items pool.new.entries ≡ without_all entered.old.items pool.old.entries }
-    ensures stop { replacing ≡ true → IfErr result (λ stop. stop ≡ OutOfMemory) }
+    ensures rewindable { IsRewindable pool.old → IsRewindable pool.new }
 {
     let these = denied_of(alloc, candidates, members.as_slice())?;
     let these = these.as_slice();
@@ -305,7 +285,7 @@ fn reconsider<S: BuildHasher + Copy + Drop>(
         Ok(prices) => {
             let together = all_together(alloc, these, prices.as_slice())?;
             let prices = prices.as_slice();
-            let replaced = enter_together(alloc, under, pool, entered, replacing, these, prices)?;
+            let replaced = enter_together(alloc, under, pool, these, prices)?;
             grant_denied(alloc, members, prices, replaced);
             Ok(Conclusion {
                 verdict: PackageVerdict::Success,
@@ -324,23 +304,18 @@ fn conclude<S: BuildHasher + Copy + Drop>(
     alloc: Global,
     under: &Conditions<'_, S>,
     pool: &mut Pool<S>,
-    entered: &mut Vec<Txid>,
-    replacing: bool,
     max_rate: u64,
     candidates: &[Candidate<'_>],
     members: &mut Vec<Member>,
-) -> Result<Conclusion, Stop>
+) -> Result<Conclusion, Memory>
     requires none { members.old.items ≡ [] }
     requires distinct { has_duplicates candidates.now ≡ false }
     requires apart { has_conflict candidates.now ≡ false }
     ensures ok { IfOk result (λ c. judged_as c.verdict members.new.items c.together pool.new.entries ≡ judged_of max_rate (lent_with under.now pool.old.entries) under.now.second candidates.now) }
     ensures before { pool.new.before ≡ pool.old.before }
-    ensures back { replacing ≡ false → without_all entered.new.items pool.new.entries ≡ without_all entered.old.items pool.old.entries }
-    ensures stop { replacing ≡ true → IfErr result (λ stop. stop ≡ OutOfMemory) }
+    ensures rewindable { IsRewindable pool.old → IsRewindable pool.new }
 {
-    judge_each(
-        alloc, under, pool, entered, replacing, max_rate, candidates, members,
-    )?;
+    judge_each(alloc, under, pool, max_rate, candidates, members)?;
     let denied = count_denied(members.as_slice());
     if denied == 0 {
         return Ok(Conclusion::of(PackageVerdict::Success));
@@ -348,9 +323,7 @@ fn conclude<S: BuildHasher + Copy + Drop>(
     if has_failed(under.policy, candidates, members.as_slice()) || denied == 1 {
         return Ok(Conclusion::of(PackageVerdict::Failed));
     }
-    reconsider(
-        alloc, under, pool, entered, replacing, max_rate, candidates, members,
-    )
+    reconsider(alloc, under, pool, max_rate, candidates, members)
 }
 
 /// The txids of the members that are in the pool.
@@ -371,26 +344,21 @@ fn judge_on<S: BuildHasher + Copy + Drop>(
     alloc: Global,
     under: &Conditions<'_, S>,
     pool: &mut Pool<S>,
-    entered: &mut Vec<Txid>,
-    replacing: bool,
     max_rate: u64,
     candidates: &[Candidate<'_>],
-) -> Result<(PackageOutcome, Vec<Txid>), Stop>
+) -> Result<(PackageOutcome, Vec<Txid>), Memory>
     requires distinct { has_duplicates candidates.now ≡ false }
     requires apart { has_conflict candidates.now ≡ false }
     ensures ok { IfOk result (λ judged. judged_of max_rate (lent_with under.now pool.old.entries) under.now.second candidates.now ≡ record { outcome = judged.0; entries = pool.new.entries }) }
     ensures held { IfOk result (λ judged. judged.1.items ≡ held_txids judged.0.members) }
     ensures before { pool.new.before ≡ pool.old.before }
-    ensures back { replacing ≡ false → without_all entered.new.items pool.new.entries ≡ without_all entered.old.items pool.old.entries }
-    ensures stop { replacing ≡ true → IfErr result (λ stop. stop ≡ OutOfMemory) }
+    ensures rewindable { IsRewindable pool.old → IsRewindable pool.new }
 {
     let mut members = with_room(alloc, candidates.len())?;
     let Conclusion { verdict, together } = conclude(
         alloc,
         under,
         pool,
-        entered,
-        replacing,
         max_rate,
         candidates,
         &mut members,
@@ -404,74 +372,41 @@ fn judge_on<S: BuildHasher + Copy + Drop>(
     Ok((outcome, held))
 }
 
-/// Stages a package on a copy of the pool.
-fn stage_on_copy<S: BuildHasher + Copy + Drop>(
-    alloc: Global,
-    under: &Conditions<'_, S>,
-    pool: &Pool<S>,
-    members: &[Candidate<'_>],
-    max_rate: u64,
-) -> Result<StagedPackage<S>, Memory>
-    requires distinct { has_duplicates members.now ≡ false }
-    requires apart { has_conflict members.now ≡ false }
-    ensures { IfOk result (λ staged. StagesAs max_rate (lent_with under.now pool.now.entries) under.now.second members.now staged.outcome staged.stage pool.now.entries) }
-{
-    let mut draft = pool.copy(alloc)?;
-    let mut entered = Vec::new(alloc);
-    match judge_on(
-        alloc,
-        under,
-        &mut draft,
-        &mut entered,
-        true,
-        max_rate,
-        members,
-    ) {
-        Ok((outcome, held)) => Ok(StagedPackage {
-            outcome,
-            stage: Stage::in_draft(draft, held, alloc),
-        }),
-        Err(Stop::Memory) => Err(Memory),
-        Err(Stop::Replaces) => unreachable!(),
-    }
-}
-
-/// Judges a package over the pool, and lets the members that are taken stand in it, or in a copy of it if one of them
-/// replaces entries, or some together do. `max_rate` is the greatest feerate of a member by itself, in satoshi per 1,000
-/// virtual bytes, and 0 bounds nothing. If memory runs out, the entries are those that they were.
+/// Judges a package over the pool, and lets the members that are taken stand in it, in the place of what they replace. The
+/// pool's log begins with it, and keeps what left, so that the pool can be rewound. `max_rate` is the greatest feerate of a
+/// member by itself, in satoshi per 1,000 virtual bytes, and 0 bounds nothing. If memory runs out, the entries are those that
+/// they were.
 pub fn stage_package<S: BuildHasher + Copy + Drop>(
     alloc: Global,
     under: &Conditions<'_, S>,
     pool: &mut Pool<S>,
     members: &[Candidate<'_>],
     max_rate: u64,
-) -> Result<StagedPackage<S>, Memory>
+) -> Result<StagedPackage, Memory>
     requires distinct { has_duplicates members.now ≡ false }
     requires apart { has_conflict members.now ≡ false }
     ensures ok { IfOk result (λ staged. StagesAs max_rate (lent_with under.now pool.old.entries) under.now.second members.now staged.outcome staged.stage pool.new.entries) }
     ensures err { OnErr result (pool.new.entries ≡ pool.old.entries) }
-    ensures before { pool.new.before ≡ pool.old.before }
+    ensures before { pool.new.before ≡ pool.old.entries }
+    ensures rewindable { OnOk result (IsRewindable pool.new) }
 {
-    let mut entered = Vec::new(alloc);
-    match judge_on(alloc, under, pool, &mut entered, false, max_rate, members) {
+    pool.mark();
+    match judge_on(alloc, under, pool, max_rate, members) {
         Ok((outcome, held)) => Ok(StagedPackage {
             outcome,
-            stage: Stage::in_pool(entered, held),
+            stage: Stage::of(held),
         }),
-        Err(stop) => {
-            take_out(pool, entered.as_slice());
-            match stop {
-                Stop::Memory => Err(Memory),
-                Stop::Replaces => stage_on_copy(alloc, under, pool, members, max_rate),
-            }
+        Err(memory) => {
+            pool.rewind();
+            Err(memory)
         }
     }
 }
 
 /// Submits a package at this second: J2 to J7, its members one by one, those together that are denied, and then expiry and
 /// trim, once. The budget is in virtual bytes; without a greatest feerate, in satoshi per 1,000 virtual bytes, none is asked
-/// for. If memory runs out, nothing changes, also if a member had entered. A package that replaces nothing takes no memory
-/// for the pool but what its own entries take.
+/// for. If memory runs out, nothing changes, also if a member had entered. The memory for the pool is what its own entries
+/// take, and what those that it replaces would take if they came back.
 pub fn submit_package<S: BuildHasher + Copy + Drop>(
     alloc: Global,
     chain: &Chain<S>,

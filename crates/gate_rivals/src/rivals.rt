@@ -4,7 +4,7 @@ ghost use Rattle.std.specs.List.{list_any};
 ghost use Rattle.gate_tx.specs.Ids.{txid_of};
 ghost use Rattle.gate_tx.specs.Tx.{Tx};
 ghost use Rattle.gate_pool.specs.Family.{AreIdsOf, OfThese, children_of, descendants_of, parents_above, spends_one_of};
-ghost use Rattle.gate_pool.specs.Pool.{Admitted, listing_of};
+ghost use Rattle.gate_pool.specs.Pool.{Admitted, all_of, listing_of};
 ghost use Rattle.gate_pool.specs.Search.{IsEntry};
 ghost use Rattle.gate_rbf.specs.Gathering.{IsPut};
 ghost use Rattle.gate_rivals.specs.Rivals.{has_ancestor, has_much_kin, have_ancestors, have_too_many, is_entangled, replaced_together, rivals_of, staying_beside};
@@ -96,7 +96,7 @@ pub fn list_replaced_together<S: BuildHasher + Copy + Drop>(
     list_replaced(alloc, pool, rivals.as_slice())
 }
 
-/// Takes out what they replace.
+/// Takes out what they replace. The room that was taken in the pool stays.
 pub fn take_replaced<S: BuildHasher + Copy + Drop>(
     alloc: Global,
     pool: &mut Pool<S>,
@@ -105,6 +105,8 @@ pub fn take_replaced<S: BuildHasher + Copy + Drop>(
     ensures ok { OnOk result (pool.new.entries ≡ staying_beside pool.old.entries these.now) }
     ensures err { OnErr result (pool.new.entries ≡ pool.old.entries) }
     ensures before { pool.new.before ≡ pool.old.before }
+    ensures room { pool.new.room ≡ pool.old.room }
+    ensures left { all_of pool.new ≡ all_of pool.old }
 {
     let inputs = bare_inputs(alloc, these)?;
     pool.take_spenders(inputs.as_slice());

@@ -6,25 +6,24 @@ use Rattle.gate_pool.specs.Pool.{Admitted}
 use Rattle.gate_admit.specs.Bounds.{FitsEntry}
 use Rattle.gate_diagram.specs.declared.Price.{Price}
 use Rattle.gate_package.specs.Packages.{AreNewcomers, newcomers}
-use Rattle.gate_package.proofs.Arriving.{all_behind, enters_plainly, first_absent, first_alone, led_by, newcomers_first, others_behind}
+use Rattle.gate_package.proofs.Arriving.{all_behind, enters_plainly, first_absent, first_alone, led_by, newcomers_first, others_behind, replaces_nothing}
 use Rattle.gate_package.proofs.entry.+enter_all.Goals as goal
 
-pub enter-requires : goal.enter-requires
-enter-requires g t c =
+pub enter-requires-clause-absent : goal.enter-requires-clause-absent
+enter-requires-clause-absent g t c =
     let entries = c.args.pool.now.entries in
     let e = c.new-entry.result in
     let rest = c.in-Some.these.now in
     let tx = ap (λ (a : Admitted). a.tx) c.new-entry.ensures ∙ (c.in_ok-identified.ensures ∙ c.identified.ensures) in
     first_absent entries e rest (led_by entries c.in-Some.candidate.now c.args.these.now rest e c.requires.new c.in-Some.ensures.cases.0 tx)
 
-pub returns-in_err-enter-clause-back : goal.returns-in_err-enter-clause-back
-returns-in_err-enter-clause-back g t c =
+pub enter-requires-clause-replaced : goal.enter-requires-clause-replaced
+enter-requires-clause-replaced g t c =
     let entries = c.args.pool.now.entries in
     let e = c.new-entry.result in
     let rest = c.in-Some.these.now in
     let tx = ap (λ (a : Admitted). a.tx) c.new-entry.ensures ∙ (c.in_ok-identified.ensures ∙ c.identified.ensures) in
-    let new = led_by entries c.in-Some.candidate.now c.args.these.now rest e c.requires.new c.in-Some.ensures.cases.0 tx in
-    c.enter.ensures.back (enters_plainly entries e (first_alone entries e.tx rest new))
+    replaces_nothing entries e (first_alone entries e.tx rest (led_by entries c.in-Some.candidate.now c.args.these.now rest e c.requires.new c.in-Some.ensures.cases.0 tx))
 
 pub enter_all-requires : goal.enter_all-requires
 enter_all-requires g t c κs within =
@@ -65,11 +64,5 @@ returns-clause-entries g t c =
     newcomers_first second c.in-Some.candidate.now c.args.these.now rest price c.args.prices.now c.in-Some-split_first.prices.now e c.in-Some.ensures.cases.0 c.in-Some-split_first.ensures.cases.0 made in
     on_ok_then c.enter_all.result (all_behind entries c.enter.new.pool.entries c.enter_all.new.pool.entries e all others after first) c.enter_all.ensures.entries
 
-pub returns-clause-back : goal.returns-clause-back
-returns-clause-back g t c =
-    let entries = c.args.pool.now.entries in
-    let e = c.new-entry.result in
-    let rest = c.in-Some.these.now in
-    let tx = ap (λ (a : Admitted). a.tx) c.new-entry.ensures ∙ (c.in_ok-identified.ensures ∙ c.identified.ensures) in
-    let new = led_by entries c.in-Some.candidate.now c.args.these.now rest e c.requires.new c.in-Some.ensures.cases.0 tx in
-    c.enter_all.ensures.back ∙ c.enter.ensures.back (enters_plainly entries e (first_alone entries e.tx rest new))
+pub returns-clause-rewindable : goal.returns-clause-rewindable
+returns-clause-rewindable g t c = λ was. c.enter_all.ensures.rewindable (c.enter.ensures.rewindable was)

@@ -13,7 +13,7 @@ loop-candidate-preserved g c =
           c.judge_next.new.judged.items c.judge_next.new.pool.entries (behind c.args.judged.now.items (course_of c.args.max_rate (lent_with under c.args.pool.now.entries) under.second c.args.members.now))
           c.loop-candidate-test.true c.candidate-item.is c.in_ok-judge_next.ensures.members c.in_ok-judge_next.ensures.entries so.course;
       before = c.judge_next.ensures.before ∙ so.before;
-      back = λ plain. c.judge_next.ensures.back plain ∙ so.back plain;
+      rewindable = λ was. c.judge_next.ensures.rewindable (so.rewindable was);
     }
 
 pub returns-clause-members : goal.returns-clause-members

@@ -3,7 +3,7 @@ use Rattle.std.proofs.lemmas.Result.{IfOk-weaker}
 use Rattle.gate_package.specs.Staging.{Staged}
 use Rattle.gate_message.specs.declared.reply.Reply.{Reply}
 use Rattle.gate_core.specs.declared.packaging.AskedPackage.{AskedPackage}
-use Rattle.gate_core.specs.PackageSteps.{Stages}
+use Rattle.gate_core.specs.PackageSteps.{CanBeTakenBack, Stages}
 use Rattle.gate_core.specs.Planning.{world_of}
 use Rattle.gate_core.specs.World.{World}
 use Rattle.gate_core.proofs.Packages.{landed_step, on_err, taken_back}
@@ -38,6 +38,12 @@ returns-in-Ok-clause-ok g c =
     landed_step w asked staged.0 c.in-Some.stage c.in_ok-reply.field-0.closes meanwhile after c.in-Ok.replies.reply c.without.result.reply c.as_slice.result.now c.second.result (c.in-Ok.ensures.reply ∙ staged.1) staged.2 staged.3 c.second.ensures
     c.land-gone.ensures.left (c.as_slice.ensures.value ∙ c.land-gone.ensures.gone) c.land-gone.ensures.others c.without.ensures.reply
 
+pub take_back-requires : goal.take_back-requires
+take_back-requires g c =
+    let back : CanBeTakenBack (Some c.in-Some.stage) c.stage.new.self.pool c.args.self.now.pool.entries =
+    subst (λ (o : Option Staged). CanBeTakenBack o c.stage.new.self.pool c.args.self.now.pool.entries) c.in-Some.is c.in_ok-reply.ensures.back in
+    back.1
+
 pub returns-in-Err-clause-err : goal.returns-in-Err-clause-err
 returns-in-Err-clause-err g c =
     let w : World = world_of c.args.self.now in
@@ -45,4 +51,6 @@ returns-in-Err-clause-err g c =
     let meanwhile : World = world_of c.stage.new.self in
     let staged : Stages w asked c.in_ok-reply.field-0.reply (Some c.in-Some.stage) c.in_ok-reply.field-0.closes meanwhile =
     subst (λ (o : Option Staged). Stages w asked c.in_ok-reply.field-0.reply o c.in_ok-reply.field-0.closes meanwhile) c.in-Some.is c.in_ok-reply.ensures.ok in
-    taken_back w asked staged.0 c.in-Some.stage meanwhile _ staged.3 c.take_back.ensures.entries
+    let back : CanBeTakenBack (Some c.in-Some.stage) c.stage.new.self.pool w.pool =
+    subst (λ (o : Option Staged). CanBeTakenBack o c.stage.new.self.pool w.pool) c.in-Some.is c.in_ok-reply.ensures.back in
+    taken_back w asked staged.0 c.in-Some.stage meanwhile _ staged.3 (c.take_back.ensures.entries ∙ back.0)

@@ -1,4 +1,5 @@
 use Rattle.std.proofs.Common.{◌≡◌, List, Option, Some, None, refl, sym, ap, subst, ◌∙◌}
+use Rattle.std.proofs.lemmas.Result.{IfOk-weaker}
 use Rattle.gate_bytes.specs.Order.{first_failing}
 use Rattle.gate_tx.specs.Tx.{Tx}
 use Rattle.gate_submission.specs.declared.PackageOutcome.{PackageOutcome}
@@ -18,7 +19,7 @@ use Rattle.gate_core.specs.declared.packaging.AskedPackage.TheVariants.{Call}
 use Rattle.gate_core.specs.Planning.{world_of}
 use Rattle.gate_core.specs.RpcSteps.{replied}
 use Rattle.gate_core.specs.World.{World, standing_of}
-use Rattle.gate_core.proofs.Packages.{both, denied_step, err_at, ok_at, staged_as, unread_step, unstaged}
+use Rattle.gate_core.proofs.Packages.{both, denied_step, err_at, none_back, ok_at, staged_as, unread_step, unstaged}
 use Rattle.gate_core.proofs.parts.StateParts.stage_called.Goals as goal
 
 pub returns-in-Err-clause-ok : goal.returns-in-Err-clause-ok
@@ -88,3 +89,9 @@ returns-clause-ok g c =
           (subst (λ (k : Called). first_failing (text_rules k.call.max_burn c.as_slice-texts.result.now) ≡ None) c.called.view_is read) (sym c.check_shape.ensures ∙ c.in_default.is)
           (subst (λ (k : Called). StagesAs k.call.max_rate (standing_of w) k.second c.as_slice-members.result.now outcome c.in_ok-staged.staged.stage meanwhile.pool) c.called.view_is c.in_ok-staged.ensures.ok) refl,
     )
+
+pub returns-in-Err-clause-back : goal.returns-in-Err-clause-back
+returns-in-Err-clause-back g c = IfOk-weaker c.unstaged.result _ _ (λ staged none. none_back staged.stage c.args.self.now.pool c.args.self.now.pool.entries none) c.unstaged.ensures.stage
+
+pub returns-in-Some-clause-back : goal.returns-in-Some-clause-back
+returns-in-Some-clause-back g c = IfOk-weaker c.unstaged-in-Some.result _ _ (λ staged none. none_back staged.stage c.args.self.now.pool c.args.self.now.pool.entries none) c.unstaged-in-Some.ensures.stage

@@ -10,12 +10,12 @@ use Rattle.gate_package.proofs.Shaping.{shape_passes}
 use Rattle.gate_message.specs.Replies.{packaged_as}
 use Rattle.gate_message.specs.declared.denial.Then.TheVariants.{Close, Keep}
 use Rattle.gate_core.specs.Asking.{Paired}
-use Rattle.gate_core.specs.PackageSteps.{Stages}
+use Rattle.gate_core.specs.PackageSteps.{CanBeTakenBack, Stages}
 use Rattle.gate_core.specs.Pairing.{closes}
 use Rattle.gate_core.specs.Planning.{world_of}
 use Rattle.gate_core.specs.World.{World, standing_of}
 use Rattle.gate_core.specs.declared.packaging.AskedPackage.TheVariants.{Pair}
-use Rattle.gate_core.proofs.Packages.{staged_pair}
+use Rattle.gate_core.proofs.Packages.{none_back, staged_pair}
 use Rattle.gate_core.proofs.parts.StateParts.stage_pair.Goals as goal
 
 pub stage_package-requires-clause-distinct : goal.stage_package-requires-clause-distinct
@@ -45,3 +45,12 @@ returns-clause-ok g c =
       c.judged_pair.ensures.closes ∙ (ap (λ (n : ℕ). if c.one_closes-is_closed.result then Some n else None) (ap (λ (p : Paired). p.peer) c.pair.view_is) ∙ ap (λ (b : Bool). if b then Some pair.peer else None) shut),
       staged_pair w pair outcome stage meanwhile members are fits staged refl,
     )
+
+pub returns-in-Some-clause-back : goal.returns-in-Some-clause-back
+returns-in-Some-clause-back g c = none_back c.unjudged_pair.result.stage c.args.self.now.pool c.args.self.now.pool.entries c.unjudged_pair.ensures.stage
+
+pub returns-clause-back : goal.returns-clause-back
+returns-clause-back g c =
+    let pool = c.stage_package.new.pool in
+    let entries = c.args.self.now.pool.entries in
+    subst (λ (o : Option Staged). CanBeTakenBack o pool entries) (sym c.judged_pair.ensures.stage) (c.stage_package.ensures.before, c.in_ok-staged.ensures.rewindable)

@@ -1,5 +1,5 @@
 use Rattle.std.proofs.Common.{Option, Some, None, ap, subst, ◌∙◌}
-use Rattle.gate_package.specs.Staging.{Staged, log_of}
+use Rattle.gate_package.specs.Staging.{Staged}
 use Rattle.gate_core.specs.declared.packaging.AskedPackage.{AskedPackage}
 use Rattle.gate_core.specs.PackageSteps.{Stages}
 use Rattle.gate_core.specs.Planning.{world_of}
@@ -19,13 +19,7 @@ returns-in-Some-clause-ok g c =
     (c.as_slice.ensures.value ∙ c.land-gone.ensures.gone) c.land-gone.ensures.others c.without.ensures
 
 pub returns-in-Some-clause-before : goal.returns-in-Some-clause-before
-returns-in-Some-clause-before g c =
-    let w : World = world_of c.args.self.now in
-    let asked : AskedPackage = c.args.asked.now in
-    let meanwhile : World = world_of c.stage.new.self in
-    let staged : Stages w asked c.in_ok-reply.field-0.reply (Some c.in-Some.stage) c.in_ok-reply.field-0.closes meanwhile =
-    subst (λ (o : Option Staged). Stages w asked c.in_ok-reply.field-0.reply o c.in_ok-reply.field-0.closes meanwhile) c.in-Some.is c.in_ok-reply.ensures.ok in
-    λ same. c.land-gone.ensures.before ∙ (ap (log_of c.in-Some.stage.draft) (c.in_ok-reply.ensures.before ∙ same) ∙ staged.3.staged.log)
+returns-in-Some-clause-before g c = λ same. c.land-gone.ensures.before ∙ c.in_ok-reply.ensures.before same
 
 pub returns-in-None-clause-ok : goal.returns-in-None-clause-ok
 returns-in-None-clause-ok g c =
@@ -37,4 +31,4 @@ returns-in-None-clause-ok g c =
     ap (λ (v : World). (c.in_ok-reply.field-0.reply, v)) told.0 ∙ told.1
 
 pub returns-in-None-clause-before : goal.returns-in-None-clause-before
-returns-in-None-clause-before g c = λ same. c.in_ok-reply.ensures.before ∙ same
+returns-in-None-clause-before g c = λ same. c.in_ok-reply.ensures.before same
