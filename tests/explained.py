@@ -27,7 +27,6 @@ METHODS = (
     "sendrawtransaction, testmempoolaccept, submitpackage, getrawmempool, getmempoolentry, getmempoolancestors, getmempooldescendants, getmempoolinfo, getrawtransaction"
     " or gettxspendingprevout"
 )
-UNPAID = "A35 The fee is below the fee for the virtual size at the rate that minrelaytxfee says (1,000 satoshi per 1,000 virtual bytes)"
 SPENT = (
     "A23 An entry of the pool spends the same outpoint, and none of its inputs has a sequence of at most 0xfffffffd, so that it may not be replaced;"
     " with mempoolfullrbf it may be, and if it has version 3 and truc is 1"
@@ -96,8 +95,8 @@ def test_lists(gate):
     told, last = said_of(gate, OPENING + [coin(number) for number in (1, 2, 3)], [ENTER] + events)
     said = [[line for event, line in told if event == it] for it in events]
     same_lines(said[0], ["transaction 1 of 3: " + fee % 50, "transaction 2 of 3: " + fee % 10, "transaction 3 of 3: " + coinless % printed(number_hash(9))])
-    # the child spends what the one before it makes, and the last one what the first one spends
-    same_lines(said[1], ["transaction 2 of 3: " + UNPAID, "transaction 3 of 3: " + SPENT])
+    # the child spends what the one before it makes, which is worth as much there, and the last one what the first one spends
+    same_lines(said[1], ["transaction 2 of 3: A35 pays 10, needs 82", "transaction 3 of 3: " + SPENT])
     # now the child has no coin, and the last one could replace the entry, but not in a list
     same_lines(said[3], ["transaction 1 of 3: " + fee % 50, "transaction 2 of 3: " + coinless % first.txid(), "transaction 3 of 3: " + SPENT])
     true("all are counted: %s" % last, "1 admitted, 0 replaced, 8 denied (A23 2, A25 2, A35 4)" in last)

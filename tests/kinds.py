@@ -2,7 +2,7 @@
 
 # files whose tests are quick on a program without proofs, which is some hundred times slower and needs more memory
 QUICK_UNPROVED = (
-    "beside_node", "caller_streams", "calls", "causes", "chain_streams", "command_line", "decoding", "embedding", "examples", "explained", "heights", "installing",
+    "beside_node", "caller_streams", "calls", "causes", "chain_streams", "command_line", "decoding", "embedding", "examples", "explained", "explained_packages", "heights", "installing",
     "json_texts", "living_streams", "mistakes", "objects", "openings", "package_streams", "permissions", "progress", "psbts", "random_streams", "recorded_cases", "replies", "rules", "samples", "terminals", "trying",
 )
 

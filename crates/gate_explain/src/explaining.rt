@@ -1,6 +1,6 @@
 //! Who looks on at `gate run --explain`, and speaks on standard error.
 use crate::counted_noun::CountedNoun;
-use crate::denied::outcomes_in;
+use crate::denied::{members_in, outcomes_in};
 use crate::event_totals::EventTotals;
 use crate::moves::{reason_to_enter, reason_to_leave, second_of};
 use crate::object::{listed_object, reply_object};
@@ -14,6 +14,7 @@ use gate_core::State;
 use gate_message::{Event, Reply};
 use gate_rpc::Outcome;
 use gate_run::Onlooker;
+use gate_submission::Fate;
 use gate_tx::Txid;
 use std::alloc::Global;
 use std::cell::Cell;
@@ -142,7 +143,7 @@ impl<T: Eprint> Explaining<'_, T> {
         }
     }
 
-    /// Says why a transaction of a list would be denied: the one at this place of so many.
+    /// Says why a transaction of a list would be denied, or why a member of a package is: the one at this place of so many.
     fn tell_denied<S: BuildHasher + Copy + Drop>(
         &self,
         state: &State<S>,
@@ -180,6 +181,25 @@ impl<T: Eprint> Explaining<'_, T> {
             if let Outcome::Rejected { txid, denial, .. } = outcome {
                 let told = sight.listed(place, *denial);
                 let _told = self.tell_denied(state, place, outcomes.len(), txid, &told);
+            }
+        }
+    }
+
+    /// Says of each member of a package why it is denied, if it is.
+    fn tell_members<S: BuildHasher + Copy + Drop>(
+        &self,
+        state: &State<S>,
+        sight: &Sight,
+        reply: &Reply,
+    ) {
+        let members = members_in(reply);
+        let judged = sight.judged(members);
+        for (place, member) in members.iter().enumerate() {
+            if let Fate::Denied(denial) = &member.fate {
+                if let Ok(told) = judged.told(self.alloc, place, *denial) {
+                    let txid = &member.txid;
+                    let _told = self.tell_denied(state, place, members.len(), txid, &told);
+                }
             }
         }
     }
@@ -235,6 +255,7 @@ impl<S: BuildHasher + Copy + Drop, T: Clock + Eprint> Onlooker<S> for Explaining
         self.totals.count(event, &sight.explained, reply);
         self.tell_reply(state, &sight, event, reply);
         self.tell_listed(state, &sight, reply);
+        self.tell_members(state, &sight, reply);
         self.tell_moves(state, &sight, event);
     }
 

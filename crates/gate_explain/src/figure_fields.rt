@@ -84,6 +84,15 @@ impl fmt::Display for FigureFields {
             }
             Figures::Costs { cost } => write!(f, ",\"cost\":{cost},\"most\":16000"),
             Figures::Pays { fee, needs } => write!(f, ",\"pays\":{fee},\"needs\":{needs}"),
+            Figures::PayTogether {
+                count,
+                fee,
+                vsize,
+                needs,
+            } => write!(
+                f,
+                ",\"together\":{count},\"pays\":{fee},\"size\":{vsize},\"needs\":{needs}"
+            ),
             Figures::Ancestors { count, most } => {
                 write!(f, ",\"ancestors\":{count},\"most\":{most}")
             }

@@ -1,12 +1,12 @@
 //! What is said of the transactions of a list that a user tests, one by one.
 //!
 //! Each of them is judged behind those before it that would enter. The figures are those of the state before the call, so they
-//! are given where the ones before change none of them.
+//! are given where the ones before change none of them: what a transaction pays (A34, A35) they never change.
 use crate::remedy::Remedy;
 use crate::told::Told;
 use gate_bytes::Memory;
 use gate_core::State;
-use gate_figures::{Explanation, explain_submission};
+use gate_figures::{Explanation, Figures, explain_submission};
 use gate_message::Event;
 use gate_pool::parents;
 use gate_rpc::Command;
@@ -33,8 +33,8 @@ impl Listed {
         }
     }
 
-    /// What is known of the rule that denies the transaction.
-    pub(crate) fn told(&self, denial: Denial) -> Told {
+    /// What is known of the rule that denies the transaction; `paid` are the figures of A34 or A35 behind those before it.
+    pub(crate) fn told(&self, denial: Denial, paid: Option<Figures>) -> Told {
         let rule = denial.row();
         match self.explanation {
             Some(explanation) if explanation.denial == denial => Told {
@@ -45,7 +45,7 @@ impl Listed {
             },
             _ => Told {
                 rule,
-                figures: None,
+                figures: paid,
                 is_of_descendants: false,
                 remedy: Remedy::Unknown,
             },

@@ -43,10 +43,10 @@ use Rattle.gate_admit.specs.Sweeping.{sweep_rules}
 use Rattle.gate_admit.specs.Verdicts.{verdict_of}
 use Rattle.gate_figures.specs.declared.figures.Figures.{Figures}
 use Rattle.gate_figures.specs.declared.figures.Figures.TheVariants.{Ancestors, AncestorsSized, BareMultisig, DataLeft, DataScript, Dust, DustPays, HeightLocked, Input, LegacySigops, NoCoin, NonstandardSpend, NonstandardWitness, Outpaid, Script, Spent, TimeLocked, Unswept, Young}
-use Rattle.gate_figures.specs.Figures.{allowed_ancestors, coinless, crowded, data_past, data_past_total, doubted, dust, dust_paying, fee_at, figures_of, height_locked, locked, locked_by, locked_coin, many_legacy, nonstandard, nonstandard_inputs, nonstandard_spend, nonstandard_witness, script_figures, time_locked, non_signalling, non_signalling_by, is_good, outpaid, outpaid_at, outpaid_by, outpaid_sibling, paying_figures, pays, pays_above, sibling_in, sized, unswept, unswept_of, unswept_output, vsize_at, cost_at, young, young_by}
+use Rattle.gate_figures.specs.Figures.{allowed_ancestors, coinless, crowded, crowded_past, data_past, data_past_total, doubted, dust, dust_paying, fee_at, figures_of, height_locked, locked, locked_by, locked_coin, many_legacy, nonstandard, nonstandard_inputs, nonstandard_spend, nonstandard_witness, script_figures, time_locked, non_signalling, non_signalling_by, is_good, outpaid, outpaid_at, outpaid_by, outpaid_sibling, paying_figures, pays, pays_above, sibling_in, sized, unswept, unswept_of, unswept_output, vsize_at, cost_at, young, young_by}
 use Rattle.gate_figures.specs.Laws.{Decide, FiguresDecide}
 
-lt_from : (m n : ℕ) → nat_lt m n ≡ true → m < n
+pub lt_from : (m n : ℕ) → nat_lt m n ≡ true → m < n
 lt_from m n h = grind (arith, nat_tests)
 
 le_from : (m n : ℕ) → nat_lt m n ≡ false → n ≤ m
@@ -55,14 +55,14 @@ le_from m n h = grind (arith, nat_tests)
 -- ---- of lists of rules
 
 -- a rule that fails has figures that decide, or none
-abbrev Shows : Standing → Tx → Rule Denial → Type 0
+abbrev pub Shows : Standing → Tx → Rule Denial → Type 0
 Shows over tx rule = rule.1 ≡ true → IfSome (figures_of over tx rule.0) (Decide over)
 
-abbrev AllShow : Standing → Tx → List (Rule Denial) → Type 0
+abbrev pub AllShow : Standing → Tx → List (Rule Denial) → Type 0
 AllShow over tx [] = Unit {0}
 AllShow over tx (rule ∷ rules) = Shows over tx rule × AllShow over tx rules
 
-both_show : (over : Standing) (tx : Tx) (xs ys : List (Rule Denial)) → AllShow over tx xs → AllShow over tx ys → AllShow over tx (xs ++ ys)
+pub both_show : (over : Standing) (tx : Tx) (xs ys : List (Rule Denial)) → AllShow over tx xs → AllShow over tx ys → AllShow over tx (xs ++ ys)
 both_show over tx [] ys a b = b
 both_show over tx (x ∷ xs) ys a b = (a.0, both_show over tx xs ys a.1 b)
 
@@ -76,7 +76,7 @@ found_by : (over : Standing) (tx : Tx) (said denial : Denial) (fails : Bool) (re
 found_by over tx said denial true rest shows later h = subst (λ (o : Option Denial). IfSome o (λ d. IfSome (figures_of over tx d) (Decide over))) h (shows refl)
 found_by over tx said denial false rest shows later h = later h
 
-found : (over : Standing) (tx : Tx) (denial : Denial) (rules : List (Rule Denial)) → AllShow over tx rules → first_failing rules ≡ Some denial
+pub found : (over : Standing) (tx : Tx) (denial : Denial) (rules : List (Rule Denial)) → AllShow over tx rules → first_failing rules ≡ Some denial
     → IfSome (figures_of over tx denial) (Decide over)
 found over tx denial [] all h = absurd (false≢true (ap is_some h))
 found over tx denial (rule ∷ rules) all h = found_by over tx rule.0 denial rule.1 (first_failing rules) all.0 (found over tx denial rules all.1) h
@@ -158,7 +158,7 @@ none_of : {X : Type 0} (o : Option X) → is_none o ≡ true → o ≡ None
 none_of None h = refl
 none_of (Some x) h = absurd (false≢true h)
 
-coinless_decides : (over : Standing) (index : ℕ) (inputs : List TxIn) → IfSome (coinless over.chain over.entries index inputs) (Decide over)
+pub coinless_decides : (over : Standing) (index : ℕ) (inputs : List TxIn) → IfSome (coinless over.chain over.entries index inputs) (Decide over)
 coinless_decides over index [] = tt
 coinless_decides over index (i ∷ inputs) = go (coinless_decides over (index + 1) inputs) (is_none (view_coin over.chain over.entries i.prevout)) refl
   where
@@ -320,15 +320,18 @@ allows policy tx vsize = go (has_second_try tx vsize)
     go true = le-max_left policy.ancestors 2
     go false = le_refl policy.ancestors
 
-crowded_decides : (over : Standing) (tx : Tx) (above : List Admitted) (vsize : Option ℕ) → IfSome (crowded over.policy tx above vsize) (Decide over)
-crowded_decides over tx above None = tt
-crowded_decides over tx above (Some vsize) = go (nat_lt (allowed_ancestors over.policy tx vsize) (length above + 1)) (nat_lt over.policy.ancestors_size (size_of above + vsize)) refl refl
+pub past_decides : (over : Standing) (most : ℕ) (above : List Admitted) (vsize : ℕ) → over.policy.ancestors ≤ most → IfSome (crowded_past over.policy most above vsize) (Decide over)
+past_decides over most above vsize allowed = go (nat_lt most (length above + 1)) (nat_lt over.policy.ancestors_size (size_of above + vsize)) refl refl
   where
-    go : (a b : Bool) → nat_lt (allowed_ancestors over.policy tx vsize) (length above + 1) ≡ a → nat_lt over.policy.ancestors_size (size_of above + vsize) ≡ b
-        → IfSome (if a then Some (Ancestors (length above + 1) (allowed_ancestors over.policy tx vsize)) else if b then Some (AncestorsSized (size_of above + vsize) over.policy.ancestors_size) else None) (Decide over)
-    go true b e f = (allows over.policy tx vsize, lt_from (allowed_ancestors over.policy tx vsize) (length above + 1) e)
+    go : (a b : Bool) → nat_lt most (length above + 1) ≡ a → nat_lt over.policy.ancestors_size (size_of above + vsize) ≡ b
+        → IfSome (if a then Some (Ancestors (length above + 1) most) else if b then Some (AncestorsSized (size_of above + vsize) over.policy.ancestors_size) else None) (Decide over)
+    go true b e f = (allowed, lt_from most (length above + 1) e)
     go false true e f = (omega arith, lt_from over.policy.ancestors_size (size_of above + vsize) f)
     go false false e f = tt
+
+pub crowded_decides : (over : Standing) (tx : Tx) (above : List Admitted) (vsize : Option ℕ) → IfSome (crowded over.policy tx above vsize) (Decide over)
+crowded_decides over tx above None = tt
+crowded_decides over tx above (Some vsize) = past_decides over (allowed_ancestors over.policy tx vsize) above vsize (allows over.policy tx vsize)
 
 doubted_decides : (over : Standing) (wtxid : List ℕ) (index : ℕ) (inputs : List TxIn) → IfSome (doubted over.verdicts wtxid index inputs) (Decide over)
 doubted_decides over wtxid index [] = tt
@@ -412,7 +415,7 @@ outputs_show over tx =
       (λ h. (le_refl over.policy.standards.data_outputs, lt_from over.policy.standards.data_outputs _ h), (λ h. (omega arith, lt_from _ over.policy.standards.least_size h), tt)),
     )
 
-alone_shows : (over : Standing) (tx : Tx) → AllShow over tx (alone_rules over.policy.standards tx)
+pub alone_shows : (over : Standing) (tx : Tx) → AllShow over tx (alone_rules over.policy.standards tx)
 unfolding alone_rules
 alone_shows over tx =
     both_show over tx (transaction_rules tx) _ (transaction_shows over tx)
@@ -428,11 +431,11 @@ unfinal tx next_height median h =
     not_true true k = absurd (false≢true k)
     not_true false k = refl
 
-final_shows : (over : Standing) (tx : Tx) → AllShow over tx (final_rules over.chain tx)
+pub final_shows : (over : Standing) (tx : Tx) → AllShow over tx (final_rules over.chain tx)
 unfolding figures_of final_rules
 final_shows over tx = (λ h. unfinal tx (tip_of over.chain + 1) (median_at over.chain (tip_of over.chain)) h, tt)
 
-pool_shows : (over : Standing) (tx : Tx) → AllShow over tx (pool_rules over.policy over.entries tx)
+pub pool_shows : (over : Standing) (tx : Tx) → AllShow over tx (pool_rules over.policy over.entries tx)
 unfolding figures_of paying_figures pool_rules
 pool_shows over tx = (λ _. tt, (λ _. tt, (λ h. non_signalling_decides over over.policy.standards.truc 0 tx.inputs (asks over.policy.full_rbf _ h), tt)))
 
@@ -440,21 +443,21 @@ coin_shows : (over : Standing) (tx : Tx) → AllShow over tx (coin_rules over.ch
 unfolding figures_of paying_figures coin_rules
 coin_shows over tx = (λ _. tt, (λ _. coinless_decides over 0 tx.inputs, tt))
 
-lock_shows : (over : Standing) (tx : Tx) (coins : List Coin) → AllShow over tx (lock_rules over.chain coins tx)
+pub lock_shows : (over : Standing) (tx : Tx) (coins : List Coin) → AllShow over tx (lock_rules over.chain coins tx)
 unfolding figures_of paying_figures lock_rules
 lock_shows over tx coins = (λ _. locked_decides over 0 tx.inputs, tt)
 
-coin_values_show : (over : Standing) (tx : Tx) (next_height sum : ℕ) (coins : List Coin) → AllShow over tx (coin_value_rules next_height sum coins)
+pub coin_values_show : (over : Standing) (tx : Tx) (next_height sum : ℕ) (coins : List Coin) → AllShow over tx (coin_value_rules next_height sum coins)
 unfolding figures_of paying_figures coin_value_rules
 coin_values_show over tx next_height sum [] = tt
 coin_values_show over tx next_height sum (coin ∷ coins) =
     (λ _. young_decides over 0 tx.inputs, (λ _. tt, coin_values_show over tx next_height (sum + amount_or_zero coin.value) coins))
 
-balance_shows : (over : Standing) (tx : Tx) → AllShow over tx (balance_rules (coins_value (coins_of over.chain over.entries tx.inputs)) (outputs_value tx))
+pub balance_shows : (over : Standing) (tx : Tx) → AllShow over tx (balance_rules (coins_value (coins_of over.chain over.entries tx.inputs)) (outputs_value tx))
 unfolding figures_of paying_figures balance_rules
 balance_shows over tx = (λ h. lt_from _ _ h, (λ _. tt, tt))
 
-reports_show : (over : Standing) (tx : Tx) → AllShow over tx (report_rules over.policy (reported tx.inputs (coins_of over.chain over.entries tx.inputs)) (fee_at over.chain over.entries tx) tx)
+pub reports_show : (over : Standing) (tx : Tx) → AllShow over tx (report_rules over.policy (reported tx.inputs (coins_of over.chain over.entries tx.inputs)) (fee_at over.chain over.entries tx) tx)
 unfolding figures_of paying_figures report_rules
 reports_show over tx =
     let answers = reported tx.inputs (coins_of over.chain over.entries tx.inputs) in
@@ -469,7 +472,7 @@ reports_show over tx =
       ),
     )
 
-payment_shows : (over : Standing) (tx : Tx)
+pub payment_shows : (over : Standing) (tx : Tx)
     → AllShow over tx (payment_rules First over.policy tx over.floor (fee_at over.chain over.entries tx) (vsize_of over.policy.sigop_size (cost_at over.chain over.entries tx) tx))
 unfolding figures_of paying_figures fee_rules
 payment_shows over tx = go (is_relay_fee_first over.policy tx)
@@ -490,11 +493,11 @@ payment_shows over tx = go (is_relay_fee_first over.policy tx)
       (λ h. pays_decides over tx (relay_feerate over.policy) fee (cost_at over.chain over.entries tx) h, tt),
     )
 
-limits_show : (over : Standing) (tx : Tx) (vsize : ℕ) → AllShow over tx (limit_rules First over.policy over.entries tx vsize)
+pub limits_show : (over : Standing) (tx : Tx) (vsize : ℕ) → AllShow over tx (limit_rules First over.policy over.entries tx vsize)
 unfolding figures_of paying_figures limit_rules
 limits_show over tx vsize = (λ _. crowded_decides over tx (ancestors_above over.entries tx.inputs) (vsize_at over.policy.sigop_size over.chain over.entries tx), (λ _. tt, (λ _. tt, tt)))
 
-sweep_shows : (over : Standing) (tx : Tx) → AllShow over tx (sweep_rules over.policy.standards over.entries tx)
+pub sweep_shows : (over : Standing) (tx : Tx) → AllShow over tx (sweep_rules over.policy.standards over.entries tx)
 unfolding figures_of paying_figures sweep_rules
 sweep_shows over tx = (λ _. unswept_decides over over.policy.standards.dust_rate tx.inputs tx.inputs, tt)
 
@@ -515,7 +518,7 @@ beside_shows over tx = (
   ),
 )
 
-replacement_shows : (over : Standing) (tx : Tx)
+pub replacement_shows : (over : Standing) (tx : Tx)
     → AllShow over tx (replacement_rules (incremental_feerate over.policy) over.policy.parents over.entries (sibling_in over tx) tx (fee_at over.chain over.entries tx) (vsize_of over.policy.sigop_size (cost_at over.chain over.entries tx) tx))
 unfolding replacement_rules
 replacement_shows over tx = go (list_any (is_counted (sibling_in over tx) tx) over.entries)
@@ -524,7 +527,7 @@ replacement_shows over tx = go (list_any (is_counted (sibling_in over tx) tx) ov
     go true = beside_shows over tx
     go false = tt
 
-verdict_shows : (over : Standing) (tx : Tx) (index : ℕ) (inputs : List TxIn) → AllShow over tx (verdict_rules over.verdicts (wtxid_of tx) index inputs)
+pub verdict_shows : (over : Standing) (tx : Tx) (index : ℕ) (inputs : List TxIn) → AllShow over tx (verdict_rules over.verdicts (wtxid_of tx) index inputs)
 unfolding figures_of verdict_rules rules_of_verdict
 verdict_shows over tx index [] = tt
 verdict_shows over tx index (i ∷ inputs) = (
@@ -555,7 +558,7 @@ all_show over tx =
     (both_show over tx (replacement_rules (incremental_feerate over.policy) over.policy.parents over.entries (sibling_in over tx) tx (fee_at over.chain over.entries tx) (vsize_of over.policy.sigop_size (cost_at over.chain over.entries tx) tx)) _ (replacement_shows over tx)
     (verdict_shows over tx 0 tx.inputs))))))))))))
 
-denied : (found : Option Denial) (grant : Grant) (denial : Denial) → denied_or found grant ≡ Err denial → found ≡ Some denial
+pub denied : (found : Option Denial) (grant : Grant) (denial : Denial) → denied_or found grant ≡ Err denial → found ≡ Some denial
 denied None grant denial h = absurd (true≢false (ap is_granted h))
   where
     is_granted : Result Grant Denial → Bool

@@ -4,3 +4,5 @@ pub mod Gone
 pub mod Thresholds
 pub mod Passing
 pub mod Granting
+pub mod MemberDeciding
+pub mod Behind

@@ -249,13 +249,16 @@ pays_above rate gone fee (Some vsize) = Some (Above fee gone (required_fee rate 
 abbrev pub allowed_ancestors : Policy → Tx → ℕ → ℕ
 allowed_ancestors policy tx vsize = if has_second_try tx vsize then most_ancestors policy else policy.ancestors
 
+-- the ancestors of a transaction of this size, and itself, if they are more than this, or too large
+abbrev pub crowded_past : Policy → ℕ → List Admitted → ℕ → Option Figures
+crowded_past policy most above vsize =
+    if nat_lt most (length above + 1) then Some (Ancestors (length above + 1) most)
+    else if nat_lt policy.ancestors_size (size_of above + vsize) then Some (AncestorsSized (size_of above + vsize) policy.ancestors_size) else None
+
 -- the transaction's ancestors and itself, if they are too many or too large
 abbrev pub crowded : Policy → Tx → List Admitted → Option ℕ → Option Figures
 crowded policy tx above None = None
-crowded policy tx above (Some vsize) =
-    if nat_lt (allowed_ancestors policy tx vsize) (length above + 1)
-    then Some (Ancestors (length above + 1) (allowed_ancestors policy tx vsize))
-    else if nat_lt policy.ancestors_size (size_of above + vsize) then Some (AncestorsSized (size_of above + vsize) policy.ancestors_size) else None
+crowded policy tx above (Some vsize) = crowded_past policy (allowed_ancestors policy tx vsize) above vsize
 
 -- ---- verdicts
 

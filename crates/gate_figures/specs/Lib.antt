@@ -4,3 +4,4 @@ pub mod Laws
 pub mod Least
 pub mod Rooms
 pub mod Relatives
+pub mod Members

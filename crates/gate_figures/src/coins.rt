@@ -1,11 +1,14 @@
 //! The coins of the inputs, and those that are missing or too young.
 ghost use Rattle.std.specs.Prelude.{◌≡◌, ◌≤◌, IfOk, length};
 ghost use Rattle.gate_admit.specs.Coins.{coins_of};
+ghost use Rattle.gate_package.specs.Coins.{coins_beside};
 ghost use Rattle.gate_figures.specs.Figures.{coinless, young, young_by};
 
 use crate::figures::Figures;
 use gate_admit::{Chain, LentCoin, Pool, is_immature, view_coin};
 use gate_bytes::Memory;
+use gate_package::view_beside;
+use gate_submission::Candidate;
 use gate_tx::TxIn;
 use std::alloc::Global;
 use std::hash::BuildHasher;
@@ -23,6 +26,27 @@ pub(crate) fn coins_of<'a, S: BuildHasher + Copy + Drop>(
     let mut coins = Vec::with_capacity(alloc, inputs.len())?;
     for input in inputs {
         match view_coin(chain, pool, &input.prevout) {
+            Some(coin) => coins.push(coin)?,
+            None => {}
+        }
+    }
+    Ok(coins)
+}
+
+/// The coins of the inputs that have one behind these others, which are no entries.
+pub(crate) fn coins_beside<'a, S: BuildHasher + Copy + Drop>(
+    alloc: Global,
+    chain: &'a Chain<S>,
+    pool: &'a Pool<S>,
+    others: &'a [Candidate<'_>],
+    inputs: &[TxIn],
+) -> Result<Vec<LentCoin<'a>>, Memory>
+    ensures coins { IfOk result (λ coins. coins.items ≡ coins_beside chain.now others.now pool.now.entries inputs.now) }
+    ensures few { IfOk result (λ coins. length coins.items ≤ length inputs.now) }
+{
+    let mut coins = Vec::with_capacity(alloc, inputs.len())?;
+    for input in inputs {
+        match view_beside(chain, pool, others, &input.prevout) {
             Some(coin) => coins.push(coin)?,
             None => {}
         }

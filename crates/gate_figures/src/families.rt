@@ -7,7 +7,7 @@ ghost use Rattle.gate_pool.specs.Search.{IsEntry};
 ghost use Rattle.gate_rbf.specs.Replacing.{descendant_count};
 ghost use Rattle.gate_admit.specs.declared.attempt.Attempt.TheVariants.{First};
 ghost use Rattle.gate_admit.specs.Truc.{sibling_of};
-ghost use Rattle.gate_figures.specs.Figures.{allowed_ancestors, crowded};
+ghost use Rattle.gate_figures.specs.Figures.{allowed_ancestors, crowded, crowded_past};
 
 use crate::figures::Figures;
 use crate::room::has_second_try;
@@ -31,6 +31,32 @@ fn allowed_ancestors(policy: &Policy, tx: &Transaction, vsize: u64) -> usize
     }
 }
 
+/// The ancestors of a transaction of this size, and itself, if they are more than this, or too large.
+pub(crate) fn crowded_past<S: BuildHasher + Copy + Drop>(
+    alloc: Global,
+    policy: &Policy,
+    pool: &Pool<S>,
+    tx: &Transaction,
+    most: usize,
+    vsize: u64,
+) -> Result<Option<Figures>, Memory>
+    ensures { IfOk result (λ found. found ≡ crowded_past policy.now most (ancestors_above pool.now.entries tx.now.inputs) vsize) }
+{
+    let found = ancestors(alloc, pool, tx.inputs(), pool.count())?;
+    let above = found.unwrap();
+    let sums = add_up(pool, above.as_slice());
+    let count = sums.count as u128 + 1;
+    if count > most as u128 {
+        return Ok(Some(Figures::Ancestors { count, most }));
+    }
+    let size = sums.size + u128::from(vsize);
+    let most = policy.ancestors_size();
+    if size > u128::from(most) {
+        return Ok(Some(Figures::AncestorsSized { size, most }));
+    }
+    Ok(None)
+}
+
 /// The ancestors of a transaction, and itself, if they are too many or too large.
 pub(crate) fn crowded<S: BuildHasher + Copy + Drop>(
     alloc: Global,
@@ -41,23 +67,13 @@ pub(crate) fn crowded<S: BuildHasher + Copy + Drop>(
 ) -> Result<Option<Figures>, Memory>
     ensures { IfOk result (λ found. found ≡ crowded policy.now tx.now (ancestors_above pool.now.entries tx.now.inputs) vsize) }
 {
-    let Some(vsize) = vsize else {
-        return Ok(None);
-    };
-    let found = ancestors(alloc, pool, tx.inputs(), pool.count())?;
-    let above = found.unwrap();
-    let sums = add_up(pool, above.as_slice());
-    let count = sums.count as u128 + 1;
-    let most = allowed_ancestors(policy, tx, vsize);
-    if count > most as u128 {
-        return Ok(Some(Figures::Ancestors { count, most }));
+    match vsize {
+        Some(vsize) => {
+            let most = allowed_ancestors(policy, tx, vsize);
+            crowded_past(alloc, policy, pool, tx, most, vsize)
+        }
+        None => Ok(None),
     }
-    let size = sums.size + u128::from(vsize);
-    let most = policy.ancestors_size();
-    if size > u128::from(most) {
-        return Ok(Some(Figures::AncestorsSized { size, most }));
-    }
-    Ok(None)
 }
 
 /// The ids of the entries that a transaction would replace: those that it conflicts with, the sibling with this id, and

@@ -1,7 +1,7 @@
 //! The fee of a transaction, and the virtual size that it pays for.
-ghost use Rattle.std.specs.Prelude.{◌≡◌, ◌≤◌, ◌<◌, ◌^◌, IfOk, IfSome, length};
+ghost use Rattle.std.specs.Prelude.{◌≡◌, ◌≤◌, ◌<◌, ◌-◌, ◌^◌, IfOk, IfSome, length};
 ghost use Rattle.gate_tx.specs.Money.{amount_or_zero};
-ghost use Rattle.gate_admit.specs.Reports.{reported};
+ghost use Rattle.gate_admit.specs.Reports.{reported, sigop_cost};
 ghost use Rattle.gate_admit.specs.Rules.{coins_value, outputs_value};
 ghost use Rattle.gate_figures.specs.Figures.{coins_at, cost_at, fee_at, pays, pays_above, sized, vsize_at};
 
@@ -98,10 +98,28 @@ impl Price {
         ensures vsize { IfOk result (λ price. price.vsize ≡ vsize_at policy.now.sigop_size chain.now pool.now.entries tx.now) }
         ensures some { IfOk result (λ price. IfSome price.vsize (λ vsize. 0 < vsize)) }
     {
+        let found = coins_of(alloc, chain, pool, tx.transaction().inputs())?;
+        Price::by_coins(alloc, policy, tx, found.as_slice())
+    }
+
+    /// The price of a transaction whose inputs spend these coins, under a policy.
+    pub(crate) fn by_coins(
+        alloc: Global,
+        policy: &Policy,
+        tx: &Identified,
+        found: &[LentCoin<'_>],
+    ) -> Result<Price, Memory>
+        requires { length found.now ≤ length tx.now.inputs }
+        ensures coins { IfOk result (λ price. price.coins ≡ coins_value found.now) }
+        ensures outputs { IfOk result (λ price. price.outputs ≡ outputs_value tx.now) }
+        ensures fee { IfOk result (λ price. price.fee ≡ coins_value found.now - outputs_value tx.now) }
+        ensures cost { IfOk result (λ price. price.cost ≡ sigop_cost (reported tx.now.inputs found.now) tx.now.outputs) }
+        ensures vsize { IfOk result (λ price. price.vsize ≡ sized policy.now.sigop_size (sigop_cost (reported tx.now.inputs found.now) tx.now.outputs) tx.now) }
+        ensures some { IfOk result (λ price. IfSome price.vsize (λ vsize. 0 < vsize)) }
+    {
         let transaction = tx.transaction();
-        let found = coins_of(alloc, chain, pool, transaction.inputs())?;
-        let answers = reported(alloc, transaction.inputs(), found.as_slice())?;
-        let coins = coins_value(found.as_slice());
+        let answers = reported(alloc, transaction.inputs(), found)?;
+        let coins = coins_value(found);
         let outputs = outputs_value(transaction);
         let cost = sigop_cost(transaction, answers.as_slice());
         Ok(Price {

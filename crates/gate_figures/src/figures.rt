@@ -121,6 +121,14 @@ pub enum Figures {
         fee: u128,
         needs: u128,
     },
+    /// How many transactions of a package are judged together, the fee that they pay, their virtual size, and the fee that
+    /// it needs, in satoshi.
+    PayTogether {
+        count: usize,
+        fee: u64,
+        vsize: u64,
+        needs: u128,
+    },
     /// How many ancestors the transaction would have, and how many it may have by its size, itself among them.
     Ancestors {
         count: u128,
@@ -247,6 +255,15 @@ impl fmt::Display for Figures {
             }
             Figures::Costs { cost } => write!(f, "cost {cost}, 16000 allowed"),
             Figures::Pays { fee, needs } => write!(f, "pays {fee}, needs {needs}"),
+            Figures::PayTogether {
+                count,
+                fee,
+                vsize,
+                needs,
+            } => write!(
+                f,
+                "{count} together pay {fee} for {vsize} virtual bytes, need {needs}"
+            ),
             Figures::Ancestors { count, most } => {
                 write!(f, "{count} ancestors, {most} allowed")
             },

@@ -135,8 +135,9 @@ fn figures_of<S: BuildHasher + Copy + Drop>(
     }
 }
 
-/// The figures by which a rule denies a submission, which has a transaction unless it spells none.
-fn figures_for<S: BuildHasher + Copy + Drop>(
+/// The figures by which a rule denies a submission over a state, if the rule has some and the submission is a transaction.
+/// Of A43 to A45 they are the same whatever is in the pool.
+pub fn figures_for<S: BuildHasher + Copy + Drop>(
     alloc: Global,
     state: &State<S>,
     prepared: &Prepared,

@@ -12,6 +12,7 @@ mod judging;
 mod laws;
 mod least;
 mod locks;
+mod members;
 mod outputs;
 mod relating;
 mod reports;
@@ -22,7 +23,8 @@ mod verdicts;
 
 pub use explanation::{Explained, Explanation};
 pub use figures::Figures;
-pub use judging::{explain, explain_submission};
-pub use laws::{figures_decide, grants_reach_the_least_fee};
+pub use judging::{explain, explain_submission, figures_for};
+pub use laws::{figures_decide, grants_reach_the_least_fee, member_figures_decide};
 pub use least::{least_fee, least_fee_for};
+pub use members::{AskedRates, crowded_member, price_behind};
 pub use relating::{Relatives, relatives_in};

@@ -7,7 +7,7 @@ use Rattle.gate_pool.specs.Pool.{Admitted}
 use Rattle.gate_pool.specs.Family.{steps}
 use Rattle.gate_pool.proofs.Walking.{shorter}
 use Rattle.gate_rbf.proofs.Rivals.{some_unless_none}
-use Rattle.gate_figures.proofs.families.crowded.Goals as goal
+use Rattle.gate_figures.proofs.families.crowded_past.Goals as goal
 
 pub unwrap-above-requires : goal.unwrap-above-requires
 unwrap-above-requires g c =
