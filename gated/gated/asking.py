@@ -3,7 +3,7 @@
 from __future__ import annotations
 
 import time
-from typing import Any, Sequence
+from typing import Any, Optional, Sequence
 
 from . import forms
 from .forms import Fault
@@ -15,9 +15,9 @@ OF_NO_METHOD: list[Any] = [{}]
 DENIED = "denied"
 
 
-def line_of(user: str, method: str, params: Sequence[Any]) -> str:
-    """A call as a line of the gate. A ValueError if its parameters are nested too deep."""
-    return "user %s rpc %d %s" % (user, time.time(), forms.text_of({"method": method, "params": params, "id": 0}))
+def line_of(user: str, method: str, params: Sequence[Any], now: Optional[int] = None) -> str:
+    """A call as a line of the gate, at this second or at that of the clock. A ValueError if its parameters are nested too deep."""
+    return "user %s rpc %d %s" % (user, time.time() if now is None else now, forms.text_of({"method": method, "params": params, "id": 0}))
 
 
 def result_of(reply: str) -> Any:
@@ -49,6 +49,15 @@ def looked(turn: Turn, method: str, params: Sequence[Any]) -> Any:
         return result_of(turn.look(line_of(OWN_USER, method, params)))
     except Fault:
         return None
+
+
+def has(turn: Turn, method: str) -> bool:
+    """Whether the gate has a method, for gated itself."""
+    try:
+        result_of(turn.look(line_of(OWN_USER, method, OF_NO_METHOD)))
+    except Fault as fault:
+        return bool(fault.error["code"] == forms.INVALID_PARAMS)
+    return True
 
 
 def permit(turn: Turn, user: str, method: str) -> None:

@@ -9,19 +9,21 @@ import json
 import logging
 import time
 from dataclasses import dataclass
-from typing import Any, Callable, Iterable, Optional, Sequence
+from typing import Any, Callable, Iterable, Mapping, Optional, Sequence
 
+from . import asking
 from .announcements import Announcement, Announcements, Came, Gone, Lost, Moved
 from .patient import PatientClient
 from .chain import Chain, ChainMoved, CoinsShown, listing, tell
 from .client import NotThere
+from .families import METHOD, NO_COIN, Families, is_poor
 from .faults import CannotFollow
 from .keeper import SEGMENT_FULL, Keeper, Turn
 from .logs import quoted
 from .node import Entry, Refused, Transaction, Unusable, entry_of, floor_of, parents_first, read_transaction
 from .node.answers import EntryInfo, PoolInfo, PoolListing
 from .node.releases import also_of_the_gate
-from .opening import OWN_USER, PEER, Opening, snapshot, verdict_lines
+from .opening import OWN_USER, PEER_ENTERS, Opening, snapshot, verdict_lines
 from .pool import LOOKED_AFTER, PoolWatch
 from .watcher import Outpoint, Submitted, Tip, Watcher
 
@@ -70,6 +72,8 @@ class Following:
         self.pool_info: dict[str, Any] = {}
         self._overridden: list[str] = []
         self._pool = PoolWatch()
+        # whether gate and node both take packages
+        self._takes_packages = False
         self._floor = 0
         self._anew: Optional[str] = None
         # seconds that the last opening took, and when the pools are compared next
@@ -115,19 +119,24 @@ class Following:
         self._announcements.began(opening.sequence, opening.pool)
         about = quoted("gated: chain %s, tip %d, %d transactions; %s" % (opening.chain, opening.tip, len(opening.entries), why))
 
-        def first(turn: Turn) -> list[str]:
-            return [turn.ask(line) for line in opening.events()]
+        def first(turn: Turn) -> tuple[bool, list[Submitted]]:
+            turn.ask(PEER_ENTERS)
+            families = Families(turn, turn.ask, opening.has_packages and asking.has(turn, METHOD), {})
+            for it in opening.entries:
+                families.put(it)
+            if opening.floor:
+                turn.ask("operator floor %d" % opening.floor)
+            return families.takes_packages, list(families.found.values())
 
         self.heights, self._floor, self._anew = dict(opening.heights), opening.floor, None
         self._overridden = list(opening.overridden.values())
         self.pool_info = also_of_the_gate(opening.pool_info, self._overridden)
         self.chain.opened(opening)
         self._pool = PoolWatch.of(opening)
-        replies = await self._keeper.opened(opening.text(), about, first)
+        self._takes_packages, found = await self._keeper.opened(opening.text(), about, first)
         self._watcher.opened(opening, why)
-        # the first reply is to the peer's coming, and a last one to the floor, if there is one
-        taken = zip(opening.entries, replies[1:])
-        self._has_submitted([_submitted(it, reply, entry) for entry, (it, reply) in enumerate(taken, 2)])
+        self._pool.submitted(found)
+        self._watcher.submitted(found)
         self._opening_seconds = time.monotonic() - began
         self._next_check = 0.0
         log.info("the gate is open: tip %d, %d transactions", opening.tip, len(opening.entries))
@@ -170,9 +179,24 @@ class Following:
     # transactions
 
     async def _came(self, txids: list[str]) -> None:
-        """Hands in what the node took, with the parents in its pool that were not announced so far. One that has left its pool
-        meanwhile is passed over."""
-        self._pool.came(txids)
+        """Hands in what the node took, with what of its families follows from that."""
+        new = self._pool.came(txids)
+        await self._hand_in(new if self._takes_packages else txids)
+        self._pool.given.update(txids)
+
+    async def _hand_in(self, txids: list[str]) -> None:
+        """Hands in these transactions, and then what of their families follows from what the gate says."""
+        found: dict[str, Submitted] = {}
+        while txids:
+            entries, replies = await self._handed_in(txids)
+            self._pool.submitted(replies)
+            found.update({it.txid: it for it in replies})
+            txids = self._next_of(entries, {it.txid: it for it in replies}) if self._takes_packages else []
+        self._watcher.submitted(list(found.values()))
+
+    async def _handed_in(self, txids: list[str]) -> tuple[list[Entry], list[Submitted]]:
+        """Hands in these transactions, with the parents in the node's pool that were not announced so far. One that has left its
+        pool meanwhile is passed over."""
         for _ in range(TRIES):
             entries = await self._listed(txids)
             coins = await self.chain.coins_of([it.transaction for it in entries])
@@ -180,16 +204,15 @@ class Following:
             # would be denied as known already
             if coins is not None and await self._client.ask("getbestblockhash") == self.chain.tip.hash:
                 try:
-                    self._has_submitted(await self._keeper.made(functools.partial(self._submit, entries, coins)))
-                    self._pool.given.update(txids)
-                    return
+                    return entries, await self._keeper.made(functools.partial(self._submit, entries, set(txids), coins))
                 except ChainMoved:
                     pass
             await self._catch_up()
         raise Unusable("the node's tip moves faster than it can be asked")
 
     async def _listed(self, txids: Sequence[str]) -> list[Entry]:
-        """Those of these transactions that are in the node's pool, and their parents that were not announced, parents first."""
+        """Those of these transactions that are in the node's pool, and their parents that were not announced, or that the gate
+        denies for what they pay, parents first."""
         texts: dict[str, str] = {}
         listed: dict[str, EntryInfo] = {}
         wanted = list(txids)
@@ -200,24 +223,45 @@ class Following:
             texts.update({txid: text for txid, (text, _) in here.items()})
             listed.update({txid: told for txid, (_, told) in here.items()})
             asked = {*wanted, *texts}
-            wanted = [it for it in dict.fromkeys(it for _, told in here.values() for it in told["depends"]) if it not in asked and it not in self._pool.announced]
+            parents = dict.fromkeys(it for _, told in here.values() for it in told["depends"])
+            wanted = [it for it in parents if it not in asked and (it not in self._pool.announced or self._is_poor(it))]
         self.heights.update({txid: told["height"] for txid, told in listed.items() if "height" in told})
         order = parents_first(list(texts), {it: listed[it]["depends"] for it in texts})
         return [entry_of(texts[it], listed[it]) for it in order]
 
-    def _submit(self, entries: Sequence[Entry], coins: CoinsShown, turn: Turn) -> list[Submitted]:
+    def _is_poor(self, txid: str) -> bool:
+        """Whether the gate denies a transaction for what it pays, and a child may pay for it."""
+        return self._takes_packages and txid in self._pool.denied and is_poor(self._pool.denied[txid])
+
+    def _lacks_a_parent(self, txid: str) -> bool:
+        """Whether the gate denies a transaction because it lacks a parent."""
+        return txid in self._pool.denied and self._pool.denied[txid].rule == NO_COIN
+
+    def _submit(self, entries: Sequence[Entry], txids: set[str], coins: CoinsShown, turn: Turn) -> list[Submitted]:
+        """The gate's replies. Of the parents of these, one that it denied before is not put to it again by itself."""
         self.chain.has_to_stand(turn, coins)
-        found = []
+        denied = self._pool.denied if self._takes_packages else {}
+        families = Families(turn, functools.partial(tell, turn), self._takes_packages, denied)
         for it in entries:
             one = it.transaction
             self.chain.learn(turn, coins.of(one), verdict_lines(one.wtxid, len(one.spent)))
-            reply = tell(turn, "%s tx %d %s" % (PEER, it.time, one.digits))
-            found.append(_submitted(it, reply, turn.entries))
-        return found
+            if one.txid in txids or one.txid not in denied:
+                families.put(it)
+            else:
+                families.meet(it)
+        return list(families.found.values())
 
-    def _has_submitted(self, them: Sequence[Submitted]) -> None:
-        self._pool.submitted(them)
-        self._watcher.submitted(them)
+    def _next_of(self, entries: Sequence[Entry], found: Mapping[str, Submitted]) -> list[str]:
+        """What has to be handed in next: children, not yet given to the gate, of what it denies for what they pay; and children that
+        it denied before because they lacked what has come in now."""
+        wanted: list[str] = []
+        for it in entries:
+            txid = it.transaction.txid
+            if self._is_poor(txid):
+                wanted += [child for child in it.children if child not in self._pool.given]
+            elif txid in found and found[txid].has_come:
+                wanted += [child for child in it.children if child not in found and self._lacks_a_parent(child)]
+        return list(dict.fromkeys(wanted))
 
     async def _look_at_gone(self) -> None:
         """Asks the gate for what the node dropped a little while ago and has not taken again."""
@@ -306,12 +350,16 @@ class Following:
         ours, theirs = await self._keeper.made(look), set(told["txids"])
         self.heights = {txid: height for txid, height in self.heights.items() if txid in ours}
         self._watcher.compared(theirs - ours, ours - theirs)
+        denied = set(self._pool.denied)
         try:
             dropped = self._pool.compare(ours, theirs)
         except Lost as error:
             raise Lost("%s%s" % (error, await self._announcements.fault())) from error
         if dropped:
             self._watcher.dropped(dropped)
+        if self._takes_packages:
+            # a parent that a block has by now, or that a caller brought in
+            await self._hand_in(self._pool.children_of(denied - self._pool.denied.keys()))
         await self._look_at_only_gate()
         self._next_check = time.monotonic() + (min(LOOKED_AFTER, self._settings.check) if self._pool.is_in_doubt else self._settings.check)
 
@@ -326,11 +374,6 @@ class Following:
         if unexplained:
             log.warning("in the gate's pool alone for more than %d seconds: %s", seconds, " ".join(unexplained[:SAID]))
             raise Lost("%d transactions are in the gate's pool alone, and no rule explains it" % len(unexplained))
-
-
-def _submitted(entry: Entry, reply: str, place: int) -> Submitted:
-    one = entry.transaction
-    return Submitted(one.txid, entry.fee, entry.vsize, reply, frozenset((it.txid, it.index) for it in one.spent), place)
 
 
 def _looked(turn: Turn, method: str, txid: str) -> str:

@@ -4,18 +4,18 @@ from __future__ import annotations
 
 import asyncio
 from dataclasses import dataclass, field
-from typing import Collection, Iterator, Sequence
+from typing import Collection, Sequence
 
 from .patient import Blocking, PatientClient
 from .node import BLOCK_CAME, MEDIAN_OF, Entry, Unusable, View, coins_of, policy_lines
 from .node.answers import PoolInfo, PoolListing
-from .node.releases import overridden
+from .node.releases import PACKAGES_SINCE, overridden
 
 # the peer under whose number the node's transactions are handed in: it is never shut out, and may list the pool
 PEER = "peer 1"
 PEER_ENTERS = PEER + " enter 127.0.0.1"
 OWN_USER = "gated"
-OWN_METHODS = "getmempoolinfo,getmempoolentry,getrawmempool,getrawtransaction,testmempoolaccept"
+OWN_METHODS = "getmempoolinfo,getmempoolentry,getrawmempool,getrawtransaction,submitpackage,testmempoolaccept"
 TRIES = 5
 
 
@@ -47,13 +47,10 @@ class Opening:
     def text(self) -> str:
         return "".join(line + "\n" for line in self.lines)
 
-    def events(self) -> Iterator[str]:
-        """The events that lead from the opening to the node's pool."""
-        yield PEER_ENTERS
-        for it in self.entries:
-            yield "%s tx %d %s" % (PEER, it.time, it.transaction.digits)
-        if self.floor:
-            yield "operator floor %d" % self.floor
+    @property
+    def has_packages(self) -> bool:
+        """Whether the node's release takes packages."""
+        return self.release >= PACKAGES_SINCE
 
 
 def verdict_lines(wtxid: str, inputs: int) -> list[str]:

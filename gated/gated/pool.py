@@ -7,6 +7,7 @@ from dataclasses import dataclass, field
 from typing import Iterable, Mapping, Sequence
 
 from .announcements import Lost
+from .families import NO_COIN
 from .opening import Opening
 from .watcher import Outpoint, Submitted
 
@@ -14,7 +15,6 @@ from .watcher import Outpoint, Submitted
 LOOKED_AFTER = 1.0
 # seconds that an announcement may take behind what the node's pool shows
 LATE_SECONDS = 3.0
-ADMITTED, KNOWN_ALREADY = "admitted ", "denied P5 "
 
 
 @dataclass
@@ -24,6 +24,10 @@ class PoolWatch:
     # what was announced and may still be in the node's pool, and what of it the gate was given, whether it took it or not
     announced: set[str] = field(default_factory=set)
     given: set[str] = field(default_factory=set)
+    # what the gate denies of the node's pool, by its last reply
+    denied: dict[str, Submitted] = field(default_factory=dict)
+    # what the gate was given before it was announced
+    _early: set[str] = field(default_factory=set)
     # what is there and was not announced so far; what only the gate has; what the gate had admitted and has no longer while the
     # node still has it: each since when
     _unannounced: dict[str, float] = field(default_factory=dict)
@@ -34,29 +38,34 @@ class PoolWatch:
     # what the node dropped, and when that was announced, or when it was found that the gate still has it
     _gone: dict[str, float] = field(default_factory=dict)
     _found: set[str] = field(default_factory=set)
-    # what the gate denies of the node's pool, with the outpoints that it spends
-    _denied: dict[str, frozenset[Outpoint]] = field(default_factory=dict)
 
     @staticmethod
     def of(opening: Opening) -> PoolWatch:
         """The watch of a gate that was opened from the node's pool."""
         return PoolWatch(announced=set(opening.pool), given=set(opening.pool))
 
-    def came(self, txids: Iterable[str]) -> None:
-        """The node took these."""
+    def came(self, txids: Iterable[str]) -> list[str]:
+        """The node took these. Gives those that the gate was not given before they were announced."""
+        found = []
         for txid in txids:
             self.announced.add(txid)
             self._gone.pop(txid, None)
             self._found.discard(txid)
+            if txid not in self._early:
+                found.append(txid)
+            self._early.discard(txid)
+        return found
 
     def submitted(self, them: Iterable[Submitted]) -> None:
         """The gate's replies to what the node took."""
         for it in them:
             self.given.add(it.txid)
-            if it.reply.startswith((ADMITTED, KNOWN_ALREADY)):
-                self._denied.pop(it.txid, None)
+            if it.txid not in self.announced:
+                self._early.add(it.txid)
+            if it.is_in_pool:
+                self.denied.pop(it.txid, None)
             else:
-                self._denied[it.txid] = it.spent
+                self.denied[it.txid] = it
 
     def left(self, txids: Iterable[str]) -> None:
         """The node dropped these. A replacement is announced behind what it replaces, so the gate is asked a little later."""
@@ -86,10 +95,12 @@ class PoolWatch:
         now = time.monotonic()
         self.announced &= theirs
         self.given &= theirs
-        self._denied = {txid: spent for txid, spent in self._denied.items() if txid in theirs}
+        self._early &= theirs
+        here = theirs - ours
+        self.denied = {txid: it for txid, it in self.denied.items() if txid in here}
         self._unannounced = _since(self._unannounced, theirs - self.announced, now)
         self._only_gate = _since(self._only_gate, ours - theirs, now)
-        self._dropped = _since(self._dropped, (theirs & self.announced) - ours - self._denied.keys(), now)
+        self._dropped = _since(self._dropped, (theirs & self.announced) - ours - self.denied.keys(), now)
         self._said &= self._dropped.keys()
         unannounced = _older(self._unannounced, now - LATE_SECONDS)
         if unannounced:
@@ -97,6 +108,10 @@ class PoolWatch:
         dropped = [it for it in _older(self._dropped, now - LOOKED_AFTER) if it not in self._said]
         self._said.update(dropped)
         return dropped
+
+    def children_of(self, txids: set[str]) -> list[str]:
+        """What the gate denies since it lacks a parent, and spends from one of these."""
+        return [txid for txid, it in self.denied.items() if it.rule == NO_COIN and not it.parents.isdisjoint(txids)]
 
     @property
     def is_in_doubt(self) -> bool:
@@ -110,7 +125,7 @@ class PoolWatch:
     def unexplained(self, spends: Mapping[str, Sequence[Outpoint]]) -> list[str]:
         """Those of these transactions of the gate's pool that nothing explains. What conflicts with a transaction that the node
         has and the gate denies by a rule is explained, and so is what spends from it."""
-        contested = {outpoint for spent in self._denied.values() for outpoint in spent}
+        contested = {outpoint for it in self.denied.values() for outpoint in it.spent}
         explained = {txid for txid, spent in spends.items() if not contested.isdisjoint(spent)}
         while True:
             children = {txid for txid, spent in spends.items() if txid not in explained and any(parent in explained for parent, _ in spent)}

@@ -14,15 +14,13 @@ from .metrics import Metrics
 from .node import differences
 from .node.differences import Answer
 from .opening import Opening
-from .watcher import Submitted, Tip, Watcher
+from .watcher import KNOWN_ALREADY, Submitted, Tip, Watcher
 
 log = logging.getLogger("gated")
 
 # how many of the last differences are shown, and of how many it is known that they were counted
 SHOWN = 50
 REMEMBERED = 20_000
-# reply of the gate to what its pool has already
-KNOWN_ALREADY = "denied P5 "
 # the gate has no verdict on the scripts, since the node refused the transaction before it ran them
 NOT_JUDGED = "A43"
 PARENT, LOST = "parent", "lost"
@@ -114,6 +112,8 @@ class Shadow(Watcher):
                 self.differs(LOST, txid, "dropped", "still in the pool")
 
     def _compare(self, it: Submitted) -> None:
+        if it.is_in_pool:
+            self._denied.discard(it.txid)
         if it.reply.startswith(KNOWN_ALREADY):
             self._agree(1)
             return

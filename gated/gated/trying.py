@@ -11,6 +11,7 @@ from typing import Any, Awaitable, Callable, Optional, Sequence
 
 from . import asking, burning, forms, scripts
 from .client import NodeClient, NotThere
+from .families import NO_COIN, TOO_POOR
 from .following import ChainMoved, CoinsShown, Following
 from .forms import Fault, GateMember, GatePackage, GateTrial
 from .keeper import Closed, Keeper, Turn
@@ -26,9 +27,9 @@ log = logging.getLogger("gated")
 
 # the rules of the gate that are answered by what the node says
 KNOWN_ALREADY = ("A21", "A22")
-NO_COIN, VERDICT_MISSING = "A25", "A43"
-# the rules that a member of a package may fail by itself and pass with the others: they ask for coins and for fees
-MENDED = (NO_COIN, "A34", "A35", "A38", "A41", "A42")
+VERDICT_MISSING = "A43"
+# the rules that a member of a package may fail by itself and pass with the others
+MENDED = (NO_COIN, *TOO_POOR)
 # how a node names what pays more than its caller wants, and a transaction without coins
 FEE_PAST, MISSING_INPUTS = "max-fee-exceeded", "missing-inputs"
 SAID_OF_FEE = "Fee exceeds maximum configured by user (e.g. -maxtxfee, maxfeerate)"

@@ -8,6 +8,8 @@ from typing import Collection, Sequence
 from .opening import Opening
 
 Outpoint = tuple[str, int]
+# how the gate says that it took a transaction, and that it had it
+ADMITTED, KNOWN_ALREADY = "admitted ", "denied P5 "
 
 
 @dataclass(frozen=True)
@@ -23,6 +25,7 @@ class Submitted:
     """A transaction of the node's pool, what the node says of it, and the gate's reply."""
 
     txid: str
+    version: int
     fee: int
     vsize: int
     reply: str
@@ -30,6 +33,21 @@ class Submitted:
     spent: frozenset[Outpoint]
     # how many entries the journal's segment has up to this one
     entry: int
+
+    @property
+    def is_in_pool(self) -> bool:
+        """Whether the gate has it."""
+        return self.reply.startswith((ADMITTED, KNOWN_ALREADY))
+
+    @property
+    def has_come(self) -> bool:
+        """Whether the gate took it just now."""
+        return self.reply.startswith(ADMITTED)
+
+    @property
+    def rule(self) -> str:
+        """The rule by which the gate denies it; nothing if it has it."""
+        return "" if self.is_in_pool else self.reply.split(" ")[1]
 
     @property
     def parents(self) -> frozenset[str]:

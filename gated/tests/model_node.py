@@ -369,6 +369,7 @@ class ModelNode:
             "vsize": entry.size, "weight": entry.tx.weight(), "time": entry.time, "height": self.heights[entry.tx.txid()],
             "ancestorcount": len(above), "ancestorsize": size_of(above), "descendantcount": len(below), "descendantsize": size_of(below),
             "wtxid": entry.wtxid, "depends": [it.tx.txid() for it in self.model.parents(entry.tx)],
+            "spentby": [it.tx.txid() for it in self.model.pool if entry.hash in it.parents],
             "fees": {"base": amount(entry.fee), "ancestor": amount(fees_of(above)), "descendant": amount(fees_of(below))},
         }  # fmt: skip
 

@@ -119,7 +119,7 @@ def test_who_asks_twice_counts_once(gate):
 
 
 def submitted(txid, reply, *parents):
-    return Submitted(txid, 400, 96, reply, frozenset((it, 0) for it in parents), 7)
+    return Submitted(txid, 2, 400, 96, reply, frozenset((it, 0) for it in parents), 7)
 
 
 def test_what_stands_on_it(gate):

@@ -3,7 +3,7 @@
 from __future__ import annotations
 
 import decimal
-from dataclasses import dataclass
+from dataclasses import dataclass, field
 from typing import Any, Mapping, Optional, Sequence, TypedDict, Union
 
 from .sources import Refused, Unusable
@@ -71,6 +71,7 @@ class EntryInfo(_EntryInfo, total=False):
     height: int
     fees: Fees
     fee: Amount
+    spentby: list[str]
 
 
 class Script(TypedDict):
@@ -203,6 +204,8 @@ class Entry:
     time: int
     fee: int
     vsize: int
+    # the transactions of the pool that spend from it
+    children: list[str] = field(default_factory=list)
 
 
 @dataclass
@@ -236,7 +239,7 @@ def floor_of(pool: PoolInfo) -> int:
 def entry_of(digits: str, told: EntryInfo) -> Entry:
     """An entry from its text, and from what the node says of it."""
     fee = told["fees"]["base"] if "fees" in told else told["fee"]
-    return Entry(read_transaction(digits), told["time"], satoshi(fee), told["vsize"])
+    return Entry(read_transaction(digits), told["time"], satoshi(fee), told["vsize"], told.get("spentby", []))
 
 
 def coin_of(txid: str, index: int, told: OutputInfo, tip: int) -> Coin:

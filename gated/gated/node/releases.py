@@ -12,6 +12,8 @@ from .answers import NetworkInfo, PoolInfo, satoshi
 POLICIES = ((300000, "core-30"), (290100, "core-29"), (280000, "core-28"), (270000, "core-27"), (260000, "core-26"), (250000, "core-25"))
 KNOTS = "knots-29"
 KNOTS_SINCE = 290000
+# the first release that takes packages
+PACKAGES_SINCE = 280000
 # the rule that a setting decides, where one alone does
 RULES = {
     "truc": "A12", "datacarriersize": "A16", "permitbaremultisig": "A16", "dustrelayfee": "A17", "datacarrieroutputs": "A18", "mintxsize": "A19", "mempoolfullrbf": "A23", "anchors": "A31",
