@@ -14,7 +14,7 @@ OPENED = TIMES + "---\n"
 ID = printed(number_hash(1))
 SCRIPT = "00142222222222222222222222222222222222222222"
 SUMMARY = re.compile(r"gate: \d+ events?: ")
-DENIED = re.compile(r"gate: line \d+: [APUC]\d+ ")
+DENIED = re.compile(r"gate: line \d+: (transaction \d+ of \d+: )?[APUC]\d+ ")
 MOVED = re.compile(r"gate: line \d+: [-+] [0-9a-f]{64}$")
 MOST = "9,007,199,254,740,991"
 # what an opening can't say of a release that it names
