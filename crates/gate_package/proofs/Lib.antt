@@ -10,6 +10,7 @@ pub mod Placing
 pub mod Spenders
 pub mod Chunking
 pub mod Parting
+pub mod Entering
 pub mod Raising
 pub mod Pricing
 pub mod Asking

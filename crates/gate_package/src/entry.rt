@@ -7,6 +7,7 @@ ghost use Rattle.gate_rivals.specs.Rivals.{replaced_together};
 ghost use Rattle.gate_package.specs.Packages.{AreAbsent, AreNewcomers, IsAbsent, entered_together, newcomers};
 ghost use Rattle.gate_package.specs.Shapes.{has_conflict, has_duplicates};
 
+use crate::together::replaces_some;
 use gate_admit::{Conditions, Entry, Pool};
 use gate_bytes::{Copied, Kept, Memory};
 use gate_diagram::Price;
@@ -81,6 +82,10 @@ pub(crate) fn enter_together<S: BuildHasher + Copy + Drop>(
     ensures before { pool.new.before ≡ pool.old.before }
     ensures rewindable { IsRewindable pool.old → IsRewindable pool.new }
 {
+    if !replaces_some(pool, these) {
+        enter_all(alloc, under, pool, these, prices)?;
+        return Ok(Kept::from_vec(Vec::new(alloc)));
+    }
     pool.recall_distinct();
     let replaced = list_replaced_together(alloc, pool, these)?;
     pool.reserve_to_rewind(replaced.as_slice(), 0, 0)?;
