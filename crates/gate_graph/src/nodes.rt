@@ -89,8 +89,8 @@ impl<T: Drop, S: BuildHasher + Copy + Drop> Nodes<T, S> {
         self.totals_near(id, &mut None)
     }
 
-    /// The totals of a node, as `totals` finds them. If the node stands at the place `near`, this is no look-up. Where a
-    /// parent of it may stand is written over `near`, for a walk up.
+    /// The totals of a node, as `totals` finds them. If the node stands at the place `near`, this is no look-up. Where
+    /// a parent of it may stand is written over `near`, for a walk up.
     pub fn totals_near(&self, id: &NodeId, near: &mut Option<usize>) -> Option<&Totals>
         ensures found { is_some result ≡ has (nodes_in self.now.nodes) id.now }
         ensures totals { IfSome result (λ totals. totals.now ≡ totals_of (nodes_in self.now.nodes) id.now) }
@@ -118,8 +118,8 @@ impl<T: Drop, S: BuildHasher + Copy + Drop> Nodes<T, S> {
         self.load_near(id, &mut None)
     }
 
-    /// What a node carries, as `load` finds it. If the node stands at the place `near`, this is no look-up. Where a parent
-    /// of it may stand is written over `near`, for a walk up.
+    /// What a node carries, as `load` finds it. If the node stands at the place `near`, this is no look-up. Where a
+    /// parent of it may stand is written over `near`, for a walk up.
     pub fn load_near(&self, id: &NodeId, near: &mut Option<usize>) -> Option<&T>
         ensures { option_copied result ≡ load_in self.now.nodes id.now }
     {
@@ -216,9 +216,9 @@ impl<T: Drop, S: BuildHasher + Copy + Drop> Nodes<T, S> {
     }
 
     /// Puts a node at the end, below those that it names and above those that name it. It takes no memory, and uses up
-    /// its own of the room that was taken. If nothing names the node, this takes a walk over its ancestors; else, if it names no
-    /// node, one over its descendants; else, if all that is below it was below each of its parents before, a walk over
-    /// both and one below each parent; else the totals of all its ancestors and descendants are found afresh.
+    /// its own of the room that was taken. If nothing names the node, this takes a walk over its ancestors; else, if it
+    /// names no node, one over its descendants; else, if all that is below it was below each of its parents before, a
+    /// walk over both and one below each parent; else the totals of all its ancestors and descendants are found afresh.
     pub fn put(&mut self, id: NodeId, parents: Vec<NodeId>, size: u64, fee: u64, load: T)
         requires room { 0 < self.old.room }
         requires names { length parents.items ≤ self.old.names }
@@ -276,8 +276,8 @@ impl<T: Drop, S: BuildHasher + Copy + Drop> Nodes<T, S> {
     }
 
     /// Takes out the node of an id, if there is one, and all nodes below that id, and puts what they carry at the end
-    /// of a list with room, each with the ids that it named and the place at which it stood. Their places are empty then, and the others stand
-    /// where they stood. It takes no memory, and keeps the room that was taken.
+    /// of a list with room, each with the ids that it named and the place at which it stood. Their places are empty
+    /// then, and the others stand where they stood. It takes no memory, and keeps the room that was taken.
     pub fn take_family(&mut self, id: &NodeId, gone: &mut Vec<Gone<T>>)
         requires { vec_len gone.old + length self.old.nodes ≤ vec_capacity gone.old }
         ensures room { self.new.room ≡ self.old.room }
@@ -297,8 +297,9 @@ impl<T: Drop, S: BuildHasher + Copy + Drop> Nodes<T, S> {
     }
 
     /// Takes out a node alone, and returns what it carries, with the ids that it named and the place at which it stood,
-    /// which is empty then: nodes that name it stay. It takes no memory, and keeps the room that was taken. If the node names no node,
-    /// this takes a walk over its descendants; else the totals of all its ancestors and descendants are found afresh.
+    /// which is empty then: nodes that name it stay. It takes no memory, and keeps the room that was taken. If the node
+    /// names no node, this takes a walk over its descendants; else the totals of all its ancestors and descendants are
+    /// found afresh.
     pub fn take_one(&mut self, id: &NodeId) -> Option<Gone<T>>
         ensures left { self.new.nodes ≡ without_one self.old.nodes id.now }
         ensures places { self.new.places ≡ vacated (λ x. bytes_eq x id.now) self.old.places }

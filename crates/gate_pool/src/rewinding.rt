@@ -48,7 +48,7 @@ fn id_at(slots: &[Option<Held<Entry>>], place: usize) -> Option<NodeId>
     }
 }
 
-/// Takes out the entry at a place, if one stands there, and lets go of it.
+/// Takes out the entry at a place, if one stands there, and drops it.
 fn drop_at<S: BuildHasher + Copy + Drop>(
     nodes: &mut Nodes<Entry, S>,
     wtxids: &mut IndexMap<Wtxid, Txid, S>,
@@ -76,7 +76,7 @@ fn drop_at<S: BuildHasher + Copy + Drop>(
     }
 }
 
-/// Takes out all entries at the mark or past it, and lets go of them.
+/// Takes out all entries at the mark or past it, and drops them.
 pub(crate) fn take_late<S: BuildHasher + Copy + Drop>(
     nodes: &mut Nodes<Entry, S>,
     wtxids: &mut IndexMap<Wtxid, Txid, S>,
